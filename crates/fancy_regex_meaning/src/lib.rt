@@ -1,13 +1,16 @@
-// A library with one function.
+//! The meaning of patterns: their ways, and what searches make of them. There is no code here, but definitions, worked
+//! patterns and laws.
 #![tactic(auto)]
 
-ghost use Rattle.std.specs.Prelude.{◌≡◌};
-ghost use Rattle.fancy_regex_meaning.specs.Echo.{echo_of};
+ghost use Rattle.fancy_regex_meaning.specs.Rows.{AtomicIsFirst, Chosen, Nodes, SizesOfPatterns, Sets, Pieces, Weights};
 
-// The `ensures` clause is the contract: what `echo` returns is `echo_of` of its argument, a definition
-// in `specs/Echo.antt`, which a caller's clause can cite too.
-pub fn echo(x: usize) -> usize
-    ensures { result ≡ echo_of x }
-{
-    x
-}
+/// What worked patterns find.
+pub fn worked_patterns()
+    ensures atomic_is_first { AtomicIsFirst }
+    ensures sets { Sets }
+    ensures pieces { Pieces }
+    ensures weights { Weights }
+    ensures chosen { Chosen }
+    ensures nodes { Nodes }
+    ensures sizes { SizesOfPatterns }
+{}
