@@ -3,3 +3,8 @@ pub mod EachLemmas
 pub mod LawProofs
 pub mod BoundaryLemmas
 pub mod OnwardProofs
+pub mod ListProofs
+pub mod FirstProofs
+pub mod KeptProofs
+pub mod BoundProofs
+pub mod ItemBound
