@@ -8,3 +8,5 @@ pub mod FirstProofs
 pub mod KeptProofs
 pub mod BoundProofs
 pub mod ItemBound
+pub mod ChoiceProofs
+pub mod ExplodingProof
