@@ -10,3 +10,4 @@ pub mod BoundProofs
 pub mod ItemBound
 pub mod ChoiceProofs
 pub mod ExplodingProof
+pub mod GroupProofs
