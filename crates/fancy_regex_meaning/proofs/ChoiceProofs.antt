@@ -208,8 +208,11 @@ module _ (s : Setting) where
         few n (backref_exists k None) = few_leaf (backref_exists k None) _ (λ w. one_if_any _ w)
         few n (backref_exists k (Some level)) = few_leaf (backref_exists k (Some level)) no_way (λ w. omega arith)
         few n (tree.conditional c a b) = few_node (tree.conditional c a b) _ _ (λ w.
-            omega (arith, few_conditional ((meaning s groups call n c).from w) _ _ _ _ (few (n + group_count c) a).0
-            (few (n + group_count c + group_count a) b).0 w))
+            omega (
+              arith,
+              few_conditional ((meaning s groups call n c).from w) _ _ _ _ (few (n + group_count c) a).0
+                  (few (n + group_count c + group_count a) b).0 w,
+            ))
         few n (subroutine_call k) = few_node (subroutine_call k) _ _ (few_calls k)
         few n keep_out = few_leaf keep_out keep_here (λ w. omega arith)
         few n continue = few_leaf continue _ (λ w. one_if_any _ w)

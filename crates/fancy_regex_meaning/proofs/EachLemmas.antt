@@ -73,4 +73,3 @@ pub boundaries_pass : (text : List ℕ) (p q : ℕ) →
     Each (λ b. ((p ≤ b) × (b ≤ q)) × (is_boundary text b ≡ true)) (boundaries text p q)
 boundaries_pass text p q =
     Each-filter_passes _ (is_boundary text) _ (Each-weaker _ _ (λ b h. (h.0, omega arith)) (numbers_from (q + 1 - p) p) (numbers_within (q + 1 - p) p))
-

@@ -3,8 +3,8 @@ use Rattle.std.proofs.Common.{◌≡◌, ℕ, zero, suc, ◌+◌, List, [], ◌�
 use Rattle.std.specs.Prelude.{slice_get}
 use Rattle.std.proofs.lemmas.Option.{none-some, same_Some}
 use Rattle.fancy_regex_tree.specs.Tree.{Tree, Trees, empty, any, assertion, general_newline, literal, literal_bytes, concat, alt, group, look_around, repeat, delegate, backref, backref_with_level, atomic_group, keep_out, continue, backref_exists, conditional, subroutine_call, verb, absent_repeater, absent_expression, absent_stopper, absent_clear, define_group, ast_group, ast_backref, ast_call, ast_condition, no_trees, more_trees}
-use Rattle.fancy_regex_meaning.specs.Groups.{bodies, row_bodies, group_count, row_group_count, pattern_of}
-use Rattle.fancy_regex_meaning.specs.Ways.{Way, Setting, meaning, call_ways, is_full, for_some}
+use Rattle.fancy_regex_meaning.specs.Groups.{bodies, row_bodies, group_count, row_group_count}
+use Rattle.fancy_regex_meaning.specs.Ways.{meaning, call_ways, is_full, for_some}
 use Rattle.fancy_regex_meaning.specs.GroupLaws.{AreSame, Stands, StandsInRow, GroupsAreCounted, NumbersAreRanks, BodiesStand, TargetsAreGroups, CallsRunGroups}
 
 mutual
@@ -181,3 +181,63 @@ unfolding call_ways
 calls_run_groups s t k body h m opened w =
     ap (λ o. cond (is_full opened k) [] (for_some (λ b. (meaning s (t ∷ bodies t) (call_ways s (t ∷ bodies t) m (k ∷ opened)) (k + 1) b).from w) o))
     ((targets_are_groups t k body).0 h)
+
+mutual
+  unfolding bodies Stands group_count
+
+  stand : (n : ℕ) (t : Tree) (i : ℕ) (body : Tree) (k : ℕ) → k ≡ n + i → slice_get (bodies t) i ≡ Some body → Stands n t k (group body)
+  stand n (group t) zero body k e h = inl (omega (arith, e), ap group (same_Some t body h))
+  stand n (group t) (suc i) body k e h = inr (stand (n + 1) t i body k (omega (arith, e)) h)
+  stand n (concat ts) i body k e h = inr (stand_in_row n ts i body k e h)
+  stand n (alt ts) i body k e h = inr (stand_in_row n ts i body k e h)
+  stand n (look_around t how) i body k e h = inr (stand n t i body k e h)
+  stand n (repeat t lo hi greedy) i body k e h = inr (stand n t i body k e h)
+  stand n (atomic_group t) i body k e h = inr (stand n t i body k e h)
+  stand n (absent_repeater t) i body k e h = inr (stand n t i body k e h)
+  stand n (absent_stopper t) i body k e h = inr (stand n t i body k e h)
+  stand n (define_group t) i body k e h = inr (stand n t i body k e h)
+  stand n (ast_group name t position) i body k e h = inr (stand n t i body k e h)
+  stand n (conditional c a b) i body k e h =
+      ⊎_elim (λ (p : slice_get (bodies c) i ≡ Some body). inr (inl (stand n c i body k e p)))
+      (λ (p : (j : ℕ) × (i ≡ length (bodies c) + j) × (slice_get (bodies a ++ bodies b) j ≡ Some body)).
+      let there : k ≡ n + group_count c + p.0 = omega (arith, e, p.1, counted c) in
+      ⊎_elim (λ (q : slice_get (bodies a) p.0 ≡ Some body). inr (inr (inl (stand (n + group_count c) a p.0 body k there q))))
+      (λ (q : (j : ℕ) × (p.0 ≡ length (bodies a) + j) × (slice_get (bodies b) j ≡ Some body)).
+      inr (inr (inr (stand (n + group_count c + group_count a) b q.0 body k (omega (arith, there, q.1, counted a)) q.2))))
+      (get_split (bodies a) (bodies b) p.0 body p.2))
+      (get_split (bodies c) (bodies a ++ bodies b) i body h)
+  stand n (absent_expression a t) i body k e h =
+      ⊎_elim (λ (p : slice_get (bodies a) i ≡ Some body). inr (inl (stand n a i body k e p)))
+      (λ (p : (j : ℕ) × (i ≡ length (bodies a) + j) × (slice_get (bodies t) j ≡ Some body)).
+      inr (inr (stand (n + group_count a) t p.0 body k (omega (arith, e, p.1, counted a)) p.2)))
+      (get_split (bodies a) (bodies t) i body h)
+  stand n empty i body k e h = absurd (none-some body h)
+  stand n (any newline crlf) i body k e h = absurd (none-some body h)
+  stand n (assertion a) i body k e h = absurd (none-some body h)
+  stand n (general_newline unicode) i body k e h = absurd (none-some body h)
+  stand n (literal val casei) i body k e h = absurd (none-some body h)
+  stand n (literal_bytes bytes) i body k e h = absurd (none-some body h)
+  stand n (delegate inner casei) i body k e h = absurd (none-some body h)
+  stand n (backref j casei) i body k e h = absurd (none-some body h)
+  stand n (backref_with_level j level casei) i body k e h = absurd (none-some body h)
+  stand n keep_out i body k e h = absurd (none-some body h)
+  stand n continue i body k e h = absurd (none-some body h)
+  stand n (backref_exists j level) i body k e h = absurd (none-some body h)
+  stand n (subroutine_call j) i body k e h = absurd (none-some body h)
+  stand n (verb v) i body k e h = absurd (none-some body h)
+  stand n absent_clear i body k e h = absurd (none-some body h)
+  stand n (ast_backref goal casei level position) i body k e h = absurd (none-some body h)
+  stand n (ast_call goal position) i body k e h = absurd (none-some body h)
+  stand n (ast_condition goal level position) i body k e h = absurd (none-some body h)
+
+  stand_in_row : (n : ℕ) (ts : Trees) (i : ℕ) (body : Tree) (k : ℕ) → k ≡ n + i → slice_get (row_bodies ts) i ≡ Some body →
+      StandsInRow n ts k (group body)
+  stand_in_row n no_trees i body k e h = absurd (none-some body h)
+  stand_in_row n (more_trees t ts) i body k e h =
+      ⊎_elim (λ (p : slice_get (bodies t) i ≡ Some body). inl (stand n t i body k e p))
+      (λ (p : (j : ℕ) × (i ≡ length (bodies t) + j) × (slice_get (row_bodies ts) j ≡ Some body)).
+      inr (stand_in_row (n + group_count t) ts p.0 body k (omega (arith, e, p.1, counted t)) p.2))
+      (get_split (bodies t) (row_bodies ts) i body h)
+
+pub bodies_stand : BodiesStand
+bodies_stand n t i body h = stand n t i body (n + i) refl h

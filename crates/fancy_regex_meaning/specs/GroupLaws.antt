@@ -56,5 +56,5 @@ TargetsAreGroups = (t : Tree) (k : ℕ) (body : Tree) →
 abbrev pub CallsRunGroups : Type 0
 CallsRunGroups = (s : Setting) (t : Tree) (k : ℕ) (body : Tree) → Stands 1 t k (group body) →
     (m : ℕ) (opened : List ℕ) (w : Way) →
-      call_ways s ((pattern_of t).groups) (suc m) opened k w
-      ≡ (if is_full opened k then [] else (meaning s ((pattern_of t).groups) (call_ways s ((pattern_of t).groups) m (k ∷ opened)) (k + 1) body).from w)
+    call_ways s ((pattern_of t).groups) (suc m) opened k w
+    ≡ (if is_full opened k then [] else (meaning s ((pattern_of t).groups) (call_ways s ((pattern_of t).groups) m (k ∷ opened)) (k + 1) body).from w)

@@ -1,5 +1,5 @@
 -- Laws of the ways.
-use Rattle.std.specs.Prelude.{◌⊎◌, Option, ◌≡◌, ℕ, zero, suc, ◌≤◌, ◌+◌, ⊤, Bool, List, [], ◌∷◌, ◌++◌, length, Some, None, if◌then◌else◌, ◌==◌}
+use Rattle.std.specs.Prelude.{◌⊎◌, Option, ◌≡◌, ℕ, suc, ◌≤◌, ◌+◌, ⊤, Bool, List, [], ◌∷◌, ◌++◌, length, Some, None, if◌then◌else◌, ◌==◌}
 use Rattle.std.specs.List.{flat_map}
 use Rattle.std.specs.Str.{IsUtf8, IsCharBoundary}
 use Rattle.fancy_regex_tree.specs.declared.expr.LookAround.TheVariants.{LookAhead, LookAheadNeg, LookBehind, LookBehindNeg}

@@ -1,15 +1,15 @@
 -- Worked patterns, and what they find.
-use Rattle.std.specs.Prelude.{◌≡◌, ℕ, zero, suc, ◌+◌, ◌&&◌, Bool, true, false, List, [], ◌∷◌, map, Option, Some, None, option_map, codes, nat_le, ◌==◌, if◌then◌else◌, ◌++◌, replicate, encode_utf8_all, length}
+use Rattle.std.specs.Prelude.{◌≡◌, ℕ, zero, suc, ◌+◌, ◌&&◌, Bool, true, false, List, [], ◌∷◌, map, Option, Some, None, option_map, codes, nat_le, ◌==◌, if◌then◌else◌, ◌++◌, replicate, encode_utf8_all}
 use Prim.Native.String.{String}
 use Rattle.fancy_regex_tree.specs.declared.expr.Assertion.TheVariants.{StartText, EndText, WordBoundary, StartLine}
 use Rattle.fancy_regex_tree.specs.declared.expr.LookAround.TheVariants.{LookAhead, LookAheadNeg, LookBehind, LookBehindNeg}
 use Rattle.fancy_regex_tree.specs.Tree as tree
 use Rattle.fancy_regex_tree.specs.Tree.{Tree, trees, Text, empty, any, assertion, general_newline, literal, delegate, concat, group, look_around, repeat, atomic_group, backref, backref_exists, conditional, subroutine_call, keep_out, continue, absent_repeater, define_group}
-use Rattle.fancy_regex_meaning.specs.Groups.{Pattern, pattern_of}
+use Rattle.fancy_regex_meaning.specs.Groups.{pattern_of}
 use Rattle.fancy_regex_meaning.specs.Ways.{Setting, Pairs}
 use Rattle.fancy_regex_meaning.specs.Sizes.{Size, tree_weight, size, unbounded, always_size}
 use Rattle.fancy_regex_meaning.specs.Choices.{choices, program_nodes}
-use Rattle.fancy_regex_meaning.specs.Searches.{Match, Member, Options, default_options, find_input, input_of, all_items, pieces, replaced, set_answer}
+use Rattle.fancy_regex_meaning.specs.Searches.{Match, Member, default_options, find_input, input_of, all_items, pieces, replaced, set_answer}
 
 abbrev pub literals : List ℕ → List Tree
 literals [] = []

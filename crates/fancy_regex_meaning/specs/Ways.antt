@@ -1,5 +1,5 @@
 -- What a pattern means: its ways from a place of a text, the preferred ones first.
-use Rattle.std.specs.Prelude.{ℕ, zero, suc, ◌+◌, ◌-◌, ◌*◌, Bool, true, false, not, ◌&&◌, ◌||◌, List, [], ◌∷◌, ◌++◌, length, map, reverse, drop, chars, Option, Some, None, is_some, ◌==◌, nat_le, nat_lt, nat_eq, slice_get, slice_range, if◌then◌else◌, slice_index, slice_index_or, slice_set, codes, count_by}
+use Rattle.std.specs.Prelude.{ℕ, zero, suc, ◌+◌, ◌-◌, ◌*◌, Bool, true, false, not, ◌&&◌, ◌||◌, List, [], ◌∷◌, ◌++◌, length, map, reverse, drop, chars, Option, Some, None, is_some, ◌==◌, nat_le, nat_lt, nat_eq, slice_range, if◌then◌else◌, slice_index, slice_index_or, slice_set, codes, count_by}
 use Rattle.std.specs.List.{flat_map, filter, list_all}
 use Rattle.std.specs.Char.{len_utf8}
 use lib.Pointwise.{pointwise}

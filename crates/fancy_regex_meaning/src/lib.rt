@@ -2,7 +2,13 @@
 //! patterns and laws.
 #![tactic(auto)]
 
-ghost use Rattle.fancy_regex_meaning.specs.Rows.{TwoNewlines, EmptyIteration, LookAheadKeepsWays, AtomicIsFirst, RangeEnds, NotEmpty, FoldedReference, Iterations, Sets, Pieces, Recursion, Branches, Calls, Deep, Weights, Chosen, Edges, Nodes, SizesOfPatterns, LongestRows};
+ghost use Rattle.fancy_regex_meaning.specs.GroupLaws.{GroupsAreCounted, NumbersAreRanks, BodiesStand, TargetsAreGroups, CallsRunGroups};
+ghost use Rattle.fancy_regex_meaning.specs.Laws.{AtomicHasOne, LookAroundHasEach, NegativeStays, RowSplits, FirstGoesByParts, WaysGoOnward, WaysCutWell, KeepsStart, LoopsAreUnbounded, RepeatsUnroll, CallsAreUnbounded, MatchesAreSpans, WaysAreFew};
+ghost use Rattle.fancy_regex_meaning.specs.ListLaws.{PatternsAscend, ItemsAreUnbounded, OneMorePiece, PiecesAreAll};
+ghost use Rattle.fancy_regex_meaning.specs.Rows.{TwoNewlines, EmptyIteration, LookAheadKeepsWays, AtomicIsFirst, RangeEnds, NotEmpty, FoldedReference, Iterations, Sets, Pieces, Recursion, Branches, Calls, Deep, Weights, Chosen, Edges, Nodes, SizesOfPatterns, LongestRows, Exploding};
+ghost use Rattle.fancy_regex_meaning.specs.Ways.{Setting};
+ghost use Rattle.fancy_regex_tree.specs.Tree.{Tree};
+ghost use Rattle.std.specs.Prelude.{List};
 
 /// What worked patterns find.
 pub fn worked_patterns()
@@ -19,6 +25,7 @@ pub fn worked_patterns()
     ensures deep { Deep }
     ensures edges { Edges }
     ensures longest { LongestRows }
+    ensures exploding { Exploding }
 {}
 
 /// The lists and sets of matches that worked patterns make.
@@ -34,4 +41,38 @@ pub fn worked_sizes()
     ensures chosen { Chosen }
     ensures nodes { Nodes }
     ensures sizes { SizesOfPatterns }
+{}
+
+/// What holds of each pattern's ways.
+pub fn laws_of_ways()
+    ensures atomic { (s : Setting) (groups : List Tree) → AtomicHasOne s groups }
+    ensures look_around { (s : Setting) (groups : List Tree) → LookAroundHasEach s groups }
+    ensures negative { (s : Setting) (groups : List Tree) → NegativeStays s groups }
+    ensures rows { RowSplits }
+    ensures first { FirstGoesByParts }
+    ensures onward { (s : Setting) (groups : List Tree) → WaysGoOnward s groups }
+    ensures cuts { (s : Setting) (groups : List Tree) → WaysCutWell s groups }
+    ensures kept { (s : Setting) (groups : List Tree) → KeepsStart s groups }
+    ensures repeats { (s : Setting) → RepeatsUnroll s }
+    ensures loops { (s : Setting) → LoopsAreUnbounded s }
+    ensures calls { (s : Setting) (groups : List Tree) → CallsAreUnbounded s groups }
+    ensures few { WaysAreFew }
+{}
+
+/// What holds of the matches and the items of each pattern, and of what is made of them.
+pub fn laws_of_items()
+    ensures spans { MatchesAreSpans }
+    ensures items { PatternsAscend }
+    ensures item_bound { ItemsAreUnbounded }
+    ensures one_more { OneMorePiece }
+    ensures pieces { PiecesAreAll }
+{}
+
+/// What holds of the groups of each pattern.
+pub fn laws_of_groups()
+    ensures counted { GroupsAreCounted }
+    ensures ranks { NumbersAreRanks }
+    ensures bodies { BodiesStand }
+    ensures targets { TargetsAreGroups }
+    ensures calls { CallsRunGroups }
 {}

@@ -1,4 +1,5 @@
 use Rattle.fancy_regex_meaning.proofs.RowProofs
+use Rattle.fancy_regex_meaning.proofs.ExplodingProof
 use Rattle.fancy_regex_meaning.proofs.worked_patterns.Goals as goal
 
 pub returns : goal.returns
@@ -16,4 +17,5 @@ returns c = record {
   deep = RowProofs.deep;
   edges = RowProofs.edges;
   longest = RowProofs.longest_rows;
+  exploding = ExplodingProof.exploding_finds_none;
 }
