@@ -204,7 +204,7 @@ pub chosen_holds : (P : Way → Type 0) (longest : Bool) (ws : List Way) → Eac
 chosen_holds P false ws h v e = picks P ws h v e
 chosen_holds P true ws h v e = picks_longest P ws h v e
 
-found_in_list : {A : Type 0} (f : A → Match) (o : Option A) (m : Match) → option_map f o ≡ Some m → (x : A) × (o ≡ Some x) × (f x ≡ m)
+pub found_in_list : {A : Type 0} (f : A → Match) (o : Option A) (m : Match) → option_map f o ≡ Some m → (x : A) × (o ≡ Some x) × (f x ≡ m)
 found_in_list f None m e = absurd (none-some m e)
 found_in_list f (Some x) m e = (x, refl, same_Some (f x) m e)
 
@@ -232,7 +232,7 @@ first_or_later : {A B : Type 0} (P : A → Type 0) (f : A → Option B) (x : A) 
 first_or_later P f x xs m None is p later e = later e
 first_or_later P f x xs m (Some y) is p later e = (x, p, is ∙ e)
 
-first_in_list : {A B : Type 0} (P : A → Type 0) (f : A → Option B) (xs : List A) → Each P xs → (m : B) → first_some f xs ≡ Some m →
+pub first_in_list : {A B : Type 0} (P : A → Type 0) (f : A → Option B) (xs : List A) → Each P xs → (m : B) → first_some f xs ≡ Some m →
     (x : A) × P x × (f x ≡ Some m)
 first_in_list P f [] h m e = absurd (none-some m e)
 first_in_list P f (x ∷ xs) h m e = first_or_later P f x xs m (f x) refl h.0 (λ k. first_in_list P f xs h.1 m k) e

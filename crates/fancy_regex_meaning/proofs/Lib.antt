@@ -11,3 +11,4 @@ pub mod ItemBound
 pub mod ChoiceProofs
 pub mod ExplodingProof
 pub mod GroupProofs
+pub mod SearchProofs

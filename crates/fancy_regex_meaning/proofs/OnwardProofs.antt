@@ -78,10 +78,10 @@ begins_before hay i c e =
 module _ (s : Setting) (utf8 : IsUtf8 s.text) where
   cut_past : (w : Way) (c : ℕ) → CutsWell s.text w → char_at s.text w.position ≡ Some c → CutsWell s.text (at_place w (w.position + len_utf8 c))
   cut_past w c h e =
-      (IsCharBoundary-past_char s.text _ w.position c h.0.0 (IsUtf8-drop s.text w.position utf8 h.0) (char_at_parts s.text w.position c e).1, h.1)
+      (IsCharBoundary-past_char s.text _ w.position c h.0.0 (IsUtf8-drop s.text w.position utf8 h.0) (char_at_parts s.text w.position c e).1, h.1, h.2)
 
   cut_before : (w : Way) (c : ℕ) → CutsWell s.text w → char_before s.text w.position ≡ Some c → CutsWell s.text (at_place w (w.position - len_utf8 c))
-  cut_before w c h e = (starts_character s.text _ c (begins_before s.text w.position c e), h.1)
+  cut_before w c h e = (starts_character s.text _ c (begins_before s.text w.position c e), h.1, h.2)
 
   cut_pair : (k : ℕ) (w v : Way) → CutsWell s.text w → CutsWell s.text v → w.position ≤ v.position →
       CutsWell s.text (set_pair k (w.position, v.position) v)
@@ -98,6 +98,7 @@ module _ (s : Setting) (utf8 : IsUtf8 s.text) where
         (cases_lt k (length v.pairs)))
         (λ (other : j ≡ k → ⊥). i.1 j a b (sym (get_or-set_other v.pairs k j (Some (w.position, v.position)) None other) ∙ e))
         (cases_eq j k),
+    i.2,
   )
 
   cut_again : (k : ℕ) (casei : Bool) (a b : ℕ) (w : Way) → CutsWell s.text w → pair_of w k ≡ Some (a, b) →
@@ -106,7 +107,7 @@ module _ (s : Setting) (utf8 : IsUtf8 s.text) where
   cut_again k true a b w h e same =
       let outer = and_parts _ _ same in
       let inner = and_parts _ _ outer.0 in
-      (IsCharBoundary-of_test s.text _ (leb-true _ _ inner.0) inner.1, h.1)
+      (IsCharBoundary-of_test s.text _ (leb-true _ _ inner.0) inner.1, h.1, h.2)
   cut_again k false a b w h e same =
       let both = and_parts _ _ same in
       let cuts = h.1 k a b e in
@@ -117,17 +118,17 @@ module _ (s : Setting) (utf8 : IsUtf8 s.text) where
       let piece : IsUtf8 (take (b - a) (drop w.position s.text)) =
       subst IsUtf8 bytes (IsUtf8-between s.text a b utf8 cuts.2 cuts.0 cuts.1) in
       let seam = IsCharBoundary-from_take (drop w.position s.text) (b - a) (IsUtf8-drop s.text w.position utf8 h.0) (omega (arith, length-drop w.position s.text)) piece in
-      (IsCharBoundary-from_rest s.text w.position (b - a) h.0.0 seam, h.1)
+      (IsCharBoundary-from_rest s.text w.position (b - a) h.0.0 seam, h.1, h.2)
 
   keeps_cuts : Keeps s (CutsWell s.text)
   keeps_cuts = record {
     past_char = cut_past;
     before_char = cut_before;
-    goes_back = λ w v h k. (h.0, k.1);
+    goes_back = λ w v h k. (h.0, k.1, h.2);
     pair = cut_pair;
-    keep = λ w h. h;
+    keep = λ w h. (h.0, h.1, h.0);
     again = cut_again;
-    jump = λ w q h le e. (IsCharBoundary-of_test s.text q le e, h.1);
+    jump = λ w q h le e. (IsCharBoundary-of_test s.text q le e, h.1, h.2);
   }
 
 pub ways_cut_well : (s : Setting) (groups : List Tree) → WaysCutWell s groups

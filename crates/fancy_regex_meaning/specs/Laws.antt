@@ -40,11 +40,12 @@ KeptBetween w v = (w.position ≤ v.position) × ((v.kept ≡ w.kept) ⊎ ((w.po
 abbrev pub HasGoodPairs : List ℕ → Way → Type 0
 HasGoodPairs text w = (k a b : ℕ) → pair_of w k ≡ Some (a, b) → IsCharBoundary text a × IsCharBoundary text b × (a ≤ b)
 
+-- and so do its position and its kept start
 abbrev pub CutsWell : List ℕ → Way → Type 0
-CutsWell text w = IsCharBoundary text w.position × HasGoodPairs text w
+CutsWell text w = IsCharBoundary text w.position × HasGoodPairs text w × IsCharBoundary text w.kept
 
 module _ (s : Setting) (groups : List Tree) where
-  -- from a character boundary of a text each way leads onward to one, and so do its groups
+  -- in a text, from a way that cuts it between characters, each way leads onward to such a one
   abbrev pub WaysCutWell : Type 0
   WaysCutWell = IsUtf8 s.text → (n : ℕ) (t : Tree) → GoesWell (CutsWell s.text) (ways s groups n t)
 
