@@ -1,5 +1,5 @@
 -- The proofs of the laws of lists of matches.
-use Rattle.std.proofs.Common.{◌≡◌, ℕ, zero, suc, ◌+◌, ◌<◌, ◌≤◌, max, Bool, false, List, [], ◌∷◌, ◌++◌, length, drop, Option, Some, None, refl, sym, ap, ◌∙◌, arith, ◌==◌, nat_lt}
+use Rattle.std.proofs.Common.{◌≡◌, ℕ, zero, suc, ◌+◌, ◌<◌, ◌≤◌, max, Bool, false, List, [], ◌∷◌, ◌++◌, length, drop, take, map, append_assoc, length-take, Option, Some, None, refl, sym, ap, ◌∙◌, arith, ◌==◌, nat_lt}
 use Rattle.std.proofs.lemmas.Bool.{cond_both, ltb-true, ltb-false, eqb-true, eqb-false}
 use Rattle.std.specs.Prelude.{slice_range, option_map, unwrap_or}
 use Rattle.std.proofs.lemmas.List.Folds.{drop_split}
@@ -8,8 +8,8 @@ use Rattle.std.proofs.lemmas.Str.{len_utf8_bounds}
 use Rattle.regex_hir.specs.Text.{char_at}
 use Rattle.fancy_regex_meaning.specs.Places.{place_after}
 use Rattle.fancy_regex_meaning.specs.Ways.{for_some}
-use Rattle.fancy_regex_meaning.specs.Searches.{Match, items, pieces_from}
-use Rattle.fancy_regex_meaning.specs.ListLaws.{LooksOnward, Ascends, AreInOrder, ItemsAscend, in_turn, OneMorePiece, PiecesAreAll}
+use Rattle.fancy_regex_meaning.specs.Searches.{Match, items, pieces_from, replaced_from, counted}
+use Rattle.fancy_regex_meaning.specs.ListLaws.{LooksOnward, Ascends, AreInOrder, ItemsAscend, in_turn, OneMorePiece, PiecesAreAll, PiecesUpToAreCounted, PiecesUpToAreFirst, alternately, ReplacedBySelf, ReplacedIsInTurn, NothingReplaced}
 
 one_at_least : (o : Option ℕ) → 1 ≤ unwrap_or (option_map len_utf8 o) 1
 one_at_least None = omega arith
@@ -81,3 +81,50 @@ pieces_are_all text (m ∷ ms) h =
     ap (λ xs. slice_range text 0 m.start ++ (slice_range text m.start m.end ++ xs)) (all_from text m.end ms h.1)
     ∙ ap (λ xs. slice_range text 0 m.start ++ xs) (rest_of text m.start m.end h.0)
     ∙ rest_of text 0 m.start (omega arith)
+
+pub pieces_up_to_are_counted : PiecesUpToAreCounted
+pieces_up_to_are_counted zero text ms = omega arith
+pieces_up_to_are_counted (suc n) text ms = omega (arith, one_more_piece text (take n ms), length-take n ms)
+
+first_from : (n : ℕ) (text : List ℕ) (p : ℕ) (ms : List Match) → take n (pieces_from text p (take n ms)) ≡ take n (pieces_from text p ms)
+first_from zero text p ms = refl
+first_from (suc n) text p [] = refl
+first_from (suc n) text p (m ∷ ms) = ap (λ xs. slice_range text p m.start ∷ xs) (first_from n text m.end ms)
+
+pub pieces_up_to_are_first : PiecesUpToAreFirst
+pieces_up_to_are_first n text ms = first_from n text 0 ms
+
+in_turn_from : (text : List ℕ) (by : Match → List ℕ) (p : ℕ) (ms : List Match) →
+    replaced_from text by p ms ≡ alternately (pieces_from text p ms) (map by ms)
+in_turn_from text by p [] = refl
+in_turn_from text by p (m ∷ ms) =
+    append_assoc (slice_range text p m.start) (by m) (replaced_from text by m.end ms)
+    ∙ ap (λ xs. slice_range text p m.start ++ (by m ++ xs)) (in_turn_from text by m.end ms)
+
+pub replaced_is_in_turn : ReplacedIsInTurn
+replaced_is_in_turn text by limit ms = in_turn_from text by 0 (counted limit ms)
+
+by_themselves : (text : List ℕ) (p : ℕ) (ms : List Match) →
+    replaced_from text (λ m. slice_range text m.start m.end) p ms ≡ in_turn text (pieces_from text p ms) ms
+by_themselves text p [] = refl
+by_themselves text p (m ∷ ms) =
+    append_assoc (slice_range text p m.start) (slice_range text m.start m.end) (replaced_from text _ m.end ms)
+    ∙ ap (λ xs. slice_range text p m.start ++ (slice_range text m.start m.end ++ xs)) (by_themselves text m.end ms)
+
+ascends_take : (n e : ℕ) (ms : List Match) → Ascends e ms → Ascends e (take n ms)
+ascends_take zero e ms h = tt
+ascends_take (suc n) e [] h = tt
+ascends_take (suc n) e (m ∷ ms) h = (h.0, h.1, h.2, ascends_take n m.end ms h.3)
+
+order_counted : (limit : ℕ) (ms : List Match) → AreInOrder ms → AreInOrder (counted limit ms)
+order_counted zero ms h = h
+order_counted (suc n) [] h = tt
+order_counted (suc n) (m ∷ ms) h = (h.0, ascends_take n m.end ms h.1)
+
+pub replaced_by_self : ReplacedBySelf
+replaced_by_self text limit ms h =
+    by_themselves text 0 (counted limit ms) ∙ pieces_are_all text (counted limit ms) (order_counted limit ms h)
+
+pub nothing_replaced : NothingReplaced
+nothing_replaced text by zero = refl
+nothing_replaced text by (suc n) = refl

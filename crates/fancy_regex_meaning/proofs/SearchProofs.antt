@@ -1,21 +1,21 @@
 -- Matches are admitted ways, and cut the text between characters.
-use Rattle.std.proofs.Common.{◌≡◌, ℕ, zero, suc, ◌+◌, ◌-◌, ◌<◌, ◌≤◌, max, Bool, true, false, cond, List, [], ◌∷◌, ◌++◌, length, drop, replicate, Option, Some, None, refl, sym, ap, subst, ◌∙◌, ⊎_elim, ◌⊎◌, inl, inr, arith, nat_le, nat_lt, ◌==◌, ◌&&◌, not, get_or}
+use Rattle.std.proofs.Common.{◌≡◌, ℕ, zero, suc, ◌+◌, ◌<◌, ◌≤◌, max, Bool, true, false, List, [], ◌∷◌, ◌++◌, length, drop, replicate, Option, Some, None, refl, sym, ap, subst, ◌∙◌, ⊎_elim, arith, nat_lt, ◌==◌}
 use Rattle.std.specs.Prelude.{option_map, slice_index_or, unwrap_or, encode_utf8_all, encode_utf8}
 use Rattle.std.specs.List.{filter}
 use Rattle.std.specs.Char.{len_utf8, IsScalar}
 use Rattle.std.specs.Str.{IsUtf8, IsCharBoundary, all_scalars}
-use Rattle.std.proofs.lemmas.Bool.{and_parts, leb-true, ltb-true, ltb-false, cond_both, cases_lt, false≢true}
+use Rattle.std.proofs.lemmas.Bool.{and_parts, leb-true, ltb-true, ltb-false, cond_both, cases_lt}
 use Rattle.std.proofs.lemmas.Option.{none-some, same_Some}
 use Rattle.std.proofs.lemmas.Str.{IsUtf8-drop, IsCharBoundary-past_char}
 use Rattle.std.proofs.lemmas.List.{get_or-replicate, get_or_past, length-replicate}
 use Rattle.std.proofs.Common.{length-drop}
-use Rattle.regex_hir.specs.Text.{char_at, is_boundary}
+use Rattle.regex_hir.specs.Text.{char_at}
 use Rattle.regex_hir.proofs.TextLemmas.{char_at_parts, char_at_from}
-use Rattle.fancy_regex_meaning.specs.Places.{boundaries, place_after}
+use Rattle.fancy_regex_meaning.specs.Places.{place_after}
 use Rattle.fancy_regex_meaning.specs.Groups.{Pattern}
-use Rattle.fancy_regex_meaning.specs.Ways.{Way, Setting, Pairs, pair_of, ways, for_some}
-use Rattle.fancy_regex_meaning.specs.Searches.{Search, Match, Input, Options, Member, match_of, is_admitted, ways_at, match_at, first_some, first_item, first_longest, farther, chosen, start_way, starts, first_match, search_from, find_input, items, all_items, is_last_end, member_match, set_answer, answer_if_any, found_at}
-use Rattle.fancy_regex_meaning.specs.Laws.{Each, LeadsTo, CutsWell, HasGoodPairs}
+use Rattle.fancy_regex_meaning.specs.Ways.{Way, Setting}
+use Rattle.fancy_regex_meaning.specs.Searches.{Search, Match, Input, Options, Member, match_of, is_admitted, ways_at, match_at, first_some, first_longest, farther, chosen, start_way, starts, first_match, search_from, find_input, items, all_items, is_last_end, member_match, set_answer, answer_if_any, found_at, set_starts, SetAnswer}
+use Rattle.fancy_regex_meaning.specs.Laws.{Each, CutsWell}
 use Rattle.fancy_regex_meaning.specs.SearchLaws.{admitted_at, MatchesAreAdmitted, NoneIsNone, LongestEndsLast, MatchCutsWell, MatchesCutWell, FitsText, FoundCutsWell, ItemsCutWell, OneMemberFinds}
 use Rattle.fancy_regex_meaning.proofs.EachLemmas.{Each-for_some, Each-weaker, Each-filter, Each-filter_passes, Each-cond, boundaries_pass}
 use Rattle.fancy_regex_meaning.proofs.BoundaryLemmas.{IsCharBoundary-of_test}
@@ -173,7 +173,24 @@ items_cut_well s pattern options input utf8 fits =
     items_cut s.text (search_from s pattern options input) input.range_start input.range_end utf8 fits.2 fits.1
     (search_cuts s pattern options input utf8 fits) _ input.start None false (λ more. fits.0)
 
--- the list of one that is found, if it is
-abbrev alone : Option Match → List (ℕ × Match)
-alone None = []
-alone (Some x) = (0, x) ∷ []
+module _ (m : Member) (input : Input) where
+  abbrev own : ℕ → Option Match
+  own p = member_match (m ∷ []) input p m
+
+  by_value : (p : ℕ) (later : Option SetAnswer) (rest : Option Match) →
+      option_map (λ answer. answer.found) later ≡ option_map (λ x. (0, x) ∷ []) rest →
+      (o : Option Match) →
+      option_map (λ answer. answer.found) (elim (answer_if_any (m ∷ []) input p (elim o [ None ↦ [] | Some x ↦ (0, x) ∷ [] ])) [ None ↦ later | Some y ↦ Some y ])
+      ≡ option_map (λ x. (0, x) ∷ []) (elim o [ None ↦ rest | Some y ↦ Some y ])
+  by_value p later rest h None = h
+  by_value p later rest h (Some x) = refl
+
+  by_places : (ps : List ℕ) →
+      option_map (λ answer. answer.found) (first_some (λ p. answer_if_any (m ∷ []) input p (found_at (m ∷ []) input p 0 (m ∷ []))) ps)
+      ≡ option_map (λ x. (0, x) ∷ []) (first_some own ps)
+  by_places [] = refl
+  by_places (p ∷ ps) = by_value p _ _ (by_places ps) (own p)
+
+pub one_member_finds : OneMemberFinds
+unfolding set_answer find_input search_from first_match match_at member_match
+one_member_finds m input = by_places m input (set_starts (m ∷ []) input m.setting.text)

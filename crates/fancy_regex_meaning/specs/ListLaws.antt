@@ -1,6 +1,6 @@
 -- Laws of the lists that are made of matches.
-use Rattle.std.specs.Prelude.{◌≡◌, ℕ, ◌+◌, ◌<◌, ◌≤◌, ⊤, Bool, false, List, [], ◌∷◌, ◌++◌, length, Option, Some, None, slice_range}
-use Rattle.fancy_regex_meaning.specs.Searches.{Match, Options, Input, items, all_items, search_from, pieces}
+use Rattle.std.specs.Prelude.{◌≡◌, ℕ, ◌+◌, ◌<◌, ◌≤◌, ⊤, Bool, false, List, [], ◌∷◌, ◌++◌, length, Option, Some, None, slice_range, suc, min, take, map}
+use Rattle.fancy_regex_meaning.specs.Searches.{Match, Options, Input, items, all_items, search_from, pieces, pieces_up_to, counted, replaced}
 use Rattle.fancy_regex_meaning.specs.Groups.{Pattern}
 use Rattle.fancy_regex_meaning.specs.Ways.{Setting}
 
@@ -43,3 +43,31 @@ abbrev pub ItemsAreUnbounded : Type 0
 ItemsAreUnbounded = (s : Setting) (pattern : Pattern) (options : Options) (input : Input) → input.range_end ≤ length s.text → (n : ℕ) → length s.text + 2 ≤ n →
     items s.text (search_from s pattern options input) input.range_start input.range_end n input.start None false
     ≡ all_items s pattern options input
+
+-- at most n pieces, and where there are fewer of all, these
+abbrev pub PiecesUpToAreCounted : Type 0
+PiecesUpToAreCounted = (n : ℕ) (text : List ℕ) (ms : List Match) → length (pieces_up_to n text ms) ≡ min n (length ms + 1)
+
+-- all of them but the last are the first of all pieces
+abbrev pub PiecesUpToAreFirst : Type 0
+PiecesUpToAreFirst = (n : ℕ) (text : List ℕ) (ms : List Match) → take n (pieces_up_to (suc n) text ms) ≡ take n (pieces text ms)
+
+-- where each match is replaced by its own text nothing changes
+abbrev pub ReplacedBySelf : Type 0
+ReplacedBySelf = (text : List ℕ) (limit : ℕ) (ms : List Match) → AreInOrder ms →
+    replaced text (λ m. slice_range text m.start m.end) limit ms ≡ text
+
+-- texts of two lists in turn, the first list's first
+abbrev pub alternately : List (List ℕ) → List (List ℕ) → List ℕ
+alternately [] ys = []
+alternately (x ∷ xs) [] = x
+alternately (x ∷ xs) (y ∷ ys) = x ++ (y ++ alternately xs ys)
+
+-- the replaced text is the pieces and the answers for the matches in turn
+abbrev pub ReplacedIsInTurn : Type 0
+ReplacedIsInTurn = (text : List ℕ) (by : Match → List ℕ) (limit : ℕ) (ms : List Match) →
+    replaced text by limit ms ≡ alternately (pieces text (counted limit ms)) (map by (counted limit ms))
+
+-- nothing is replaced where nothing matches
+abbrev pub NothingReplaced : Type 0
+NothingReplaced = (text : List ℕ) (by : Match → List ℕ) (limit : ℕ) → replaced text by limit [] ≡ text

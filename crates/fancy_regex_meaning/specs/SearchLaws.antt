@@ -1,5 +1,5 @@
 -- Laws of matches and of sets.
-use Rattle.std.specs.Prelude.{◌≡◌, ℕ, ◌≤◌, Bool, true, false, List, [], ◌∷◌, length, Option, Some, None, option_map, slice_index_or}
+use Rattle.std.specs.Prelude.{◌≡◌, ℕ, ◌≤◌, true, List, [], ◌∷◌, length, Some, None, option_map, slice_index_or}
 use Rattle.std.specs.List.{filter}
 use Rattle.std.specs.Str.{IsUtf8, IsCharBoundary}
 use Rattle.fancy_regex_meaning.specs.Groups.{Pattern}

@@ -4,8 +4,9 @@
 
 ghost use Rattle.fancy_regex_meaning.specs.GroupLaws.{GroupsAreCounted, NumbersAreRanks, BodiesStand, TargetsAreGroups, CallsRunGroups};
 ghost use Rattle.fancy_regex_meaning.specs.Laws.{AtomicHasOne, LookAroundHasEach, NegativeStays, RowSplits, FirstGoesByParts, WaysGoOnward, WaysCutWell, KeepsStart, LoopsAreUnbounded, RepeatsUnroll, CallsAreUnbounded, MatchesAreSpans, WaysAreFew};
-ghost use Rattle.fancy_regex_meaning.specs.ListLaws.{PatternsAscend, ItemsAreUnbounded, OneMorePiece, PiecesAreAll};
+ghost use Rattle.fancy_regex_meaning.specs.ListLaws.{PatternsAscend, ItemsAreUnbounded, OneMorePiece, PiecesAreAll, PiecesUpToAreCounted, PiecesUpToAreFirst, ReplacedIsInTurn, ReplacedBySelf, NothingReplaced};
 ghost use Rattle.fancy_regex_meaning.specs.Rows.{TwoNewlines, EmptyIteration, LookAheadKeepsWays, AtomicIsFirst, RangeEnds, NotEmpty, FoldedReference, Iterations, Sets, Pieces, Recursion, Branches, Calls, Deep, Weights, Chosen, Edges, Nodes, SizesOfPatterns, LongestRows, Exploding};
+ghost use Rattle.fancy_regex_meaning.specs.SearchLaws.{MatchesAreAdmitted, NoneIsNone, LongestEndsLast, MatchesCutWell, FoundCutsWell, ItemsCutWell, OneMemberFinds};
 ghost use Rattle.fancy_regex_meaning.specs.Ways.{Setting};
 ghost use Rattle.fancy_regex_tree.specs.Tree.{Tree};
 ghost use Rattle.std.specs.Prelude.{List};
@@ -59,13 +60,33 @@ pub fn laws_of_ways()
     ensures few { WaysAreFew }
 {}
 
-/// What holds of the matches and the items of each pattern, and of what is made of them.
-pub fn laws_of_items()
+/// What holds of the match that a search finds, and of a set of one member.
+pub fn laws_of_matches()
+    ensures admitted { MatchesAreAdmitted }
+    ensures none { NoneIsNone }
+    ensures longest { LongestEndsLast }
     ensures spans { MatchesAreSpans }
-    ensures items { PatternsAscend }
-    ensures item_bound { ItemsAreUnbounded }
+    ensures cuts { MatchesCutWell }
+    ensures found { FoundCutsWell }
+    ensures one_member { OneMemberFinds }
+{}
+
+/// What holds of the items of an iteration.
+pub fn laws_of_items()
+    ensures ascend { PatternsAscend }
+    ensures bound { ItemsAreUnbounded }
+    ensures cuts { ItemsCutWell }
+{}
+
+/// What holds of the pieces between matches, and of the text in which they are replaced.
+pub fn laws_of_pieces()
     ensures one_more { OneMorePiece }
-    ensures pieces { PiecesAreAll }
+    ensures all { PiecesAreAll }
+    ensures counted { PiecesUpToAreCounted }
+    ensures first { PiecesUpToAreFirst }
+    ensures replaced { ReplacedIsInTurn }
+    ensures by_self { ReplacedBySelf }
+    ensures nothing { NothingReplaced }
 {}
 
 /// What holds of the groups of each pattern.
