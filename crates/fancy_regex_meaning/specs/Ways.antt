@@ -264,7 +264,7 @@ module _ (s : Setting) where
       meaning call n (backref_exists k (Some level)) = node (backref_exists k (Some level)) no_way
       meaning call n (tree.conditional c a b) = node (tree.conditional c a b)
           (λ w. conditional ((meaning call n c).from w) (meaning call (n + group_count c) a).from
-            (meaning call (n + group_count c + group_count a) b).from w)
+          (meaning call (n + group_count c + group_count a) b).from w)
       meaning call n (subroutine_call k) = node (subroutine_call k) (call k)
       meaning call n keep_out = node keep_out keep_here
       meaning call n continue = node continue (λ w. stay_if (is_some_and s.continue_at (λ g. g == w.position)) w)
