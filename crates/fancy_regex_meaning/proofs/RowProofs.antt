@@ -9,11 +9,15 @@ use Rattle.fancy_regex_meaning.specs.Sizes.{size_with, calls_in, calls_through, 
 use Rattle.fancy_regex_meaning.specs.Ways.{meaning, call_ways, ways}
 use Rattle.fancy_regex_meaning.specs.Choices.{count, call_choices, choices_at, choices, nodes_with, called_nodes, program_nodes}
 use Rattle.fancy_regex_meaning.specs.Searches.{match_at, first_match, search_from, find_input, items, all_items, member_match, set_answer}
-use Rattle.fancy_regex_meaning.specs.Rows.{TwoNewlines, EmptyIteration, LookAheadKeepsWays, AtomicIsFirst, RangeEnds, NotEmpty, FoldedReference, Iterations, Sets, Pieces, Branches, Calls, Weights, Recursion, Chosen, Deep, Edges, Nodes, SizesOfPatterns, LongestRows}
+use Rattle.fancy_regex_meaning.specs.Rows.{Orders, TwoNewlines, EmptyIteration, LookAheadKeepsWays, AtomicIsFirst, RangeEnds, NotEmpty, FoldedReference, Iterations, Sets, Pieces, Branches, Calls, Weights, Recursion, Chosen, Deep, Edges, Nodes, SizesOfPatterns, LongestRows}
 
 unfoldable pub everything : ⊤
 unfolding chars encode_utf8 byte_before has_bytes_at char_at char_before is_boundary bodies group_count size_with calls_in calls_through is_recursive size_through size weight meaning call_ways ways match_at first_match search_from find_input items all_items member_match set_answer count call_choices choices_at choices nodes_with called_nodes program_nodes
 everything = tt
+
+pub orders : Orders
+unfolding everything
+orders = (refl, refl, refl, refl, refl, refl, refl, refl, refl, refl)
 
 pub two_newlines : TwoNewlines
 unfolding everything

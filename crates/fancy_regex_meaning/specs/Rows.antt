@@ -1,5 +1,5 @@
 -- Worked patterns, and what they find.
-use Rattle.std.specs.Prelude.{◌≡◌, ℕ, zero, suc, ◌+◌, ◌&&◌, Bool, true, false, List, [], ◌∷◌, map, Option, Some, None, option_map, codes, nat_le, ◌==◌, if◌then◌else◌, ◌++◌, replicate, encode_utf8_all}
+use Rattle.std.specs.Prelude.{◌≡◌, ℕ, zero, suc, ◌+◌, ◌&&◌, Bool, true, false, List, [], ◌∷◌, map, Option, Some, None, option_map, codes, nat_le, ◌==◌, if◌then◌else◌, ◌++◌, replicate, encode_utf8_all, length}
 use Prim.Native.String.{String}
 use Rattle.fancy_regex_tree.specs.declared.expr.Assertion.TheVariants.{StartText, EndText, WordBoundary, StartLine}
 use Rattle.fancy_regex_tree.specs.declared.expr.LookAround.TheVariants.{LookAhead, LookAheadNeg, LookBehind, LookBehindNeg}
@@ -9,7 +9,7 @@ use Rattle.fancy_regex_meaning.specs.Groups.{pattern_of}
 use Rattle.fancy_regex_meaning.specs.Ways.{Setting, Pairs}
 use Rattle.fancy_regex_meaning.specs.Sizes.{Size, tree_weight, size, unbounded, always_size}
 use Rattle.fancy_regex_meaning.specs.Choices.{choices, program_nodes}
-use Rattle.fancy_regex_meaning.specs.Searches.{Match, Member, default_options, find_input, input_of, all_items, pieces, replaced, set_answer}
+use Rattle.fancy_regex_meaning.specs.Searches.{ways_at, Match, Member, default_options, find_input, input_of, all_items, pieces, replaced, set_answer}
 
 abbrev pub literals : List ℕ → List Tree
 literals [] = []
@@ -65,6 +65,24 @@ found_in t text first stop = option_map seen (find_input (plain text) (pattern_o
 
 abbrev pub spans : Tree → List ℕ → List (ℕ × ℕ)
 spans t text = map (λ m. (m.start, m.end)) (all_items (plain text) (pattern_of t) default_options (input_of text))
+
+-- where the ways of the pattern lead from a place, in order
+abbrev pub ends_from : Tree → List ℕ → ℕ → List ℕ
+ends_from t text p =
+    map (λ w. w.position) (ways_at (plain text) (pattern_of t) (record { first = p; stop = length text; anchored = false; options = default_options }) p)
+
+-- `a|ab` and `ab|a`, `a*`, `a*?`, `a??`, `a{1,2}`, `a{2}`, `(?>a|ab)`, `a*` from 1, `(?:a|ab)c`
+abbrev pub Orders : Type 0
+Orders = (ends_from (alt (a ∷ word (codes "ab") ∷ [])) (codes "abc") 0 ≡ 1 ∷ 2 ∷ [])
+    × (ends_from (alt (word (codes "ab") ∷ a ∷ [])) (codes "abc") 0 ≡ 2 ∷ 1 ∷ [])
+    × (ends_from (star a) (codes "aa") 0 ≡ 2 ∷ 1 ∷ 0 ∷ [])
+    × (ends_from (repeat a 0 unbounded false) (codes "aa") 0 ≡ 0 ∷ 1 ∷ 2 ∷ [])
+    × (ends_from (repeat a 0 1 false) (codes "aa") 0 ≡ 0 ∷ 1 ∷ [])
+    × (ends_from (repeat a 1 2 true) (codes "aaa") 0 ≡ 2 ∷ 1 ∷ [])
+    × (ends_from (repeat a 2 2 true) (codes "aaa") 0 ≡ 2 ∷ [])
+    × (ends_from (atomic_group (alt (a ∷ word (codes "ab") ∷ []))) (codes "abc") 0 ≡ 1 ∷ [])
+    × (ends_from (star a) (codes "aa") 1 ≡ 2 ∷ 1 ∷ [])
+    × (found (cat (alt (a ∷ word (codes "ab") ∷ []) ∷ c ∷ [])) (codes "abc") ≡ Some (0, 3, None ∷ []))
 
 abbrev pub TwoNewlines : Type 0
 TwoNewlines = found (cat (group (any true false) ∷ any true false ∷ [])) (10 ∷ 10 ∷ []) ≡ Some (0, 2, None ∷ Some (0, 1) ∷ [])

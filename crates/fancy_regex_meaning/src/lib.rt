@@ -5,7 +5,7 @@
 ghost use Rattle.fancy_regex_meaning.specs.GroupLaws.{GroupsAreCounted, NumbersAreRanks, BodiesStand, TargetsAreGroups, CallsRunGroups};
 ghost use Rattle.fancy_regex_meaning.specs.Laws.{AtomicHasOne, LookAroundHasEach, NegativeStays, RowSplits, FirstGoesByParts, WaysGoOnward, WaysCutWell, KeepsStart, LoopsAreUnbounded, RepeatsUnroll, CallsAreUnbounded, MatchesAreSpans, WaysAreFew};
 ghost use Rattle.fancy_regex_meaning.specs.ListLaws.{PatternsAscend, ItemsAreUnbounded, OneMorePiece, PiecesAreAll, PiecesUpToAreCounted, PiecesUpToAreFirst, ReplacedIsInTurn, ReplacedBySelf, NothingReplaced};
-ghost use Rattle.fancy_regex_meaning.specs.Rows.{TwoNewlines, EmptyIteration, LookAheadKeepsWays, AtomicIsFirst, RangeEnds, NotEmpty, FoldedReference, Iterations, Sets, Pieces, Recursion, Branches, Calls, Deep, Weights, Chosen, Edges, Nodes, SizesOfPatterns, LongestRows, Exploding};
+ghost use Rattle.fancy_regex_meaning.specs.Rows.{Orders, TwoNewlines, EmptyIteration, LookAheadKeepsWays, AtomicIsFirst, RangeEnds, NotEmpty, FoldedReference, Iterations, Sets, Pieces, Recursion, Branches, Calls, Deep, Weights, Chosen, Edges, Nodes, SizesOfPatterns, LongestRows, Exploding};
 ghost use Rattle.fancy_regex_meaning.specs.SearchLaws.{MatchesAreAdmitted, NoneIsNone, LongestEndsLast, MatchesCutWell, FoundCutsWell, ItemsCutWell, OneMemberFinds};
 ghost use Rattle.fancy_regex_meaning.specs.Ways.{Setting};
 ghost use Rattle.fancy_regex_tree.specs.Tree.{Tree};
@@ -13,6 +13,7 @@ ghost use Rattle.std.specs.Prelude.{List};
 
 /// What worked patterns find.
 pub fn worked_patterns()
+    ensures orders { Orders }
     ensures two_newlines { TwoNewlines }
     ensures empty_iteration { EmptyIteration }
     ensures look_ahead_keeps_ways { LookAheadKeepsWays }

@@ -4,6 +4,7 @@ use Rattle.fancy_regex_meaning.proofs.worked_patterns.Goals as goal
 
 pub returns : goal.returns
 returns c = record {
+  orders = RowProofs.orders;
   two_newlines = RowProofs.two_newlines;
   empty_iteration = RowProofs.empty_iteration;
   look_ahead_keeps_ways = RowProofs.look_ahead_keeps_ways;
