@@ -1,6 +1,6 @@
 -- Matches are admitted ways, and cut the text between characters.
 use Rattle.std.proofs.Common.{◌≡◌, ℕ, zero, suc, ◌+◌, ◌<◌, ◌≤◌, max, Bool, true, false, List, [], ◌∷◌, ◌++◌, length, drop, replicate, Option, Some, None, refl, sym, ap, subst, ◌∙◌, ⊎_elim, arith, nat_lt, ◌==◌}
-use Rattle.std.specs.Prelude.{option_map, slice_index_or, unwrap_or, encode_utf8_all, encode_utf8}
+use Rattle.std.specs.Prelude.{slice_get, option_map, slice_index_or, unwrap_or, encode_utf8_all, encode_utf8}
 use Rattle.std.specs.List.{filter}
 use Rattle.std.specs.Char.{len_utf8, IsScalar}
 use Rattle.std.specs.Str.{IsUtf8, IsCharBoundary, all_scalars}
@@ -16,7 +16,7 @@ use Rattle.fancy_regex_meaning.specs.Groups.{Pattern}
 use Rattle.fancy_regex_meaning.specs.Ways.{Way, Setting}
 use Rattle.fancy_regex_meaning.specs.Searches.{Search, Match, Input, Options, Member, match_of, is_admitted, ways_at, match_at, first_some, first_longest, farther, chosen, start_way, starts, first_match, search_from, find_input, items, all_items, is_last_end, member_match, set_answer, answer_if_any, found_at, set_starts, SetAnswer}
 use Rattle.fancy_regex_meaning.specs.Laws.{Each, CutsWell}
-use Rattle.fancy_regex_meaning.specs.SearchLaws.{admitted_at, MatchesAreAdmitted, NoneIsNone, LongestEndsLast, MatchCutsWell, MatchesCutWell, FitsText, FoundCutsWell, ItemsCutWell, OneMemberFinds}
+use Rattle.fancy_regex_meaning.specs.SearchLaws.{admitted_at, MatchesAreAdmitted, NoneIsNone, LongestEndsLast, MatchCutsWell, MatchesCutWell, FitsText, FoundCutsWell, ItemsCutWell, OneMemberFinds, Rises, IsFoundAt, SetsFindMembers}
 use Rattle.fancy_regex_meaning.proofs.EachLemmas.{Each-for_some, Each-weaker, Each-filter, Each-filter_passes, Each-cond, boundaries_pass}
 use Rattle.fancy_regex_meaning.proofs.BoundaryLemmas.{IsCharBoundary-of_test}
 use Rattle.fancy_regex_meaning.proofs.OnwardProofs.{ways_cut_well}
@@ -194,3 +194,89 @@ module _ (m : Member) (input : Input) where
 pub one_member_finds : OneMemberFinds
 unfolding set_answer find_input search_from first_match match_at member_match
 one_member_finds m input = by_places m input (set_starts (m ∷ []) input m.setting.text)
+
+module _ (members : List Member) (input : Input) (p : ℕ) where
+  -- found from a list whose members are numbered from i on
+  abbrev Own : List Member → ℕ → ℕ × Match → Type 0
+  Own ms i x = (j : ℕ) × (x.0 ≡ i + j) × (m : Member) × (slice_get ms j ≡ Some m) × (member_match members input p m ≡ Some x.1)
+
+  own_later : (m : Member) (ms : List Member) (i : ℕ) (xs : List (ℕ × Match)) → Each (Own ms (i + 1)) xs → Each (Own (m ∷ ms) i) xs
+  own_later m ms i xs h = Each-weaker _ _ (λ x o. (suc o.0, omega (arith, o.1), o.2, o.3, o.4)) xs h
+
+  own_first : (m : Member) (ms : List Member) (i : ℕ) (o : Option Match) (rest : List (ℕ × Match)) → member_match members input p m ≡ o →
+      Each (Own (m ∷ ms) i) rest → Each (Own (m ∷ ms) i) (elim o [ None ↦ rest | Some found ↦ (i, found) ∷ rest ])
+  own_first m ms i None rest e h = h
+  own_first m ms i (Some found) rest e h = ((0, omega arith, m, refl, e), h)
+
+  are_own : (ms : List Member) (i : ℕ) → Each (Own ms i) (found_at members input p i ms)
+  are_own [] i = tt
+  are_own (m ∷ ms) i = own_first m ms i (member_match members input p m) _ refl (own_later m ms i _ (are_own ms (i + 1)))
+
+  abbrev Listed : List (ℕ × Match) → ℕ × Match → Type 0
+  Listed xs x = (l : ℕ) × (slice_get xs l ≡ Some x)
+
+  listed_first : (i : ℕ) (o : Option Match) (rest : List (ℕ × Match)) (found : Match) → o ≡ Some found →
+      Listed (elim o [ None ↦ rest | Some r ↦ (i, r) ∷ rest ]) (i, found)
+  listed_first i None rest found e = absurd (none-some found e)
+  listed_first i (Some r) rest found e = (0, ap (λ y. Some (i, y)) (same_Some r found e))
+
+  listed_later : (i : ℕ) (o : Option Match) (rest : List (ℕ × Match)) (x : ℕ × Match) → Listed rest x →
+      Listed (elim o [ None ↦ rest | Some r ↦ (i, r) ∷ rest ]) x
+  listed_later i None rest x h = h
+  listed_later i (Some r) rest x h = (suc h.0, h.1)
+
+  are_listed : (ms : List Member) (i j : ℕ) (m : Member) (found : Match) → slice_get ms j ≡ Some m → member_match members input p m ≡ Some found →
+      (k : ℕ) → k ≡ i + j → Listed (found_at members input p i ms) (k, found)
+  are_listed [] i j m found e is k at = absurd (none-some m e)
+  are_listed (n ∷ ms) i zero m found e is k at =
+      let same : i ≡ k = omega (arith, at) in
+      subst (λ x. Listed (found_at members input p i (n ∷ ms)) (x, found)) same
+      (listed_first i (member_match members input p n) _ found (ap (member_match members input p) (same_Some n m e) ∙ is))
+  are_listed (n ∷ ms) i (suc j) m found e is k at =
+      listed_later i (member_match members input p n) _ (k, found) (are_listed ms (i + 1) j m found e is k (omega (arith, at)))
+
+  rises_from : (i j : ℕ) (xs : List (ℕ × Match)) → i ≤ j → Rises j xs → Rises i xs
+  rises_from i j [] le h = tt
+  rises_from i j (x ∷ xs) le h = (omega (arith, h.0), h.1)
+
+  rises_first : (i : ℕ) (o : Option Match) (rest : List (ℕ × Match)) → Rises (i + 1) rest →
+      Rises i (elim o [ None ↦ rest | Some r ↦ (i, r) ∷ rest ])
+  rises_first i None rest h = rises_from i (i + 1) rest (omega arith) h
+  rises_first i (Some r) rest h = (omega arith, h)
+
+  rise : (ms : List Member) (i : ℕ) → Rises i (found_at members input p i ms)
+  rise [] i = tt
+  rise (m ∷ ms) i = rises_first i (member_match members input p m) _ (rise ms (i + 1))
+
+module _ (members : List Member) (input : Input) where
+  answers : (p : ℕ) (xs : List (ℕ × Match)) (answer : SetAnswer) → answer_if_any members input p xs ≡ Some answer →
+      (answer.position ≡ p) × (answer.found ≡ xs) × (1 ≤ length xs)
+  answers p [] answer e = absurd (none-some answer e)
+  answers p (x ∷ xs) answer e =
+      let same = same_Some _ answer e in
+      (ap (λ r. r.position) (sym same), ap (λ r. r.found) (sym same), omega arith)
+
+  always : (ps : List ℕ) → Each (λ p. Unit {0}) ps
+  always [] = tt
+  always (p ∷ ps) = (tt, always ps)
+
+pub sets_find_members : SetsFindMembers
+unfolding set_answer
+sets_find_members members input text answer e =
+    let first = first_in_list (λ p. Unit {0}) (λ p. answer_if_any members input p (found_at members input p 0 members)) _
+    (always members input (set_starts members input text)) answer e in
+    let is = answers members input first.0 _ answer first.2 in
+    let P : ℕ → List (ℕ × Match) → Type 0 = λ p xs.
+    Each (IsFoundAt members input p) xs
+    × ((k : ℕ) (found : Match) → IsFoundAt members input p (k, found) → (i : ℕ) × (slice_get xs i ≡ Some (k, found)))
+    × Rises 0 xs × (1 ≤ length xs) in
+    subst (λ p. P p answer.found) (sym is.0) (subst (P first.0) (sym is.1) (
+      Each-weaker _ _ (λ x o. (o.2, subst (λ k. slice_get members k ≡ Some o.2) (nothing_added x.0 o.0 o.1) o.3, o.4)) _
+          (are_own members input first.0 members 0),
+      λ k found h. are_listed members input first.0 members 0 k h.0 found h.1 h.2 k (omega arith),
+      rise members input first.0 members 0,
+      is.2,
+    ))
+  where
+    nothing_added : (k j : ℕ) → k ≡ 0 + j → j ≡ k
+    nothing_added k j h = omega (arith, h)

@@ -1,6 +1,6 @@
 -- Laws of the lists that are made of matches.
-use Rattle.std.specs.Prelude.{◌≡◌, ℕ, ◌+◌, ◌<◌, ◌≤◌, ⊤, Bool, false, List, [], ◌∷◌, ◌++◌, length, Option, Some, None, slice_range, suc, min, take, map}
-use Rattle.fancy_regex_meaning.specs.Searches.{Match, Options, Input, items, all_items, search_from, pieces, pieces_up_to, counted, replaced}
+use Rattle.std.specs.Prelude.{◌-◌, ◌≡◌, ℕ, ◌+◌, ◌<◌, ◌≤◌, ⊤, Bool, false, List, [], ◌∷◌, ◌++◌, length, Option, Some, None, slice_range, suc, min, take, map}
+use Rattle.fancy_regex_meaning.specs.Searches.{Match, Options, Input, items, all_items, search_from, pieces, pieces_up_to, counted, replaced, first_item, find_input}
 use Rattle.fancy_regex_meaning.specs.Groups.{Pattern}
 use Rattle.fancy_regex_meaning.specs.Ways.{Setting}
 
@@ -37,6 +37,18 @@ PiecesAreAll = (text : List ℕ) (ms : List Match) → AreInOrder ms → in_turn
 -- the items of each pattern, on each text
 abbrev pub PatternsAscend : Type 0
 PatternsAscend = (s : Setting) (pattern : Pattern) (options : Options) (input : Input) → AreInOrder (all_items s pattern options input)
+
+-- the first item is what is found
+abbrev pub FirstItemIsFound : Type 0
+FirstItemIsFound = (s : Setting) (pattern : Pattern) (options : Options) (input : Input) →
+    first_item (all_items s pattern options input) ≡ find_input s pattern options input
+
+-- Wherever an iteration stands, a bound on the count of its items that is past the places that are left never ends them.
+abbrev pub ItemsNeedNoMore : Type 0
+ItemsNeedNoMore = (s : Setting) (pattern : Pattern) (options : Options) (input : Input) (n m p : ℕ) (last : Option ℕ) (off : Bool) →
+    input.range_end + 1 - p < n → input.range_end + 1 - p < m →
+    items s.text (search_from s pattern options input) input.range_start input.range_end n p last off
+    ≡ items s.text (search_from s pattern options input) input.range_start input.range_end m p last off
 
 -- The bound on the count of items is never what ends them.
 abbrev pub ItemsAreUnbounded : Type 0

@@ -1,10 +1,10 @@
 -- Laws of matches and of sets.
-use Rattle.std.specs.Prelude.{◌≡◌, ℕ, ◌≤◌, true, List, [], ◌∷◌, length, Some, None, option_map, slice_index_or}
+use Rattle.std.specs.Prelude.{◌≡◌, ℕ, ◌≤◌, true, List, [], ◌∷◌, length, Some, None, option_map, slice_index_or, slice_get, ◌+◌, ⊤}
 use Rattle.std.specs.List.{filter}
 use Rattle.std.specs.Str.{IsUtf8, IsCharBoundary}
 use Rattle.fancy_regex_meaning.specs.Groups.{Pattern}
 use Rattle.fancy_regex_meaning.specs.Ways.{Way, Setting}
-use Rattle.fancy_regex_meaning.specs.Searches.{Search, Match, Input, Options, Member, match_of, is_admitted, ways_at, match_at, find_input, all_items, set_answer}
+use Rattle.fancy_regex_meaning.specs.Searches.{Search, Match, Input, Options, Member, match_of, is_admitted, ways_at, match_at, find_input, all_items, SetAnswer, member_match, set_answer}
 use Rattle.fancy_regex_meaning.specs.Laws.{Each}
 
 -- the admitted ways of a place
@@ -53,3 +53,22 @@ abbrev pub OneMemberFinds : Type 0
 OneMemberFinds = (m : Member) (input : Input) →
     option_map (λ answer. answer.found) (set_answer (m ∷ []) input (m.setting.text))
     ≡ option_map (λ found. (0, found) ∷ []) (find_input m.setting m.pattern m.options input)
+
+-- the numbers rise, from the first one on
+abbrev pub Rises : ℕ → List (ℕ × Match) → Type 0
+Rises i [] = ⊤
+Rises i (x ∷ xs) = (i ≤ x.0) × Rises (x.0 + 1) xs
+
+-- this is the member with the number, and its own match at the place
+abbrev pub IsFoundAt : List Member → Input → ℕ → ℕ × Match → Type 0
+IsFoundAt members input p x = (m : Member) × (slice_get members x.0 ≡ Some m) × (member_match members input p m ≡ Some x.1)
+
+-- What a set finds are its members that match at its place, each with its own match, in the order of their numbers; and there is one.
+abbrev pub SetsFindMembers : Type 0
+SetsFindMembers = (members : List Member) (input : Input) (text : List ℕ) (answer : SetAnswer) →
+    set_answer members input text ≡ Some answer →
+    Each (IsFoundAt members input answer.position) answer.found
+    × ((k : ℕ) (found : Match) → IsFoundAt members input answer.position (k, found) →
+    (i : ℕ) × (slice_get answer.found i ≡ Some (k, found)))
+    × Rises 0 answer.found
+    × (1 ≤ length answer.found)

@@ -160,7 +160,7 @@ module _ (groups : List Tree) where
   repeat_weight lo None w true = (lo + 2) * w + 4
   repeat_weight lo None w false = max lo 1 * w + 3
 
-  -- W of a node
+  -- the weight of a node
   unfoldable mutual
     pub weight : Tree → ℕ
     weight (concat ts) = max 1 (weights ts)
@@ -187,6 +187,6 @@ module _ (groups : List Tree) where
     branch_gaps (more_trees t no_trees) = 0
     branch_gaps (more_trees t (more_trees u ts)) = branch_gaps (more_trees u ts) + 1
 
-  -- W of a whole tree
+  -- the weight of a whole tree
   abbrev pub tree_weight : Tree → ℕ
   tree_weight t = weight t + 2

@@ -4,9 +4,9 @@
 
 ghost use Rattle.fancy_regex_meaning.specs.GroupLaws.{GroupsAreCounted, NumbersAreRanks, BodiesStand, TargetsAreGroups, CallsRunGroups};
 ghost use Rattle.fancy_regex_meaning.specs.Laws.{AtomicHasOne, LookAroundHasEach, NegativeStays, RowSplits, FirstGoesByParts, WaysGoOnward, WaysCutWell, KeepsStart, LoopsAreUnbounded, RepeatsUnroll, CallsAreUnbounded, MatchesAreSpans, WaysAreFew};
-ghost use Rattle.fancy_regex_meaning.specs.ListLaws.{PatternsAscend, ItemsAreUnbounded, OneMorePiece, PiecesAreAll, PiecesUpToAreCounted, PiecesUpToAreFirst, ReplacedIsInTurn, ReplacedBySelf, NothingReplaced};
+ghost use Rattle.fancy_regex_meaning.specs.ListLaws.{PatternsAscend, FirstItemIsFound, ItemsNeedNoMore, ItemsAreUnbounded, OneMorePiece, PiecesAreAll, PiecesUpToAreCounted, PiecesUpToAreFirst, ReplacedIsInTurn, ReplacedBySelf, NothingReplaced};
 ghost use Rattle.fancy_regex_meaning.specs.Rows.{Orders, TwoNewlines, EmptyIteration, LookAheadKeepsWays, AtomicIsFirst, RangeEnds, NotEmpty, FoldedReference, Iterations, Sets, Pieces, Recursion, Branches, Calls, Deep, Weights, Chosen, Edges, Nodes, SizesOfPatterns, LongestRows, Exploding};
-ghost use Rattle.fancy_regex_meaning.specs.SearchLaws.{MatchesAreAdmitted, NoneIsNone, LongestEndsLast, MatchesCutWell, FoundCutsWell, ItemsCutWell, OneMemberFinds};
+ghost use Rattle.fancy_regex_meaning.specs.SearchLaws.{MatchesAreAdmitted, NoneIsNone, LongestEndsLast, MatchesCutWell, FoundCutsWell, ItemsCutWell, OneMemberFinds, SetsFindMembers};
 ghost use Rattle.fancy_regex_meaning.specs.Ways.{Setting};
 ghost use Rattle.fancy_regex_tree.specs.Tree.{Tree};
 ghost use Rattle.std.specs.Prelude.{List};
@@ -61,7 +61,7 @@ pub fn laws_of_ways()
     ensures few { WaysAreFew }
 {}
 
-/// What holds of the match that a search finds, and of a set of one member.
+/// What holds of the match that a search finds, and of what a set finds.
 pub fn laws_of_matches()
     ensures admitted { MatchesAreAdmitted }
     ensures none { NoneIsNone }
@@ -70,11 +70,14 @@ pub fn laws_of_matches()
     ensures cuts { MatchesCutWell }
     ensures found { FoundCutsWell }
     ensures one_member { OneMemberFinds }
+    ensures members { SetsFindMembers }
 {}
 
 /// What holds of the items of an iteration.
 pub fn laws_of_items()
     ensures ascend { PatternsAscend }
+    ensures first { FirstItemIsFound }
+    ensures more { ItemsNeedNoMore }
     ensures bound { ItemsAreUnbounded }
     ensures cuts { ItemsCutWell }
 {}

@@ -11,4 +11,5 @@ returns c = record {
   cuts = SearchProofs.matches_cut_well;
   found = SearchProofs.found_cuts_well;
   one_member = SearchProofs.one_member_finds;
+  members = SearchProofs.sets_find_members;
 }
