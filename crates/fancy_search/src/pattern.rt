@@ -2,6 +2,7 @@
 
 ghost use Rattle.std.specs.Prelude.{◌≡◌, ◌<◌, ◌≤◌, ◌+◌, length, map, chars, string_bytes, drop, option_map, IfOk, IfSome, OnOk, false, [], ◌∷◌, ◌++◌};
 ghost use Rattle.fancy_regex_tree.specs.Tree.{tree_of, literal};
+ghost use Rattle.fancy_search_lister.specs.Served.{IsServed};
 ghost use Rattle.fancy_search.specs.Carried.{begins_with, is_carried_at, is_carried};
 ghost use Rattle.fancy_search.specs.Reading.{Gives, uncons, starting, behind_bar, is_empty, kept, concat_of, alt_of, byte_len, piece_at, branch_at, whole_at, group_at, after_close, read_all, pattern_at, Parses};
 ghost use Rattle.fancy_search.specs.declared.pattern.ReadError.TheVariants.{Memory};
@@ -45,7 +46,8 @@ impl<T: Drop> From<AllocFailed<T>> for ReadError {
 /// The tree of a pattern; the first fault from the left and the byte at which it is; or `NotCarried`,
 /// whatever else is wrong, where the pattern holds a sign that this reader does not read.
 pub fn parse(alloc: Global, pattern: &str) -> Result<Expr, Fault>
-    ensures { Parses result (pattern_at (chars pattern.now)) }
+    ensures value { Parses result (pattern_at (chars pattern.now)) }
+    ensures served { IfOk result (λ tree. IsServed (tree_of tree)) }
 {
     if !all_carried(pattern) {
         return Err(Fault::NotCarried);
