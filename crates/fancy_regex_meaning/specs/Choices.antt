@@ -94,7 +94,7 @@ module _ (s : Setting) where
         count n (atomic_group t) = count_of (atomic_group t) (count n t).from
         count n (conditional c a b) = count_of (conditional c a b)
             (λ w. 1 + (count n c).from w
-              + branch_choices (moves n c w) (count (n + group_count c) a).from (count (n + group_count c + group_count a) b).from w)
+            + branch_choices (moves n c w) (count (n + group_count c) a).from (count (n + group_count c + group_count a) b).from w)
         count n (subroutine_call k) = count_of (subroutine_call k) (call_count k)
         count n (absent_repeater t) = count_of (absent_repeater t) (absent_choices (count n t).from)
         count n _ = record { from = λ w. 0; behind = λ w. 0 }
@@ -118,7 +118,7 @@ module _ (s : Setting) where
     unfoldable pub choices_at : ℕ → ℕ
     choices_at p =
         (count pattern.groups (call_ways s pattern.groups (most_calls pattern.groups) []) (call_choices pattern.groups (most_calls pattern.groups) [])
-          pattern.first_group pattern.tree).from (start_way pattern p)
+        pattern.first_group pattern.tree).from (start_way pattern p)
 
     -- one for each start that is tried, and its choices, up to the answer's
     abbrev pub choices_through : (ℕ → Option Match) → List ℕ → ℕ

@@ -1,15 +1,15 @@
 -- Worked patterns, and what they find.
-use Rattle.std.specs.Prelude.{◌≡◌, ℕ, zero, suc, ◌+◌, ◌&&◌, Bool, true, false, List, [], ◌∷◌, map, Option, Some, None, option_map, codes, nat_le, ◌==◌, if◌then◌else◌, ◌++◌, replicate, encode_utf8_all, length}
+use Rattle.std.specs.Prelude.{◌≡◌, ℕ, zero, suc, ◌+◌, ◌&&◌, Bool, true, false, List, [], ◌∷◌, map, Option, Some, None, option_map, codes, nat_le, ◌==◌, if◌then◌else◌, ◌++◌, replicate, encode_utf8_all}
 use Prim.Native.String.{String}
 use Rattle.fancy_regex_tree.specs.declared.expr.Assertion.TheVariants.{StartText, EndText, WordBoundary, StartLine}
 use Rattle.fancy_regex_tree.specs.declared.expr.LookAround.TheVariants.{LookAhead, LookAheadNeg, LookBehind, LookBehindNeg}
 use Rattle.fancy_regex_tree.specs.Tree as tree
 use Rattle.fancy_regex_tree.specs.Tree.{Tree, trees, Text, empty, any, assertion, general_newline, literal, delegate, concat, group, look_around, repeat, atomic_group, backref, backref_exists, conditional, subroutine_call, keep_out, continue, absent_repeater, define_group}
-use Rattle.fancy_regex_meaning.specs.Groups.{Pattern, pattern_of}
+use Rattle.fancy_regex_meaning.specs.Groups.{pattern_of}
 use Rattle.fancy_regex_meaning.specs.Ways.{Setting, Pairs}
 use Rattle.fancy_regex_meaning.specs.Sizes.{Size, tree_weight, size, unbounded, always_size}
 use Rattle.fancy_regex_meaning.specs.Choices.{choices, program_nodes}
-use Rattle.fancy_regex_meaning.specs.Searches.{Match, Member, Options, default_options, find_input, input_of, all_items, pieces, replaced, set_answer}
+use Rattle.fancy_regex_meaning.specs.Searches.{Match, Member, default_options, find_input, input_of, all_items, pieces, replaced, set_answer}
 
 abbrev pub literals : List ℕ → List Tree
 literals [] = []
@@ -83,10 +83,15 @@ AtomicIsFirst = found (cat (atomic_group (alt (a ∷ word (codes "ab") ∷ [])) 
 abbrev pub RangeEnds : Type 0
 RangeEnds = (found_in (star a) (codes "aaaa") 0 2 ≡ Some (0, 2, None ∷ [])) × (found_in (atomic_group (star a)) (codes "aaaa") 0 2 ≡ None)
 
--- `a*` with `find_not_empty`; a way past the range's end is not admitted, a look-ahead sees past it
+abbrev pub found_not_empty : Tree → List ℕ → Option (ℕ × ℕ × Pairs)
+found_not_empty t text =
+    option_map seen (find_input (plain text) (pattern_of t) (record default_options { find_not_empty = true }) (input_of text))
+
+-- A look-ahead sees past the range's end. Then `a*` and `|a`, where the match is not to be empty.
 abbrev pub NotEmpty : Type 0
 NotEmpty = (found_in (cat (a ∷ look_around b LookAhead ∷ [])) (codes "ab") 0 1 ≡ Some (0, 1, None ∷ []))
-    × (option_map seen (find_input (plain (codes "ba")) (pattern_of (star a)) (record default_options { find_not_empty = true }) (input_of (codes "ba"))) ≡ Some (1, 2, None ∷ []))
+    × (found_not_empty (star a) (codes "ba") ≡ Some (1, 2, None ∷ []))
+    × (found_not_empty (alt (empty ∷ a ∷ [])) (codes "a") ≡ Some (0, 1, None ∷ []))
 
 -- `(?i)(ſ)\1` on `ſs`, `(?i)(s)\1` on `sS`
 abbrev pub FoldedReference : Type 0
@@ -214,3 +219,16 @@ SizesOfPatterns = (size_of_whole balanced ≡ record { least = 2; greatest = unb
     × (size_of_whole (repeat a 2 3 true) ≡ record { least = 2; greatest = 3; always = false })
     × (size_of_whole (cat (group (alt (a ∷ b ∷ [])) ∷ subroutine_call 1 ∷ [])) ≡ always_size 2)
     × (size ((pattern_of unresolved).groups) (subroutine_call 0) ≡ record { least = 1; greatest = unbounded; always = false })
+
+abbrev pub longest : Tree → List ℕ → Option (ℕ × ℕ × Pairs)
+longest t text =
+    option_map seen (find_input (plain text) (pattern_of t) (record default_options { longest = true }) (input_of text))
+
+-- the longest of `a|ab`, of `(a|ab)(c|bcd)(d*)(?!e)`, `(?>a|ab)`, `a\Kb|abc`, `ab\Kc|ab`
+abbrev pub LongestRows : Type 0
+LongestRows = (longest (alt (a ∷ word (codes "ab") ∷ [])) (codes "ab") ≡ Some (0, 2, None ∷ []))
+    × (longest (cat (group (alt (a ∷ word (codes "ab") ∷ [])) ∷ group (alt (c ∷ word (codes "bcd") ∷ [])) ∷ group (star (literal (100 ∷ []) false)) ∷ look_around (literal (101 ∷ []) false) LookAheadNeg ∷ [])) (codes "abcd")
+    ≡ Some (0, 4, None ∷ Some (0, 1) ∷ Some (1, 4) ∷ Some (4, 4) ∷ []))
+    × (longest (atomic_group (alt (a ∷ word (codes "ab") ∷ []))) (codes "ab") ≡ Some (0, 1, None ∷ []))
+    × (longest (alt (cat (a ∷ keep_out ∷ b ∷ []) ∷ word (codes "abc") ∷ [])) (codes "abc") ≡ Some (0, 3, None ∷ []))
+    × (longest (alt (cat (a ∷ b ∷ keep_out ∷ c ∷ []) ∷ word (codes "ab") ∷ [])) (codes "abc") ≡ Some (2, 3, None ∷ []))

@@ -1,5 +1,5 @@
 -- What a pattern means: its ways from a place of a text, the preferred ones first.
-use Rattle.std.specs.Prelude.{ℕ, zero, suc, ◌+◌, ◌-◌, ◌*◌, Bool, true, false, not, ◌&&◌, ◌||◌, List, [], ◌∷◌, ◌++◌, length, map, reverse, drop, chars, Option, Some, None, is_some, ◌==◌, nat_le, nat_lt, nat_eq, slice_get, slice_range, if◌then◌else◌, slice_index, slice_index_or, slice_set, codes, count_by}
+use Rattle.std.specs.Prelude.{ℕ, zero, suc, ◌+◌, ◌-◌, ◌*◌, Bool, true, false, not, ◌&&◌, ◌||◌, List, [], ◌∷◌, ◌++◌, length, map, reverse, drop, chars, Option, Some, None, is_some, ◌==◌, nat_le, nat_lt, nat_eq, slice_range, if◌then◌else◌, slice_index, slice_index_or, slice_set, codes, count_by}
 use Rattle.std.specs.List.{flat_map, filter, list_all}
 use Rattle.std.specs.Char.{len_utf8}
 use lib.Pointwise.{pointwise}
@@ -264,7 +264,7 @@ module _ (s : Setting) where
       meaning call n (backref_exists k (Some level)) = node (backref_exists k (Some level)) no_way
       meaning call n (tree.conditional c a b) = node (tree.conditional c a b)
           (λ w. conditional ((meaning call n c).from w) (meaning call (n + group_count c) a).from
-            (meaning call (n + group_count c + group_count a) b).from w)
+          (meaning call (n + group_count c + group_count a) b).from w)
       meaning call n (subroutine_call k) = node (subroutine_call k) (call k)
       meaning call n keep_out = node keep_out keep_here
       meaning call n continue = node continue (λ w. stay_if (is_some_and s.continue_at (λ g. g == w.position)) w)

@@ -1,0 +1,14 @@
+pub mod RowProofs
+pub mod EachLemmas
+pub mod LawProofs
+pub mod BoundaryLemmas
+pub mod OnwardProofs
+pub mod ListProofs
+pub mod FirstProofs
+pub mod KeptProofs
+pub mod BoundProofs
+pub mod ItemBound
+pub mod ChoiceProofs
+pub mod ExplodingProof
+pub mod GroupProofs
+pub mod SearchProofs

@@ -1,0 +1,14 @@
+use Rattle.fancy_regex_meaning.proofs.KeptProofs
+use Rattle.fancy_regex_meaning.proofs.SearchProofs
+use Rattle.fancy_regex_meaning.proofs.laws_of_matches.Goals as goal
+
+pub returns : goal.returns
+returns c = record {
+  admitted = SearchProofs.matches_are_admitted;
+  none = SearchProofs.none_is_none;
+  longest = SearchProofs.longest_ends_last;
+  spans = KeptProofs.matches_are_spans;
+  cuts = SearchProofs.matches_cut_well;
+  found = SearchProofs.found_cuts_well;
+  one_member = SearchProofs.one_member_finds;
+}

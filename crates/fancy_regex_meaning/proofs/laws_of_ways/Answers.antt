@@ -1,0 +1,23 @@
+use Rattle.fancy_regex_meaning.proofs.LawProofs
+use Rattle.fancy_regex_meaning.proofs.FirstProofs
+use Rattle.fancy_regex_meaning.proofs.OnwardProofs
+use Rattle.fancy_regex_meaning.proofs.KeptProofs
+use Rattle.fancy_regex_meaning.proofs.BoundProofs
+use Rattle.fancy_regex_meaning.proofs.ChoiceProofs
+use Rattle.fancy_regex_meaning.proofs.laws_of_ways.Goals as goal
+
+pub returns : goal.returns
+returns c = record {
+  atomic = LawProofs.atomic_has_one;
+  look_around = LawProofs.look_around_has_each;
+  negative = LawProofs.negative_stays;
+  rows = LawProofs.row_splits;
+  first = FirstProofs.first_goes_by_parts;
+  onward = OnwardProofs.ways_go_onward;
+  cuts = OnwardProofs.ways_cut_well;
+  kept = KeptProofs.keeps_start;
+  repeats = BoundProofs.repeats_unroll;
+  loops = BoundProofs.loops_unbounded;
+  calls = BoundProofs.calls_are_unbounded;
+  few = ChoiceProofs.ways_are_few;
+}

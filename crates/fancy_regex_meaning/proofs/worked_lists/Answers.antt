@@ -1,0 +1,9 @@
+use Rattle.fancy_regex_meaning.proofs.RowProofs
+use Rattle.fancy_regex_meaning.proofs.worked_lists.Goals as goal
+
+pub returns : goal.returns
+returns c = record {
+  iterations = RowProofs.iterations;
+  sets = RowProofs.sets;
+  pieces = RowProofs.pieces;
+}
