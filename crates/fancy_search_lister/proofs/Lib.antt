@@ -1,0 +1,2 @@
+mod TreeLemmas
+mod RowLemmas
