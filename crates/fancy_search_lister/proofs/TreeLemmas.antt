@@ -9,7 +9,7 @@ use Rattle.fancy_regex_tree.specs.declared.expr.Expr.TheVariants.{rolls-Empty, r
 use Rattle.fancy_regex_tree.specs.declared.expr.Absent.TheViews.{roll-Expr, roll-out-Expr, out-Expr, roll-Absent, roll-out-Absent, out-Absent, roll-AstNode, roll-out-AstNode, out-AstNode}
 use Rattle.fancy_regex_tree.specs.declared.expr.Absent.TheOpen.{Expr-F, Absent-F, AstNode-F}
 use Rattle.fancy_regex_tree.specs.declared.expr.Absent.TheFolds.{fold-roll-Expr, fold-roll-Absent, fold-roll-AstNode}
-use Rattle.fancy_regex_tree.specs.Tree.{Tree, Trees, absent_tree, ast_tree, node_tree, tree_of, absent_tree_of, ast_tree_of, trees, empty, any, literal, concat, alt}
+use Rattle.fancy_regex_tree.specs.Tree.{Tree, absent_tree, ast_tree, node_tree, tree_of, absent_tree_of, ast_tree_of, trees, empty, any, literal, concat, alt}
 use Rattle.fancy_search_lister.specs.Ends.{Lands, ends, row_ends, along, each_of, past_character, past_literal, is_taken}
 
 tree_empty : tree_of view.Empty ≡ empty

@@ -1,5 +1,5 @@
 -- Where the ways of a tree that is served end, as the functions of this crate pass it on to one another.
-use Rattle.std.specs.Prelude.{ℕ, ◌+◌, Bool, ◌==◌, not, ◌||◌, ◌&&◌, List, [], ◌∷◌, Option, slice_get, if◌then◌else◌}
+use Rattle.std.specs.Prelude.{ℕ, ◌+◌, Bool, ◌==◌, not, ◌||◌, ◌&&◌, List, [], ◌∷◌, slice_get, if◌then◌else◌}
 use Rattle.std.specs.List.{flat_map}
 use Rattle.std.specs.Char.{len_utf8}
 use Rattle.regex_hir.specs.Text.{char_at}

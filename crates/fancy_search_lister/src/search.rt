@@ -1,12 +1,11 @@
 //! The matches of a text.
-ghost use Rattle.std.specs.Prelude.{◌≡◌, ℕ, ◌≤◌, map, length, IfOk, IfSome, option_map, All, nat_lt, if◌then◌else◌};
+ghost use Rattle.std.specs.Prelude.{◌≡◌, ℕ, ◌≤◌, map, length, IfOk, IfSome, option_map, All, ◌++◌, List};
 ghost use Rattle.fancy_regex_tree.specs.Tree.{tree_of};
 ghost use Rattle.fancy_regex_meaning.specs.Ways.{Setting};
-ghost use Rattle.fancy_regex_meaning.specs.Places.{place_after as after};
 ghost use Rattle.fancy_regex_meaning.specs.Groups.{pattern_of};
-ghost use Rattle.fancy_regex_meaning.specs.Searches.{all_items, default_options, input_of, first_item};
+ghost use Rattle.fancy_regex_meaning.specs.Searches.{all_items, default_options, input_of};
 ghost use Rattle.fancy_search_lister.specs.Served.{IsServed};
-ghost use Rattle.fancy_search_lister.specs.Spans.{pair_of, bounds_of, CutsFrom, first_pair, pairs_from};
+ghost use Rattle.fancy_search_lister.specs.Spans.{pair_of, bounds_of, CutsFrom, first_pair, kept, place_behind as behind, first_end as end_of_first};
 
 use crate::character::{is_boundary, place_after};
 use crate::ends::push_ends;
@@ -34,19 +33,28 @@ pub fn spans(alloc: Global, tree: &Expr, text: &str) -> Result<Vec<Span>, AllocE
         let Some(span) = first_span(alloc, tree, text, place)? else {
             break;
         };
-        if span.start < span.end || last != Some(span.end) {
-            spans.push(span)?;
-        }
-        place = next_place(text, span);
+        keep(&mut spans, last, span)?;
+        place = place_behind(text, span);
         last = Some(span.end);
     }
     Ok(spans)
 }
 
+/// Adds the match, unless it is empty and the last match ended there.
+fn keep(spans: &mut Vec<Span>, last: Option<usize>, span: Span) -> Result<(), AllocError>
+    ensures pairs { IfOk result (λ _. map pair_of spans.new.items ≡ map pair_of spans.old.items ++ kept last (pair_of span)) }
+    ensures cuts { IfOk result (λ _. (text : List ℕ) → CutsFrom text 0 span → All (CutsFrom text 0) spans.old.items → All (CutsFrom text 0) spans.new.items) }
+{
+    if span.start < span.end || last != Some(span.end) {
+        spans.push(span)?;
+    }
+    Ok(())
+}
+
 /// Where the search goes on after a match.
-fn next_place(text: &str, span: Span) -> usize
-    requires { CutsFrom text.now 0 span }
-    ensures { result ≡ (if nat_lt span.start span.end then span.end else after text.now span.end) }
+fn place_behind(text: &str, span: Span) -> usize
+    requires { span.end ≤ length text.now }
+    ensures { result ≡ behind text.now (pair_of span) }
 {
     if span.start < span.end {
         span.end
@@ -62,19 +70,33 @@ fn first_span(
     text: &str,
     place: usize,
 ) -> Result<Option<Span>, AllocError>
-    requires { IsServed (tree_of tree.now) }
-    ensures is { IfOk result (λ span. option_map pair_of span ≡ first_pair text.now (tree_of tree.now) place) }
+    ensures pair { IfOk result (λ span. option_map pair_of span ≡ first_pair text.now (tree_of tree.now) place) }
     ensures cuts { IfOk result (λ span. IfSome span (CutsFrom text.now place)) }
 {
     let bytes = text.as_bytes();
     let mut found = Vec::new(alloc);
     for start in place..bytes.len() + 1 {
-        if is_boundary(bytes, start) {
-            push_ends(alloc, tree, bytes, start, &mut found)?;
-        }
-        if let Some(end) = found.first() {
-            return Ok(Some(Span { start, end: *end }));
+        if let Some(end) = first_end(alloc, tree, bytes, start, &mut found)? {
+            return Ok(Some(Span { start, end }));
         }
     }
     Ok(None)
+}
+
+/// Where the preferred way from this place ends, if a match can start there. What `found` holds is lost.
+fn first_end(
+    alloc: Global,
+    tree: &Expr,
+    text: &[u8],
+    place: usize,
+    found: &mut Vec<usize>,
+) -> Result<Option<usize>, AllocError>
+    ensures { IfOk result (λ end. end ≡ end_of_first text.now (tree_of tree.now) place) }
+{
+    if !is_boundary(text, place) {
+        return Ok(None);
+    }
+    found.clear();
+    push_ends(alloc, tree, text, place, found)?;
+    Ok(found.first().copied())
 }

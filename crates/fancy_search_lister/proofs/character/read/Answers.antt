@@ -1,5 +1,4 @@
-use Rattle.std.proofs.Common.{◌≡◌, Option, Some, ℕ, arith, sym, ◌∙◌}
-use Rattle.regex_hir.specs.Text.{char_at}
+use Rattle.std.proofs.Common.{◌≡◌, Some, arith, sym, ◌∙◌}
 use Rattle.regex_hir.proofs.TextLemmas.{char_at_fits}
 use Rattle.fancy_search_lister.proofs.character.read.Goals as goal
 

@@ -1,6 +1,5 @@
 use Rattle.std.proofs.Common.{◌≡◌, [], ◌++◌, ap, sym, ◌∙◌, rules}
 use Rattle.std.proofs.lemmas.List.{append-nil}
-use Rattle.std.specs.List.{flat_map}
 use Rattle.fancy_regex_tree.specs.Tree.{tree_of}
 use Rattle.fancy_search_lister.specs.Ends.{ends}
 use Rattle.fancy_search_lister.proofs.TreeLemmas.{ends_empty, ends_any, ends_literal, ends_concat, ends_alt, ends_other}
