@@ -1,5 +1,5 @@
 -- What a call did against what is due, return by return.
-use Rattle.std.proofs.Common.{◌≡◌, ℕ, Bool, true, false, List, [], length, chars, Result, Ok, Err, Option, Some, None, IfSome, IsUtf8, ◌⊎◌, inl, inr, refl, sym, ap, subst, ◌∙◌}
+use Rattle.std.proofs.Common.{◌≡◌, ℕ, true, false, List, [], Result, Ok, Err, Option, Some, None, IfSome, IsUtf8, inl, inr, refl, sym, subst}
 use Rattle.std.specs.Prelude.{if◌then◌else◌, string_bytes}
 use Rattle.std.specs.Str.{is_utf8}
 use Rattle.std.specs.Io.KnownBytes.{Appends}
@@ -8,7 +8,6 @@ use Rattle.fancy_regex_meaning.specs.Ways.{Setting}
 use Rattle.fancy_search.specs.Due.{Answer, due_asked, Refused, Finds, AppendsPart, Hides, Outcome}
 use Rattle.fancy_search.specs.declared.fault.Fault.{Fault}
 use Rattle.fancy_search.specs.declared.fault.Fault.TheVariants as faults
-use Rattle.fancy_search.specs.declared.run.Status.{Status}
 use Rattle.fancy_search.specs.declared.run.Found.{Found}
 
 -- there is an input that is the known one

@@ -1,5 +1,5 @@
 -- Whatever the reader reads is a tree whose ways are listed.
-use Rattle.std.proofs.Common.{◌≡◌, ℕ, zero, suc, Bool, true, false, List, [], ◌∷◌, ◌++◌, length, drop, Result, Ok, Err, Option, Some, None, IfOk, subst, refl}
+use Rattle.std.proofs.Common.{◌≡◌, ℕ, zero, suc, true, false, List, [], ◌∷◌, ◌++◌, length, drop, Result, Ok, Err, Option, Some, None, IfOk, subst, refl}
 use Rattle.std.specs.Prelude.{◌==◌, if◌then◌else◌}
 use Rattle.fancy_regex_tree.specs.Tree.{Tree, Text, trees, any, literal}
 use Rattle.fancy_search_lister.specs.Served.{IsServed, AreServed}

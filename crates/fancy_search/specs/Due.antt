@@ -1,5 +1,5 @@
 -- What a call of the program is to write and how it is to end.
-use Rattle.std.specs.Prelude.{◌≡◌, ◌⊎◌, ℕ, ◌<◌, List, [], ◌∷◌, ◌++◌, length, map, take, chars, codes, decimal, string_bytes, bytes_eq, Bool, Result, Ok, Err, Option, Some, None, if◌then◌else◌}
+use Rattle.std.specs.Prelude.{◌≡◌, ◌⊎◌, ℕ, ◌<◌, List, [], ◌∷◌, ◌++◌, length, map, take, chars, codes, decimal, string_bytes, bytes_eq, Result, Ok, Err, Option, Some, None, if◌then◌else◌}
 use Rattle.std.specs.Io.KnownBytes.{Appends}
 use Rattle.std.specs.Str.{is_utf8}
 use Rattle.fancy_regex_tree.specs.Tree.{Tree}

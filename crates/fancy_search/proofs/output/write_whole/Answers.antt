@@ -1,4 +1,4 @@
-use Rattle.std.proofs.Common.{rules, ◌≡◌, ◌+◌, ◌-◌, ◌≤◌, take, drop, length, sym, subst, List, ℕ}
+use Rattle.std.proofs.Common.{rules, ◌-◌, ◌≤◌, take, drop, length, sym, subst, List, ℕ}
 use Rattle.std.proofs.Math.Seq.{take-add}
 use Rattle.std.proofs.lemmas.List.{take-take}
 use Rattle.std.specs.Io.KnownBytes.{Appends}
