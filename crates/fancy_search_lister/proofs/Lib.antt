@@ -1,0 +1,6 @@
+mod TreeLemmas
+mod RowLemmas
+mod MeaningLemmas
+mod ReachLemmas
+mod ItemLemmas
+mod SpanLemmas
