@@ -4,3 +4,4 @@ mod MeaningLemmas
 mod ReachLemmas
 mod ItemLemmas
 mod SpanLemmas
+mod ServedLemmas

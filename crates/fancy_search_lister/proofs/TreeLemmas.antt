@@ -12,22 +12,22 @@ use Rattle.fancy_regex_tree.specs.declared.expr.Absent.TheFolds.{fold-roll-Expr,
 use Rattle.fancy_regex_tree.specs.Tree.{Tree, absent_tree, ast_tree, node_tree, tree_of, absent_tree_of, ast_tree_of, trees, empty, any, literal, concat, alt}
 use Rattle.fancy_search_lister.specs.Ends.{Lands, ends, row_ends, along, each_of, past_character, past_literal, is_taken}
 
-tree_empty : tree_of view.Empty ≡ empty
+pub tree_empty : tree_of view.Empty ≡ empty
 tree_empty = ap tree_of (sym rolls-Empty) ∙ fold-roll-Expr Tree (ℕ → Tree) Tree absent_tree ast_tree node_tree Expr-F.Empty
 
-tree_any : (newline crlf : Bool) → tree_of (view.Any newline crlf) ≡ any newline crlf
+pub tree_any : (newline crlf : Bool) → tree_of (view.Any newline crlf) ≡ any newline crlf
 tree_any newline crlf =
     ap tree_of (sym (rolls-Any newline crlf)) ∙ fold-roll-Expr Tree (ℕ → Tree) Tree absent_tree ast_tree node_tree (Expr-F.Any newline crlf)
 
-tree_literal : (val : String Global) (casei : Bool) → tree_of (view.Literal val casei) ≡ literal (chars (string_bytes val)) casei
+pub tree_literal : (val : String Global) (casei : Bool) → tree_of (view.Literal val casei) ≡ literal (chars (string_bytes val)) casei
 tree_literal val casei =
     ap tree_of (sym (rolls-Literal val casei)) ∙ fold-roll-Expr Tree (ℕ → Tree) Tree absent_tree ast_tree node_tree (Expr-F.Literal val casei)
 
-tree_concat : (children : Vec Expr Global) → tree_of (view.Concat children) ≡ concat (trees (map tree_of children.items))
+pub tree_concat : (children : Vec Expr Global) → tree_of (view.Concat children) ≡ concat (trees (map tree_of children.items))
 tree_concat children =
     ap tree_of (sym (rolls-Concat children)) ∙ fold-roll-Expr Tree (ℕ → Tree) Tree absent_tree ast_tree node_tree (Expr-F.Concat children)
 
-tree_alt : (children : Vec Expr Global) → tree_of (view.Alt children) ≡ alt (trees (map tree_of children.items))
+pub tree_alt : (children : Vec Expr Global) → tree_of (view.Alt children) ≡ alt (trees (map tree_of children.items))
 tree_alt children =
     ap tree_of (sym (rolls-Alt children)) ∙ fold-roll-Expr Tree (ℕ → Tree) Tree absent_tree ast_tree node_tree (Expr-F.Alt children)
 

@@ -4,6 +4,8 @@
 mod character;
 mod ends;
 mod search;
+#[cfg(test)]
+mod tests;
 
 pub use ends::ways;
 pub use search::{Span, spans};
