@@ -1,3 +1,5 @@
+ghost use Rattle.std.specs.Prelude.{Some};
+
 use crate::fault::{Fault, ParseError};
 use crate::run::{Status, run};
 use std::alloc::Global;
@@ -75,6 +77,16 @@ fn answer(alloc: Global, words: &[&str], mut input: &[u8]) -> (Result<Status, Fa
     (result, output)
 }
 
+/// The fault of a call that wrote nothing.
+fn fault_of(alloc: Global, words: &[&str], input: &[u8]) -> Option<Fault> {
+    let (result, written) = answer(alloc, words, input);
+    if written.is_empty() {
+        result.err()
+    } else {
+        None
+    }
+}
+
 fn room_for(alloc: Global, room: usize) -> Narrow {
     Narrow {
         taken: Vec::new(alloc),
@@ -99,36 +111,38 @@ fn finds(rt: HostRuntime) {
 
 #[test]
 fn refuses(rt: HostRuntime) {
-    for (words, input, fault) in [
-        (
-            ["find", "a)"],
-            b"a",
-            Fault::Pattern(1, ParseError::EndNotReached),
-        ),
-        (
-            ["find", "(?:a"],
-            b"a",
-            Fault::Pattern(4, ParseError::UnclosedOpenParen),
-        ),
-        (
-            ["find", "é(?:"],
-            b"a",
-            Fault::Pattern(5, ParseError::UnclosedOpenParen),
-        ),
-        (["find", "a"], b"\xFF", Fault::NotUtf8),
-        (["find", ")"], b"\xFF", Fault::NotUtf8),
-        (["seek", "a"], b"\xFF", Fault::NotCarried),
-        (["find", ")*"], b"a", Fault::NotCarried),
-        (["find", "(a"], b"a", Fault::NotCarried),
-        (["find", "a?:"], b"a", Fault::NotCarried),
-        (["find", "(?a"], b"a", Fault::NotCarried),
+    for (pattern, fault) in [
+        ("a)", Fault::Pattern(1, ParseError::EndNotReached)),
+        ("(?:a", Fault::Pattern(4, ParseError::UnclosedOpenParen)),
+        ("é(?:", Fault::Pattern(5, ParseError::UnclosedOpenParen)),
+        (")*", Fault::NotCarried),
+        ("(a", Fault::NotCarried),
+        ("a?:", Fault::NotCarried),
+        ("(?a", Fault::NotCarried),
     ] {
-        let (result, written) = answer(rt.alloc(), &words, input);
-        assert_eq!(rt; result, Err(fault), "{words:?}");
-        assert!(rt; written.is_empty(), "{words:?}");
+        let met = fault_of(rt.alloc(), &["find", pattern], b"a");
+        assert_eq!(rt; met, Some(fault), "{pattern}");
     }
-    let (result, _) = answer(rt.alloc(), &["find"], b"a");
-    assert_eq!(rt; result, Err(Fault::NotCarried));
+}
+
+#[test]
+fn first_fault(rt: HostRuntime) {
+    assert_eq!(rt;
+        fault_of(rt.alloc(), &["find", "a"], b"\xFF"),
+        Some(Fault::NotUtf8)
+    );
+    assert_eq!(rt;
+        fault_of(rt.alloc(), &["find", ")"], b"\xFF"),
+        Some(Fault::NotUtf8)
+    );
+    assert_eq!(rt;
+        fault_of(rt.alloc(), &["seek", "a"], b"\xFF"),
+        Some(Fault::NotCarried)
+    );
+    assert_eq!(rt;
+        fault_of(rt.alloc(), &["find"], b"a"),
+        Some(Fault::NotCarried)
+    );
 }
 
 #[test]
@@ -137,17 +151,13 @@ fn nests_63_deep(rt: HostRuntime) -> Result<(), Fail> {
     for _ in 0..63 {
         pattern.push_str("(?:")?;
     }
-    let (result, _) = answer(rt.alloc(), &["find", pattern.as_str()], b"a");
-    assert_eq!(rt;
-        result,
-        Err(Fault::Pattern(189, ParseError::UnclosedOpenParen))
-    );
+    let unclosed = Fault::Pattern(189, ParseError::UnclosedOpenParen);
+    let fault = fault_of(rt.alloc(), &["find", pattern.as_str()], b"a");
+    assert_eq!(rt; fault, Some(unclosed));
     pattern.push_str("(?:")?;
-    let (result, _) = answer(rt.alloc(), &["find", pattern.as_str()], b"a");
-    assert_eq!(rt;
-        result,
-        Err(Fault::Pattern(189, ParseError::RecursionExceeded))
-    );
+    let too_deep = Fault::Pattern(189, ParseError::RecursionExceeded);
+    let fault = fault_of(rt.alloc(), &["find", pattern.as_str()], b"a");
+    assert_eq!(rt; fault, Some(too_deep));
     Ok(())
 }
 
