@@ -1,0 +1,32 @@
+-- A pattern that is written out means what its tree means.
+use Rattle.std.specs.Prelude.{◌≡◌, ℕ, List}
+use Rattle.fancy_regex_tree.specs.Tree.{Tree}
+use Rattle.fancy_regex_meaning.specs.Groups.{Pattern}
+use Rattle.fancy_regex_meaning.specs.Ways.{Way, Setting, meaning, call_ways, ways}
+use Rattle.fancy_regex_meaning.specs.Choices.{count, call_choices, choices_at}
+use Rattle.fancy_regex_meaning.specs.Searches.{start_way}
+use Rattle.fancy_regex_pattern.specs.PatWays.{pat_ways, pat_choices}
+use Rattle.fancy_regex_pattern.specs.Unfolded.{unfolded, unfolded_behind, pat_of}
+
+-- It has the ways of the tree, from here and from as far back as the tree is long.
+abbrev pub UnfoldedHasTheWays : Type 0
+UnfoldedHasTheWays = (s : Setting) (groups : List Tree) (m : ℕ) (opened : List ℕ) (n : ℕ) (t : Tree) (w : Way) →
+    ((meaning s groups (call_ways s groups m opened) n t).from w ≡ pat_ways s (unfolded groups m opened n t) w)
+    × ((meaning s groups (call_ways s groups m opened) n t).behind w ≡ pat_ways s (unfolded_behind groups m opened n t) w)
+
+-- And it has its choices.
+abbrev pub UnfoldedHasTheChoices : Type 0
+UnfoldedHasTheChoices = (s : Setting) (groups : List Tree) (m : ℕ) (opened : List ℕ) (n : ℕ) (t : Tree) (w : Way) →
+    ((count s groups (call_ways s groups m opened) (call_choices s groups m opened) n t).from w
+    ≡ pat_choices s (unfolded groups m opened n t) w)
+    × ((count s groups (call_ways s groups m opened) (call_choices s groups m opened) n t).behind w
+    ≡ pat_choices s (unfolded_behind groups m opened n t) w)
+
+-- The whole pattern has the ways of its tree, and the choices of a place.
+abbrev pub PatternHasTheWays : Type 0
+PatternHasTheWays = (s : Setting) (pattern : Pattern) (w : Way) →
+    ways s pattern.groups pattern.first_group pattern.tree w ≡ pat_ways s (pat_of pattern) w
+
+abbrev pub PatternHasTheChoices : Type 0
+PatternHasTheChoices = (s : Setting) (pattern : Pattern) (p : ℕ) →
+    choices_at s pattern p ≡ pat_choices s (pat_of pattern) (start_way pattern p)

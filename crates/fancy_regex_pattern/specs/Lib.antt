@@ -1,0 +1,4 @@
+pub mod Pats
+pub mod PatWays
+pub mod Unfolded
+pub mod Laws
