@@ -1,5 +1,5 @@
 -- The pattern that a tree is written out to.
-use Rattle.std.specs.Prelude.{ℕ, zero, suc, ◌+◌, List, [], ◌∷◌, slice_index, Option, Some, None, if◌then◌else◌}
+use Rattle.std.specs.Prelude.{ℕ, zero, suc, ◌+◌, List, [], ◌∷◌, map, slice_index, Option, Some, None, if◌then◌else◌}
 use Rattle.fancy_regex_tree.specs.declared.expr.LookAround.{LookAround}
 use Rattle.fancy_regex_tree.specs.declared.expr.LookAround.TheVariants.{LookAhead, LookAheadNeg, LookBehind, LookBehindNeg}
 use Rattle.fancy_regex_tree.specs.Tree as tree
@@ -31,12 +31,10 @@ alt_all (p ∷ []) = p
 alt_all (p ∷ q ∷ ps) = alt p (alt_all (q ∷ ps))
 
 abbrev pub fronts : List Written → List Pat
-fronts [] = []
-fronts (u ∷ us) = u.front ∷ fronts us
+fronts us = map (λ u. u.front) us
 
 abbrev pub behinds : List Written → List Pat
-behinds [] = []
-behinds (u ∷ us) = u.behind ∷ behinds us
+behinds us = map (λ u. u.behind) us
 
 abbrev pub look : LookAround → Written → Pat
 look LookAhead u = ahead u.front
