@@ -1,1 +1,2 @@
 pub mod WaysProofs
+pub mod ChoiceProofs

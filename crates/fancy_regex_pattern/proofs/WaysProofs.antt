@@ -1,5 +1,5 @@
 -- A pattern that is written out has the ways of its tree.
-use Rattle.std.proofs.Common.{◌≡◌, ℕ, zero, suc, ◌+◌, Bool, true, false, cond, List, [], ◌∷◌, ◌++◌, map, Option, Some, None, refl, sym, ap, ◌∙◌, slice_index}
+use Rattle.std.proofs.Common.{◌≡◌, ℕ, zero, suc, ◌+◌, Bool, true, false, cond, List, [], ◌∷◌, ◌++◌, map, Option, Some, None, refl, sym, ◌∙◌, slice_index}
 use Rattle.std.specs.List.{flat_map}
 use Rattle.std.proofs.lemmas.List.{append-nil}
 use mathlib.Core.Path.{fun_ext}
@@ -12,9 +12,9 @@ use Rattle.fancy_regex_meaning.specs.Groups.{group_count}
 use Rattle.fancy_regex_meaning.specs.Sizes.{size, target, bound_of}
 use Rattle.fancy_regex_meaning.specs.Ways as row
 use Rattle.fancy_regex_meaning.specs.Ways.{Way, Moves, Meaning, Setting, at_place, for_some, all_of, any_of, pairs_alone, stay_if, is_none_of, first_of_all, call_ways, meaning, meanings, ways, is_full, most_calls}
-use Rattle.fancy_regex_pattern.specs.Pats.{Leaf, any, literal, class, Pat, nothing, read, general_newline, check, continue, keep_out, fail, cat, alt, group, ahead, never, back, atomic, repeat, backref, exists, conditional, absent}
+use Rattle.fancy_regex_pattern.specs.Pats.{any, literal, class, Pat, nothing, read, general_newline, check, continue, keep_out, fail, cat, group, back, atomic, repeat, backref, exists, conditional, absent}
 use Rattle.fancy_regex_pattern.specs.PatWays.{pat_ways}
-use Rattle.fancy_regex_pattern.specs.Unfolded.{Written, pat_for, cat_all, alt_all, look, node, branches, written, written_all, written_call, unfolded, unfolded_behind, pat_of}
+use Rattle.fancy_regex_pattern.specs.Unfolded.{Written, pat_for, cat_all, alt_all, look, node, branches, written, written_all, written_call, pat_of}
 use Rattle.fancy_regex_pattern.specs.Laws.{UnfoldedHasTheWays, PatternHasTheWays}
 
 -- The pattern has these ways.

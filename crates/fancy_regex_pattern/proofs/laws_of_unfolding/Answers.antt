@@ -1,5 +1,9 @@
 use Rattle.fancy_regex_pattern.proofs.WaysProofs
+use Rattle.fancy_regex_pattern.proofs.ChoiceProofs
 use Rattle.fancy_regex_pattern.proofs.laws_of_unfolding.Goals as goal
 
 pub returns : goal.returns
-returns c = record { ways = WaysProofs.unfolded_has_the_ways; whole = WaysProofs.pattern_has_the_ways }
+returns c = record {
+  ways = WaysProofs.unfolded_has_the_ways;
+  choices = ChoiceProofs.unfolded_has_the_choices;
+}
