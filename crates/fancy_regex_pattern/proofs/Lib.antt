@@ -1,2 +1,3 @@
 pub mod WaysProofs
 pub mod ChoiceProofs
+pub mod RoomProofs

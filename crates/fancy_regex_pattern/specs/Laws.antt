@@ -1,11 +1,12 @@
 -- A pattern that is written out means what its tree means.
-use Rattle.std.specs.Prelude.{◌≡◌, ℕ, List}
+use Rattle.std.specs.Prelude.{◌≡◌, ◌≤◌, ◌+◌, ◌*◌, ℕ, List}
 use Rattle.fancy_regex_tree.specs.Tree.{Tree}
 use Rattle.fancy_regex_meaning.specs.Groups.{Pattern}
 use Rattle.fancy_regex_meaning.specs.Ways.{Way, Setting, meaning, call_ways, ways}
-use Rattle.fancy_regex_meaning.specs.Choices.{count, call_choices, choices_at}
+use Rattle.fancy_regex_meaning.specs.Choices.{count, call_choices, choices_at, nodes_with, called_nodes, program_nodes}
 use Rattle.fancy_regex_meaning.specs.Searches.{start_way}
 use Rattle.fancy_regex_pattern.specs.PatWays.{pat_ways, pat_choices}
+use Rattle.fancy_regex_pattern.specs.Rooms.{room}
 use Rattle.fancy_regex_pattern.specs.Unfolded.{unfolded, unfolded_behind, pat_of}
 
 -- It has the ways of the tree, from here and from as far back as the tree is long.
@@ -30,3 +31,12 @@ PatternHasTheWays = (s : Setting) (pattern : Pattern) (w : Way) →
 abbrev pub PatternHasTheChoices : Type 0
 PatternHasTheChoices = (s : Setting) (pattern : Pattern) (p : ℕ) →
     choices_at s pattern p ≡ pat_choices s (pat_of pattern) (start_way pattern p)
+
+-- Its room is sixteen instructions at most for each node of the tree, where a call counts as its target's body.
+abbrev pub UnfoldedHasRoom : Type 0
+UnfoldedHasRoom = (groups : List Tree) (m : ℕ) (opened : List ℕ) (n : ℕ) (t : Tree) →
+    (room (unfolded groups m opened n t) + 3 ≤ 16 * nodes_with (called_nodes groups m opened) t)
+    × (room (unfolded_behind groups m opened n t) + 2 ≤ 16 * nodes_with (called_nodes groups m opened) t)
+
+abbrev pub PatternHasRoom : Type 0
+PatternHasRoom = (pattern : Pattern) → room (pat_of pattern) + 3 ≤ 16 * program_nodes pattern
