@@ -1,12 +1,13 @@
 -- A pattern that is written out means what its tree means.
-use Rattle.std.specs.Prelude.{◌≡◌, ◌≤◌, ◌+◌, ◌*◌, ℕ, List}
+use Rattle.std.specs.Prelude.{◌≡◌, ◌≤◌, ◌+◌, ◌*◌, ℕ, true, false, List, length}
 use Rattle.fancy_regex_tree.specs.Tree.{Tree}
-use Rattle.fancy_regex_meaning.specs.Groups.{Pattern}
+use Rattle.fancy_regex_meaning.specs.Groups.{Pattern, pattern_of, explicit_pattern_of}
 use Rattle.fancy_regex_meaning.specs.Ways.{Way, Setting, meaning, call_ways, ways}
 use Rattle.fancy_regex_meaning.specs.Choices.{count, call_choices, choices_at, nodes_with, called_nodes, program_nodes}
 use Rattle.fancy_regex_meaning.specs.Searches.{start_way}
 use Rattle.fancy_regex_pattern.specs.PatWays.{pat_ways, pat_choices}
 use Rattle.fancy_regex_pattern.specs.Rooms.{room}
+use Rattle.fancy_regex_pattern.specs.Shapes.{IsPlaced, HasGroups}
 use Rattle.fancy_regex_pattern.specs.Unfolded.{unfolded, unfolded_behind, pat_of}
 
 -- It has the ways of the tree, from here and from as far back as the tree is long.
@@ -23,7 +24,7 @@ UnfoldedHasTheChoices = (s : Setting) (groups : List Tree) (m : ℕ) (opened : L
     × ((count s groups (call_ways s groups m opened) (call_choices s groups m opened) n t).behind w
     ≡ pat_choices s (unfolded_behind groups m opened n t) w)
 
--- The whole pattern has the ways of its tree, and the choices of a place.
+-- The whole pattern has the ways of its tree, and its choices from each place.
 abbrev pub PatternHasTheWays : Type 0
 PatternHasTheWays = (s : Setting) (pattern : Pattern) (w : Way) →
     ways s pattern.groups pattern.first_group pattern.tree w ≡ pat_ways s (pat_of pattern) w
@@ -40,3 +41,14 @@ UnfoldedHasRoom = (groups : List Tree) (m : ℕ) (opened : List ℕ) (n : ℕ) (
 
 abbrev pub PatternHasRoom : Type 0
 PatternHasRoom = (pattern : Pattern) → room (pat_of pattern) + 3 ≤ 16 * program_nodes pattern
+
+-- It goes back only where a look-around begins, and from as far back also where it begins itself.
+abbrev pub UnfoldedIsPlaced : Type 0
+UnfoldedIsPlaced = (groups : List Tree) (m : ℕ) (opened : List ℕ) (n : ℕ) (t : Tree) →
+    IsPlaced false (unfolded groups m opened n t) × IsPlaced true (unfolded_behind groups m opened n t)
+
+-- Each of its groups is one of those of its pattern, whether groups count from 1 or from 0.
+abbrev pub PatternHasItsGroups : Type 0
+PatternHasItsGroups = (t : Tree) →
+    HasGroups 1 (length ((pattern_of t).groups)) (pat_of (pattern_of t))
+    × HasGroups 0 (length ((explicit_pattern_of t).groups)) (pat_of (explicit_pattern_of t))
