@@ -1,0 +1,5 @@
+pub mod WaysProofs
+pub mod ChoiceProofs
+pub mod RoomProofs
+pub mod PlaceProofs
+pub mod GroupProofs

@@ -1,0 +1,118 @@
+-- The pattern that a tree is written out to.
+use Rattle.std.specs.Prelude.{ℕ, zero, suc, ◌+◌, List, [], ◌∷◌, map, slice_index, Option, Some, None, if◌then◌else◌}
+use Rattle.fancy_regex_tree.specs.declared.expr.LookAround.{LookAround}
+use Rattle.fancy_regex_tree.specs.declared.expr.LookAround.TheVariants.{LookAhead, LookAheadNeg, LookBehind, LookBehindNeg}
+use Rattle.fancy_regex_tree.specs.Tree as tree
+use Rattle.fancy_regex_tree.specs.Tree.{Tree, Trees, no_trees, more_trees}
+use Rattle.fancy_regex_meaning.specs.Groups.{Pattern, group_count}
+use Rattle.fancy_regex_meaning.specs.Sizes.{size, target, bound_of}
+use Rattle.fancy_regex_meaning.specs.Ways.{is_full, most_calls}
+use Rattle.fancy_regex_pattern.specs.Pats.{any, literal, class, Pat, nothing, read, general_newline, check, continue, keep_out, fail, cat, alt, group, ahead, never, back, atomic, repeat, backref, exists, conditional, absent}
+
+-- What a node is from here, and from as far back as it is long.
+pub record Written : Type 0 where
+  pub front : Pat
+  pub behind : Pat
+
+-- the pattern for the value, and a failing one where there is none
+abbrev pub pat_for : {A : Type 0} → (A → Pat) → Option A → Pat
+pat_for f None = fail
+pat_for f (Some x) = f x
+
+-- in a row
+abbrev pub cat_all : List Written → Pat
+cat_all [] = nothing
+cat_all (u ∷ us) = cat u.front (cat_all us)
+
+-- branch after branch
+abbrev pub alt_all : List Pat → Pat
+alt_all [] = fail
+alt_all (p ∷ []) = p
+alt_all (p ∷ q ∷ ps) = alt p (alt_all (q ∷ ps))
+
+abbrev pub fronts : List Written → List Pat
+fronts us = map (λ u. u.front) us
+
+abbrev pub behinds : List Written → List Pat
+behinds us = map (λ u. u.behind) us
+
+abbrev pub look : LookAround → Written → Pat
+look LookAhead u = ahead u.front
+look LookAheadNeg u = never u.front
+look LookBehind u = ahead u.behind
+look LookBehindNeg u = never u.behind
+
+-- over the bodies of all groups, by their numbers
+module _ (groups : List Tree) where
+  -- a node that is no alternation: all of it is as long
+  abbrev pub node : Tree → Pat → Written
+  node t p = record { front = p; behind = cat (back (size groups t).least) p }
+
+  -- An alternation whose branches are all as long goes back as any other node does; else each branch goes back for itself.
+  abbrev pub branches : Tree → List Written → Written
+  branches t us = record {
+    front = alt_all (fronts us);
+    behind = if (size groups t).always then cat (back (size groups t).least) (alt_all (fronts us)) else alt_all (behinds us);
+  }
+
+  -- A tree, where the pattern of each call is given, and the number of the group that opens first in it.
+  -- Nodes that are never built fail.
+  unfoldable mutual
+    pub written : (ℕ → Pat) → ℕ → Tree → Written
+    written call n (tree.alt ts) = branches (tree.alt ts) (written_all call n ts)
+    written call n (tree.concat ts) = node (tree.concat ts) (cat_all (written_all call n ts))
+    written call n tree.empty = node tree.empty nothing
+    written call n (tree.any newline crlf) = node (tree.any newline crlf) (read (any newline crlf))
+    written call n (tree.assertion a) = node (tree.assertion a) (check a)
+    written call n (tree.general_newline unicode) = node (tree.general_newline unicode) (general_newline unicode)
+    written call n (tree.literal val casei) = node (tree.literal val casei) (read (literal (slice_index val 0) casei))
+    written call n (tree.delegate text casei) = node (tree.delegate text casei) (read (class text casei))
+    written call n (tree.group t) = node (tree.group t) (group n (written call (n + 1) t).front)
+    written call n (tree.look_around t how) = node (tree.look_around t how) (look how (written call n t))
+    written call n (tree.repeat t lo hi greedy) =
+        node (tree.repeat t lo hi greedy) (repeat (written call n t).front lo (bound_of hi) greedy)
+    written call n (tree.atomic_group t) = node (tree.atomic_group t) (atomic (written call n t).front)
+    written call n (tree.backref k casei) = node (tree.backref k casei) (backref k casei)
+    written call n (tree.backref_exists k None) = node (tree.backref_exists k None) (exists k)
+    written call n (tree.backref_exists k (Some level)) = node (tree.backref_exists k (Some level)) fail
+    written call n (tree.conditional c a b) = node (tree.conditional c a b)
+        (conditional (written call n c).front (written call (n + group_count c) a).front
+        (written call (n + group_count c + group_count a) b).front)
+    written call n (tree.subroutine_call k) = node (tree.subroutine_call k) (call k)
+    written call n tree.keep_out = node tree.keep_out keep_out
+    written call n tree.continue = node tree.continue continue
+    written call n (tree.verb v) = node (tree.verb v) fail
+    written call n (tree.absent_repeater t) = node (tree.absent_repeater t) (absent (written call n t).front)
+    written call n (tree.define_group t) = node (tree.define_group t) nothing
+    written call n (tree.literal_bytes bytes) = node (tree.literal_bytes bytes) fail
+    written call n (tree.backref_with_level k level casei) = node (tree.backref_with_level k level casei) fail
+    written call n (tree.absent_expression a t) = node (tree.absent_expression a t) fail
+    written call n (tree.absent_stopper t) = node (tree.absent_stopper t) fail
+    written call n tree.absent_clear = node tree.absent_clear fail
+    written call n (tree.ast_group name t position) = node (tree.ast_group name t position) fail
+    written call n (tree.ast_backref goal casei level position) = node (tree.ast_backref goal casei level position) fail
+    written call n (tree.ast_call goal position) = node (tree.ast_call goal position) fail
+    written call n (tree.ast_condition goal level position) = node (tree.ast_condition goal level position) fail
+
+    pub written_all : (ℕ → Pat) → ℕ → Trees → List Written
+    written_all call n no_trees = []
+    written_all call n (more_trees t ts) = written call n t ∷ written_all call (n + group_count t) ts
+
+  -- a call of the target k, where those targets are open and m more calls may open
+  unfoldable pub written_call : ℕ → List ℕ → ℕ → Pat
+  written_call zero opened k = fail
+  written_call (suc m) opened k =
+      let inside = pat_for (λ body. (written (written_call m (k ∷ opened)) (k + 1) body).front) (target groups k) in
+      if is_full opened k then fail else inside
+
+  -- a part of the pattern whose first group has the number n, where those targets are open and m more calls may open
+  abbrev pub unfolded : ℕ → List ℕ → ℕ → Tree → Pat
+  unfolded m opened n t = (written (written_call m opened) n t).front
+
+  -- the same from as far back as it is long
+  abbrev pub unfolded_behind : ℕ → List ℕ → ℕ → Tree → Pat
+  unfolded_behind m opened n t = (written (written_call m opened) n t).behind
+
+-- the whole pattern
+unfoldable pub pat_of : Pattern → Pat
+pat_of pattern = unfolded pattern.groups (most_calls pattern.groups) [] pattern.first_group pattern.tree
