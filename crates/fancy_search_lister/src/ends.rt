@@ -10,7 +10,11 @@ use crate::character::read;
 use fancy_regex_tree::Expr;
 use std::alloc::{AllocError, Global};
 
-/// Where the ways of the tree from this place end, in their order.
+/// Where the ways of a tree that is served end, from this place on, the preferred way first.
+///
+/// # Errors
+///
+/// Only where memory runs out.
 pub fn ways(alloc: Global, tree: &Expr, text: &str, place: usize) -> Result<Vec<usize>, AllocError>
     requires { IsServed (tree_of tree.now) }
     ensures ways { IfOk result (λ v. (s : Setting) → s.text ≡ text.now → (groups : List Tree) (n : ℕ) (w : Way) → w.position ≡ place
@@ -48,6 +52,7 @@ fn past_literal(text: &[u8], place: usize, val: &str) -> Option<usize>
     }
 }
 
+/// Appends the place, if there is one.
 fn push_if_some(found: &mut Vec<usize>, end: Option<usize>) -> Result<(), AllocError>
     ensures { IfOk result (λ _. found.new.items ≡ found.old.items ++ option_to_list end) }
 {

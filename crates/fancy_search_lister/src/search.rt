@@ -19,7 +19,13 @@ pub struct Span {
     pub end: usize,
 }
 
-/// The matches of the tree in the whole text, from left to right.
+/// The matches of a tree that is served in the whole text, from left to right.
+///
+/// An empty match where the match before ended is left out, and the search goes on one character later.
+///
+/// # Errors
+///
+/// Only where memory runs out.
 pub fn spans(alloc: Global, tree: &Expr, text: &str) -> Result<Vec<Span>, AllocError>
     requires { IsServed (tree_of tree.now) }
     ensures items { IfOk result (λ v. (s : Setting) → s.text ≡ text.now
