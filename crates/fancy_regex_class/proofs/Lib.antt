@@ -1,0 +1,5 @@
+pub mod LookLemmas
+pub mod AloneLemmas
+pub mod ClassLemmas
+pub mod TableLemmas
+pub mod WordLemmas

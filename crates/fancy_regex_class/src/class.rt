@@ -1,0 +1,114 @@
+ghost use Rattle.std.specs.Prelude.{◌≡◌, ℕ, ◌<◌, false, [], ◌∷◌, ◌++◌, chars, string_bytes, IfOk, IfErr, IsTrue, slice_index_or};
+ghost use Rattle.std.specs.Char.{IsScalar};
+ghost use Rattle.regex_class.specs.Ranges.{in_ranges};
+ghost use Rattle.fancy_regex_class.specs.Classes.{class_text, is_class};
+
+use crate::matcher::{Refusal, members};
+use regex_class::Class;
+use std::alloc::{AllocError, Global};
+
+/// Why a class has no matcher.
+#[derive(Debug, Drop)]
+pub enum ClassError {
+    /// The class's text, which `regex` does not take.
+    InnerError(String),
+    Memory,
+}
+
+impl From<AllocError> for ClassError {
+    ghost use Rattle.std.specs.Prelude.{◌≡◌};
+    ghost use Rattle.fancy_regex_class.specs.declared.class.ClassError.TheVariants.{Memory};
+
+    ghost from_gives = { λ _ error. error ≡ Memory };
+
+    fn from(_: AllocError) -> ClassError {
+        ClassError::Memory
+    }
+}
+
+/// The characters of a class, as sorted ranges, with the answers for ASCII in front.
+#[derive(Debug, Drop)]
+pub struct CharClassMatcher {
+    class: Class,
+    ascii: [bool; 128],
+    ghost answers: { (c : ℕ) → c < 128 → slice_index_or ascii c false ≡ in_ranges class.ranges.items c },
+}
+
+impl CharClassMatcher {
+    ghost use Rattle.fancy_regex_class.specs.Matchers.{has, IsMatcherOf, IsClassError};
+
+    /// The characters that the class has, where case is disregarded and in Unicode mode if asked for. The text is read
+    /// by the grammar of `regex`; where that does not read it, or refuses it, the error is `InnerError` with the text.
+    pub fn new(
+        alloc: Global,
+        text: &str,
+        casei: bool,
+        unicode: bool,
+    ) -> Result<CharClassMatcher, ClassError>
+        ensures members { IfOk result (λ m. IsMatcherOf m unicode (chars text.now) casei) }
+        ensures read { IfOk result (λ _. IsTrue (is_class unicode (chars text.now) casei)) }
+        ensures refused { IfErr result (IsClassError unicode text.now casei) }
+    {
+        let written = class_text(alloc, text, casei, unicode)?;
+        match members(alloc, &written) {
+            Ok(class) => Ok(CharClassMatcher::of(class)),
+            Err(Refusal::Memory) => Err(ClassError::Memory),
+            Err(Refusal::Refused) => Err(ClassError::InnerError(String::from_str(alloc, text)?)),
+        }
+    }
+
+    fn of(class: Class) -> CharClassMatcher
+        ensures { (c : ℕ) → has result c ≡ in_ranges class.ranges.items c }
+    {
+        let mut ascii = [false; 128];
+        for code in 0..128 {
+            ascii[code] = class.contains(code as u32);
+        }
+        CharClassMatcher { class, ascii }
+    }
+
+    /// Whether the class has the character.
+    pub fn contains(&self, c: char) -> bool
+        ensures { result ≡ has self.now c }
+    {
+        let code = c as u32;
+        if code < 128 {
+            self.ascii[code as usize]
+        } else {
+            self.class.contains(code)
+        }
+    }
+
+    /// Whether the class has each of the ASCII characters, by its code.
+    pub fn ascii(&self) -> &[bool; 128]
+        ensures { (c : ℕ) → c < 128 → slice_index_or result.now c false ≡ has self.now c }
+    {
+        &self.ascii
+    }
+}
+
+/// The text that `regex` is to read for the class.
+fn class_text(alloc: Global, text: &str, casei: bool, unicode: bool) -> Result<String, AllocError>
+    ensures { IfOk result (λ s. chars (string_bytes s) ≡ class_text unicode casei (chars text.now)) }
+{
+    let with_case = if casei {
+        wrapped(alloc, "(?i:", text)?
+    } else {
+        String::from_str(alloc, text)?
+    };
+    if unicode {
+        Ok(with_case)
+    } else {
+        wrapped(alloc, "(?-u:", &with_case)
+    }
+}
+
+/// The text in a group that opens so.
+fn wrapped(alloc: Global, opening: &str, text: &str) -> Result<String, AllocError>
+    ensures { IfOk result (λ s. chars (string_bytes s) ≡ chars opening.now ++ chars text.now ++ 41 ∷ []) }
+{
+    let mut written = String::from_str(alloc, opening)?;
+    written.push_str(text)?;
+    written.push(')')?;
+    Ok(written)
+}

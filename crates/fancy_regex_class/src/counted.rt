@@ -1,0 +1,87 @@
+ghost use Rattle.std.specs.Prelude.{◌≡◌, ℕ, ◌+◌, ◌-◌, ◌^◌, ◌≤◌, min, IfSome, IsCharBoundary};
+ghost use Rattle.std.specs.Char.{len_utf8};
+ghost use Rattle.regex_hir.specs.Text.{char_at, char_before};
+
+use std::marker::Model;
+
+/// How many looks there were. It stays at the last value of `u64`.
+#[derive(Drop)]
+pub struct Steps {
+    count: u64,
+}
+
+impl Model for Steps {
+    ghost Value = { ℕ };
+
+    ghost view = { λ s. s.count };
+}
+
+impl Steps {
+    /// No look yet.
+    pub fn new() -> Steps
+        ensures { result ≡ 0 }
+    {
+        Steps { count: 0 }
+    }
+
+    /// How many looks there were, or the last value of `u64` where there were more.
+    pub fn count(&self) -> u64
+        ensures { result ≡ self.now }
+    {
+        self.count
+    }
+
+    fn tick(&mut self)
+        ensures { self.new ≡ min (self.old + 1) (2 ^ 64 - 1) }
+    {
+        if self.count < u64::MAX {
+            self.count += 1;
+        }
+    }
+}
+
+/// A text that is seen one look at a time, each of which is counted.
+#[derive(Drop)]
+pub struct Counted<'t, 's> {
+    text: &'t str,
+    steps: &'s mut Steps,
+}
+
+impl<'t, 's> Counted<'t, 's> {
+    ghost use Rattle.fancy_regex_class.specs.Looks.{looked_text, look_count, SameCounter};
+
+    /// The text, with its looks added to the steps.
+    pub fn new(text: &'t str, steps: &'s mut Steps) -> Counted<'t, 's>
+        ensures text { looked_text result ≡ text.now }
+        ensures count { look_count result ≡ steps.old }
+        ensures same_counter { result.steps.ghost_name ≡ steps.entry.ghost_name }
+    {
+        Counted { text, steps }
+    }
+
+    /// The characters before and after the position, in bytes, each None at its end of the text. Counts one look, and
+    /// takes no memory.
+    pub fn look(&mut self, position: usize) -> (Option<char>, Option<char>)
+        requires { IsCharBoundary (looked_text self.old) position }
+        ensures before { result.0 ≡ char_before (looked_text self.old) position }
+        ensures after { result.1 ≡ char_at (looked_text self.old) position }
+        ensures next { IfSome result.1 (λ c. IsCharBoundary (looked_text self.old) (position + len_utf8 c)) }
+        ensures ticked { look_count self.new ≡ min (look_count self.old + 1) (2 ^ 64 - 1) }
+        ensures text { looked_text self.new ≡ looked_text self.old }
+        ensures same_counter { SameCounter self.old self.new }
+    {
+        self.steps.tick();
+        chars_round(self.text, position)
+    }
+}
+
+/// The characters before and after the position.
+fn chars_round(text: &str, position: usize) -> (Option<char>, Option<char>)
+    requires { IsCharBoundary text.now position }
+    ensures before { result.0 ≡ char_before text.now position }
+    ensures after { result.1 ≡ char_at text.now position }
+    ensures next { IfSome result.1 (λ c. IsCharBoundary text.now (position + len_utf8 c)) }
+{
+    let (front, back) = text.split_at(position);
+    (front.chars().next_back(), back.chars().next())
+}

@@ -1,0 +1,140 @@
+ghost use Rattle.std.specs.Prelude.{◌≡◌, ◌≢◌, ℕ, true, IsTrue, IfOk, IfErr, IfSome, encode_utf8, is_some, chars};
+ghost use Rattle.std.specs.Char.{IsScalar};
+ghost use Rattle.regex_class.specs.Ranges.{in_ranges};
+ghost use Rattle.regex_hir.specs.Find.{find_str};
+ghost use Rattle.regex_hir.specs.Meaning.{meaning};
+ghost use Rattle.regex_syntax.specs.WellFormed.{IsWellFormed};
+ghost use Rattle.regex.specs.Strings.{matcher_pattern};
+ghost use Rattle.fancy_regex_class.specs.Classes.{has_alone, matches_alone, is_read};
+ghost use Rattle.regex.specs.declared.error.Error.TheVariants as regex_error;
+
+use regex::{Matcher, Regex};
+use regex_class::Class;
+use regex_hir::Hir;
+use regex_syntax::{Config, ErrorKind};
+use std::alloc::{AllocError, Global};
+
+/// Why a text has no members.
+#[derive(Clone, Copy, PartialEq, Eq)]
+pub(crate) enum Refusal {
+    /// `regex` does not take the text.
+    Refused,
+    Memory,
+}
+
+impl From<AllocError> for Refusal {
+    ghost use Rattle.std.specs.Prelude.{◌≡◌};
+    ghost use Rattle.fancy_regex_class.specs.declared.matcher.Refusal.TheVariants.{Memory};
+
+    ghost from_gives = { λ _ refusal. refusal ≡ Memory };
+
+    fn from(_: AllocError) -> Refusal {
+        Refusal::Memory
+    }
+}
+
+ghost use Rattle.fancy_regex_class.specs.Matchers.{RefusesText};
+
+/// The characters whose text alone the pattern matches.
+pub(crate) fn members(alloc: Global, written: &str) -> Result<Class, Refusal>
+    ensures members { IfOk result (λ class. (c : ℕ) → IsScalar c → in_ranges class.ranges.items c ≡ has_alone (chars written.now) c) }
+    ensures read { IfOk result (λ _. IsTrue (is_read (chars written.now))) }
+    ensures refused { IfErr result (λ r. r ≡ Refusal.Refused → RefusesText (chars written.now)) }
+{
+    match regex_syntax::parse(alloc, written, &Config::default()) {
+        Ok(parsed) => match table(alloc, parsed.hir)? {
+            Some(class) => Ok(class),
+            None => members_by_search(alloc, written),
+        },
+        Err(error) => Err(refusal_of_syntax(error.kind)),
+    }
+}
+
+/// The characters that the tree matches alone, if it is a class or the text of one character.
+fn table(alloc: Global, tree: Hir) -> Result<Option<Class>, AllocError>
+    requires { IsWellFormed true tree }
+    ensures { IfOk result (λ o. IfSome o (λ class. (c : ℕ) → IsScalar c →
+        in_ranges class.ranges.items c ≡ is_some (find_str (meaning tree) (encode_utf8 c) 0))) }
+{
+    match tree {
+        Hir::Chars(class) => Ok(Some(class)),
+        Hir::Bytes(class) => Ok(Some(class)),
+        Hir::Literal(bytes) => match only_char(&bytes) {
+            Some(c) => Ok(Some(Class::from_ranges(alloc, &[(c as u32, c as u32)])?)),
+            None => Ok(None),
+        },
+        _ => Ok(None),
+    }
+}
+
+/// The character whose text this is, if it is that of one.
+fn only_char(bytes: &[u8]) -> Option<char>
+    ensures { IfSome result (λ c. bytes.now ≡ encode_utf8 c) }
+{
+    let text = str::from_utf8(bytes).ok()?;
+    let mut rest = text.chars();
+    let first = rest.next()?;
+    match rest.next() {
+        Some(_) => None,
+        None => Some(first),
+    }
+}
+
+/// The characters whose text alone a search finds the pattern in. This asks about every character.
+fn members_by_search(alloc: Global, written: &str) -> Result<Class, Refusal>
+    ensures members { IfOk result (λ class. (c : ℕ) → IsScalar c → in_ranges class.ranges.items c ≡ has_alone (chars written.now) c) }
+    ensures read { IfOk result (λ _. IsTrue (is_read (chars written.now))) }
+    ensures refused { IfErr result (λ r. r ≡ Refusal.Refused → RefusesText (chars written.now)) }
+{
+    match Regex::new(alloc, written) {
+        Ok(regex) => {
+            let mut matcher = regex.matcher(alloc)?;
+            Ok(found_alone(alloc, &mut matcher)?)
+        }
+        Err(error) => Err(refusal_of_build(error)),
+    }
+}
+
+/// The characters whose text alone the matcher finds.
+fn found_alone(alloc: Global, matcher: &mut Matcher<'_>) -> Result<Class, AllocError>
+    ensures { IfOk result (λ class. (c : ℕ) → IsScalar c →
+        in_ranges class.ranges.items c ≡ is_some (find_str (matcher_pattern matcher.old) (encode_utf8 c) 0)) }
+{
+    let mut ranges = Vec::new(alloc);
+    for code in 0..0x11_0000 {
+        if is_found(matcher, code) {
+            ranges.push((code, code))?;
+        }
+    }
+    Class::new(ranges)
+}
+
+/// Whether the matcher finds something in the text of the character with this code.
+fn is_found(matcher: &mut Matcher<'_>, code: u32) -> bool
+    ensures found { IsScalar code → result ≡ matches_alone (matcher_pattern matcher.old) code }
+    ensures scalar { IsTrue result → IsScalar code }
+    ensures same { matcher_pattern matcher.new ≡ matcher_pattern matcher.old }
+{
+    match char::from_u32(code) {
+        Some(c) => matcher.is_match(c.encode_utf8(&mut [0; 4])),
+        None => false,
+    }
+}
+
+fn refusal_of_build(error: regex::Error) -> Refusal
+    ensures { result ≡ Refusal.Refused → error ≢ regex_error.OutOfMemory }
+{
+    match error {
+        regex::Error::OutOfMemory => Refusal::Memory,
+        _ => Refusal::Refused,
+    }
+}
+
+fn refusal_of_syntax(kind: ErrorKind) -> Refusal
+    ensures { result ≡ Refusal.Refused → kind ≢ ErrorKind.OutOfMemory }
+{
+    match kind {
+        ErrorKind::OutOfMemory => Refusal::Memory,
+        _ => Refusal::Refused,
+    }
+}
