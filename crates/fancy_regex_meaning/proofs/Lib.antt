@@ -12,3 +12,5 @@ pub mod ChoiceProofs
 pub mod ExplodingProof
 pub mod GroupProofs
 pub mod SearchProofs
+pub mod CharacterLemmas
+pub mod SizedWays
