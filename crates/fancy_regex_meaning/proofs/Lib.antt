@@ -14,3 +14,4 @@ pub mod GroupProofs
 pub mod SearchProofs
 pub mod CharacterLemmas
 pub mod SizedWays
+pub mod LeastLemmas
