@@ -1,9 +1,9 @@
 -- How many characters stand between two places.
-use Rattle.std.proofs.Common.{◌≡◌, ℕ, zero, suc, ◌+◌, ◌-◌, ◌<◌, ◌≤◌, List, [], ◌∷◌, ◌++◌, length, take, drop, Some, refl, sym, ap, subst, ◌∙◌, arith, length-drop, length-take}
+use Rattle.std.proofs.Common.{◌≡◌, ℕ, suc, ◌+◌, ◌-◌, ◌≤◌, List, length, drop, Some, ap, ◌∙◌, arith, length-drop, length-take}
 use Rattle.std.specs.Prelude.{slice_range, chars}
 use Rattle.std.specs.Char.{len_utf8}
 use Rattle.std.specs.Str.{IsUtf8, IsCharBoundary}
-use Rattle.std.proofs.lemmas.Str.{IsUtf8-between, IsUtf8-drop, chars-append, chars_past_char, chars-nil, encodes-chars, length-le-encodes}
+use Rattle.std.proofs.lemmas.Str.{IsUtf8-between, IsUtf8-drop, chars-append, chars_past_char, encodes-chars, length-le-encodes}
 use Rattle.std.proofs.lemmas.List.{length-append}
 use Rattle.std.proofs.lemmas.List.Folds.{drop_split}
 use Rattle.regex_hir.specs.Text.{char_at}

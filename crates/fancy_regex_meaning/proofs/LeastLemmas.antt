@@ -1,12 +1,12 @@
 -- The least size through so many calls as there are targets is the least through any number of calls.
-use Rattle.std.proofs.Common.{◌≡◌, ℕ, zero, suc, ◌+◌, ◌*◌, ◌<◌, ◌≤◌, Bool, true, false, cond, List, [], ◌∷◌, length, min, Option, Some, None, refl, sym, ap, subst, ◌∙◌, ⊎_elim, arith, ◌==◌}
+use Rattle.std.proofs.Common.{◌≡◌, ℕ, zero, suc, ◌+◌, ◌<◌, ◌≤◌, Bool, true, false, cond, List, length, min, Option, Some, None, refl, sym, ap, subst, ◌∙◌, ⊎_elim, arith, ◌==◌}
 use Rattle.std.specs.Prelude.{◌||◌}
 use Rattle.std.proofs.lemmas.Bool.{eqb-true, eq-eqb, cases_eq, cases_lt, false≢true}
 use Rattle.std.proofs.lemmas.Option.{slice_get_within, same_Some}
 use Rattle.std.proofs.lemmas.Nat.{mul-le}
 use Rattle.fancy_regex_tree.specs.Tree as tree
 use Rattle.fancy_regex_tree.specs.Tree.{Tree, Trees, empty, any, assertion, general_newline, literal, literal_bytes, concat, alt, group, look_around, delegate, backref, backref_with_level, atomic_group, keep_out, continue, backref_exists, conditional, subroutine_call, verb, absent_repeater, absent_expression, absent_stopper, absent_clear, define_group, ast_group, ast_backref, ast_call, ast_condition, no_trees, more_trees}
-use Rattle.fancy_regex_meaning.specs.Sizes.{Size, unbounded, add, times, always_size, any_size, endless_size, both_sizes, either_size, repeated_size, size_with, sum_size, branch_size, size_through, size, target, is_recursive}
+use Rattle.fancy_regex_meaning.specs.Sizes.{Size, unbounded, times, any_size, endless_size, both_sizes, either_size, repeated_size, size_with, sum_size, branch_size, size_through, size, target, is_recursive}
 
 -- The least of the second is no higher than that of the first, or that is at least B.
 pub record Above (B : ℕ) (z y : Size) : Type 0 where
@@ -140,7 +140,7 @@ none_free (suc n) k S lt h =
 
 module _ (groups : List Tree) where
   -- the least size of a call, where some targets may not be called, and calls are followed n deep
-  pub calls_of : (ℕ → Bool) → ℕ → ℕ → Size
+  unfoldable pub calls_of : (ℕ → Bool) → ℕ → ℕ → Size
   calls_of S zero k = called (λ body. endless_size) (target groups k)
   calls_of S (suc n) k = called (λ body. cond (S k) endless_size (size_with (calls_of S n) body)) (target groups k)
 
@@ -255,7 +255,7 @@ module _ (groups : List Tree) where
   open_to_all k = false
 
   -- the size of a call, as the sizes have it
-  pub call_size : ℕ → ℕ → Size
+  unfoldable pub call_size : ℕ → ℕ → Size
   call_size zero k = called (λ body. endless_size) (target groups k)
   call_size (suc n) k =
       called (λ body. let s = size_through groups n body in

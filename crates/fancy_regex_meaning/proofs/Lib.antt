@@ -15,3 +15,4 @@ pub mod SearchProofs
 pub mod CharacterLemmas
 pub mod SizedWays
 pub mod LeastLemmas
+pub mod SizeProofs

@@ -1,5 +1,5 @@
 -- The ways of a node take as many characters as its size says, if those of its parts do.
-use Rattle.std.proofs.Common.{◌≡◌, ℕ, zero, suc, ◌+◌, ◌-◌, ◌*◌, ◌<◌, ◌≤◌, Bool, true, false, cond, List, [], ◌∷◌, length, max, Option, Some, None, refl, sym, ap, subst, ◌∙◌, ◌⊎◌, inl, inr, arith, ◌==◌}
+use Rattle.std.proofs.Common.{◌≡◌, ℕ, zero, suc, ◌+◌, ◌-◌, ◌<◌, ◌≤◌, Bool, true, false, List, [], ◌∷◌, length, max, Some, None, refl, sym, ap, subst, ◌∙◌, ◌⊎◌, inl, inr, arith, ◌==◌}
 use Rattle.std.specs.Prelude.{◌&&◌}
 use Rattle.std.specs.List.{flat_map}
 use Rattle.std.specs.Char.{len_utf8}
@@ -7,7 +7,7 @@ use Rattle.std.specs.Str.{IsUtf8}
 use Rattle.std.proofs.lemmas.Bool.{cond_both, eqb-true, and_parts}
 use Rattle.std.proofs.lemmas.Str.{len_utf8_ascii}
 use Rattle.std.proofs.Math.Nat.{le_trans, le_refl}
-use Rattle.regex_hir.specs.Text.{char_at, is_some_and}
+use Rattle.regex_hir.specs.Text.{char_at}
 use Rattle.regex_hir.proofs.TextLemmas.{char_at_ascii}
 use Rattle.fancy_regex_meaning.specs.Places.{is_before_byte}
 use Rattle.fancy_regex_meaning.specs.Sizes.{Size, unbounded, bound_of, always_size, any_size, both_sizes, either_size, repeated_size, size_with, sum_size, branch_size}
@@ -16,7 +16,7 @@ use Rattle.fancy_regex_tree.specs.declared.expr.LookAround.{LookAround}
 use Rattle.fancy_regex_tree.specs.declared.expr.LookAround.TheVariants.{LookAhead, LookAheadNeg, LookBehind, LookBehindNeg}
 use Rattle.fancy_regex_tree.specs.Tree as tree
 use Rattle.fancy_regex_tree.specs.Tree.{Tree, Trees, empty, any, assertion, general_newline, literal, literal_bytes, concat, alt, look_around, delegate, backref_with_level, atomic_group, keep_out, continue, backref_exists, subroutine_call, verb, absent_repeater, absent_expression, absent_stopper, absent_clear, define_group, ast_group, ast_backref, ast_call, ast_condition, no_trees, more_trees}
-use Rattle.fancy_regex_meaning.specs.Ways.{Way, Moves, Meaning, Setting, all_of, any_of, meaning, meanings, pairs_alone, first_of_all, set_pair, at_place, stay, keep_here, look, stay_if, is_none_of, prefer, due, up_to, loop, conditional, character, group, repeat, general_newline_ways, is_newline}
+use Rattle.fancy_regex_meaning.specs.Ways.{Way, Moves, Meaning, Setting, all_of, any_of, meaning, meanings, pairs_alone, first_of_all, at_place, stay, keep_here, look, stay_if, prefer, due, up_to, loop, conditional, character, group, repeat, general_newline_ways, is_newline}
 use Rattle.fancy_regex_meaning.specs.Laws.{Each, GoesWell, LeadsTo, CutsWell}
 use Rattle.fancy_regex_meaning.specs.SizeLaws.{characters_between, EachRepeat, EachRepeatInRow}
 use Rattle.fancy_regex_meaning.proofs.EachLemmas.{Each-weaker, Each-append, Each-map, Each-flat_map, Each-cond, Each-for_some}
@@ -44,7 +44,7 @@ pub record Bounds (Fits : Size → ℕ → Type 0) (Good : ℕ → ℕ → Type 
   pub repeated : (a : Size) (lo hi n c : ℕ) → Good lo hi → Rounds (Fits a) n c → lo ≤ n → (n ≤ max lo hi) ⊎ (hi ≡ unbounded) →
       Fits (repeated_size a lo hi) c
 
-both_hold : {A : Type 0} (P Q : A → Type 0) (xs : List A) → Each P xs → Each Q xs → Each (λ x. P x × Q x) xs
+pub both_hold : {A : Type 0} (P Q : A → Type 0) (xs : List A) → Each P xs → Each Q xs → Each (λ x. P x × Q x) xs
 both_hold P Q [] h k = tt
 both_hold P Q (x ∷ xs) h k = ((h.0, k.0), both_hold P Q xs h.1 k.1)
 

@@ -1,8 +1,8 @@
 -- Laws of the sizes: how many characters the ways of a pattern take.
-use Rattle.std.specs.Prelude.{◌≡◌, ℕ, ◌<◌, ◌≤◌, ⊤, Bool, true, List, [], length, chars, slice_range}
+use Rattle.std.specs.Prelude.{◌≡◌, ℕ, ◌<◌, ◌≤◌, ⊤, true, false, List, [], length, chars, slice_range}
 use Rattle.std.specs.Str.{IsUtf8}
 use Rattle.fancy_regex_tree.specs.Tree.{Tree, Trees, concat, alt, group, look_around, repeat, atomic_group, conditional, absent_repeater, absent_expression, absent_stopper, define_group, ast_group, no_trees, more_trees}
-use Rattle.fancy_regex_meaning.specs.Sizes.{unbounded, size}
+use Rattle.fancy_regex_meaning.specs.Sizes.{unbounded, size, may_be_empty}
 use Rattle.fancy_regex_meaning.specs.Ways.{Way, Setting, ways}
 use Rattle.fancy_regex_meaning.specs.Laws.{Each, CutsWell}
 
@@ -36,31 +36,31 @@ abbrev pub IsInOrder : Tree → Type 0
 IsInOrder = EachRepeat (λ lo hi. lo ≤ hi)
 
 module _ (s : Setting) (groups : List Tree) where
-  -- of each way from one that cuts the text between characters, by how many characters it takes
-  abbrev pub EachTakes : (Tree → ℕ → Type 0) → Type 0
-  EachTakes P = IsUtf8 s.text → (n : ℕ) (t : Tree) (w : Way) → CutsWell s.text w →
-      Each (λ v. P t (characters_between s.text w.position v.position)) (ways s groups n t w)
+  -- each way of the tree from here takes a number of characters that passes
+  abbrev pub EachTakes : (ℕ → Type 0) → ℕ → Tree → Way → Type 0
+  EachTakes P n t w = Each (λ v. P (characters_between s.text w.position v.position)) (ways s groups n t w)
 
-  -- each way takes at least as many characters as the least size says
+  -- In a text, from a way that cuts it between characters, each way takes at least as many as the least size says.
   abbrev pub LeastIsTaken : Type 0
-  LeastIsTaken = EachTakes (λ t c. (size groups t).least ≤ c)
+  LeastIsTaken = IsUtf8 s.text → (n : ℕ) (t : Tree) (w : Way) → CutsWell s.text w →
+      EachTakes (λ c. (size groups t).least ≤ c) n t w
 
   -- and at most as many as the greatest, where that is a bound and no repeat is reversed
   abbrev pub GreatestIsKept : Type 0
-  GreatestIsKept = Each IsInOrder groups →
-      EachTakes (λ t c. IsInOrder t → (size groups t).greatest < unbounded → c ≤ (size groups t).greatest)
+  GreatestIsKept = IsUtf8 s.text → Each IsInOrder groups → (n : ℕ) (t : Tree) (w : Way) → CutsWell s.text w → IsInOrder t →
+      (size groups t).greatest < unbounded → EachTakes (λ c. c ≤ (size groups t).greatest) n t w
 
   -- and exactly the least, where the size is always the same and ends
   abbrev pub AlwaysIsExact : Type 0
-  AlwaysIsExact = Each IsInOrder groups →
-      EachTakes (λ t c. IsInOrder t → (size groups t).always ≡ true → (size groups t).least < unbounded → c ≡ (size groups t).least)
+  AlwaysIsExact = IsUtf8 s.text → Each IsInOrder groups → (n : ℕ) (t : Tree) (w : Way) → CutsWell s.text w → IsInOrder t →
+      (size groups t).always ≡ true → (size groups t).least < unbounded → EachTakes (λ c. c ≡ (size groups t).least) n t w
 
-  -- Where the least is above 0, each way moves on in the text.
+  -- What may not be empty moves on in the text on each way.
   abbrev pub NonEmptyMoves : Type 0
-  NonEmptyMoves = IsUtf8 s.text → (n : ℕ) (t : Tree) (w : Way) → CutsWell s.text w → 0 < (size groups t).least →
+  NonEmptyMoves = IsUtf8 s.text → (n : ℕ) (t : Tree) (w : Way) → CutsWell s.text w → may_be_empty groups t ≡ false →
       Each (λ v. w.position < v.position) (ways s groups n t w)
 
-  -- Where the least has no bound, no text that can be has a way.
+  -- Where the least has no bound, there is no way, as no text is so long.
   abbrev pub EndlessHasNone : Type 0
-  EndlessHasNone = IsUtf8 s.text → (n : ℕ) (t : Tree) (w : Way) → CutsWell s.text w → length s.text < unbounded →
+  EndlessHasNone = IsUtf8 s.text → length s.text < unbounded → (n : ℕ) (t : Tree) (w : Way) → CutsWell s.text w →
       (size groups t).least ≡ unbounded → ways s groups n t w ≡ []
