@@ -16,3 +16,4 @@ pub mod CharacterLemmas
 pub mod SizedWays
 pub mod LeastLemmas
 pub mod SizeProofs
+pub mod EndProofs
