@@ -151,7 +151,7 @@ module _ (s : Setting) (Good : Way → Type 0) (keeps : Keeps s Good) where
   backref_onward k casei None w h e = tt
   backref_onward k casei (Some pair) w h e = again_onward k casei pair.0 pair.1 w h e
 
-  byte_is : (o : Option ℕ) (x : ℕ) → is_some_and o (λ c. c == x) ≡ true → o ≡ Some x
+  pub byte_is : (o : Option ℕ) (x : ℕ) → is_some_and o (λ c. c == x) ≡ true → o ≡ Some x
   byte_is None x e = absurd (false≢true e)
   byte_is (Some y) x e = ap Some (eqb-true y x e)
 
@@ -217,7 +217,7 @@ module _ (s : Setting) (Good : Way → Type 0) (keeps : Keeps s Good) where
       mutual
         unfolding meaning
 
-        meaning_onward : (n : ℕ) (t : Tree) →
+        pub meaning_onward : (n : ℕ) (t : Tree) →
             GoesWell Good (meaning s groups call n t).from × StaysWell Good (meaning s groups call n t).behind
         meaning_onward n (alt ts) = branches_onward (alt ts) _ (meanings_onward n ts)
         meaning_onward n (concat ts) = node_onward _ _ (all_onward _ (meanings_onward n ts))
@@ -259,7 +259,7 @@ module _ (s : Setting) (Good : Way → Type 0) (keeps : Keeps s Good) where
         meanings_onward n no_trees = tt
         meanings_onward n (more_trees t ts) = (meaning_onward n t, meanings_onward (n + group_count t) ts)
 
-    calls_onward : (n : ℕ) (opened : List ℕ) (k : ℕ) → GoesWell Good (call_ways s groups n opened k)
+    pub calls_onward : (n : ℕ) (opened : List ℕ) (k : ℕ) → GoesWell Good (call_ways s groups n opened k)
     unfolding call_ways
     calls_onward zero opened k w h = tt
     calls_onward (suc n) opened k w h =

@@ -12,3 +12,8 @@ pub mod ChoiceProofs
 pub mod ExplodingProof
 pub mod GroupProofs
 pub mod SearchProofs
+pub mod CharacterLemmas
+pub mod SizedWays
+pub mod LeastLemmas
+pub mod SizeProofs
+pub mod EndProofs

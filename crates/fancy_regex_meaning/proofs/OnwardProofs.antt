@@ -120,7 +120,7 @@ module _ (s : Setting) (utf8 : IsUtf8 s.text) where
       let seam = IsCharBoundary-from_take (drop w.position s.text) (b - a) (IsUtf8-drop s.text w.position utf8 h.0) (omega (arith, length-drop w.position s.text)) piece in
       (IsCharBoundary-from_rest s.text w.position (b - a) h.0.0 seam, h.1, h.2)
 
-  keeps_cuts : Keeps s (CutsWell s.text)
+  pub keeps_cuts : Keeps s (CutsWell s.text)
   keeps_cuts = record {
     past_char = cut_past;
     before_char = cut_before;

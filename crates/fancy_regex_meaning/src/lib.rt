@@ -7,6 +7,7 @@ ghost use Rattle.fancy_regex_meaning.specs.Laws.{AtomicHasOne, LookAroundHasEach
 ghost use Rattle.fancy_regex_meaning.specs.ListLaws.{PatternsAscend, FirstItemIsFound, ItemsNeedNoMore, ItemsAreUnbounded, OneMorePiece, PiecesAreAll, PiecesUpToAreCounted, PiecesUpToAreFirst, ReplacedIsInTurn, ReplacedBySelf, NothingReplaced};
 ghost use Rattle.fancy_regex_meaning.specs.Rows.{Orders, TwoNewlines, EmptyIteration, LookAheadKeepsWays, AtomicIsFirst, RangeEnds, NotEmpty, FoldedReference, Iterations, Sets, Pieces, Recursion, Branches, Calls, Deep, Weights, Chosen, Edges, Nodes, SizesOfPatterns, LongestRows, Exploding};
 ghost use Rattle.fancy_regex_meaning.specs.SearchLaws.{MatchesAreAdmitted, NoneIsNone, LongestEndsLast, MatchesCutWell, FoundCutsWell, ItemsCutWell, OneMemberFinds, SetsFindMembers};
+ghost use Rattle.fancy_regex_meaning.specs.SizeLaws.{LeastIsTaken, GreatestIsKept, AlwaysIsExact, NonEmptyMoves, EndlessHasNone};
 ghost use Rattle.fancy_regex_meaning.specs.Ways.{Setting};
 ghost use Rattle.fancy_regex_tree.specs.Tree.{Tree};
 ghost use Rattle.std.specs.Prelude.{List};
@@ -100,4 +101,13 @@ pub fn laws_of_groups()
     ensures bodies { BodiesStand }
     ensures targets { TargetsAreGroups }
     ensures calls { CallsRunGroups }
+{}
+
+/// What holds of the sizes of each pattern: how many characters its ways take.
+pub fn laws_of_sizes()
+    ensures least { (s : Setting) (groups : List Tree) → LeastIsTaken s groups }
+    ensures greatest { (s : Setting) (groups : List Tree) → GreatestIsKept s groups }
+    ensures always { (s : Setting) (groups : List Tree) → AlwaysIsExact s groups }
+    ensures moves { (s : Setting) (groups : List Tree) → NonEmptyMoves s groups }
+    ensures endless { (s : Setting) (groups : List Tree) → EndlessHasNone s groups }
 {}
