@@ -30,7 +30,7 @@ leaf_ends call _ h = refl
 
 module _ (groups : List Tree) where
   module _ (call : ℕ → Bool) (free : (k : ℕ) → target groups k ≡ None → call k ≡ true)
-    (closed : (k : ℕ) (body : Tree) → target groups k ≡ Some body → can_end_with call body ≡ true → call k ≡ true) where
+      (closed : (k : ℕ) (body : Tree) → target groups k ≡ Some body → can_end_with call body ≡ true → call k ≡ true) where
     -- what has an unfolding can end
     mutual
       unfolding can_end_with
