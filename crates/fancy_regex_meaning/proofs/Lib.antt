@@ -17,3 +17,4 @@ pub mod SizedWays
 pub mod LeastLemmas
 pub mod SizeProofs
 pub mod EndProofs
+pub mod EndlessProofs

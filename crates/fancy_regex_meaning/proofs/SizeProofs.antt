@@ -185,7 +185,7 @@ exact_recursive : (b : Bool) (z : Size) → IsExact z →
 exact_recursive true z h = λ e lt. absurd (false≢true e)
 exact_recursive false z h = h
 
-each_at : {A : Type 0} (P : A → Type 0) (xs : List A) (k : ℕ) (x : A) → Each P xs → slice_get xs k ≡ Some x → P x
+pub each_at : {A : Type 0} (P : A → Type 0) (xs : List A) (k : ℕ) (x : A) → Each P xs → slice_get xs k ≡ Some x → P x
 each_at P [] k x h e = absurd (none-some x e)
 each_at P (y ∷ ys) zero x h e = subst P (same_Some y x e) h.0
 each_at P (y ∷ ys) (suc k) x h e = each_at P ys k x h.1 e

@@ -2,6 +2,7 @@
 //! patterns and laws.
 #![tactic(auto)]
 
+ghost use Rattle.fancy_regex_meaning.specs.EndLaws.{EndsUnfold, OthersDoNot, EndsAreUnbounded, StillIsSettled, EndlessIsUnbounded};
 ghost use Rattle.fancy_regex_meaning.specs.GroupLaws.{GroupsAreCounted, NumbersAreRanks, BodiesStand, TargetsAreGroups, CallsRunGroups};
 ghost use Rattle.fancy_regex_meaning.specs.Laws.{AtomicHasOne, LookAroundHasEach, NegativeStays, RowSplits, FirstGoesByParts, WaysGoOnward, WaysCutWell, KeepsStart, LoopsAreUnbounded, RepeatsUnroll, CallsAreUnbounded, MatchesAreSpans, WaysAreFew};
 ghost use Rattle.fancy_regex_meaning.specs.ListLaws.{PatternsAscend, FirstItemIsFound, ItemsNeedNoMore, ItemsAreUnbounded, OneMorePiece, PiecesAreAll, PiecesUpToAreCounted, PiecesUpToAreFirst, ReplacedIsInTurn, ReplacedBySelf, NothingReplaced};
@@ -103,11 +104,16 @@ pub fn laws_of_groups()
     ensures calls { CallsRunGroups }
 {}
 
-/// What holds of the sizes of each pattern: how many characters its ways take.
+/// What holds of the sizes of each pattern: how many characters its ways take, and which parts can end.
 pub fn laws_of_sizes()
     ensures least { (s : Setting) (groups : List Tree) → LeastIsTaken s groups }
     ensures greatest { (s : Setting) (groups : List Tree) → GreatestIsKept s groups }
     ensures always { (s : Setting) (groups : List Tree) → AlwaysIsExact s groups }
     ensures moves { (s : Setting) (groups : List Tree) → NonEmptyMoves s groups }
     ensures endless { (s : Setting) (groups : List Tree) → EndlessHasNone s groups }
+    ensures ends { (groups : List Tree) → EndsUnfold groups }
+    ensures others { (groups : List Tree) → OthersDoNot groups }
+    ensures deeper { (groups : List Tree) → EndsAreUnbounded groups }
+    ensures still { (groups : List Tree) → StillIsSettled groups }
+    ensures no_least { (groups : List Tree) → EndlessIsUnbounded groups }
 {}

@@ -1,4 +1,6 @@
 use Rattle.fancy_regex_meaning.proofs.SizeProofs
+use Rattle.fancy_regex_meaning.proofs.EndProofs
+use Rattle.fancy_regex_meaning.proofs.EndlessProofs
 use Rattle.fancy_regex_meaning.proofs.laws_of_sizes.Goals as goal
 
 pub returns : goal.returns
@@ -8,4 +10,9 @@ returns c = record {
   always = SizeProofs.always_is_exact;
   moves = SizeProofs.non_empty_moves;
   endless = SizeProofs.endless_has_none;
+  ends = EndProofs.ends_unfold;
+  others = EndProofs.others_do_not;
+  deeper = EndProofs.ends_are_unbounded;
+  still = EndProofs.still_is_settled;
+  no_least = EndlessProofs.endless_is_unbounded;
 }
