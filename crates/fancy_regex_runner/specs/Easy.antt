@@ -1,0 +1,72 @@
+-- A plain pattern made ready for searches.
+use Rattle.std.specs.Prelude.{◌≡◌, ℕ, Bool, true, false, not, List, [], ◌∷◌, length, Option, Some, None, option_map, if◌then◌else◌, ◌==◌, slice_set}
+use Rattle.fancy_regex_tree.specs.Tree.{Tree, Text}
+use Rattle.fancy_regex_meaning.specs.Groups.{Pattern}
+use Rattle.fancy_regex_meaning.specs.Ways.{Setting}
+use Rattle.fancy_regex_meaning.specs.Searches.{Search, Match}
+use Rattle.fancy_regex_class.specs.Classes.{setting_of}
+use Rattle.fancy_regex_class.specs.Matchers.{IsMatcherOf}
+use Rattle.fancy_regex_class.specs.declared.class.CharClassMatcher.{CharClassMatcher}
+use Rattle.fancy_regex_runner.specs.Re.{Re}
+use Rattle.fancy_regex_runner.specs.Program.{emitted, IsSound}
+use Rattle.fancy_regex_runner.specs.Plain.{IsPlain, classes, re_of}
+use Rattle.fancy_regex_runner.specs.Find.{Hit}
+use Rattle.fancy_regex_runner.specs.declared.state.State.{State}
+use Rattle.fancy_regex_runner.specs.declared.state.State.TheVariants.{Match as End}
+use Rattle.fancy_regex_runner.specs.declared.rules.Rules.{Rules}
+use Rattle.fancy_regex_runner.specs.declared.input.RunInput.{RunInput}
+
+-- the states of the pattern, before the end
+abbrev pub IsProgramOf : List State → ℕ → Re → Type 0
+IsProgramOf states entry pattern = (emitted pattern (End ∷ []) 0 ≡ (states, entry)) × IsSound pattern
+
+-- the states of some pattern
+abbrev pub IsMade : List State → ℕ → Type 0
+IsMade states entry = ∥ ((pattern : Re) × IsProgramOf states entry pattern) ∥₁
+
+-- a matcher for each class
+abbrev pub Serve : Bool → List CharClassMatcher → List (Text × Bool) → Type 0
+Serve unicode [] [] = Unit {0}
+Serve unicode (m ∷ ms) (c ∷ cs) = IsMatcherOf m unicode c.0 c.1 × Serve unicode ms cs
+Serve unicode [] (c ∷ cs) = ⊥
+Serve unicode (m ∷ ms) [] = ⊥
+
+-- The states and matchers are those of the pattern, which is plain.
+pub record Serves (unicode : Bool) (states : List State) (entry : ℕ) (matchers : List CharClassMatcher) (pattern : Pattern) : Type 0 where
+  pub plain : IsPlain pattern.tree
+  pub program : emitted (re_of unicode pattern.groups pattern.first_group 0 pattern.tree) (End ∷ []) 0 ≡ (states, entry)
+  pub matchers_are : Serve unicode matchers (classes pattern.tree)
+
+-- what the ways of a search depend on
+abbrev pub setting_for : Bool → List ℕ → RunInput → Setting
+setting_for unicode text input = record (setting_of unicode text) {
+  no_start_text = input.no_start_text;
+  no_end_text = input.no_end_text;
+  continue_at = input.continue_at;
+}
+
+-- what a search holds to
+abbrev pub rules_for : Bool → Bool → RunInput → Rules
+rules_for unicode longest input = record {
+  unicode = unicode;
+  no_start_text = input.no_start_text;
+  no_end_text = input.no_end_text;
+  longest = longest;
+}
+
+-- which matches are looked for
+abbrev pub search_for : Bool → RunInput → Search
+search_for longest input = record {
+  first = input.first;
+  stop = input.range.end;
+  anchored = input.anchored;
+  options = record { find_not_empty = false; longest = longest };
+}
+
+-- the places of what was found
+abbrev pub hit_places : Bool → Hit → List ℕ
+hit_places whole h = if whole then slice_set (slice_set h.way.slots 0 h.start) 1 h.way.at else h.way.slots
+
+-- the way from a place to another, with these slots
+abbrev pub hit_at : ℕ → ℕ → List ℕ → Hit
+hit_at start end slots = record { start = start; way = record { at = end; slots = slots } }

@@ -1,0 +1,12 @@
+pub mod Re
+pub mod Meaning
+pub mod Attempt
+pub mod Program
+pub mod Visited
+pub mod Search
+pub mod Sight
+pub mod Find
+pub mod Plain
+pub mod Sees
+pub mod Easy
+pub mod Runner

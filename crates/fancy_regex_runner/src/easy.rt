@@ -1,0 +1,131 @@
+ghost use Rattle.std.specs.Prelude.{◌≡◌, ◌+◌, ◌-◌, ◌*◌, ◌^◌, ◌≤◌, min, length, vec_len, IfOk, option_map, IsCharBoundary, replicate, slice_set, ◌<◌};
+ghost use Rattle.fancy_regex_meaning.specs.Groups.{Pattern};
+ghost use Rattle.fancy_regex_meaning.specs.Sizes.{tree_weight};
+ghost use Rattle.fancy_regex_meaning.specs.Searches.{first_match, match_at, starts};
+ghost use Rattle.fancy_regex_runner.specs.Easy.{IsMade, setting_for, search_for, rules_for, hit_places, hit_at};
+ghost use Rattle.fancy_regex_runner.specs.Find.{tried};
+ghost use Rattle.fancy_regex_runner.specs.Plain.{places_of};
+
+use crate::input::RunInput;
+use crate::rules::Rules;
+use crate::search::{Plan, earliest_way};
+use crate::state::State;
+use crate::trail::Trail;
+use crate::visited::Visited;
+use fancy_regex_class::{CharClassMatcher, Counted, Steps};
+use std::alloc::{AllocError, Global};
+
+/// A plain pattern made ready for searches.
+#[derive(Drop)]
+pub struct Easy {
+    states: Vec<State>,
+    entry: usize,
+    matchers: Vec<CharClassMatcher>,
+    /// How many groups have places in an answer.
+    groups: usize,
+    /// Group 0 is the whole.
+    whole: bool,
+    unicode: bool,
+    longest: bool,
+    ghost made: { IsMade states.items entry },
+}
+
+impl Easy {
+    ghost use Rattle.fancy_regex_runner.specs.Runner.{IsEasyOf};
+
+    /// The match, by two places in bytes for each group, each `usize::MAX` where the group is unset. The steps are raised
+    /// by one for each look at the text, also where memory runs out.
+    pub fn search(
+        &self,
+        alloc: Global,
+        text: &str,
+        input: &RunInput,
+        steps: &mut Steps,
+    ) -> Result<Option<Vec<usize>>, AllocError>
+        requires first { IsCharBoundary text.now input.now.first }
+        requires range { input.now.range.end ≤ length text.now }
+        ensures answer { IfOk result (λ found. (pattern : Pattern) → IsEasyOf self.now pattern
+            → option_map (λ v. v.items) found ≡ option_map (places_of pattern)
+            (first_match (setting_for self.now.unicode text.now input.now) pattern (search_for self.now.longest input.now))) }
+        ensures at_most { (pattern : Pattern) → IsEasyOf self.now pattern
+            → steps.new ≤ steps.old + tree_weight pattern.groups pattern.tree * (input.now.range.end - input.now.first + 1) }
+        ensures at_least { IfOk result (λ _. (pattern : Pattern) → IsEasyOf self.now pattern
+            → min (steps.old + tried (match_at (setting_for self.now.unicode text.now input.now) pattern (search_for self.now.longest input.now))
+            (starts (setting_for self.now.unicode text.now input.now) pattern (search_for self.now.longest input.now))) (2 ^ 64 - 1) ≤ steps.new) }
+    {
+        let stop = input.range.end;
+        if input.first > stop {
+            return Ok(None);
+        }
+        let plan = Plan {
+            states: &self.states,
+            matchers: &self.matchers,
+            rules: self.rules(input),
+            entry: self.entry,
+            stop,
+        };
+        let mut visited = Visited::new(alloc, self.states.len(), input.first);
+        let slots = unset_slots(alloc, self.groups)?;
+        let mut trail = Trail {
+            stack: Vec::new(alloc),
+            slots,
+        };
+        let mut farthest = unset_slots(alloc, self.groups)?;
+        let mut counted = Counted::new(text, steps);
+        let span = earliest_way(
+            &plan,
+            &mut counted,
+            input.first,
+            input.anchored,
+            &mut visited,
+            &mut trail,
+            &mut farthest,
+        )?;
+        match span {
+            Some((start, end)) => Ok(Some(self.places(trail.slots, start, end))),
+            None => Ok(None),
+        }
+    }
+
+    /// What a search of this pattern holds to.
+    fn rules(&self, input: &RunInput) -> Rules
+        ensures { result ≡ rules_for self.now.unicode self.now.longest input.now }
+    {
+        Rules {
+            unicode: self.unicode,
+            no_start_text: input.no_start_text,
+            no_end_text: input.no_end_text,
+            longest: self.longest,
+        }
+    }
+
+    /// The places of a match with these slots.
+    fn places(&self, mut slots: Vec<usize>, start: usize, end: usize) -> Vec<usize>
+        ensures { result.items ≡ hit_places self.now.whole (hit_at start end slots.items) }
+    {
+        if self.whole {
+            put(&mut slots, 0, start);
+            put(&mut slots, 1, end);
+        }
+        slots
+    }
+}
+
+/// Two slots for each group, each unset.
+fn unset_slots(alloc: Global, groups: usize) -> Result<Vec<usize>, AllocError>
+    ensures { IfOk result (λ v. v.items ≡ replicate (2 * groups) (2 ^ 64 - 1)) }
+{
+    let mut slots = Vec::new(alloc);
+    slots.resize(groups.saturating_mul(2), usize::MAX)?;
+    Ok(slots)
+}
+
+/// Writes to a slot, if it is there.
+#[tactic(auto, using(std::proofs::lemmas::List::set_past))]
+fn put(slots: &mut Vec<usize>, slot: usize, value: usize)
+    ensures { slots.new.items ≡ slice_set slots.old.items slot value }
+{
+    if slot < slots.len() {
+        slots[slot] = value;
+    }
+}

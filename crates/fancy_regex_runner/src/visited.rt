@@ -1,0 +1,99 @@
+ghost use Rattle.std.specs.Prelude.{◌≡◌, ◌+◌, ◌-◌, ◌*◌, ◌/◌, ◌<◌, ◌≤◌, ℕ, max, ◌^◌, length, IfOk, OnOk, OnErr};
+ghost use Rattle.std.specs.Bool.{MatchBool};
+
+use std::alloc::{AllocError, Global};
+
+/// The set of pairs of a state and a place that were looked at: rows of bits, one row a place, made as the search reaches
+/// the place.
+#[derive(Drop)]
+pub struct Visited {
+    /// How many states there are.
+    count: usize,
+    /// How many words a row has.
+    width: usize,
+    /// The place of the first row.
+    base: usize,
+    rows: usize,
+    words: Vec<u64>,
+    ghost wide: { width ≡ count / 64 + 1 },
+    ghost filled: { length words.items ≡ rows * width },
+}
+
+impl Visited {
+    ghost use Rattle.fancy_regex_runner.specs.Visited.{Has, members, Adds, IsSame};
+
+    /// The empty set, for so many states, and places from `base` on.
+    pub fn new(alloc: Global, count: usize, base: usize) -> Visited
+        ensures count { result.count ≡ count }
+        ensures base { result.base ≡ base }
+        ensures rows { result.rows ≡ 0 }
+    {
+        Visited {
+            count,
+            width: count / 64 + 1,
+            base,
+            rows: 0,
+            words: Vec::new(alloc),
+        }
+    }
+
+    /// Adds an empty row.
+    fn add_row(&mut self) -> Result<(), AllocError>
+        requires { self.old.rows < 2 ^ 64 - 1 }
+        ensures same { (self.new.count ≡ self.old.count) × (self.new.base ≡ self.old.base) }
+        ensures pairs { IsSame self.old self.new }
+        ensures row { OnOk result (self.new.rows ≡ self.old.rows + 1) }
+        ensures err { OnErr result (self.new.rows ≡ self.old.rows) }
+    {
+        let words = self.words.len() + self.width;
+        self.words.resize(words, 0)?;
+        self.rows += 1;
+        Ok(())
+    }
+
+    /// Adds rows up to that of the place.
+    fn reach(&mut self, at: usize) -> Result<(), AllocError>
+        requires { self.old.base ≤ at }
+        ensures same { (self.new.count ≡ self.old.count) × (self.new.base ≡ self.old.base) }
+        ensures pairs { IsSame self.old self.new }
+        ensures rows { self.new.rows ≤ max self.old.rows (at - self.old.base + 1) }
+        ensures reached { OnOk result (at - self.old.base < self.new.rows) }
+    {
+        'rows: while self.rows <= at - self.base {
+            self.add_row()?;
+        }
+        Ok(())
+    }
+
+    /// Sets the bit of a pair whose row is there, and says whether it was clear.
+    fn set(&mut self, state: usize, at: usize) -> bool
+        requires state { state < self.old.count }
+        requires base { self.old.base ≤ at }
+        requires row { at - self.old.base < self.old.rows }
+        ensures same { (self.new.count ≡ self.old.count) × (self.new.base ≡ self.old.base) }
+        ensures rows { self.new.rows ≡ self.old.rows }
+        ensures adds { Adds (Has self.old) (Has self.new) state at }
+        ensures counted { MatchBool result (members self.new ≡ members self.old + 1) (Has self.old state at × IsSame self.old self.new) }
+    {
+        let place = (at - self.base) * self.width + state / 64;
+        let word = self.words[place];
+        let bit = 1u64 << (state % 64);
+        self.words[place] = word | bit;
+        word & bit == 0
+    }
+
+    /// Adds a pair, and says whether it was new. Where memory runs out the set is as it was.
+    pub fn mark(&mut self, state: usize, at: usize) -> Result<bool, AllocError>
+        requires state { state < self.old.count }
+        requires base { self.old.base ≤ at }
+        ensures same { (self.new.count ≡ self.old.count) × (self.new.base ≡ self.old.base) }
+        ensures rows { self.new.rows ≤ max self.old.rows (at - self.old.base + 1) }
+        ensures adds { Adds (Has self.old) (Has self.new) state at }
+        ensures counted { IfOk result (λ new. MatchBool new (members self.new ≡ members self.old + 1)
+            (Has self.old state at × (members self.new ≡ members self.old))) }
+        ensures err { OnErr result (IsSame self.old self.new) }
+    {
+        self.reach(at)?;
+        Ok(self.set(state, at))
+    }
+}
