@@ -1,7 +1,7 @@
 -- All of the definitions, to be opened at once.
-use Rattle.fancy_regex_lex.specs.Text.{bytes, behind, span, span_most, up_to}
-use Rattle.fancy_regex_lex.specs.Layout.{behind_blank, begins_comment, behind_first, ended, token_from, next_token, skip, first_step}
-use Rattle.fancy_regex_lex.specs.Names.{is_name_char, is_name, number, digits, whole_number, signed, named_target, reference}
+use Rattle.fancy_regex_text.specs.Text.{bytes, behind, span, span_most, up_to}
+use Rattle.fancy_regex_text.specs.Layout.{behind_blank, begins_comment, behind_first, ended, token_from, next_token, skip, first_step}
+use Rattle.fancy_regex_text.specs.Names.{is_name_char, is_name, number, digits, whole_number, signed, named_target, reference}
 use Rattle.fancy_regex_lex.specs.Escapes.{control_letter, class_letter, place_letter, other_letter, plain_sign, other_sign, one_letter, code_point, braced_digits, braced_hex, plain_digits, plain_hex, hex, property_class, property, half_boundary, boundary, reference_up_to, bracketed_reference, numbered_reference, single, after_backslash, escape}
 use Rattle.fancy_regex_lex.specs.Classes.{quoted, escaped_text, class_escape_at, class_part, level_behind, class_parts, class_in_brackets}
 use Rattle.fancy_regex_lex.specs.FlagLetters.{next_letter, closed, flag_letter, flag_letters}

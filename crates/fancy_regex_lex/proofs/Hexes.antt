@@ -1,11 +1,11 @@
 -- Hexadecimal digits, one by one.
-use Rattle.std.proofs.Common.{◌≡◌, ℕ, zero, suc, ◌+◌, ◌*◌, ◌-◌, ◌^◌, ◌≤◌, ◌<◌, Bool, true, false, cond, List, [], ◌∷◌, ◌++◌, length, Option, Some, None, refl, sym, ap, ◌∙◌, subst, append_assoc, append-nil, arith}
-use Rattle.std.specs.Char.{is_digit, digit_value}
+use Rattle.std.proofs.Common.{◌≡◌, ℕ, zero, suc, ◌+◌, ◌*◌, ◌^◌, ◌≤◌, ◌<◌, Bool, true, false, cond, [], ◌∷◌, ◌++◌, length, Option, Some, None, refl, sym, ap, ◌∙◌, subst, append_assoc, append-nil, arith}
+use Rattle.std.specs.Char.{digit_value}
 use Rattle.std.proofs.Math.Nat.{pow-suc, pow-le-pow_right}
 use Rattle.std.proofs.lemmas.List.{length-append}
-use Rattle.std.proofs.lemmas.Option.{none-some, same_Some}
-use Rattle.fancy_regex_lex.specs.Text.{Text, passing, span_most, digit_front, is_hexadecimal, value}
-use Rattle.fancy_regex_lex.proofs.Spans.{value-snoc, digit_passed, no_digit}
+use Rattle.std.proofs.lemmas.Option.{none-some}
+use Rattle.fancy_regex_text.specs.Text.{Text, span_most, digit_front, is_hexadecimal, value}
+use Rattle.fancy_regex_text.proofs.Spans.{value-snoc, digit_passed, no_digit}
 
 -- So many digits were taken from the front, which write this number; of the others at most `left` are to be read.
 abbrev pub ReadsHex : ℕ → ℕ → ℕ → Text → Text → Text → Type 0

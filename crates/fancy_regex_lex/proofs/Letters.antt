@@ -1,12 +1,12 @@
 -- Flags letter by letter.
-use Rattle.std.proofs.Common.{◌≡◌, ℕ, Bool, true, false, cond, ◌||◌, ◌==◌, Option, Some, None, Result, Ok, Err, [], ◌∷◌, ◌++◌, refl, sym, ap, ◌∙◌, subst, append_assoc, true≢false}
+use Rattle.std.proofs.Common.{◌≡◌, ℕ, Bool, true, false, cond, ◌||◌, ◌==◌, Some, None, Ok, [], ◌∷◌, ◌++◌, refl, sym, ap, ◌∙◌, subst, append_assoc, true≢false}
 use Rattle.std.proofs.lemmas.Option.{none-some, same_Some}
-use Rattle.fancy_regex_lex.specs.Text.{Text, IsEnd}
-use Rattle.fancy_regex_lex.specs.Fault.{Fault, Reading, ◌>>=◌, Fails}
+use Rattle.fancy_regex_text.specs.Text.{Text, IsEnd}
+use Rattle.fancy_regex_text.specs.Fault.{Reading, ◌>>=◌, Fails}
 use Rattle.fancy_regex_lex.specs.FlagLetters.{next_letter, closed, flag_letter, flag_letters}
 use Rattle.fancy_regex_lex.specs.declared.token.Flags.{Flags}
-use Rattle.fancy_regex_lex.specs.declared.fault.ReadError.{ReadError}
-use Rattle.fancy_regex_lex.specs.declared.fault.ReadError.TheVariants as errors
+use Rattle.fancy_regex_text.specs.declared.fault.ReadError.{ReadError}
+use Rattle.fancy_regex_text.specs.declared.fault.ReadError.TheVariants as errors
 
 pub fails_with : {A B : Type 0} (e : ReadError) (r : Reading A) (f : A → Reading B) → Fails e r → Fails e (r >>= f)
 fails_with errors.Memory r f h = tt

@@ -1,12 +1,7 @@
-pub mod Texts
-pub mod Spans
 pub mod Letters
 pub mod Parts
 pub mod Hexes
-pub mod Layouts
 pub mod Computing
-pub mod LayoutRowsProof
-pub mod NameRowsProof
 pub mod EscapeRowsProof
 pub mod ClassRowsProof
 pub mod FlagRowsProof

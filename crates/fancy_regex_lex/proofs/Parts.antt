@@ -2,11 +2,11 @@
 use Rattle.std.proofs.Common.{◌≡◌, ℕ, zero, suc, ◌+◌, ◌≤◌, ◌<◌, Bool, true, false, cond, Option, Some, None, Ok, Err, [], ◌∷◌, ◌++◌, length, drop, codes, chars, IsUtf8, refl, sym, ap, ◌∙◌, subst, append_assoc, arith, ◌==◌}
 use Rattle.std.proofs.lemmas.Option.{none-some, same_Some}
 use Rattle.std.proofs.lemmas.Str.{length-le-encodes, encodes-chars}
-use Rattle.fancy_regex_lex.specs.Text.{Text}
-use Rattle.fancy_regex_lex.specs.Fault.{Fault, Reading, ◌>>=◌, Fails, with_front}
+use Rattle.fancy_regex_text.specs.Text.{Text}
+use Rattle.fancy_regex_text.specs.Fault.{Fault, Reading, Fails, with_front}
 use Rattle.fancy_regex_lex.specs.Classes.{level_behind, class_part, class_parts, optional, class_in_brackets}
-use Rattle.fancy_regex_lex.specs.declared.fault.ReadError.{ReadError}
-use Rattle.fancy_regex_lex.specs.declared.fault.ReadError.TheVariants as errors
+use Rattle.fancy_regex_text.specs.declared.fault.ReadError.{ReadError}
+use Rattle.fancy_regex_text.specs.declared.fault.ReadError.TheVariants as errors
 use Rattle.fancy_regex_lex.proofs.Letters.{fails_with}
 
 abbrev pub Part : Type 0

@@ -1,7 +1,7 @@
 -- Classes in brackets: the text of the class, with its escapes written out.
 use Rattle.std.specs.Prelude.{◌≡◌, ℕ, zero, suc, ◌+◌, Bool, true, false, not, [], ◌∷◌, ◌++◌, length, drop, Option, Some, None, Ok, if◌then◌else◌, codes}
-use Rattle.fancy_regex_lex.specs.Text.{Text, ◌∈◌, behind}
-use Rattle.fancy_regex_lex.specs.Fault.{Reading, ◌>>=◌, with_front, stop, invalid_class}
+use Rattle.fancy_regex_text.specs.Text.{Text, ◌∈◌, behind}
+use Rattle.fancy_regex_text.specs.Fault.{Reading, ◌>>=◌, with_front, stop, invalid_class}
 use Rattle.fancy_regex_lex.specs.Escapes.{Escape, char_escape, class_escape, escape}
 
 -- a class would read the character as a sign

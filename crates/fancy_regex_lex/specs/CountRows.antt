@@ -1,10 +1,9 @@
 -- The worked rows: quantifiers and their marks.
 use Rattle.std.specs.Prelude.{◌≡◌, ℕ, Bool, true, false, Ok, Err, codes, Some, None}
 use Prim.Native.String.{String}
-use Rattle.fancy_regex_lex.specs.Text.{unbounded}
-use Rattle.fancy_regex_lex.specs.Fault.{unclosed_open_paren}
+use Rattle.fancy_regex_text.specs.Text.{unbounded}
+use Rattle.fancy_regex_text.specs.Fault.{unclosed_open_paren}
 use Rattle.fancy_regex_lex.specs.Counts.{quantifier_at, marks, sign}
-use Rattle.fancy_regex_lex.specs.declared.token.Marks.{Marks}
 
 -- in braces, the least and the greatest
 abbrev pub Counts : Bool → String → ℕ → ℕ → String → Type 0

@@ -1,9 +1,9 @@
 -- The bounds that a quantifier sets, and the marks behind it.
 use Rattle.std.specs.Prelude.{ℕ, Bool, true, false, not, ◌&&◌, nat_lt, [], ◌∷◌, Option, Some, None, option_and_then, option_map, Ok, if◌then◌else◌, codes}
-use Rattle.fancy_regex_lex.specs.Text.{Text, ◌∈◌, is_at, behind, unbounded}
-use Rattle.fancy_regex_lex.specs.Fault.{Reading, ◌>>=◌}
-use Rattle.fancy_regex_lex.specs.Layout.{next_token, skip}
-use Rattle.fancy_regex_lex.specs.Names.{digits}
+use Rattle.fancy_regex_text.specs.Text.{Text, ◌∈◌, behind, unbounded}
+use Rattle.fancy_regex_text.specs.Fault.{Reading, ◌>>=◌}
+use Rattle.fancy_regex_text.specs.Layout.{next_token, skip}
+use Rattle.fancy_regex_text.specs.Names.{digits}
 use Rattle.fancy_regex_lex.specs.declared.token.Count.{Count}
 use Rattle.fancy_regex_lex.specs.declared.token.Marks.{Marks}
 

@@ -1,10 +1,9 @@
 -- What a backslash begins.
-use Rattle.std.specs.Prelude.{ℕ, ℤ, Bool, true, false, not, ◌&&◌, ◌||◌, ◌==◌, nat_le, nat_lt, [], ◌∷◌, ◌++◌, length, take, drop, Option, Some, None, Ok, if◌then◌else◌, codes, chars}
-use Rattle.std.specs.List.{list_all}
+use Rattle.std.specs.Prelude.{ℕ, ℤ, Bool, true, false, not, ◌&&◌, ◌||◌, ◌==◌, nat_le, nat_lt, [], ◌∷◌, ◌++◌, length, Option, Some, None, Ok, if◌then◌else◌, codes, chars}
 use Rattle.std.specs.Char.{is_ascii_alphabetic}
-use Rattle.fancy_regex_lex.specs.Text.{Text, ◌∈◌, span_most, is_at, behind, is_empty, up_to, value, is_decimal, is_hexadecimal}
-use Rattle.fancy_regex_lex.specs.Names.{Named, by_number, Referred, digits, reference, named_of, referred_of}
-use Rattle.fancy_regex_lex.specs.Fault.{Reading, ◌>>=◌, stop, trailing_backslash, invalid_escape, unclosed_unicode_name, invalid_hex, invalid_codepoint_value, invalid_group_name}
+use Rattle.fancy_regex_text.specs.Text.{Text, ◌∈◌, span_most, behind, is_empty, up_to, value, is_hexadecimal}
+use Rattle.fancy_regex_text.specs.Names.{Named, by_number, Referred, digits, reference, named_of}
+use Rattle.fancy_regex_text.specs.Fault.{Reading, ◌>>=◌, stop, trailing_backslash, invalid_escape, unclosed_unicode_name, invalid_hex, invalid_codepoint_value, invalid_group_name}
 use Rattle.fancy_regex_lex.specs.declared.token.Place.{Place}
 use Rattle.fancy_regex_lex.specs.declared.token.Place.TheVariants.{TextStart, TextEnd, TextEndOrNewlines, WordBoundary, NotWordBoundary, LeftWordBoundary, RightWordBoundary, LeftWordHalfBoundary, RightWordHalfBoundary}
 use Rattle.fancy_regex_lex.specs.declared.token.EscapedClass.{EscapedClass}

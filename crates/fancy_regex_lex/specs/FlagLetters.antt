@@ -1,7 +1,7 @@
 -- The flags behind `(?`.
-use Rattle.std.specs.Prelude.{ℕ, ◌-◌, Bool, true, false, not, [], ◌∷◌, length, take, Option, Some, None, Ok, if◌then◌else◌}
-use Rattle.fancy_regex_lex.specs.Text.{Text, ◌∈◌}
-use Rattle.fancy_regex_lex.specs.Fault.{Reading, ◌>>=◌, stop, unclosed_open_paren, unknown_flag, changing_unicode_mode_unsupported}
+use Rattle.std.specs.Prelude.{ℕ, Bool, true, false, [], ◌∷◌, Option, Some, None, Ok, if◌then◌else◌}
+use Rattle.fancy_regex_text.specs.Text.{Text, ◌∈◌, up_to_rest}
+use Rattle.fancy_regex_text.specs.Fault.{Reading, ◌>>=◌, stop, unclosed_open_paren, unknown_flag, changing_unicode_mode_unsupported}
 use Rattle.fancy_regex_lex.specs.declared.token.Flags.{Flags}
 
 -- both or neither
@@ -9,10 +9,6 @@ abbrev pub same : Bool → Bool → Bool
 same true b = b
 same false true = false
 same false false = true
-
--- the text up to where this rest of it begins
-abbrev pub up_to_rest : Text → Text → Text
-up_to_rest here rest = take (length here - length rest) here
 
 -- the next character, where it does not end the flags, and what follows it
 unfoldable pub next_letter : Text → Option (ℕ × Text)

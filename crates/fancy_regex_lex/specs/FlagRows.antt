@@ -1,8 +1,8 @@
 -- The worked rows: flags.
 use Rattle.std.specs.Prelude.{◌≡◌, ℕ, Bool, true, false, Ok, Err, codes, ◌++◌}
 use Prim.Native.String.{String}
-use Rattle.fancy_regex_lex.specs.Text.{Text}
-use Rattle.fancy_regex_lex.specs.Fault.{Kind, Reading, unclosed_open_paren, unknown_flag, changing_unicode_mode_unsupported}
+use Rattle.fancy_regex_text.specs.Text.{Text}
+use Rattle.fancy_regex_text.specs.Fault.{Kind, Reading, unclosed_open_paren, unknown_flag, changing_unicode_mode_unsupported}
 use Rattle.fancy_regex_lex.specs.FlagLetters.{flag_letters}
 use Rattle.fancy_regex_lex.specs.declared.token.Flags.{Flags}
 

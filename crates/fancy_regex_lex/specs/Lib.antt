@@ -1,15 +1,8 @@
-pub mod Text
-pub mod Fault
-pub mod Layout
-pub mod Places
-pub mod Names
 pub mod Escapes
 pub mod Classes
 pub mod FlagLetters
 pub mod Counts
 pub mod Openings
-pub mod LayoutRows
-pub mod NameRows
 pub mod EscapeRows
 pub mod ClassRows
 pub mod FlagRows

@@ -1,8 +1,8 @@
 -- The worked rows: what parentheses open.
-use Rattle.std.specs.Prelude.{◌≡◌, ℕ, Bool, true, false, [], Ok, Err, codes, None, Some, pos, negsuc}
+use Rattle.std.specs.Prelude.{◌≡◌, ℕ, true, Ok, Err, codes, None, Some, pos, negsuc}
 use Prim.Native.String.{String}
-use Rattle.fancy_regex_lex.specs.Fault.{Kind, unclosed_open_paren, unknown_flag, invalid_group_name}
-use Rattle.fancy_regex_lex.specs.Names.{by_number, by_name, relative}
+use Rattle.fancy_regex_text.specs.Fault.{Kind, unclosed_open_paren, unknown_flag, invalid_group_name}
+use Rattle.fancy_regex_text.specs.Names.{by_number, by_name, relative}
 use Rattle.fancy_regex_lex.specs.FlagRows.{no_flags}
 use Rattle.fancy_regex_lex.specs.Openings.{Opening, capturing, bare, setting, atomic, look, if_set, if_matches, define, absent, absent_bar, whole_reference, whole_call, whole_verb, opening}
 use Rattle.fancy_regex_lex.specs.declared.token.Look.TheVariants.{Ahead, AheadNeg, Behind, BehindNeg}

@@ -1,8 +1,8 @@
 -- What a parenthesis opens.
 use Rattle.std.specs.Prelude.{ℕ, ℤ, Bool, true, false, [], ◌∷◌, drop, Option, Some, None, option_map, Ok, if◌then◌else◌, codes, chars}
-use Rattle.fancy_regex_lex.specs.Text.{Text, ◌∈◌, behind, is_empty, up_to}
-use Rattle.fancy_regex_lex.specs.Names.{Named, by_number, Referred, is_name, digits, signed, reference, named_of, referred_of}
-use Rattle.fancy_regex_lex.specs.Fault.{Reading, ◌>>=◌, stop, invalid_group_name}
+use Rattle.fancy_regex_text.specs.Text.{Text, ◌∈◌, behind, is_empty, up_to}
+use Rattle.fancy_regex_text.specs.Names.{Named, by_number, Referred, is_name, digits, signed, reference, named_of}
+use Rattle.fancy_regex_text.specs.Fault.{Reading, ◌>>=◌, stop, invalid_group_name}
 use Rattle.fancy_regex_lex.specs.FlagLetters.{flag_letters}
 use Rattle.fancy_regex_lex.specs.Escapes.{reference_up_to}
 use Rattle.fancy_regex_lex.specs.declared.token.Flags.{Flags}

@@ -1,15 +1,14 @@
 //! Classes in brackets.
 
 ghost use Rattle.std.specs.Prelude.{◌≡◌, ◌<◌, ◌≤◌, ◌+◌, ◌-◌, ◌^◌, ◌++◌, length, chars, option_map, string_bytes, All, IfOk, OnOk, [], ◌∷◌};
-ghost use Rattle.fancy_regex_lex.specs.Fault.{Gives, with_front};
+ghost use Rattle.fancy_regex_text.specs.Fault.{Gives, with_front};
 ghost use Rattle.fancy_regex_lex.specs.Escapes.{property_letter, class_of, escape_of};
 ghost use Rattle.fancy_regex_lex.specs.Classes.{is_quoted, quoted, IsAdded, escaped_text, class_escape_at, class_part, level_behind, class_parts, optional, class_in_brackets};
 
 use crate::escapes::escape;
-use crate::fault::{ParseError, ReadError};
-use crate::text::{behind, behind_first, split_first, stop};
 use crate::token::{Escape, EscapedClass};
-use crate::writing::{empty, push, push_ascii, push_escaped, push_text};
+use fancy_regex_text::writing::{empty, push, push_ascii, push_escaped, push_text};
+use fancy_regex_text::{ParseError, ReadError, behind, behind_first, split_first, stop};
 use std::alloc::{AllocError, Global};
 
 /// Whether a class would read the character as a sign.

@@ -1,14 +1,11 @@
 //! The bounds that a quantifier sets, and the marks behind it.
 
 ghost use Rattle.std.specs.Prelude.{◌≡◌, ◌<◌, ◌≤◌, length, chars, option_map, IfOk, IfSome};
-ghost use Rattle.fancy_regex_lex.specs.Fault.{Gives};
+ghost use Rattle.fancy_regex_text.specs.Fault.{Gives};
 ghost use Rattle.fancy_regex_lex.specs.Counts.{spaced_digits, bounds, from_on, exactly, range, behind_comma, behind_number, counted, sign, quantifier_at, lazy_mark, possessive_mark, marks};
 
-use crate::fault::ReadError;
-use crate::layout::{next_token, skip};
-use crate::names::digits;
-use crate::text::{behind, split_first};
 use crate::token::{Count, Marks};
+use fancy_regex_text::{ReadError, behind, digits, next_token, skip, split_first};
 
 /// Decimal digits between tokens, none too, and the next token behind them.
 #[tactic(auto, unfolding(crate::specs::Counts::spaced_digits))]

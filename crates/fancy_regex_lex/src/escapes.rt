@@ -1,16 +1,17 @@
 //! What a backslash begins.
 
 ghost use Rattle.std.specs.Prelude.{◌≡◌, ◌<◌, ◌≤◌, ◌^◌, length, chars, option_map, string_bytes, IfOk, IfSome, OnOk, [], ◌∷◌};
-ghost use Rattle.fancy_regex_lex.specs.Text.{digit_front, span_most, is_hexadecimal, value};
-ghost use Rattle.fancy_regex_lex.specs.Fault.{Gives};
-ghost use Rattle.fancy_regex_lex.specs.Names.{referred_of};
+ghost use Rattle.fancy_regex_text.specs.Text.{digit_front, span_most, is_hexadecimal, value};
+ghost use Rattle.fancy_regex_text.specs.Fault.{Gives};
+ghost use Rattle.fancy_regex_text.specs.Names.{referred_of};
 ghost use Rattle.fancy_regex_lex.specs.Escapes.{class_escape, control_letter, class_letter, place_letter, other_letter, plain_sign, other_sign, one_letter, code_point, braced_digits, braced_hex, plain_digits, plain_hex, hex, property_class, property, half_boundary, boundary, reference_up_to, bracketed_reference, numbered_reference, single, after_backslash, escape, class_of, escape_of};
 
-use crate::fault::{ParseError, ReadError};
-use crate::names::{digits, reference};
-use crate::text::{behind, is_empty, split_first, stop, up_to};
-use crate::token::{Escape, EscapedClass, Place, Reference, Target};
-use crate::writing::escaped;
+use crate::token::{Escape, EscapedClass, Place};
+use fancy_regex_text::writing::escaped;
+use fancy_regex_text::{
+    ParseError, ReadError, Reference, Target, behind, digits, is_empty, reference, split_first,
+    stop, up_to,
+};
 use std::alloc::Global;
 
 /// A letter that stands for a control character.

@@ -1,13 +1,12 @@
 //! The flags behind `(?`.
 
 ghost use Rattle.std.specs.Prelude.{◌≡◌, ◌<◌, ◌≤◌, length, chars, option_map, IfOk, IfSome, true, ◌∷◌};
-ghost use Rattle.fancy_regex_lex.specs.Text.{IsEnd};
-ghost use Rattle.fancy_regex_lex.specs.Fault.{Gives, Stops, unknown_flag};
-ghost use Rattle.fancy_regex_lex.specs.FlagLetters.{up_to_rest, next_letter, closed, flag_letter, flag_letters};
+ghost use Rattle.fancy_regex_text.specs.Text.{IsEnd, up_to_rest};
+ghost use Rattle.fancy_regex_text.specs.Fault.{Gives, Stops, unknown_flag};
+ghost use Rattle.fancy_regex_lex.specs.FlagLetters.{next_letter, closed, flag_letter, flag_letters};
 
-use crate::fault::{ParseError, ReadError};
-use crate::text::{split_first, stop, up_to_rest};
 use crate::token::Flags;
+use fancy_regex_text::{ParseError, ReadError, split_first, stop, up_to_rest};
 use std::alloc::Global;
 
 /// Stops at the character that `rest` follows, which is no flag.

@@ -1,17 +1,18 @@
 //! What a parenthesis opens.
 
 ghost use Rattle.std.specs.Prelude.{◌≡◌, ◌-◌, ◌<◌, ◌≤◌, length, chars, option_map, IfOk, IfSome};
-ghost use Rattle.fancy_regex_lex.specs.Text.{IsEnd};
-ghost use Rattle.fancy_regex_lex.specs.Fault.{Gives};
-ghost use Rattle.fancy_regex_lex.specs.Names.{referred_of};
+ghost use Rattle.fancy_regex_text.specs.Text.{IsEnd};
+ghost use Rattle.fancy_regex_text.specs.Fault.{Gives};
+ghost use Rattle.fancy_regex_text.specs.Names.{referred_of};
 ghost use Rattle.fancy_regex_lex.specs.Openings.{later_verb, control_verb, named, numbered, bracketed, reference_condition, tested, condition, behind_angle, behind_tilde, flags, python, behind_question, opening, opening_of};
 
 use crate::escapes::reference_up_to;
-use crate::fault::{ParseError, ReadError};
 use crate::flags::flag_letters;
-use crate::names::{digits, is_name, reference, signed};
-use crate::text::{behind, behind_first, is_empty, split_first, stop, up_to};
-use crate::token::{Flags, Look, Opening, Reference, Target, Verb};
+use crate::token::{Flags, Look, Opening, Verb};
+use fancy_regex_text::{
+    ParseError, ReadError, Reference, Target, behind, behind_first, digits, is_empty, is_name,
+    reference, signed, split_first, stop, up_to,
+};
 use std::alloc::Global;
 
 /// One of the last three verbs.

@@ -1,5 +1,7 @@
 //! The tokens of patterns as values.
 
+use fancy_regex_text::{Reference, Target};
+
 /// The flags that a pattern can set.
 #[derive(Clone, Copy, Debug, PartialEq, Eq)]
 pub struct Flags {
@@ -57,21 +59,6 @@ pub enum Place {
     LeftWordHalfBoundary,
     /// `\b{end-half}`
     RightWordHalfBoundary,
-}
-
-/// What a reference names.
-#[derive(Clone, Copy, Debug, PartialEq, Eq)]
-pub enum Target<'t> {
-    ByNumber(usize),
-    ByName(&'t str),
-    Relative(isize),
-}
-
-/// A reference, with the level that may follow it.
-#[derive(Clone, Copy, Debug, PartialEq, Eq)]
-pub struct Reference<'t> {
-    pub target: Target<'t>,
-    pub level: Option<isize>,
 }
 
 /// The class that an escape stands for.

@@ -1,6 +1,6 @@
-use Rattle.std.proofs.Common.{◌≡◌, Ok, chars, string_bytes, sym, ◌∙◌, subst}
+use Rattle.std.proofs.Common.{chars, sym, ◌∙◌, subst}
 use Rattle.std.proofs.lemmas.Result.{err_from_is_err_and}
-use Rattle.fancy_regex_lex.specs.Fault.{Fails}
+use Rattle.fancy_regex_text.specs.Fault.{Fails}
 use Rattle.fancy_regex_lex.proofs.Parts.{class_text}
 use Rattle.fancy_regex_lex.proofs.classes.class_in_brackets.Goals as goal
 

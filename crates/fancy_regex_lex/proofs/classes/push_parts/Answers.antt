@@ -1,4 +1,4 @@
-use Rattle.std.proofs.Common.{rules, chars, string_bytes, length, sym, ap, ◌∙◌, ◌<◌, ◌+◌, refl, arith}
+use Rattle.std.proofs.Common.{rules, chars, string_bytes, length, sym, ◌∙◌, ◌<◌, ◌+◌, refl, arith}
 use Rattle.std.proofs.lemmas.Result.{err_from_is_err_and}
 use Rattle.fancy_regex_lex.proofs.Parts.{part_goes, part_ends, part_fails, level_step, chars_fit}
 use Rattle.fancy_regex_lex.proofs.classes.push_parts.Goals as goal

@@ -1,5 +1,5 @@
 use Rattle.std.proofs.Common.{◌≡◌, ◌≤◌, length, chars, IsUtf8, true}
-use Rattle.fancy_regex_lex.specs.Text.{IsEnd}
+use Rattle.fancy_regex_text.specs.Text.{IsEnd}
 use Rattle.fancy_regex_lex.specs.FlagLetters.{flag_letters}
 use Rattle.fancy_regex_lex.proofs.flags.flag_letters.Given as goal
 

@@ -1,5 +1,0 @@
-use Rattle.fancy_regex_lex.proofs.rows.name_rows.Goals as goal
-use Rattle.fancy_regex_lex.proofs.NameRowsProof.{name_rows}
-
-pub returns : goal.returns
-returns c = name_rows

@@ -1,6 +1,0 @@
-use Rattle.std.proofs.Common.{sym, ◌∙◌}
-use Rattle.fancy_regex_lex.proofs.Texts.{empty_chars}
-use Rattle.fancy_regex_lex.proofs.text.is_empty.Goals as goal
-
-pub returns : goal.returns
-returns c = c.is_empty.ensures ∙ sym (empty_chars _ c.utf8.text)
