@@ -1,0 +1,6 @@
+use Rattle.std.proofs.Common.{arith}
+use Rattle.std.proofs.lemmas.Grind.{text_groups}
+use Rattle.fancy_regex_tree.proofs.groups.add_number.Goals as goal
+
+pub returns-clause-value : goal.returns-clause-value
+returns-clause-value c = λ q. grind (arith, text_groups)

@@ -1,0 +1,12 @@
+use Rattle.std.proofs.Common.{ap, ◌∙◌}
+use Rattle.fancy_regex_tree.specs.Numbering.{last_number}
+use Rattle.fancy_regex_tree.proofs.Lookups.{last_of_slice, lookup_none, lookup_some}
+use Rattle.fancy_regex_tree.proofs.resolve.Resolver.last_named.Goals as goal
+
+pub returns-in_err-numbers : goal.returns-in_err-numbers
+returns-in_err-numbers c = c.from_residual.ensures ∙ lookup_none c.args.self.now.named.now c.args.name.now c.utf8.name c.in_err-numbers.ensures.value
+
+pub returns : goal.returns
+returns c =
+    let last = c.copied.ensures ∙ c.last.ensures.value ∙ last_of_slice c.deref.result.now ∙ ap last_number c.deref.ensures.value in
+    lookup_some c.args.self.now.named.now c.args.name.now c.utf8.name c.in_ok-numbers.numbers.now c.copied.result c.in_ok-numbers.ensures.value last

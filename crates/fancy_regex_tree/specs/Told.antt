@@ -1,0 +1,53 @@
+-- What the code answers, beside what is defined.
+use Rattle.std.specs.Prelude.{◌≡◌, ℕ, Bool, ◌&&◌, ◌≤◌, nat_le, List, length, is_some, Result, Ok, Err, chars}
+use Rattle.std.specs.List.{list_any}
+use Rattle.std.specs.Str.{IsUtf8}
+use Rattle.std.specs.BTreeSet.{contains}
+use Rattle.std.specs.Ordering.{nat_cmp}
+use Rattle.fancy_regex_text.specs.Fault.{kind_of}
+use Rattle.fancy_regex_tree.specs.declared.error.Error.{Error}
+use Rattle.fancy_regex_tree.specs.declared.error.Error.TheVariants.{ParseError, Memory}
+use Rattle.fancy_regex_tree.specs.declared.expr_tree.ExprTree.{ExprTree}
+use Rattle.fancy_regex_tree.specs.declared.parse.Groups.{Groups}
+use Rattle.fancy_regex_tree.specs.declared.parse.Marks as code
+use Rattle.fancy_regex_tree.specs.Tree.{Tree, tree_of}
+use Rattle.fancy_regex_tree.specs.Walks.{nodes}
+use Rattle.fancy_regex_tree.specs.Numbering.{Refusal, openings, counted, numbers_of, numbers_under}
+use Rattle.fancy_regex_tree.specs.Parse.{Parsed}
+use Rattle.fancy_regex_tree.specs.Marks.{total_groups, is_backref, contains_subroutines, reference_above_total, named_backref_only, calls_whole, is_numbered, is_call, is_above, is_call_of_whole, refers_to}
+
+-- the answer says what is defined
+pub record Tells (e : ExprTree) (found : Parsed) : Type 0 where
+  pub tree : tree_of e.expr ≡ found.tree
+  pub named : (q : List ℕ) → IsUtf8 q → numbers_under e.named_groups q ≡ numbers_of (chars q) 0 found.names
+  pub total : e.total_groups ≡ total_groups found
+  pub backrefs : (k : ℕ) → contains nat_cmp e.backrefs k ≡ is_backref found k
+  pub subroutines : e.contains_subroutines ≡ contains_subroutines found
+  pub above : e.reference_above_total ≡ reference_above_total found
+  pub by_number : e.named_backref_only ≡ named_backref_only found
+  pub whole : e.calls_whole ≡ calls_whole found
+
+-- the answer is the pattern that is defined, or its fault, or memory ran out
+abbrev pub IsParsed : Result ExprTree Error → Result Parsed Refusal → Type 0
+IsParsed (Ok e) defined = (found : Parsed) × (defined ≡ Ok found) × Tells e found
+IsParsed (Err (ParseError position kind)) defined = defined ≡ Err (record { kind = kind_of kind; position = position })
+IsParsed (Err Memory) defined = Unit {0}
+
+-- a place is within so many bytes
+abbrev pub IsWithin : ℕ → Error → Type 0
+IsWithin size (ParseError position kind) = position ≤ size
+IsWithin size Memory = Unit {0}
+
+-- the groups of a tree whose references are not resolved
+pub record AreGroups (ignore : Bool) (t : Tree) (g : Groups) : Type 0 where
+  pub ignored : g.ignored ≡ (ignore && list_any is_some (openings t))
+  pub named : (q : List ℕ) → IsUtf8 q → numbers_under g.named q ≡ numbers_of (chars q) 0 (counted g.ignored (openings t))
+  pub total : g.total ≡ length (counted g.ignored (openings t))
+  pub numbered : g.numbered ≡ list_any is_numbered (nodes t)
+
+-- what the references of a tree say, where it has so many groups
+pub record AreMarks (total : ℕ) (t : Tree) (m : code.Marks) : Type 0 where
+  pub backrefs : (k : ℕ) → contains nat_cmp m.backrefs k ≡ (nat_le k total && list_any (refers_to k) (nodes t))
+  pub subroutines : m.contains_subroutines ≡ list_any is_call (nodes t)
+  pub above : m.reference_above_total ≡ list_any (is_above total) (nodes t)
+  pub whole : m.calls_whole ≡ list_any is_call_of_whole (nodes t)

@@ -1,0 +1,72 @@
+//! What the public calls answer.
+
+use crate::error::Error;
+use crate::expr::Expr;
+use crate::flag_bits::{FLAG_IGNORE_NUMBERED_GROUPS_WHEN_NAMED_GROUPS_EXIST, FLAG_UNICODE};
+use std::alloc::{AllocError, Global};
+use std::test::Fail;
+
+/// A pattern, and its tree, references, names and total, or its fault.
+const ROWS: [(&str, &str); 5] = [
+    (
+        "(?<a>.)(?<b>.)(?<a>.)",
+        "Concat([Group(Any { newline: false, crlf: false }), Group(Any { newline: false, crlf: false }), Group(Any { newline: false, crlf: false })]) {} {\"a\": [1, 3], \"b\": [2]} 3",
+    ),
+    (
+        "()\\1\\2",
+        "Concat([Group(Empty), Backref { group: 1, casei: false }, Backref { group: 2, casei: false }]) {1} {} 1",
+    ),
+    (
+        "(?<a>x)\\k<a>(?<a>y)",
+        "Parsing error at position 7: Invalid group name in back reference: a",
+    ),
+    ("\\q", "Parsing error at position 0: Invalid escape: \\q"),
+    (
+        "\\k<n>)",
+        "Parsing error at position 5: General parsing error: end of string not reached",
+    ),
+];
+
+fn shown(alloc: Global, pattern: &str) -> Result<String, AllocError> {
+    match Expr::parse_tree(alloc, pattern) {
+        Ok(found) => format!(in alloc;
+            "{:?} {:?} {:?} {}",
+            found.expr, found.backrefs, found.named_groups, found.total_groups
+        ),
+        Err(Error::Memory) => Err(AllocError),
+        Err(error) => format!(in alloc; "{error}"),
+    }
+}
+
+#[test]
+fn reads_patterns(rt: HostRuntime) -> Result<(), Fail> {
+    for (pattern, wanted) in &ROWS {
+        let found = shown(rt.alloc(), pattern)?;
+        assert!(rt; found.as_str() == *wanted);
+    }
+    Ok(())
+}
+
+#[test]
+fn walks(rt: HostRuntime) -> Result<(), Fail> {
+    let flags = FLAG_UNICODE | FLAG_IGNORE_NUMBERED_GROUPS_WHEN_NAMED_GROUPS_EXIST;
+    match Expr::parse_tree_with_flags(rt.alloc(), "(?(a)(?<n>b)|c*)", flags) {
+        Ok(found) => {
+            assert!(rt; !found.expr.is_leaf_node());
+            assert!(rt; found.expr.children_iter().count() == 3);
+            assert!(rt;
+                found
+                    .expr
+                    .has_descendant(|node| matches!(node, Expr::Repeat { .. }))
+            );
+            assert!(rt;
+                !found
+                    .expr
+                    .has_descendant(|node| matches!(node, Expr::Alt(_)))
+            );
+            assert!(rt; found.total_groups == 1);
+        }
+        Err(_) => assert!(rt; false),
+    }
+    Ok(())
+}

@@ -1,0 +1,160 @@
+//! Printing of trees.
+
+ghost use Rattle.std.specs.Prelude.{◌≡◌, ◌++◌, IsTrue, OnOk, OnErr, map, chars, string_bytes};
+ghost use Rattle.fancy_regex_tree.specs.Tree.{tree_of, trees};
+ghost use Rattle.fancy_regex_tree.specs.Printed.{group_start, group_end, in_group, case_start, with_case, escaped, bar, printed, printed_pieces, printed_branches};
+ghost use Rattle.fancy_regex_tree.specs.Printable.{is_printable};
+
+use crate::expr::Expr;
+use crate::print_text::{print_ascii, print_char, print_escaped, print_text};
+use crate::print_tokens::{print_assertion, print_dot, print_quantifier};
+use std::alloc::AllocError;
+
+impl Expr {
+    /// Appends the printed text of a printable tree, which the reader of patterns reads as a tree of the same meaning.
+    ///
+    /// The precedence says where the text will stand: 0 as a whole pattern or in a group, 1 as a branch, 2 as a piece of a
+    /// row, 3 before a quantifier. A text that would not hold together there stands in a group that captures nothing.
+    ///
+    /// The one error is want of memory; the buffer then holds what it held.
+    pub fn to_str(&self, buf: &mut String, precedence: u8) -> Result<(), AllocError>
+        requires { IsTrue (is_printable (tree_of self.now)) }
+        ensures printed { OnOk result (chars (string_bytes buf.new) ≡ chars (string_bytes buf.old) ++ printed precedence (tree_of self.now)) }
+        ensures refused { OnErr result (string_bytes buf.new ≡ string_bytes buf.old) }
+    {
+        let mut text = String::new(*buf.allocator());
+        print(self, precedence, &mut text)?;
+        print_text(buf, &text)
+    }
+}
+
+/// Opens a group that captures nothing, where it is needed.
+#[tactic(auto, unfolding(crate::specs::Printed::group_start))]
+fn open_group(out: &mut String, needed: bool) -> Result<(), AllocError>
+    ensures { OnOk result (chars (string_bytes out.new) ≡ chars (string_bytes out.old) ++ group_start needed) }
+{
+    if needed {
+        print_ascii(out, "(?:")?;
+    }
+    Ok(())
+}
+
+/// Closes a group, where it is needed.
+#[tactic(auto, unfolding(crate::specs::Printed::group_end))]
+fn close_group(out: &mut String, needed: bool) -> Result<(), AllocError>
+    ensures { OnOk result (chars (string_bytes out.new) ≡ chars (string_bytes out.old) ++ group_end needed) }
+{
+    if needed {
+        print_char(out, ')')?;
+    }
+    Ok(())
+}
+
+/// Opens a group that disregards case, where it is needed.
+#[tactic(auto, unfolding(crate::specs::Printed::case_start))]
+fn open_case(out: &mut String, casei: bool) -> Result<(), AllocError>
+    ensures { OnOk result (chars (string_bytes out.new) ≡ chars (string_bytes out.old) ++ case_start casei) }
+{
+    if casei {
+        print_ascii(out, "(?i:")?;
+    }
+    Ok(())
+}
+
+/// Adds what parts a branch from the one before it, where there is one.
+#[tactic(auto, unfolding(crate::specs::Printed::bar))]
+fn print_bar(out: &mut String, needed: bool) -> Result<(), AllocError>
+    ensures { OnOk result (chars (string_bytes out.new) ≡ chars (string_bytes out.old) ++ bar needed) }
+{
+    if needed {
+        print_char(out, '|')?;
+    }
+    Ok(())
+}
+
+/// Adds a literal.
+#[tactic(auto, unfolding(crate::specs::Printed::with_case))]
+fn print_literal(out: &mut String, val: &str, casei: bool) -> Result<(), AllocError>
+    ensures { OnOk result (chars (string_bytes out.new) ≡ chars (string_bytes out.old) ++ with_case casei (escaped (chars val.now))) }
+{
+    open_case(out, casei)?;
+    print_escaped(out, val)?;
+    close_group(out, casei)
+}
+
+/// Adds a class.
+#[tactic(auto, unfolding(crate::specs::Printed::with_case))]
+fn print_class(out: &mut String, inner: &str, casei: bool) -> Result<(), AllocError>
+    ensures { OnOk result (chars (string_bytes out.new) ≡ chars (string_bytes out.old) ++ with_case casei (chars inner.now)) }
+{
+    open_case(out, casei)?;
+    print_text(out, inner)?;
+    close_group(out, casei)
+}
+
+/// Adds the printed text of a tree; nothing for a node that is not printable.
+#[cycle(print)]
+#[tactic(auto, unfolding(crate::specs::Printed::printed, crate::specs::Printed::in_group))]
+fn print(expr: &Expr, precedence: u8, out: &mut String) -> Result<(), AllocError>
+    ensures { OnOk result (chars (string_bytes out.new) ≡ chars (string_bytes out.old) ++ printed precedence (tree_of expr.now)) }
+{
+    match expr {
+        Expr::Any { newline, crlf } => print_dot(out, *newline, *crlf),
+        Expr::Assertion(assertion) => print_assertion(out, *assertion),
+        Expr::Literal { val, casei } => print_literal(out, val, *casei),
+        Expr::Delegate { inner, casei } => print_class(out, inner, *casei),
+        Expr::Concat(children) => {
+            let grouped = precedence > 1;
+            open_group(out, grouped)?;
+            print_pieces(children, out)?;
+            close_group(out, grouped)
+        }
+        Expr::Alt(children) => {
+            let grouped = precedence > 0;
+            open_group(out, grouped)?;
+            print_branches(children, out)?;
+            close_group(out, grouped)
+        }
+        Expr::Group(child) => {
+            print_char(out, '(')?;
+            print(child, 0, out)?;
+            print_char(out, ')')
+        }
+        Expr::Repeat {
+            child,
+            lo,
+            hi,
+            greedy,
+        } => {
+            let grouped = precedence > 2;
+            open_group(out, grouped)?;
+            print(child, 3, out)?;
+            print_quantifier(out, *lo, *hi, *greedy)?;
+            close_group(out, grouped)
+        }
+        _ => Ok(()),
+    }
+}
+
+/// Adds pieces in a row.
+#[cycle(print)]
+fn print_pieces(pieces: &[Expr], out: &mut String) -> Result<(), AllocError>
+    ensures { OnOk result (chars (string_bytes out.new) ≡ chars (string_bytes out.old) ++ printed_pieces (trees (map tree_of pieces.now))) }
+{
+    for i in 0..pieces.len() {
+        print(&pieces[i], 2, out)?;
+    }
+    Ok(())
+}
+
+/// Adds branches with a bar between each two.
+#[cycle(print)]
+fn print_branches(branches: &[Expr], out: &mut String) -> Result<(), AllocError>
+    ensures { OnOk result (chars (string_bytes out.new) ≡ chars (string_bytes out.old) ++ printed_branches (trees (map tree_of branches.now))) }
+{
+    for i in 0..branches.len() {
+        print_bar(out, i > 0)?;
+        print(&branches[i], 1, out)?;
+    }
+    Ok(())
+}
