@@ -6,7 +6,7 @@ use Rattle.fancy_regex_tree.specs.Tree.{Tree}
 use Rattle.fancy_regex_meaning.specs.Groups.{pattern_of}
 use Rattle.fancy_regex_meaning.specs.Ways.{Setting}
 use Rattle.fancy_regex_meaning.specs.Searches.{Match, all_items, default_options, input_of}
-use Rattle.fancy_search.specs.Reading.{pattern_at}
+use Rattle.fancy_search.specs.Pattern.{Told, not_carried, not_utf8, told_of, pattern_at, Refused}
 use Rattle.fancy_search.specs.declared.fault.Fault.{Fault}
 use Rattle.fancy_search.specs.declared.fault.Fault.TheVariants as faults
 use Rattle.fancy_search.specs.declared.run.Status.{Status}
@@ -44,25 +44,21 @@ abbrev pub answer_of : List (ℕ × ℕ) → Answer
 answer_of ms = record { output = lines ms; status = status_of ms }
 
 -- what is due for a pattern that gives this tree, or this fault
-abbrev pub due_at : Setting → Result Tree Fault → Result Answer Fault
+abbrev pub due_at : Setting → Result Tree Told → Result Answer Told
 due_at s (Ok t) = Ok (answer_of (matches_of s t))
 due_at s (Err f) = Err f
 
 -- what is due where this pattern is asked for
-abbrev pub due_asked : Setting → Option (List ℕ) → Result Answer Fault
-due_asked s None = Err faults.NotCarried
-due_asked s (Some p) = if is_utf8 s.text then due_at s (pattern_at (chars p)) else Err faults.NotUtf8
+abbrev pub due_asked : Setting → Option (List ℕ) → Result Answer Told
+due_asked s None = Err not_carried
+due_asked s (Some p) = if is_utf8 s.text then due_at s (pattern_at (chars p)) else Err not_utf8
 
 -- What is due for these words, where the input is the setting's text: the first fault of words, UTF-8 and pattern, or the matches.
-abbrev pub due : Setting → List (List ℕ) → Result Answer Fault
+abbrev pub due : Setting → List (List ℕ) → Result Answer Told
 due s words = due_asked s (asked words)
 
 -- what was found is due, unless memory ran out
-abbrev pub Refused : Fault → Result Answer Fault → Type 0
-Refused faults.Memory answer = Unit {0}
-Refused f answer = answer ≡ Err f
-
-abbrev pub Finds : Result Found Fault → Result Answer Fault → Type 0
+abbrev pub Finds : Result Found Fault → Result Answer Told → Type 0
 Finds (Ok found) answer = answer ≡ Ok (record { output = string_bytes found.lines; status = found.status })
 Finds (Err f) answer = Refused f answer
 
@@ -82,8 +78,8 @@ Interrupts old new bytes faults.Output = AppendsPart old new bytes
 Interrupts old new bytes f = Hides f
 
 -- What a call did to what the writer holds and what it returned, where this is due.
-abbrev pub Outcome : Option (List ℕ) → Option (List ℕ) → Result Answer Fault → Result Status Fault → Type 0
+abbrev pub Outcome : Option (List ℕ) → Option (List ℕ) → Result Answer Told → Result Status Fault → Type 0
 Outcome old new (Ok a) (Ok status) = (status ≡ a.status) × Appends old new a.output
 Outcome old new (Ok a) (Err f) = Interrupts old new a.output f
 Outcome old new (Err first) (Ok status) = ⊥
-Outcome old new (Err first) (Err f) = Hides f ⊎ (f ≡ first)
+Outcome old new (Err first) (Err f) = Hides f ⊎ (told_of f ≡ Some first)

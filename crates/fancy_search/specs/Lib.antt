@@ -1,3 +1,3 @@
-pub mod Carried
-pub mod Reading
+pub mod Causes
+pub mod Pattern
 pub mod Due

@@ -2,28 +2,16 @@
 
 ghost use Rattle.std.specs.Prelude.{◌≡◌};
 ghost use Rattle.fancy_search.specs.declared.fault.Fault.TheVariants.{Memory};
+ghost use Rattle.fancy_search.specs.Causes.{fault_of};
 
+use fancy_regex_tree::{Error as TreeError, ParseError};
 use std::alloc::{AllocError, AllocFailed};
 use thiserror::Error;
 
-/// Why a pattern has no tree.
-#[derive(Clone, Copy, Debug, PartialEq, Eq, Error)]
-pub enum ParseError {
-    /// A `)` closes nothing.
-    #[error("General parsing error: end of string not reached")]
-    EndNotReached,
-    /// The text ends in a group.
-    #[error("Opening parenthesis without closing parenthesis")]
-    UnclosedOpenParen,
-    /// Too many openings nest.
-    #[error("Pattern too deeply nested")]
-    RecursionExceeded,
-}
-
 /// Why a call of the program answers nothing. It shows the text that the program prints.
-#[derive(Clone, Copy, Debug, PartialEq, Eq, Error)]
+#[derive(Debug, PartialEq, Eq, Drop, Error)]
 pub enum Fault {
-    /// The words ask nothing that the program does, or the pattern holds a sign that it does not read.
+    /// The words ask nothing that the program does, or the pattern is one that it does not search with yet.
     #[error("pattern not yet carried")]
     NotCarried,
     /// The pattern has no tree. The first fault from the left is at the byte of this number, counted from 0.
@@ -53,5 +41,16 @@ impl<T: Drop> From<AllocFailed<T>> for Fault {
 
     fn from(_cause: AllocFailed<T>) -> Fault {
         Fault::Memory
+    }
+}
+
+impl From<TreeError> for Fault {
+    ghost from_gives = { λ e f. f ≡ fault_of e };
+
+    fn from(cause: TreeError) -> Fault {
+        match cause {
+            TreeError::ParseError(position, kind) => Fault::Pattern(position, kind),
+            TreeError::Memory => Fault::Memory,
+        }
     }
 }

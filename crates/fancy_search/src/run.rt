@@ -3,7 +3,7 @@
 ghost use Rattle.std.specs.Prelude.{◌≡◌, ◌≢◌, ℕ, List, None, map, chars, string_bytes, IfOk, IfErr, IfSome, OnOk, Some, Err};
 ghost use Rattle.std.specs.Io.KnownBytes.{IsAtEnd};
 ghost use Rattle.fancy_regex_meaning.specs.Ways.{Setting};
-ghost use Rattle.fancy_search.specs.Reading.{pattern_at};
+ghost use Rattle.fancy_search.specs.Pattern.{pattern_at};
 ghost use Rattle.fancy_search.specs.Due.{asked, due, due_asked, due_at, Outcome, Finds};
 ghost use Rattle.fancy_search.specs.declared.fault.Fault.TheVariants.{NotCarried, Output};
 

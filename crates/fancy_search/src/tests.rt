@@ -1,7 +1,8 @@
 ghost use Rattle.std.specs.Prelude.{Some};
 
-use crate::fault::{Fault, ParseError};
+use crate::fault::Fault;
 use crate::run::{Status, run};
+use fancy_regex_tree::ParseError;
 use std::alloc::Global;
 use std::io;
 use std::io::{ErrorKind, Read, Write};
@@ -112,13 +113,15 @@ fn finds(rt: HostRuntime) {
 #[test]
 fn refuses(rt: HostRuntime) {
     for (pattern, fault) in [
-        ("a)", Fault::Pattern(1, ParseError::EndNotReached)),
         ("(?:a", Fault::Pattern(4, ParseError::UnclosedOpenParen)),
         ("é(?:", Fault::Pattern(5, ParseError::UnclosedOpenParen)),
-        (")*", Fault::NotCarried),
-        ("(a", Fault::NotCarried),
-        ("a?:", Fault::NotCarried),
-        ("(?a", Fault::NotCarried),
+        ("(", Fault::Pattern(1, ParseError::UnclosedOpenParen)),
+        ("[a", Fault::Pattern(2, ParseError::InvalidClass)),
+        ("a**", Fault::Pattern(2, ParseError::TargetNotRepeatable)),
+        ("a\\", Fault::Pattern(1, ParseError::TrailingBackslash)),
+        ("a*", Fault::NotCarried),
+        ("(a)", Fault::NotCarried),
+        ("(?i)a", Fault::NotCarried),
     ] {
         let met = fault_of(rt.alloc(), &["find", pattern], b"a");
         assert_eq!(rt; met, Some(fault), "{pattern}");
@@ -146,36 +149,12 @@ fn first_fault(rt: HostRuntime) {
 }
 
 #[test]
-fn nests_63_deep(rt: HostRuntime) -> Result<(), Fail> {
-    let mut pattern = String::new(rt.alloc());
-    for _ in 0..63 {
-        pattern.push_str("(?:")?;
-    }
-    let unclosed = Fault::Pattern(189, ParseError::UnclosedOpenParen);
-    let fault = fault_of(rt.alloc(), &["find", pattern.as_str()], b"a");
-    assert_eq!(rt; fault, Some(unclosed));
-    pattern.push_str("(?:")?;
-    let too_deep = Fault::Pattern(189, ParseError::RecursionExceeded);
-    let fault = fault_of(rt.alloc(), &["find", pattern.as_str()], b"a");
-    assert_eq!(rt; fault, Some(too_deep));
-    Ok(())
-}
-
-#[test]
 fn shows_faults(rt: HostRuntime) -> Result<(), Fail> {
     for (fault, text) in [
         (Fault::NotCarried, "pattern not yet carried"),
         (
-            Fault::Pattern(1, ParseError::EndNotReached),
-            "Parsing error at position 1: General parsing error: end of string not reached",
-        ),
-        (
             Fault::Pattern(4, ParseError::UnclosedOpenParen),
             "Parsing error at position 4: Opening parenthesis without closing parenthesis",
-        ),
-        (
-            Fault::Pattern(189, ParseError::RecursionExceeded),
-            "Parsing error at position 189: Pattern too deeply nested",
         ),
         (Fault::Input, "cannot read input"),
         (Fault::NotUtf8, "input is not UTF-8"),
@@ -223,4 +202,25 @@ fn writer_takes_little(rt: HostRuntime) {
     assert_eq!(rt; result, Err(Fault::Output));
     let result = run(rt.alloc(), &["find", "a"], &mut b"b".as_slice(), &mut Full);
     assert_eq!(rt; result, Ok(Status::Nothing));
+}
+
+#[test]
+fn shows_faults_of_patterns(rt: HostRuntime) -> Result<(), Fail> {
+    for (pattern, text) in [
+        (
+            "a)",
+            "Parsing error at position 1: General parsing error: end of string not reached",
+        ),
+        ("\\q", "Parsing error at position 0: Invalid escape: \\q"),
+        (
+            "(?q)",
+            "Parsing error at position 0: Unknown group flag: (?q",
+        ),
+    ] {
+        match fault_of(rt.alloc(), &["find", pattern], b"a") {
+            Some(fault) => assert_eq!(rt; fault.to_string(rt.alloc())?.as_str(), text),
+            None => assert!(rt; false, "{pattern}"),
+        }
+    }
+    Ok(())
 }

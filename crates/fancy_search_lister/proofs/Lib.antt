@@ -5,3 +5,4 @@ mod ReachLemmas
 mod ItemLemmas
 mod SpanLemmas
 mod ServedLemmas
+pub mod ServesLemmas

@@ -7,8 +7,10 @@
 mod character;
 mod ends;
 mod search;
+mod served;
 #[cfg(test)]
 mod tests;
 
 pub use ends::ways;
 pub use search::{Span, spans};
+pub use served::serves;

@@ -1,5 +1,6 @@
-use Rattle.fancy_search.proofs.Serving.{tree_served}
+use Rattle.std.proofs.Common.{sym, ◌∙◌}
+use Rattle.fancy_search_lister.proofs.ServesLemmas.{served_is}
 use Rattle.fancy_search.proofs.pattern.parse.Goals as goal
 
-pub returns-in-Ok-clause-served : goal.returns-in-Ok-clause-served
-returns-in-Ok-clause-served c = tree_served _ _ c.in-Ok.ensures
+pub returns-then-serves-clause-served : goal.returns-then-serves-clause-served
+returns-then-serves-clause-served c = served_is _ (sym c.serves.ensures ∙ c.if-serves.true)
