@@ -1,0 +1,5 @@
+pub mod Resolving
+pub mod Sizes
+pub mod Depths
+pub mod PlaceProofs
+pub mod Whole

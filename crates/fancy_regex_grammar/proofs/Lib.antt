@@ -1,0 +1,9 @@
+pub mod Fronts
+pub mod QuantifierProofs
+pub mod Soundness
+pub mod Steps
+pub mod Completeness
+pub mod BranchProofs
+pub mod PatternProofs
+pub mod EndProofs
+pub mod ShapeProofs

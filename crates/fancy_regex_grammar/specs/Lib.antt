@@ -1,0 +1,5 @@
+pub mod Quantifiers
+pub mod Patterns
+pub mod Faults
+pub mod Shapes
+pub mod Agree

@@ -1,0 +1,12 @@
+pub mod Steps
+pub mod LayoutProofs
+pub mod RunProofs
+pub mod NameProofs
+pub mod FlagProofs
+pub mod CountProofs
+pub mod SignProofs
+pub mod HexProofs
+pub mod EscapeProofs
+pub mod ClassProofs
+pub mod OpeningProofs
+pub mod EndProofs
