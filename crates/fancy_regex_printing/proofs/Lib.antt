@@ -1,0 +1,3 @@
+pub mod GroupsStayProof
+pub mod WaysStayProof
+pub mod SearchesStayProof

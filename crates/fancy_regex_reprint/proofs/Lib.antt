@@ -1,0 +1,14 @@
+pub mod Fitting
+pub mod Nameless
+pub mod Numbers
+pub mod Starts
+pub mod Tokens
+pub mod Longer
+pub mod Quantities
+pub mod Repeats
+pub mod Nodes
+pub mod Atoms
+pub mod Calmness
+pub mod Reading
+pub mod ReadsBack
+pub mod Deep

@@ -1,0 +1,103 @@
+-- Whole printed patterns, read.
+use Rattle.std.proofs.Common.{◌≡◌, ◌<◌, ◌-◌, ℕ, Bool, true, false, [], None, replicate, refl, subst, ap, sym, ◌∙◌, append-nil, arith, Ok, Err}
+use Rattle.fancy_regex_text.specs.Text.{Text, bytes}
+use Rattle.fancy_regex_grammar.specs.Patterns.{IsPattern}
+use Rattle.fancy_regex_tree.specs.Tree.{Tree}
+use Rattle.fancy_regex_tree.specs.Shapes.{pattern_of}
+use Rattle.fancy_regex_tree.specs.Groups.{read_whole}
+use Rattle.fancy_regex_tree.specs.Printable.{is_printable, printed_levels}
+use Rattle.fancy_regex_tree.specs.Numbering.{◌⨟◌}
+use Rattle.fancy_regex_tree.specs.Parse.{placed, finish, parse}
+use Rattle.fancy_regex_tree.specs.Printed.{printed}
+use Rattle.fancy_regex_tree.specs.NormalForm.{normal_form}
+use Rattle.fancy_regex_grammar.proofs.PatternProofs.{patterns_are_exact}
+use Rattle.fancy_regex_meaning.specs.Groups as patterns
+use Rattle.fancy_regex_meaning.specs.Ways.{Setting, ways}
+use Rattle.fancy_regex_meaning.specs.Searches.{first_match, all_items}
+use Rattle.fancy_regex_printing.proofs.GroupsStayProof.{count_stays}
+use Rattle.fancy_regex_printing.proofs.SearchesStayProof.{ways_stay, matches_stay, items_stay}
+use Rattle.fancy_regex_reprint.specs.Reprint.{PrintedReadsBack, PrintedMeansTheSame, DeepIsRefused, PrintedParses, DeepIsNoPattern, PrintedIsSamePattern, CountsFit, no_flags, plain_mode, plain_options}
+use Rattle.fancy_regex_grammar.specs.Faults.{inside_pattern}
+use Rattle.fancy_regex_reprint.proofs.Deep.{deep, WholeDeep}
+use Rattle.fancy_regex_reprint.proofs.Nameless.{nameless_tree}
+use Rattle.fancy_regex_reprint.proofs.Numbers.{counts_as, finishes, form_resolved}
+use Rattle.fancy_regex_reprint.proofs.Reading.{reads, WholeRead, closing_end}
+
+-- the text is read as this tree, without a name
+record NamelessRead (unicode : Bool) (text : Text) (form : Tree) : Type 0 where
+  pub tree : Tree
+  pub reading : IsPattern (plain_mode (bytes text) unicode) no_flags text tree
+  pub answer : read_whole false unicode no_flags text ≡ Ok tree
+  pub is_form : nameless_tree tree ≡ form
+
+nameless_read : (unicode : Bool) (t : Tree) → is_printable t ≡ true → CountsFit t → printed_levels 0 t < 64 → NamelessRead unicode (printed 0 t) (normal_form t)
+nameless_read unicode t p fit few =
+    let size = bytes (printed 0 t) in
+    let at_end = (reads size unicode t p fit).whole 63 [] (omega arith) closing_end in
+    let read : WholeRead size unicode 63 (printed 0 t) (normal_form t) [] =
+    subst (λ (u : Text). WholeRead size unicode 63 u (normal_form t) []) (append-nil (printed 0 t)) at_end in
+    let reading : IsPattern (plain_mode size unicode) no_flags (printed 0 t) (pattern_of (read.body)) =
+    record { body = read.body; flags_behind = no_flags; derivation = read.reading; tree = refl } in
+    record {
+      tree = pattern_of (read.body);
+      reading = reading;
+      answer = (patterns_are_exact false unicode no_flags (printed 0 t)).complete (pattern_of (read.body)) reading;
+      is_form = read.is_form;
+    }
+
+pub printed_reads_back : PrintedReadsBack
+printed_reads_back unicode t p fit few =
+    let read = nameless_read unicode t p fit few in
+    record { tree = read.tree; reading = read.reading; answer = read.answer; is_form = counts_as read.tree (normal_form t) read.is_form (form_resolved t p) }
+
+pub printed_means_the_same : (s : Setting) → PrintedMeansTheSame s
+printed_means_the_same s unicode t p fit classes few =
+    let read = printed_reads_back unicode t p fit few in
+    record {
+      tree = read.tree;
+      answer = read.answer;
+      same_ways = λ groups others n w. ways_stay s t groups others n w p classes ∙ ap (λ e. ways s others n e w) (sym read.is_form);
+      same_match = λ find. matches_stay s t find p classes ∙ ap (λ e. first_match s (patterns.pattern_of e) find) (sym read.is_form);
+      same_items = λ options input. items_stay s t options input p classes ∙ ap (λ e. all_items s (patterns.pattern_of e) options input) (sym read.is_form);
+    }
+
+pub deep_is_refused : DeepIsRefused
+deep_is_refused unicode t p fit many =
+    let size = bytes (printed 0 t) in
+    let at_end = (deep size unicode t p fit).whole 63 [] (omega arith) closing_end in
+    let found : WholeDeep size unicode 63 (printed 0 t) = subst (λ (u : Text). WholeDeep size unicode 63 u) (append-nil (printed 0 t)) at_end in (
+      found.fault.left,
+      (patterns_are_exact false unicode no_flags (printed 0 t)).stop_is_complete found.fault (inside_pattern found.stops)
+          ∙ ap (λ kind. Err (record { kind = kind; left = found.fault.left })) found.is_deep,
+    )
+
+pub printed_parses : PrintedParses
+unfolding parse
+printed_parses unicode ignore_numbered t p fit few =
+    let o = plain_options unicode ignore_numbered in
+    let text = printed 0 t in
+    let read = nameless_read unicode t p fit few in
+    record {
+      unresolved = read.tree;
+      answer = ap (λ r. placed (bytes text) r ⨟ finish o) read.answer
+          ∙ finishes o read.tree (normal_form t) read.is_form (form_resolved t p)
+          ∙ ap (λ (n : ℕ). Ok (record { tree = normal_form t; names = replicate n None; unresolved = read.tree; ignored = false })) (count_stays t);
+    }
+
+pub deep_is_no_pattern : DeepIsNoPattern
+unfolding parse
+deep_is_no_pattern unicode ignore_numbered t p fit many =
+    let found = deep_is_refused unicode t p fit many in
+    let size = bytes (printed 0 t) in
+    (size - found.0, ap (λ r. placed size r ⨟ finish (plain_options unicode ignore_numbered)) found.1)
+
+pub printed_is_same_pattern : (s : Setting) → PrintedIsSamePattern s
+printed_is_same_pattern s unicode ignore_numbered t p fit classes few =
+    let read = printed_parses unicode ignore_numbered t p fit few in
+    record {
+      found = _;
+      answer = read.answer;
+      same_ways = λ groups others n w. ways_stay s t groups others n w p classes;
+      same_match = λ find. matches_stay s t find p classes;
+      same_items = λ settings input. items_stay s t settings input p classes;
+    }
