@@ -1,0 +1,97 @@
+//! Which parts of a pattern can end.
+
+ghost use Rattle.std.specs.Prelude.{◌≡◌, ℕ, map};
+ghost use Rattle.fancy_regex_tree.specs.Tree.{tree_of, trees, absent_tree_of, ast_tree_of};
+ghost use Rattle.fancy_regex_meaning.specs.Ends.{can_end_with, all_can_end, some_can_end};
+ghost use Rattle.fancy_regex_sizes.specs.Survey.{ends_in};
+
+use fancy_regex_tree::{Absent, AstNode, Expr};
+
+/// Whether the tree can end, where it is known which groups can; a call of no group can.
+#[tactic(auto, unfolding(fancy_regex_meaning::specs::Ends::can_end_with))]
+#[cycle(ends)]
+pub(crate) fn can_end_in(expr: &Expr, ends: &[bool]) -> bool
+    ensures { result ≡ can_end_with (ends_in ends.now) (tree_of expr.now) }
+{
+    match expr {
+        Expr::Concat(parts) => all_can_end_in(parts, ends),
+        Expr::Alt(branches) => some_can_end_in(branches, ends),
+        Expr::Repeat { child, lo, .. } => *lo == 0 || can_end_in(child, ends),
+        Expr::Conditional {
+            condition,
+            true_branch,
+            false_branch,
+        } => {
+            can_end_in(condition, ends)
+                && (can_end_in(true_branch, ends) || can_end_in(false_branch, ends))
+        }
+        Expr::SubroutineCall(group) => call_ends(ends, *group),
+        Expr::Group(child) | Expr::LookAround(child, _) => can_end_in(child, ends),
+        Expr::AtomicGroup(child) => can_end_in(child, ends),
+        Expr::DefineGroup { definitions } => can_end_in(definitions, ends),
+        Expr::Absent(absent) => absent_can_end(absent, ends),
+        Expr::AstNode(node, _) => unresolved_can_end(node, ends),
+        Expr::Empty | Expr::Any { .. } | Expr::Assertion(_) | Expr::GeneralNewline { .. } => true,
+        Expr::Literal { .. } | Expr::LiteralBytes { .. } | Expr::Delegate { .. } => true,
+        Expr::Backref { .. } | Expr::BackrefWithRelativeRecursionLevel { .. } => true,
+        Expr::KeepOut | Expr::ContinueFromPreviousMatchEnd => true,
+        Expr::BackrefExistsCondition { .. } | Expr::BacktrackingControlVerb(_) => true,
+    }
+}
+
+#[tactic(auto, unfolding(fancy_regex_meaning::specs::Ends::can_end_with))]
+#[cycle(ends)]
+fn absent_can_end(absent: &Absent, ends: &[bool]) -> bool
+    ensures { result ≡ can_end_with (ends_in ends.now) (absent_tree_of absent.now) }
+{
+    match absent {
+        Absent::Repeater(child) | Absent::Stopper(child) => can_end_in(child, ends),
+        Absent::Expression { absent, exp } => can_end_in(exp, ends) && can_end_in(absent, ends),
+        Absent::Clear => true,
+    }
+}
+
+#[tactic(auto, unfolding(fancy_regex_meaning::specs::Ends::can_end_with))]
+#[cycle(ends)]
+fn unresolved_can_end(node: &AstNode, ends: &[bool]) -> bool
+    ensures { (position : ℕ) → result ≡ can_end_with (ends_in ends.now) (ast_tree_of node.now position) }
+{
+    match node {
+        AstNode::AstGroup { inner, .. } => can_end_in(inner, ends),
+        AstNode::Backref { .. } | AstNode::SubroutineCall(_) => true,
+        AstNode::BackrefExistsCondition { .. } => true,
+    }
+}
+
+fn call_ends(ends: &[bool], group: usize) -> bool
+    ensures { result ≡ ends_in ends.now group }
+{
+    match ends.get(group) {
+        Some(can_end) => *can_end,
+        None => true,
+    }
+}
+
+#[cycle(ends)]
+fn all_can_end_in(parts: &[Expr], ends: &[bool]) -> bool
+    ensures { result ≡ all_can_end (ends_in ends.now) (trees (map tree_of parts.now)) }
+{
+    for part in parts {
+        if !can_end_in(part, ends) {
+            return false;
+        }
+    }
+    true
+}
+
+#[cycle(ends)]
+fn some_can_end_in(branches: &[Expr], ends: &[bool]) -> bool
+    ensures { result ≡ some_can_end (ends_in ends.now) (trees (map tree_of branches.now)) }
+{
+    for branch in branches {
+        if can_end_in(branch, ends) {
+            return true;
+        }
+    }
+    false
+}
