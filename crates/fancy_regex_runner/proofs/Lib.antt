@@ -17,3 +17,6 @@ pub mod MeaningLemmas
 pub mod KeptLemmas
 pub mod SightLemmas
 pub mod AnswerLemmas
+pub mod ShapeLemmas
+pub mod BuildLemmas
+pub mod MadeLemmas

@@ -121,6 +121,10 @@ module _ (unicode : Bool) (groups : List Tree) (call : ℕ → Size) where
         least_zero (size_with call t).least (branch_size call (more_trees u us)).least
         ∙ ap₂ ◌||◌ (empties n k t p.0) (branch_empties _ _ (more_trees u us) (λ e. cc) p.1) ∙ not_and _ _
 
+not_twice : (b : Bool) → not (not b) ≡ b
+not_twice true = refl
+not_twice false = refl
+
 not_not : (b c : Bool) → b ≡ not c → not b ≡ true → c ≡ true
 not_not true c e h = absurd (true≢false (sym h))
 not_not false true e h = refl
@@ -136,6 +140,11 @@ module _ (unicode : Bool) (groups : List Tree) where
   never : (n k : ℕ) (t : Tree) → IsPlain t → not (may_be_empty groups t) ≡ true → never_empty (re_of unicode groups n k t) ≡ true
   unfolding size
   never n k t p h = not_not _ _ (empties_through (length groups) n k t p) h
+
+  -- and one that may not be is never empty
+  pub flag_is : (n k : ℕ) (t : Tree) → IsPlain t → not (may_be_empty groups t) ≡ never_empty (re_of unicode groups n k t)
+  unfolding size
+  flag_is n k t p = ap not (empties_through (length groups) n k t p) ∙ not_twice _
 
   mutual
     unfolding re_of

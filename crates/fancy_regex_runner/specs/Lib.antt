@@ -8,5 +8,7 @@ pub mod Sight
 pub mod Find
 pub mod Plain
 pub mod Sees
+pub mod PlainFact
 pub mod Easy
 pub mod Runner
+pub mod Made

@@ -2,18 +2,38 @@ ghost use Rattle.std.specs.Prelude.{◌≡◌, ◌+◌, ◌-◌, ◌*◌, ◌^�
 ghost use Rattle.fancy_regex_meaning.specs.Groups.{Pattern};
 ghost use Rattle.fancy_regex_meaning.specs.Sizes.{tree_weight};
 ghost use Rattle.fancy_regex_meaning.specs.Searches.{first_match, match_at, starts};
-ghost use Rattle.fancy_regex_runner.specs.Easy.{IsMade, setting_for, search_for, rules_for, hit_places, hit_at};
+ghost use Rattle.fancy_regex_runner.specs.Easy.{IsMade, easy_pattern, setting_for, search_for, rules_for, hit_places, hit_at};
 ghost use Rattle.fancy_regex_runner.specs.Find.{tried};
-ghost use Rattle.fancy_regex_runner.specs.Plain.{places_of};
+ghost use Rattle.fancy_regex_runner.specs.Plain.{places_of, IsPlain};
+ghost use Rattle.fancy_regex_tree.specs.Tree.{tree_of};
 
+use crate::build::Walk;
+use crate::emit::emit;
+use crate::error::EasyError;
 use crate::input::RunInput;
 use crate::rules::Rules;
 use crate::search::{Plan, earliest_way};
-use crate::state::State;
+use crate::state::{State, add};
 use crate::trail::Trail;
 use crate::visited::Visited;
+use crate::weight::weight;
 use fancy_regex_class::{CharClassMatcher, Counted, Steps};
+use fancy_regex_tree::Expr;
 use std::alloc::{AllocError, Global};
+
+/// The greatest weight of a pattern that is made ready, without the two of the whole.
+const GREATEST_WEIGHT: u64 = 4_294_967_293;
+
+/// How a pattern is made ready.
+#[derive(Clone, Copy, Debug)]
+pub struct EasyOptions {
+    /// Classes have members past ASCII, and letters past ASCII have case.
+    pub unicode: bool,
+    /// The way that ends farthest is wanted, and not the first.
+    pub leftmost_longest: bool,
+    /// Groups count from 0, and none is the whole.
+    pub explicit_capture_group_0: bool,
+}
 
 /// A plain pattern made ready for searches.
 #[derive(Drop)]
@@ -32,6 +52,33 @@ pub struct Easy {
 
 impl Easy {
     ghost use Rattle.fancy_regex_runner.specs.Runner.{IsEasyOf};
+
+    /// Makes a plain tree ready. Refused where `regex` does not take one of its classes, and where its weight passes
+    /// 4,294,967,295.
+    pub fn new(alloc: Global, tree: &Expr, options: &EasyOptions) -> Result<Easy, EasyError>
+        requires plain { IsPlain (tree_of tree.now) }
+        ensures made { IfOk result (λ easy. IsEasyOf easy (easy_pattern options.now.explicit_capture_group_0 (tree_of tree.now))) }
+        ensures options { IfOk result (λ easy. (easy.unicode ≡ options.now.unicode) × (easy.longest ≡ options.now.leftmost_longest)) }
+    {
+        let explicit = options.explicit_capture_group_0;
+        let mut walk = Walk::new(alloc, options.unicode, explicit);
+        let part = walk.part(tree)?;
+        if weight(&part.node) > GREATEST_WEIGHT {
+            return Err(EasyError::PatternTooComplex);
+        }
+        let mut states = Vec::new(alloc);
+        add(&mut states, State::Match)?;
+        let entry = emit(&part.node, &mut states, 0)?;
+        Ok(Easy {
+            states,
+            entry,
+            matchers: walk.matchers,
+            groups: walk.next_group,
+            whole: !explicit,
+            unicode: options.unicode,
+            longest: options.leftmost_longest,
+        })
+    }
 
     /// The match, by two places in bytes for each group, each `usize::MAX` where the group is unset. The steps are raised
     /// by one for each look at the text, also where memory runs out.

@@ -1,0 +1,136 @@
+use Rattle.std.proofs.Common.{◌≡◌, ℕ, vec_len, Bool, true, false, ◌==◌, ap₂, ◌+◌, ◌∙◌, ◌++◌, ◌∷◌, [], ◌&&◌, ◌||◌, List, not, length, map, take, nat_lt, ap, sym, refl, arith, rules}
+use Rattle.fancy_regex_tree.specs.Tree.{Tree, tree_of, concat, alt}
+use Rattle.fancy_regex_runner.specs.Re as re
+use Rattle.fancy_regex_runner.specs.Re.{Re, shape, shapes, cats, alts}
+use Rattle.fancy_regex_meaning.specs.Sizes.{may_be_empty}
+use Rattle.fancy_regex_runner.specs.Program.{never_empty}
+use Rattle.fancy_regex_runner.specs.Plain.{re_of, row_of, branches_of}
+use Rattle.fancy_regex_runner.specs.Made.{all_trees, Extends, row_list, all_move}
+use Rattle.fancy_regex_runner.proofs.PlainLemmas.{flag_is}
+use Rattle.fancy_regex_runner.proofs.BuildLemmas.{plain_at, row_none, nodes_step, row_whole, row_is, branches_is, row_moves, all_moves, branches_move}
+use Rattle.std.proofs.lemmas.List.{map-append, length-map}
+use Rattle.fancy_regex_tree.specs.declared.expr.Expr as laws
+use Rattle.fancy_regex_runner.proofs.ShapeLemmas.{tree_concat, tree_alt, shape_concat, shape_alt, shape_repeat}
+use Rattle.fancy_regex_runner.proofs.build.Walk.+build.Goals as goal
+use Rattle.fancy_regex_runner.proofs.build.Walk.+build.Goals.{row-then-moves, row-else-moves, branches-then-moves, branches-else-moves, branches-then-moves-2, branches-else-moves-2}
+
+pub part-returns-in-Concat-clause-shape : goal.part-returns-in-Concat-clause-shape
+unfolding re_of
+part-returns-in-Concat-clause-shape t c =
+    let e : tree_of c.args.expr.now ≡ concat (all_trees c.deref-in-Concat.result.now) =
+    ap tree_of c.in-Concat.is ∙ tree_concat c.in-Concat.children ∙ ap (λ es. concat (all_trees es)) (sym c.deref-in-Concat.ensures.value) in
+    rw e c.row.ensures.shape
+
+pub part-returns-in-Alt-clause-shape : goal.part-returns-in-Alt-clause-shape
+unfolding re_of
+part-returns-in-Alt-clause-shape t c =
+    let e : tree_of c.args.expr.now ≡ alt (all_trees c.deref-in-Alt.result.now) =
+    ap tree_of c.in-Alt.is ∙ tree_alt c.in-Alt.children ∙ ap (λ es. alt (all_trees es)) (sym c.deref-in-Alt.ensures.value) in
+    rw e c.branches.ensures.shape
+
+pub repeat-returns-clause-shape : goal.repeat-returns-clause-shape
+repeat-returns-clause-shape t c = λ groups.
+    let unicode = c.args.self.now.unicode in
+    let n = c.args.self.now.next_group in
+    let k = length c.args.self.now.matchers.items in
+    let child = tree_of c.args.child.now in
+    let flag : c.in_ok-part.part.moves ≡ not (may_be_empty groups child) =
+    c.in_ok-part.ensures.moves ∙ ap never_empty (c.in_ok-part.ensures.shape groups) ∙ sym (flag_is unicode groups n k child c.requires.plain) in
+    let body : shape c.in_ok-boxed.field-0.value ≡ re_of unicode groups n k child = ap shape c.in_ok-boxed.ensures ∙ c.in_ok-part.ensures.shape groups in
+    shape_repeat c.in_ok-boxed.field-0 c.args.lo c.args.hi c.args.greedy c.in_ok-part.part.moves
+    ∙ ap₂ (λ (b : Bool) (x : Re). re.repeat c.args.lo c.args.hi c.args.greedy b x) flag body
+
+pub row-part-requires : goal.row-part-requires
+row-part-requires t c =
+    (search (rules, laws.the_lemmas), plain_at c.args.children.now c.loop-i.i c.index-children-i.result c.loop-i-test.true c.index-children-i.is c.requires.plain)
+
+pub row-loop-i-init : goal.row-loop-i-init
+unfolding never_empty
+row-loop-i-init t c = record { built = rw c.new-parts.ensures.items (row_none c.args.self.now); moves = rw c.new-parts.ensures.items refl }
+
+pub row-loop-i-preserved : goal.row-loop-i-preserved
+row-loop-i-preserved t c =
+    let moves : c.if-moves.moves ≡ (c.loop-i.moves || c.in_ok-part.part.moves) =
+    elim c.if-moves.branch as (λ _. c.if-moves.moves ≡ (c.loop-i.moves || c.in_ok-part.part.moves)) [
+      | row-then-moves w ↦ let a : c.loop-i.moves ≡ true = w.if-moves.true in w.moves-is ∙ a ∙ sym (ap (λ b. b || c.in_ok-part.part.moves) a)
+      | row-else-moves w ↦ let a : c.loop-i.moves ≡ false = w.if-moves.false in w.moves-is ∙ sym (ap (λ b. b || c.in_ok-part.part.moves) a)
+    ] in
+    record {
+      built =
+          nodes_step c.args.self.now c.loop-i.self c.part.new.self c.args.children.now c.loop-i.i c.index-children-i.result c.loop-i.parts.items
+          c.add.new.values.items c.in_ok-part.part.node c.loop-i-test.true c.index-children-i.is c.in_ok-add.ensures c.loop-i.invariant.built
+          c.in_ok-part.ensures.unicode c.in_ok-part.ensures.groups c.in_ok-part.ensures.matchers c.in_ok-part.ensures.shape;
+      moves =
+          moves
+          ∙ ap₂ ◌||◌ c.loop-i.invariant.moves c.in_ok-part.ensures.moves
+          ∙ sym (row_moves (shapes c.loop-i.parts.items) (shape c.in_ok-part.part.node))
+          ∙ ap (λ xs. never_empty (cats xs)) (sym (ap shapes c.in_ok-add.ensures ∙ map-append shape c.loop-i.parts.items (c.in_ok-part.part.node ∷ [])));
+    }
+
+pub row-returns-clause-groups : goal.row-returns-clause-groups
+row-returns-clause-groups t c = (row_whole _ _ c.args.children.now c.loop-i.i _ c.loop-i-test.false c.loop-i.invariant.built).groups
+
+pub row-returns-clause-matchers : goal.row-returns-clause-matchers
+row-returns-clause-matchers t c = (row_whole _ _ c.args.children.now c.loop-i.i _ c.loop-i-test.false c.loop-i.invariant.built).matchers
+
+pub row-returns-clause-shape : goal.row-returns-clause-shape
+row-returns-clause-shape t c = λ groups.
+    let built = row_whole _ _ c.args.children.now c.loop-i.i _ c.loop-i-test.false c.loop-i.invariant.built in
+    shape_concat c.loop-i.parts
+    ∙ ap cats (built.patterns groups)
+    ∙ row_is c.args.self.now.unicode groups (map tree_of c.args.children.now) c.args.self.now.next_group (length c.args.self.now.matchers.items)
+
+pub branches-part-requires : goal.branches-part-requires
+branches-part-requires t c =
+    (search (rules, laws.the_lemmas), plain_at c.args.children.now c.loop-i.i c.index-children-i.result c.loop-i-test.true c.index-children-i.is c.requires.plain)
+
+pub branches-loop-i-init : goal.branches-loop-i-init
+unfolding all_move
+branches-loop-i-init t c = record { built = rw c.new-parts.ensures.items (row_none c.args.self.now); moves = rw c.new-parts.ensures.items refl }
+
+pub branches-loop-i-preserved : goal.branches-loop-i-preserved
+branches-loop-i-preserved t c =
+    let moves : c.if-moves.moves ≡ (c.loop-i.moves && c.in_ok-part.part.moves) =
+    elim c.if-moves.branch as (λ _. c.if-moves.moves ≡ (c.loop-i.moves && c.in_ok-part.part.moves)) [
+      | branches-then-moves w ↦ let a : c.loop-i.moves ≡ true = w.if-moves.true in w.moves-is ∙ sym (ap (λ b. b && c.in_ok-part.part.moves) a)
+      | branches-else-moves w ↦ let a : c.loop-i.moves ≡ false = w.if-moves.false in w.moves-is ∙ a ∙ sym (ap (λ b. b && c.in_ok-part.part.moves) a)
+    ] in
+    record {
+      built =
+          nodes_step c.args.self.now c.loop-i.self c.part.new.self c.args.children.now c.loop-i.i c.index-children-i.result c.loop-i.parts.items
+          c.add.new.values.items c.in_ok-part.part.node c.loop-i-test.true c.index-children-i.is c.in_ok-add.ensures c.loop-i.invariant.built
+          c.in_ok-part.ensures.unicode c.in_ok-part.ensures.groups c.in_ok-part.ensures.matchers c.in_ok-part.ensures.shape;
+      moves =
+          moves
+          ∙ ap₂ ◌&&◌ c.loop-i.invariant.moves c.in_ok-part.ensures.moves
+          ∙ sym (all_moves (shapes c.loop-i.parts.items) (shape c.in_ok-part.part.node))
+          ∙ ap all_move (sym (ap shapes c.in_ok-add.ensures ∙ map-append shape c.loop-i.parts.items (c.in_ok-part.part.node ∷ [])));
+    }
+
+pub branches-returns-clause-groups : goal.branches-returns-clause-groups
+branches-returns-clause-groups t c = (row_whole _ _ c.args.children.now c.loop-i.i _ c.loop-i-test.false c.loop-i.invariant.built).groups
+
+pub branches-returns-clause-matchers : goal.branches-returns-clause-matchers
+branches-returns-clause-matchers t c = (row_whole _ _ c.args.children.now c.loop-i.i _ c.loop-i-test.false c.loop-i.invariant.built).matchers
+
+pub branches-returns-clause-moves : goal.branches-returns-clause-moves
+branches-returns-clause-moves t c =
+    let some : not (length (shapes c.loop-i.parts.items) == 0) ≡ not c.is_empty-some.result =
+    let same : length (shapes c.loop-i.parts.items) ≡ vec_len c.loop-i.parts = length-map c.loop-i.parts.items shape ∙ (search rules) in
+    ap (λ (n : ℕ). not (n == 0)) same ∙ sym (ap not c.is_empty-some.ensures) in
+    let moves : c.if-moves-2.result ≡ (c.loop-i.moves && not c.is_empty-some.result) =
+    elim c.if-moves-2.branch as (λ _. c.if-moves-2.result ≡ (c.loop-i.moves && not c.is_empty-some.result)) [
+      | branches-then-moves-2 w ↦ let a : c.loop-i.moves ≡ true = w.if-moves-2.true in w.result-is ∙ sym (ap (λ b. b && not c.is_empty-some.result) a)
+      | branches-else-moves-2 w ↦ let a : c.loop-i.moves ≡ false = w.if-moves-2.false in w.result-is ∙ a ∙ sym (ap (λ b. b && not c.is_empty-some.result) a)
+    ] in
+    moves
+    ∙ ap₂ ◌&&◌ c.loop-i.invariant.moves (sym some)
+    ∙ sym (branches_move (shapes c.loop-i.parts.items))
+    ∙ ap never_empty (sym (shape_alt c.loop-i.parts))
+
+pub branches-returns-clause-shape : goal.branches-returns-clause-shape
+branches-returns-clause-shape t c = λ groups.
+    let built = row_whole _ _ c.args.children.now c.loop-i.i _ c.loop-i-test.false c.loop-i.invariant.built in
+    shape_alt c.loop-i.parts
+    ∙ ap alts (built.patterns groups)
+    ∙ branches_is c.args.self.now.unicode groups (map tree_of c.args.children.now) c.args.self.now.next_group (length c.args.self.now.matchers.items)

@@ -1,0 +1,46 @@
+-- How a plain pattern is made ready.
+use Rattle.std.specs.Prelude.{◌≡◌, ℕ, ◌+◌, ◌&&◌, true, Bool, List, [], ◌∷◌, ◌++◌, length, map}
+use Rattle.fancy_regex_tree.specs.Tree.{Tree, Trees, Text, trees, tree_of}
+use Rattle.fancy_regex_tree.specs.declared.expr.Expr.{Expr}
+use Rattle.fancy_regex_meaning.specs.Groups.{group_count, row_group_count}
+use Rattle.fancy_regex_class.specs.declared.class.CharClassMatcher.{CharClassMatcher}
+use Rattle.fancy_regex_class.specs.declared.class.ClassError.{ClassError}
+use Rattle.fancy_regex_class.specs.declared.class.ClassError.TheVariants as class_error
+use Rattle.fancy_regex_runner.specs.Re.{Re}
+use Rattle.fancy_regex_runner.specs.Plain.{classes, row_classes, re_of}
+use Rattle.fancy_regex_runner.specs.Program.{never_empty}
+use Rattle.fancy_regex_runner.specs.Easy.{Serve}
+use Rattle.fancy_regex_runner.specs.declared.build.Walk.{Walk}
+use Rattle.fancy_regex_runner.specs.declared.error.EasyError.{EasyError}
+use Rattle.fancy_regex_runner.specs.declared.error.EasyError.TheVariants.{InnerError, Memory}
+
+abbrev pub easy_error : ClassError → EasyError
+easy_error (class_error.InnerError shown) = InnerError shown
+easy_error class_error.Memory = Memory
+
+-- the trees of a row
+abbrev pub all_trees : List Expr → Trees
+all_trees es = trees (map tree_of es)
+
+-- behind the matchers of other classes there are now those of these
+pub record Extends (unicode : Bool) (before after : List CharClassMatcher) (cs : List (Text × Bool)) : Type 0 where
+  pub count : length after ≡ length before + length cs
+  pub serve : (ds : List (Text × Bool)) → Serve unicode before ds → Serve unicode after (ds ++ cs)
+
+-- the patterns of a row, with the numbers of the group that opens first in it and of its first class
+unfoldable pub row_list : Bool → List Tree → ℕ → ℕ → List Tree → List Re
+row_list unicode groups n k [] = []
+row_list unicode groups n k (t ∷ ts) =
+    re_of unicode groups n k t ∷ row_list unicode groups (n + group_count t) (k + length (classes t)) ts
+
+-- each of the patterns takes a character
+unfoldable pub all_move : List Re → Bool
+all_move [] = true
+all_move (x ∷ xs) = never_empty x && all_move xs
+
+-- After a walk over these trees there are these patterns, and the groups and classes of the trees were met.
+pub record BuildsRow (before after : Walk) (ts : List Tree) (xs : List Re) : Type 0 where
+  pub unicode : after.unicode ≡ before.unicode
+  pub groups : after.next_group ≡ before.next_group + row_group_count (trees ts)
+  pub matchers : Extends before.unicode before.matchers.items after.matchers.items (row_classes (trees ts))
+  pub patterns : (groups : List Tree) → xs ≡ row_list before.unicode groups before.next_group (length before.matchers.items) ts
