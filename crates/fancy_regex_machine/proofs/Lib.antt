@@ -1,0 +1,9 @@
+pub mod PlaceLemmas
+pub mod NewlineLemmas
+pub mod AgainLemmas
+pub mod StartLemmas
+pub mod TextLemmas
+pub mod RepeatLemmas
+pub mod TurnLemmas
+pub mod Exec
+pub mod AnswerLemmas

@@ -1,0 +1,21 @@
+//! The machine that runs programs: it tries ways one after another, and goes back where one fails.
+#![tactic(auto)]
+
+mod again;
+mod assertion;
+mod error;
+mod lawful;
+mod newline;
+mod plan;
+mod scene;
+mod search;
+mod sight;
+mod start;
+mod step;
+#[cfg(test)]
+mod tests;
+mod turn;
+mod whole;
+
+pub use error::RuntimeError;
+pub use search::{RunOptions, run, run_default, run_spans};

@@ -1,0 +1,11 @@
+mod Denote
+mod Runs
+mod Laid
+mod Parts
+mod Loops
+mod Moves
+mod Emitted
+mod Trail
+mod WaysOf
+mod Tales
+mod Whole

@@ -1,0 +1,36 @@
+-- The shape of a pattern that programs are made of.
+use Rattle.std.specs.Prelude.{ℕ, ◌<◌, ◌≤◌, Option, Some, None}
+use Rattle.fancy_regex_pattern.specs.Pats.{Pat, keep_out, cat, alt, group, ahead, never, atomic, repeat, backref, exists, conditional, absent}
+use Rattle.fancy_regex_program.specs.Machine.{unset}
+
+-- The kept start stays as it is.
+abbrev pub KeepsNothing : Pat → Type 0
+KeepsNothing keep_out = ⊥
+KeepsNothing (cat a b) = KeepsNothing a × KeepsNothing b
+KeepsNothing (alt a b) = KeepsNothing a × KeepsNothing b
+KeepsNothing (group k a) = KeepsNothing a
+KeepsNothing (atomic a) = KeepsNothing a
+KeepsNothing (repeat a lo hi greedy) = KeepsNothing a
+KeepsNothing (conditional c a b) = KeepsNothing c × KeepsNothing a × KeepsNothing b
+KeepsNothing _ = Unit {0}
+
+-- the least count of a repeat without a greatest one can be counted past
+abbrev pub IsCounted : ℕ → Option ℕ → Type 0
+IsCounted lo None = lo < unset
+IsCounted lo (Some hi) = Unit {0}
+
+-- Each group that it has or reads has a number from `first` on, below `end`; no look-around keeps a start; and there is
+-- no absent repeater.
+abbrev pub IsWritable : ℕ → ℕ → Pat → Type 0
+IsWritable first end (cat a b) = IsWritable first end a × IsWritable first end b
+IsWritable first end (alt a b) = IsWritable first end a × IsWritable first end b
+IsWritable first end (group k a) = (first ≤ k) × (k < end) × IsWritable first end a
+IsWritable first end (ahead a) = KeepsNothing a × IsWritable first end a
+IsWritable first end (never a) = IsWritable first end a
+IsWritable first end (atomic a) = IsWritable first end a
+IsWritable first end (repeat a lo hi greedy) = IsCounted lo hi × IsWritable first end a
+IsWritable first end (backref k casei) = (first ≤ k) × (k < end)
+IsWritable first end (exists k) = (first ≤ k) × (k < end)
+IsWritable first end (conditional c a b) = IsWritable first end c × IsWritable first end a × IsWritable first end b
+IsWritable first end (absent a) = ⊥
+IsWritable first end _ = Unit {0}
