@@ -1,9 +1,11 @@
 -- The names of groups, one after another.
-use Rattle.std.proofs.Common.{◌≡◌, ℕ, suc, ◌+◌, ◌<◌, Bool, true, false, cond, Option, Some, None, List, [], ◌∷◌, ◌++◌, length, take, map, get_or, refl, ap, sym, ◌∙◌, append_assoc, append-nil, arith, add-one, add-zero, zero-add, chars, IsUtf8}
+use Rattle.std.proofs.Common.{◌≡◌, ℕ, suc, ◌+◌, ◌<◌, Bool, true, false, ◌||◌, cond, Option, Some, None, List, [], ◌∷◌, ◌++◌, length, take, map, get_or, refl, ap, sym, ◌∙◌, append_assoc, append-nil, arith, add-one, add-zero, zero-add, chars, IsUtf8}
 use Rattle.std.proofs.Math.Seq.{take-suc}
 use Rattle.std.proofs.lemmas.List.{map-append, length-map, length-take-le}
 use Rattle.std.proofs.lemmas.List.Elements.{filter_map-append}
-use Rattle.std.specs.List.{filter_map, cons_option}
+use Rattle.std.specs.List.{filter_map, list_any, cons_option}
+use Rattle.std.proofs.lemmas.List.Folds.{list_any-append}
+use Rattle.fancy_regex_tree.specs.Told.{carries}
 use Rattle.std.specs.Str.{bytes_eq, encode_utf8_all}
 use Rattle.std.proofs.lemmas.Str.{encodes-chars}
 use Rattle.std.proofs.lemmas.Slice.Eq.{bytes_eq-Decides}
@@ -99,3 +101,35 @@ unnamed_next q xs i d x old inside is named h =
 pub none_named : (name : Text) → [] ≡ numbers_of name 0 []
 unfolding numbers_of
 none_named name = refl
+
+or_none : (b : Bool) → b ≡ (b || false)
+or_none true = refl
+or_none false = refl
+
+one_key : (q : List ℕ) (names : Names) (o : Option Text) → list_any (carries (chars q)) (names ++ o ∷ []) ≡ (list_any (carries (chars q)) names || carries (chars q) o)
+one_key q names o =
+    list_any-append (carries (chars q)) names (o ∷ []) ∙ ap (λ b. list_any (carries (chars q)) names || b) (sym (or_none (carries (chars q) o)))
+
+-- one more opening with a name, which is a key
+pub key_next : (q name : List ℕ) → IsUtf8 q → IsUtf8 name → (xs : List (Option (Bor (List ℕ)))) (i : ℕ) (d x : Option (Bor (List ℕ))) (old new : Bool) → i < length xs → get_or xs i d ≡ x
+    → name_view x ≡ Some (chars name) → old ≡ list_any (carries (chars q)) (map name_view (take i xs)) → new ≡ (old || bytes_eq q name)
+    → new ≡ list_any (carries (chars q)) (map name_view (take (i + 1) xs))
+key_next q name uq un xs i d x old new inside is named h e =
+    let front : Names = map name_view (take i xs) in
+    e
+    ∙ ap (λ b. b || bytes_eq q name) h
+    ∙ ap (λ b. list_any (carries (chars q)) front || b) (sym (same_bytes q name uq un))
+    ∙ sym (one_key q front (Some (chars name)))
+    ∙ ap (λ o. list_any (carries (chars q)) (front ++ o ∷ [])) (sym named)
+    ∙ ap (list_any (carries (chars q))) (sym (map_next name_view xs i d x inside is))
+
+-- one more opening without a name, which is none
+pub no_key_next : (q : List ℕ) (xs : List (Option (Bor (List ℕ)))) (i : ℕ) (d x : Option (Bor (List ℕ))) (old : Bool) → i < length xs → get_or xs i d ≡ x
+    → name_view x ≡ None → old ≡ list_any (carries (chars q)) (map name_view (take i xs)) → old ≡ list_any (carries (chars q)) (map name_view (take (i + 1) xs))
+no_key_next q xs i d x old inside is named h =
+    let front : Names = map name_view (take i xs) in
+    h
+    ∙ or_none (list_any (carries (chars q)) front)
+    ∙ sym (one_key q front None)
+    ∙ ap (λ o. list_any (carries (chars q)) (front ++ o ∷ [])) (sym named)
+    ∙ ap (list_any (carries (chars q))) (sym (map_next name_view xs i d x inside is))

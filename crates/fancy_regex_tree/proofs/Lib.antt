@@ -1,4 +1,6 @@
 pub mod Children
+pub mod Lent
+pub mod Compared
 pub mod ParseComputing
 pub mod ReferenceRowsProof
 pub mod ParsedNameRowsProof

@@ -1,5 +1,7 @@
 -- What the code answers, beside what is defined.
-use Rattle.std.specs.Prelude.{◌≡◌, ℕ, Bool, ◌&&◌, ◌≤◌, nat_le, List, length, is_some, Result, Ok, Err, chars}
+use Rattle.std.specs.Prelude.{◌≡◌, ℕ, Bool, false, ◌&&◌, ◌≤◌, nat_le, List, length, Option, Some, None, is_some, String, Vec, Result, Ok, Err, chars}
+use Rattle.std.specs.Global.{Global}
+use Rattle.std.specs.BTreeMap.{BTreeMap, get_by_text}
 use Rattle.std.specs.List.{list_any}
 use Rattle.std.specs.Str.{IsUtf8}
 use Rattle.std.specs.BTreeSet.{contains}
@@ -10,16 +12,26 @@ use Rattle.fancy_regex_tree.specs.declared.error.Error.TheVariants.{ParseError, 
 use Rattle.fancy_regex_tree.specs.declared.expr_tree.ExprTree.{ExprTree}
 use Rattle.fancy_regex_tree.specs.declared.parse.Groups.{Groups}
 use Rattle.fancy_regex_tree.specs.declared.parse.Marks as code
-use Rattle.fancy_regex_tree.specs.Tree.{Tree, tree_of}
+use Rattle.fancy_regex_tree.specs.Tree.{Text, Tree, tree_of}
 use Rattle.fancy_regex_tree.specs.Walks.{nodes}
-use Rattle.fancy_regex_tree.specs.Numbering.{Refusal, openings, counted, numbers_of, numbers_under}
+use Rattle.fancy_regex_tree.specs.Numbering.{Refusal, openings, counted, same_text, numbers_of, numbers_under}
 use Rattle.fancy_regex_tree.specs.Parse.{Parsed}
 use Rattle.fancy_regex_tree.specs.Marks.{total_groups, is_backref, contains_subroutines, reference_above_total, named_backref_only, calls_whole, is_numbered, is_call, is_above, is_call_of_whole, refers_to}
 
--- the answer says what is defined
+-- an opening carries this name
+abbrev pub carries : Text → Option Text → Bool
+carries name None = false
+carries name (Some other) = same_text other name
+
+-- the map has a key with these bytes
+abbrev pub has_key : BTreeMap (String Global) (Vec ℕ Global) → List ℕ → Bool
+has_key m bs = is_some (get_by_text m bs)
+
+-- the answer says what is defined; a name is a key exactly where an opening carries it
 pub record Tells (e : ExprTree) (found : Parsed) : Type 0 where
   pub tree : tree_of e.expr ≡ found.tree
   pub named : (q : List ℕ) → IsUtf8 q → numbers_under e.named_groups q ≡ numbers_of (chars q) 0 found.names
+  pub keys : (q : List ℕ) → IsUtf8 q → has_key e.named_groups q ≡ list_any (carries (chars q)) found.names
   pub total : e.total_groups ≡ total_groups found
   pub backrefs : (k : ℕ) → contains nat_cmp e.backrefs k ≡ is_backref found k
   pub subroutines : e.contains_subroutines ≡ contains_subroutines found
@@ -42,6 +54,7 @@ IsWithin size Memory = Unit {0}
 pub record AreGroups (ignore : Bool) (t : Tree) (g : Groups) : Type 0 where
   pub ignored : g.ignored ≡ (ignore && list_any is_some (openings t))
   pub named : (q : List ℕ) → IsUtf8 q → numbers_under g.named q ≡ numbers_of (chars q) 0 (counted g.ignored (openings t))
+  pub keys : (q : List ℕ) → IsUtf8 q → has_key g.named q ≡ list_any (carries (chars q)) (counted g.ignored (openings t))
   pub total : g.total ≡ length (counted g.ignored (openings t))
   pub numbered : g.numbered ≡ list_any is_numbered (nodes t)
 

@@ -1,11 +1,12 @@
 //! The names of groups.
 
-ghost use Rattle.std.specs.Prelude.{◌≡◌, ℕ, List, ◌++◌, [], ◌∷◌, IfOk, map, option_map, chars, if◌then◌else◌};
-ghost use Rattle.std.specs.List.{filter_map};
+ghost use Rattle.std.specs.Prelude.{◌≡◌, ℕ, List, ◌++◌, [], ◌∷◌, ◌||◌, IfOk, map, option_map, chars, if◌then◌else◌};
+ghost use Rattle.std.specs.List.{filter_map, list_any};
 ghost use Rattle.std.specs.Str.{IsUtf8, bytes_eq};
 ghost use Rattle.fancy_regex_tree.specs.Tree.{tree_of};
 ghost use Rattle.fancy_regex_tree.specs.Walks.{tree_at};
 ghost use Rattle.fancy_regex_tree.specs.Numbering.{opening_of, name_view, kept, numbers_of, numbers_under};
+ghost use Rattle.fancy_regex_tree.specs.Told.{carries, has_key};
 
 use crate::expr::{AstNode, Expr};
 use crate::expr_tree::NamedGroups;
@@ -62,6 +63,7 @@ fn add_number(
 ) -> Result<(), AllocError>
     ensures text { IfOk result (λ _. IsUtf8 name.now) }
     ensures value { IfOk result (λ _. (q : List ℕ) → numbers_under named.new q ≡ (if bytes_eq q name.now then numbers_under named.old q ++ group ∷ [] else numbers_under named.old q)) }
+    ensures keys { IfOk result (λ _. (q : List ℕ) → has_key named.new q ≡ (has_key named.old q || bytes_eq q name.now)) }
 {
     named
         .entry(String::from_str(alloc, name)?)?
@@ -72,7 +74,8 @@ fn add_number(
 
 /// The numbers of the groups of each name, where the first of these has the number 1.
 pub fn named_groups(alloc: Global, names: &[Option<&str>]) -> Result<NamedGroups, AllocError>
-    ensures { IfOk result (λ named. (q : List ℕ) → IsUtf8 q → numbers_under named q ≡ numbers_of (chars q) 0 (map name_view names.now)) }
+    ensures value { IfOk result (λ named. (q : List ℕ) → IsUtf8 q → numbers_under named q ≡ numbers_of (chars q) 0 (map name_view names.now)) }
+    ensures keys { IfOk result (λ named. (q : List ℕ) → IsUtf8 q → has_key named q ≡ list_any (carries (chars q)) (map name_view names.now)) }
 {
     let mut named = BTreeMap::new(alloc);
     for i in 0..names.len() {

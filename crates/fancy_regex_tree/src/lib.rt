@@ -2,7 +2,9 @@
 #![tactic(auto)]
 
 mod atoms;
+mod child;
 mod copy;
+mod equal;
 mod error;
 mod expr;
 mod expr_tree;

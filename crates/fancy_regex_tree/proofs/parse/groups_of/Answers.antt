@@ -5,6 +5,7 @@ use Rattle.fancy_regex_tree.specs.Tree.{tree_of}
 use Rattle.fancy_regex_tree.specs.Walks.{tree_at, nodes}
 use Rattle.fancy_regex_tree.specs.Numbering.{name_view, counted, openings, opening_of, numbers_of}
 use Rattle.fancy_regex_tree.specs.Marks.{is_named, is_numbered}
+use Rattle.fancy_regex_tree.specs.Told.{carries}
 use Rattle.fancy_regex_tree.proofs.GroupNames.{counted_is}
 use Rattle.fancy_regex_tree.proofs.Parsing.{list_any_map, some_named}
 use Rattle.fancy_regex_tree.proofs.parse.groups_of.Goals as goal
@@ -26,7 +27,8 @@ returns c =
                 ∙ some_named (nodes (tree_of c.args.expr.now)))
             | else-ignore_numbered w ↦ rw w.if-ignore_numbered.false (w.ignored-is ∙ w.if-ignore_numbered.false)
           ];
-      named = λ q u. c.in_ok-named_groups.ensures q u ∙ ap (numbers_of (chars q) 0) (ap (map name_view) c.deref-3.ensures.value ∙ all);
+      named = λ q u. c.in_ok-named_groups.ensures.value q u ∙ ap (numbers_of (chars q) 0) (ap (map name_view) c.deref-3.ensures.value ∙ all);
+      keys = λ q u. c.in_ok-named_groups.ensures.keys q u ∙ ap (list_any (carries (chars q))) (ap (map name_view) c.deref-3.ensures.value ∙ all);
       total = c.len.ensures ∙ sym c.deref-3.ensures.len ∙ ap length c.deref-3.ensures.value ∙ sym (length-map c.in_ok-names.names.items name_view) ∙ ap length all;
       numbered = c.any_numbered.ensures ∙ list_any_map is_numbered tree_at _ ∙ ap (list_any is_numbered) (ap (map tree_at) c.deref-4.ensures.value ∙ c.in_ok-nodes.ensures);
     }

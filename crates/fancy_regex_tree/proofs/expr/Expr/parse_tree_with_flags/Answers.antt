@@ -24,6 +24,7 @@ returns c = (
   record {
     tree = refl;
     named = c.in_ok-groups.ensures.named;
+    keys = c.in_ok-groups.ensures.keys;
     total = c.in_ok-groups.ensures.total;
     backrefs = λ k. c.in_ok-marks.ensures.backrefs k ∙ ap (λ n. nat_le k n && list_any (refers_to k) (nodes (tree_of c.resolve.new.expr))) c.in_ok-groups.ensures.total;
     subroutines = c.in_ok-marks.ensures.subroutines;
