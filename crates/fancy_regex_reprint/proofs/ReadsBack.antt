@@ -1,6 +1,7 @@
 -- Whole printed patterns, read.
-use Rattle.std.proofs.Common.{◌≡◌, ◌<◌, ◌-◌, ℕ, Bool, true, false, [], None, replicate, refl, subst, ap, sym, ◌∙◌, append-nil, arith, Ok, Err}
+use Rattle.std.proofs.Common.{◌≡◌, ◌<◌, ◌≤◌, ◌+◌, ◌-◌, ◌++◌, ℕ, Bool, true, false, [], ◌∷◌, None, replicate, refl, subst, ap, sym, ◌∙◌, append-nil, arith, Ok, Err}
 use Rattle.fancy_regex_text.specs.Text.{Text, bytes}
+use Rattle.fancy_regex_text.specs.Fault.{recursion_exceeded}
 use Rattle.fancy_regex_grammar.specs.Patterns.{IsPattern}
 use Rattle.fancy_regex_tree.specs.Tree.{Tree}
 use Rattle.fancy_regex_tree.specs.Shapes.{pattern_of}
@@ -16,7 +17,7 @@ use Rattle.fancy_regex_meaning.specs.Ways.{Setting, ways}
 use Rattle.fancy_regex_meaning.specs.Searches.{first_match, all_items}
 use Rattle.fancy_regex_printing.proofs.GroupsStayProof.{count_stays}
 use Rattle.fancy_regex_printing.proofs.SearchesStayProof.{ways_stay, matches_stay, items_stay}
-use Rattle.fancy_regex_reprint.specs.Reprint.{PrintedReadsBack, PrintedMeansTheSame, DeepIsRefused, PrintedParses, DeepIsNoPattern, PrintedIsSamePattern, CountsFit, no_flags, plain_mode, plain_options}
+use Rattle.fancy_regex_reprint.specs.Reprint.{PrintedReadsBack, PrintedMeansTheSame, DeepIsRefused, PrintedParses, DeepIsNoPattern, PrintedIsSamePattern, CountsFit, up_to_too_deep, no_flags, plain_mode, plain_options}
 use Rattle.fancy_regex_grammar.specs.Faults.{inside_pattern}
 use Rattle.fancy_regex_reprint.proofs.Deep.{deep, WholeDeep}
 use Rattle.fancy_regex_reprint.proofs.Nameless.{nameless_tree}
@@ -61,15 +62,20 @@ printed_means_the_same s unicode t p fit classes few =
       same_items = λ options input. items_stay s t options input p classes ∙ ap (λ e. all_items s (patterns.pattern_of e) options input) (sym read.is_form);
     }
 
+-- where the whole text stops
+deep_at : (unicode : Bool) (t : Tree) → is_printable t ≡ true → CountsFit t → 64 ≤ printed_levels 0 t →
+    WholeDeep (bytes (printed 0 t)) unicode 63 (printed 0 t) (up_to_too_deep 0 63 t)
+deep_at unicode t p fit many =
+    subst (λ (u : Text). WholeDeep (bytes (printed 0 t)) unicode 63 u (up_to_too_deep 0 63 t)) (append-nil (printed 0 t))
+    ((deep (bytes (printed 0 t)) unicode t p fit).whole 63 [] (omega arith) closing_end)
+
 pub deep_is_refused : DeepIsRefused
 deep_is_refused unicode t p fit many =
-    let size = bytes (printed 0 t) in
-    let at_end = (deep size unicode t p fit).whole 63 [] (omega arith) closing_end in
-    let found : WholeDeep size unicode 63 (printed 0 t) = subst (λ (u : Text). WholeDeep size unicode 63 u) (append-nil (printed 0 t)) at_end in (
-      found.fault.left,
-      (patterns_are_exact false unicode no_flags (printed 0 t)).stop_is_complete found.fault (inside_pattern found.stops)
-          ∙ ap (λ kind. Err (record { kind = kind; left = found.fault.left })) found.is_deep,
-    )
+    let found = deep_at unicode t p fit many in
+    record {
+      place = record { behind = found.behind; text = found.text };
+      answer = (patterns_are_exact false unicode no_flags (printed 0 t)).stop_is_complete _ (inside_pattern found.stops);
+    }
 
 pub printed_parses : PrintedParses
 unfolding parse
@@ -84,12 +90,25 @@ printed_parses unicode ignore_numbered t p fit few =
           ∙ ap (λ (n : ℕ). Ok (record { tree = normal_form t; names = replicate n None; unresolved = read.tree; ignored = false })) (count_stays t);
     }
 
+bytes_append : (t u : Text) → bytes (t ++ u) ≡ bytes t + bytes u
+unfolding bytes
+bytes_append [] u = omega arith
+bytes_append (c ∷ t) u = omega (arith, bytes_append t u)
+
+-- what stands before a place, where the text and what is left are known
+before_is : (text before behind : Text) → text ≡ before ++ behind → bytes text - bytes behind ≡ bytes before
+before_is text before behind is = omega (arith, ap bytes is, bytes_append before behind)
+
 pub deep_is_no_pattern : DeepIsNoPattern
 unfolding parse
 deep_is_no_pattern unicode ignore_numbered t p fit many =
     let found = deep_is_refused unicode t p fit many in
     let size = bytes (printed 0 t) in
-    (size - found.0, ap (λ r. placed size r ⨟ finish (plain_options unicode ignore_numbered)) found.1)
+    record {
+      place = found.place;
+      answer = ap (λ r. placed size r ⨟ finish (plain_options unicode ignore_numbered)) found.answer
+          ∙ ap (λ (n : ℕ). Err (record { kind = recursion_exceeded; position = n })) (before_is (printed 0 t) (up_to_too_deep 0 63 t) (0x28 ∷ found.place.behind) found.place.text);
+    }
 
 pub printed_is_same_pattern : (s : Setting) → PrintedIsSamePattern s
 printed_is_same_pattern s unicode ignore_numbered t p fit classes few =

@@ -1,5 +1,5 @@
 -- Printed patterns, read again.
-use Rattle.std.specs.Prelude.{◌≡◌, ◌<◌, ◌≤◌, ◌+◌, ℕ, Bool, true, false, ◌&&◌, List, Option, None, replicate, Ok, Err}
+use Rattle.std.specs.Prelude.{◌≡◌, ◌<◌, ◌≤◌, ◌+◌, ◌++◌, ℕ, zero, suc, Bool, true, false, ◌&&◌, nat_lt, List, [], ◌∷◌, codes, Option, None, replicate, Ok, Err, if◌then◌else◌}
 use Rattle.fancy_regex_text.specs.Text.{Text, bytes, unbounded}
 use Rattle.fancy_regex_text.specs.Fault.{recursion_exceeded}
 use Rattle.fancy_regex_lex.specs.declared.token.Flags.{Flags}
@@ -78,6 +78,37 @@ unfoldable mutual
   AllCountsFit no_trees = Unit {0}
   AllCountsFit (more_trees t ts) = CountsFit t × AllCountsFit ts
 
+-- what stands before a place inside, where an opening is needed; nothing where no level is left for it
+abbrev pub behind_opening : Bool → Text → (ℕ → Text) → ℕ → Text
+behind_opening false opening inside n = inside n
+behind_opening true opening inside zero = []
+behind_opening true opening inside (suc n) = opening ++ inside n
+
+-- The printed text of a tree up to the `(` of the first group that is one too many, where n groups may nest and more do.
+unfoldable mutual
+  pub up_to_too_deep : ℕ → ℕ → Tree → Text
+  up_to_too_deep precedence n (concat ts) = behind_opening (nat_lt 1 precedence) (codes "(?:") (λ m. pieces_up_to_too_deep m ts) n
+  up_to_too_deep precedence n (alt ts) = behind_opening (nat_lt 0 precedence) (codes "(?:") (λ m. branches_up_to_too_deep m ts) n
+  up_to_too_deep precedence n (group t) = behind_opening true (codes "(") (λ m. up_to_too_deep 0 m t) n
+  up_to_too_deep precedence n (repeat t lo hi greedy) = behind_opening (nat_lt 2 precedence) (codes "(?:") (λ m. up_to_too_deep 3 m t) n
+  up_to_too_deep precedence n _ = []
+
+  -- the first piece in which too many nest, and those before it
+  pub pieces_up_to_too_deep : ℕ → Trees → Text
+  pieces_up_to_too_deep n no_trees = []
+  pieces_up_to_too_deep n (more_trees t ts) =
+      if nat_lt n (printed_levels 2 t) then up_to_too_deep 2 n t else printed 2 t ++ pieces_up_to_too_deep n ts
+
+  pub branches_up_to_too_deep : ℕ → Trees → Text
+  branches_up_to_too_deep n no_trees = []
+  branches_up_to_too_deep n (more_trees t ts) =
+      if nat_lt n (printed_levels 1 t) then up_to_too_deep 1 n t else printed 1 t ++ (codes "|" ++ branches_up_to_too_deep n ts)
+
+-- The `(` of the first group that is one too many in a printed text where 63 may nest: what stands before it and behind.
+pub record TooDeepAt (t : Tree) (before : Text) : Type 0 where
+  pub behind : Text
+  pub text : printed 0 t ≡ before ++ (0x28 ∷ behind)
+
 -- in plain mode, a text of this size, with the flag `u` or without
 abbrev pub plain_mode : ℕ → Bool → Profile
 plain_mode size unicode = record { size = size; oniguruma = false; unicode = unicode }
@@ -95,10 +126,13 @@ abbrev pub PrintedReadsBack : Type 0
 PrintedReadsBack = (unicode : Bool) (t : Tree) → is_printable t ≡ true → CountsFit t → printed_levels 0 t < 64 →
     ReadsAs unicode (printed 0 t) (normal_form t)
 
--- Where 64 printed groups nest, the reading stops, since it is nested too deep.
+-- Where 64 printed groups nest, the reading stops at the 64th opening, since it is nested too deep: all from that `(` on is left.
+pub record StopsTooDeep (unicode : Bool) (t : Tree) : Type 0 where
+  pub place : TooDeepAt t (up_to_too_deep 0 63 t)
+  pub answer : read_whole false unicode no_flags (printed 0 t) ≡ Err (record { kind = recursion_exceeded; left = bytes (0x28 ∷ place.behind) })
+
 abbrev pub DeepIsRefused : Type 0
-DeepIsRefused = (unicode : Bool) (t : Tree) → is_printable t ≡ true → CountsFit t → 64 ≤ printed_levels 0 t →
-    (left : ℕ) × (read_whole false unicode no_flags (printed 0 t) ≡ Err (record { kind = recursion_exceeded; left = left }))
+DeepIsRefused = (unicode : Bool) (t : Tree) → is_printable t ≡ true → CountsFit t → 64 ≤ printed_levels 0 t → StopsTooDeep unicode t
 
 -- What the printed text is read as means what the tree does: the same ways from each place, with the same numbers of groups, and the
 -- same answer of each search and each iteration.
@@ -134,10 +168,14 @@ abbrev pub PrintedParses : Type 0
 PrintedParses = (unicode ignore_numbered : Bool) (t : Tree) → is_printable t ≡ true → CountsFit t → printed_levels 0 t < 64 →
     ParsesAs (plain_options unicode ignore_numbered) (printed 0 t) (normal_form t) (group_count t)
 
--- Where 64 printed groups nest, the text is no pattern, since it is nested too deep.
+-- Where 64 printed groups nest, the text is no pattern, since it is nested too deep at the 64th opening.
+pub record IsNestedTooDeep (options : whole.Options) (t : Tree) : Type 0 where
+  pub place : TooDeepAt t (up_to_too_deep 0 63 t)
+  pub answer : parse options (printed 0 t) ≡ Err (record { kind = recursion_exceeded; position = bytes (up_to_too_deep 0 63 t) })
+
 abbrev pub DeepIsNoPattern : Type 0
 DeepIsNoPattern = (unicode ignore_numbered : Bool) (t : Tree) → is_printable t ≡ true → CountsFit t → 64 ≤ printed_levels 0 t →
-    (position : ℕ) × (parse (plain_options unicode ignore_numbered) (printed 0 t) ≡ Err (record { kind = recursion_exceeded; position = position }))
+    IsNestedTooDeep (plain_options unicode ignore_numbered) t
 
 -- The pattern that the printed text is means what the tree does: the same ways from each place, with the same numbers of groups, and
 -- the same answer of each search and each iteration.
@@ -160,3 +198,7 @@ TreeParses t = (unicode ignore_numbered : Bool) → is_printable t ≡ true → 
 abbrev pub TreeIsSamePattern : Setting → Tree → Type 0
 TreeIsSamePattern s t = (unicode ignore_numbered : Bool) → is_printable t ≡ true → classes_read_back t ≡ true → printed_levels 0 t < 64 →
     IsSamePattern s (plain_options unicode ignore_numbered) t
+
+abbrev pub TreeIsNestedTooDeep : Tree → Type 0
+TreeIsNestedTooDeep t = (unicode ignore_numbered : Bool) → is_printable t ≡ true → 64 ≤ printed_levels 0 t →
+    IsNestedTooDeep (plain_options unicode ignore_numbered) t

@@ -3,7 +3,7 @@
 ghost use Rattle.std.specs.Prelude.{map};
 ghost use Rattle.fancy_regex_tree.specs.Tree.{tree_of, trees};
 ghost use Rattle.fancy_regex_meaning.specs.Ways.{Setting};
-ghost use Rattle.fancy_regex_reprint.specs.Reprint.{AllCountsFit, CountsFit, TreeIsSamePattern, TreeParses};
+ghost use Rattle.fancy_regex_reprint.specs.Reprint.{AllCountsFit, CountsFit, TreeIsNestedTooDeep, TreeIsSamePattern, TreeParses};
 
 use fancy_regex_tree::Expr;
 
@@ -37,6 +37,7 @@ fn all_counts_fit(children: &[Expr])
 /// The laws of printed patterns, on a tree of the code: nothing is asked of its counts.
 pub fn printed_tree_parses(expr: &Expr)
     ensures parses { TreeParses (tree_of expr.now) }
+    ensures deep { TreeIsNestedTooDeep (tree_of expr.now) }
     ensures same { (s : Setting) → TreeIsSamePattern s (tree_of expr.now) }
 {
     counts_fit(expr);

@@ -9,7 +9,7 @@ ghost use Rattle.fancy_regex_reprint.specs.Reprint.{DeepIsNoPattern, DeepIsRefus
 pub use counts::{counts_fit, printed_tree_parses};
 
 /// The grammar reads the printed text of a printable tree as its normal form where fewer than 64 printed groups nest, and refuses it
-/// as nested too deep where 64 do.
+/// as nested too deep where 64 do, at the first opening that is the 64th of those that nest.
 pub fn printed_patterns_read_back()
     ensures form { PrintedReadsBack }
     ensures deep { DeepIsRefused }
@@ -27,7 +27,8 @@ pub fn groups_are_numbered()
 {}
 
 /// The printed text of a printable tree is a pattern where fewer than 64 printed groups nest: the normal form, with the groups of the
-/// tree and no names. Where 64 nest, it is none, since it is nested too deep.
+/// tree and no names. Where 64 nest, it is none, since it is nested too deep; the place is that of the first opening that is the 64th of
+/// those that nest.
 pub fn printed_patterns_parse()
     ensures form { PrintedParses }
     ensures deep { DeepIsNoPattern }
