@@ -12,3 +12,8 @@ pub mod TableLemmas
 pub mod KnowsLemmas
 pub mod ReadLemmas
 pub mod WholeLemmas
+pub mod EndRoundLemmas
+pub mod SettledLemmas
+pub mod StartLemmas
+pub mod TellLemmas
+pub mod CauseLemmas

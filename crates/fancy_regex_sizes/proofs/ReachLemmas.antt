@@ -13,7 +13,7 @@ pub or_right : (a b : Bool) → b ≡ true → (a || b) ≡ true
 or_right true b h = refl
 or_right false b h = h
 
-or_cases : (a b : Bool) → (a || b) ≡ true → (a ≡ true) ⊎ (b ≡ true)
+pub or_cases : (a b : Bool) → (a || b) ≡ true → (a ≡ true) ⊎ (b ≡ true)
 or_cases true b h = inl refl
 or_cases false b h = inr h
 
@@ -27,14 +27,14 @@ pub has_right : (xs ys : List ℕ) (k : ℕ) → has ys k ≡ true → has (xs +
 has_right [] ys k h = h
 has_right (x ∷ xs) ys k h = or_right (nat_eq x k) (has (xs ++ ys) k) (has_right xs ys k h)
 
-has_either : (xs ys : List ℕ) (k : ℕ) → has (xs ++ ys) k ≡ true → (has xs k ≡ true) ⊎ (has ys k ≡ true)
+pub has_either : (xs ys : List ℕ) (k : ℕ) → has (xs ++ ys) k ≡ true → (has xs k ≡ true) ⊎ (has ys k ≡ true)
 has_either [] ys k h = inr h
 has_either (x ∷ xs) ys k h =
     ⊎_elim (λ e. inl (or_left (nat_eq x k) (has xs k) e))
     (λ e. ⊎_elim (λ f. inl (or_right (nat_eq x k) (has xs k) f)) (λ f. inr f) (has_either xs ys k e))
     (or_cases (nat_eq x k) (has (xs ++ ys) k) h)
 
-flat_has : (f : ℕ → List ℕ) (xs : List ℕ) (x y : ℕ) → has xs x ≡ true → has (f x) y ≡ true → has (flat_map f xs) y ≡ true
+pub flat_has : (f : ℕ → List ℕ) (xs : List ℕ) (x y : ℕ) → has xs x ≡ true → has (f x) y ≡ true → has (flat_map f xs) y ≡ true
 flat_has f [] x y h g = cc
 flat_has f (z ∷ xs) x y h g =
     ⊎_elim
@@ -42,7 +42,7 @@ flat_has f (z ∷ xs) x y h g =
     (λ e. has_right (f z) (flat_map f xs) y (flat_has f xs x y e g))
     (or_cases (nat_eq z x) (has xs x) h)
 
-flat_from : (f : ℕ → List ℕ) (xs : List ℕ) (y : ℕ) → has (flat_map f xs) y ≡ true → (x : ℕ) × (has xs x ≡ true) × (has (f x) y ≡ true)
+pub flat_from : (f : ℕ → List ℕ) (xs : List ℕ) (y : ℕ) → has (flat_map f xs) y ≡ true → (x : ℕ) × (has xs x ≡ true) × (has (f x) y ≡ true)
 flat_from f [] y h = cc
 flat_from f (z ∷ xs) y h =
     ⊎_elim

@@ -73,12 +73,12 @@ at_none [] k h = refl
 at_none (x ∷ xs) zero h = absurd (omega arith)
 at_none (x ∷ xs) (suc k) h = at_none xs k (omega arith)
 
-body_at : (gs : List (Bor Expr)) (k : ℕ) (e : Bor Expr) → k < length gs → e ≡ get_or gs k e → target (map body_tree gs) k ≡ Some (body_tree e)
+pub body_at : (gs : List (Bor Expr)) (k : ℕ) (e : Bor Expr) → k < length gs → e ≡ get_or gs k e → target (map body_tree gs) k ≡ Some (body_tree e)
 body_at [] k e inside is = absurd (omega arith)
 body_at (g ∷ gs) zero e inside is = ap (λ x. Some (body_tree x)) (sym is)
 body_at (g ∷ gs) (suc k) e inside is = body_at gs k e (omega arith) is
 
-no_body : (gs : List (Bor Expr)) (k : ℕ) → length gs ≤ k → target (map body_tree gs) k ≡ None
+pub no_body : (gs : List (Bor Expr)) (k : ℕ) → length gs ≤ k → target (map body_tree gs) k ≡ None
 no_body [] k h = refl
 no_body (g ∷ gs) zero h = absurd (omega arith)
 no_body (g ∷ gs) (suc k) h = no_body gs k (omega arith)

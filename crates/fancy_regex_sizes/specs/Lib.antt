@@ -7,3 +7,7 @@ pub mod References
 pub mod Reach
 pub mod Rounds
 pub mod Analysis
+pub mod NodeCauses
+pub mod Endings
+pub mod Starts
+pub mod Causes

@@ -1,5 +1,5 @@
 -- What is reached by edges.
-use Rattle.std.specs.Prelude.{ℕ, zero, suc, Bool, List, [], ◌++◌, map, slice_get, Vec, Option, Some, None, ◌==◌}
+use Rattle.std.specs.Prelude.{ℕ, zero, suc, Bool, List, [], ◌++◌, length, map, slice_get, Vec, Option, Some, None, ◌==◌}
 use Rattle.std.specs.Global.{Global}
 use Rattle.std.specs.List.{flat_map, list_any}
 
@@ -22,3 +22,7 @@ following edges k = or_none (slice_get edges k)
 unfoldable pub through : List (List ℕ) → ℕ → List ℕ → List ℕ
 through edges zero starts = starts
 through edges (suc n) starts = starts ++ flat_map (λ k. through edges n (following edges k)) starts
+
+-- the place is reached from the starts
+abbrev pub is_reached : List (List ℕ) → List ℕ → ℕ → Bool
+is_reached edges starts k = has (through edges (length edges) starts) k

@@ -1,9 +1,14 @@
 //! The analysis of a whole pattern.
 
-ghost use Rattle.std.specs.Prelude.{◌≡◌, map, IfOk};
+ghost use Rattle.std.specs.Prelude.{◌≡◌, ◌⊎◌, true, false, ◌||◌, ◌&&◌, map, IfOk, IfErr};
 ghost use Rattle.fancy_regex_tree.specs.Tree.{Tree, tree_of};
 ghost use Rattle.fancy_regex_sizes.specs.Analysis.{analysis};
-ghost use Rattle.fancy_regex_sizes.specs.Infos.{info_of};
+ghost use Rattle.fancy_regex_sizes.specs.Causes.{Holds, is_of_parts, is_root_refused, root_shows};
+ghost use Rattle.fancy_regex_sizes.specs.Endings.{never_ends, is_never_ending};
+ghost use Rattle.fancy_regex_sizes.specs.Infos.{info_of, facts_in};
+ghost use Rattle.fancy_regex_sizes.specs.NodeCauses.{is_memory};
+ghost use Rattle.fancy_regex_sizes.specs.Survey.{Knows};
+ghost use Rattle.fancy_regex_sizes.specs.declared.error.CompileError.{CompileError};
 ghost use Rattle.fancy_regex_sizes.specs.Views.{body_tree, pattern_in};
 
 use crate::bodies::{add_calls, groups_of};
@@ -14,6 +19,7 @@ use crate::info::Info;
 use crate::nodes::check_nodes;
 use crate::options::AnalyzeContext;
 use crate::references::read_groups;
+use crate::size::Size;
 use crate::starts::check_starts;
 use crate::tables::{call_sizes, calls_by_group, ending_groups, recursive_groups};
 use crate::written::check_written;
@@ -30,7 +36,9 @@ pub fn analyze<'a>(
     tree: &'a ExprTree,
     context: AnalyzeContext,
 ) -> Result<Info<'a>, CompileError>
-    ensures { IfOk result (λ info. info_of info ≡ analysis context.explicit_capture_group_0 (tree_of tree.now.expr)) }
+    ensures answer { IfOk result (λ info. info_of info ≡ analysis context.explicit_capture_group_0 (tree_of tree.now.expr)) }
+    ensures refused { IfErr result (λ e. ((is_memory e || is_of_parts e) ≡ true) ⊎ Holds context tree.now.named_backref_only (tree_of tree.now.expr) e) }
+    ensures complete { IfOk result (λ _. (e : CompileError) → Holds context tree.now.named_backref_only (tree_of tree.now.expr) e → ⊥) }
 {
     if tree.named_backref_only {
         return Err(CompileError::NamedBackrefOnly);
@@ -38,16 +46,19 @@ pub fn analyze<'a>(
     let groups = groups_of(alloc, &tree.expr, context.explicit_capture_group_0)?;
     check_nodes(alloc, &tree.expr, groups.len())?;
     check_end(alloc, &tree.expr, &groups)?;
-    let info = describe_whole(alloc, &tree.expr, &groups, context)?;
+    let sizes = known_sizes(alloc, &groups)?;
+    let info = describe_whole(alloc, &tree.expr, &groups, &sizes, context)?;
     check_root(&info, context)?;
-    let whole = !context.explicit_capture_group_0;
-    check_starts(alloc, &info, whole)?;
-    check_written(alloc, &info, whole)?;
+    check_starts(alloc, &groups, &sizes)?;
+    check_written(alloc, &tree.expr, &groups, &sizes)?;
     Ok(info)
 }
 
 /// Refuses a pattern with calls that cannot end.
-fn check_end(alloc: Global, expr: &Expr, groups: &[&Expr]) -> Result<(), CompileError> {
+fn check_end(alloc: Global, expr: &Expr, groups: &[&Expr]) -> Result<(), CompileError>
+    ensures refused { IfErr result (λ e. (is_memory e || (never_ends (map body_tree groups.now) (tree_of expr.now) && is_never_ending e)) ≡ true) }
+    ensures complete { IfOk result (λ _. never_ends (map body_tree groups.now) (tree_of expr.now) ≡ false) }
+{
     let mut calls = Vec::new(alloc);
     add_calls(expr, &mut calls)?;
     if calls.is_empty() {
@@ -61,22 +72,30 @@ fn check_end(alloc: Global, expr: &Expr, groups: &[&Expr]) -> Result<(), Compile
     }
 }
 
-/// The whole tree described, where these are the bodies of its groups by their numbers.
+/// What calls take, where these are the bodies of the groups by their numbers.
+fn known_sizes(alloc: Global, groups: &[&Expr]) -> Result<Vec<Size>, AllocError>
+    ensures { IfOk result (λ sizes. Knows (map body_tree groups.now) sizes.items) }
+{
+    let calls = calls_by_group(alloc, groups)?;
+    let recursive = recursive_groups(alloc, &calls)?;
+    call_sizes(alloc, groups, &recursive)
+}
+
+/// The whole tree described, where these are the bodies of its groups by their numbers, and what calls of them take.
 fn describe_whole<'a>(
     alloc: Global,
     expr: &'a Expr,
     groups: &[&Expr],
+    sizes: &[Size],
     context: AnalyzeContext,
 ) -> Result<Info<'a>, AllocError>
-    requires { map body_tree groups.now ≡ (pattern_in context.explicit_capture_group_0 (tree_of expr.now)).groups }
+    requires bodies { map body_tree groups.now ≡ (pattern_in context.explicit_capture_group_0 (tree_of expr.now)).groups }
+    requires known { Knows (map body_tree groups.now) sizes.now }
     ensures { IfOk result (λ info. info_of info ≡ analysis context.explicit_capture_group_0 (tree_of expr.now)) }
 {
-    let calls = calls_by_group(alloc, groups)?;
-    let recursive = recursive_groups(alloc, &calls)?;
-    let sizes = call_sizes(alloc, groups, &recursive)?;
     let read = read_groups(alloc, expr, groups.len())?;
     let first = first_group(context.explicit_capture_group_0);
-    describe(alloc, expr, first, &sizes, &read)
+    describe(alloc, expr, first, sizes, &read)
 }
 
 /// The number of the group that opens first.
@@ -87,11 +106,15 @@ fn first_group(explicit: bool) -> usize
 }
 
 /// Refuses a pattern that is too heavy, or that has only empty matches where none is wanted.
-fn check_root(info: &Info, context: AnalyzeContext) -> Result<(), CompileError> {
-    if info.weight.saturating_add(2) > GREATEST_WEIGHT {
+fn check_root(info: &Info, context: AnalyzeContext) -> Result<(), CompileError>
+    ensures refused { IfErr result (λ e. root_shows context.find_not_empty (facts_in (info_of info.now)) e ≡ true) }
+    ensures complete { IfOk result (λ _. is_root_refused context.find_not_empty (facts_in (info_of info.now)) ≡ false) }
+{
+    let facts = info.facts();
+    if facts.weight > GREATEST_WEIGHT - 2 {
         return Err(CompileError::PatternTooComplex);
     }
-    if context.find_not_empty && info.const_size && info.min_size == 0 {
+    if context.find_not_empty && facts.size.always && facts.size.least == 0 {
         return Err(CompileError::PatternCanNeverMatch);
     }
     Ok(())

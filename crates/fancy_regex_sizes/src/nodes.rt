@@ -1,13 +1,21 @@
 //! Causes that a node alone shows.
 
+ghost use Rattle.std.specs.Prelude.{◌≡◌, ℕ, true, false, not, ◌&&◌, ◌||◌, nat_lt, map, string_bytes, IfOk, IfErr};
+ghost use Rattle.fancy_regex_tree.specs.Tree.{tree_of, trees, absent_tree_of, ast_tree_of, by_number, target_of};
+ghost use Rattle.fancy_regex_sizes.specs.NodeCauses.{some_node, some_node_of, is_memory, is_no_group, is_faulty, shows, is_invalid, is_not_found, names, signed};
+
 use crate::error::CompileError;
 use fancy_regex_tree::{Absent, AstNode, CaptureGroupTarget, Expr};
-use std::alloc::Global;
+use std::alloc::{AllocError, Global};
 
 /// Refuses a tree with a repeat whose least count is above its greatest, with a reference, a condition or a call of what is
 /// no group, or with a node that the reader resolves. There are groups with the numbers below `groups`.
+#[tactic(auto, unfolding(crate::specs::NodeCauses::some_node))]
 #[cycle(nodes)]
-pub(crate) fn check_nodes(alloc: Global, expr: &Expr, groups: usize) -> Result<(), CompileError> {
+pub(crate) fn check_nodes(alloc: Global, expr: &Expr, groups: usize) -> Result<(), CompileError>
+    ensures refused { IfErr result (λ e. (is_memory e || some_node (shows groups e) (tree_of expr.now)) ≡ true) }
+    ensures complete { IfOk result (λ _. some_node (is_faulty groups) (tree_of expr.now) ≡ false) }
+{
     match expr {
         Expr::Backref { group, .. } => check_reference(*group, groups),
         Expr::BackrefWithRelativeRecursionLevel { group, .. } => check_reference(*group, groups),
@@ -20,7 +28,8 @@ pub(crate) fn check_nodes(alloc: Global, expr: &Expr, groups: usize) -> Result<(
             check_nodes(alloc, child, groups)
         }
         Expr::Concat(parts) | Expr::Alt(parts) => check_each(alloc, parts, groups),
-        Expr::Group(child) | Expr::LookAround(child, _) => check_nodes(alloc, child, groups),
+        Expr::Group(child) => check_nodes(alloc, child, groups),
+        Expr::LookAround(child, _) => check_nodes(alloc, child, groups),
         Expr::AtomicGroup(child) => check_nodes(alloc, child, groups),
         Expr::Conditional {
             condition,
@@ -33,7 +42,10 @@ pub(crate) fn check_nodes(alloc: Global, expr: &Expr, groups: usize) -> Result<(
         }
         Expr::DefineGroup { definitions } => check_nodes(alloc, definitions, groups),
         Expr::Absent(absent) => check_absent(alloc, absent, groups),
-        Expr::AstNode(node, _) => check_unresolved(alloc, node),
+        Expr::AstNode(node, _) => {
+            let cause = unresolved(alloc, node)?;
+            Err(cause)
+        }
         Expr::Empty | Expr::Any { .. } | Expr::Assertion(_) | Expr::GeneralNewline { .. } => Ok(()),
         Expr::Literal { .. } | Expr::LiteralBytes { .. } | Expr::Delegate { .. } => Ok(()),
         Expr::KeepOut | Expr::ContinueFromPreviousMatchEnd => Ok(()),
@@ -41,8 +53,12 @@ pub(crate) fn check_nodes(alloc: Global, expr: &Expr, groups: usize) -> Result<(
     }
 }
 
+#[tactic(auto, unfolding(crate::specs::NodeCauses::some_node))]
 #[cycle(nodes)]
-fn check_absent(alloc: Global, absent: &Absent, groups: usize) -> Result<(), CompileError> {
+fn check_absent(alloc: Global, absent: &Absent, groups: usize) -> Result<(), CompileError>
+    ensures refused { IfErr result (λ e. (is_memory e || some_node (shows groups e) (absent_tree_of absent.now)) ≡ true) }
+    ensures complete { IfOk result (λ _. some_node (is_faulty groups) (absent_tree_of absent.now) ≡ false) }
+{
     match absent {
         Absent::Repeater(child) | Absent::Stopper(child) => check_nodes(alloc, child, groups),
         Absent::Expression { absent, exp } => {
@@ -54,7 +70,10 @@ fn check_absent(alloc: Global, absent: &Absent, groups: usize) -> Result<(), Com
 }
 
 #[cycle(nodes)]
-fn check_each(alloc: Global, parts: &[Expr], groups: usize) -> Result<(), CompileError> {
+fn check_each(alloc: Global, parts: &[Expr], groups: usize) -> Result<(), CompileError>
+    ensures refused { IfErr result (λ e. (is_memory e || some_node_of (shows groups e) (trees (map tree_of parts.now))) ≡ true) }
+    ensures complete { IfOk result (λ _. some_node_of (is_faulty groups) (trees (map tree_of parts.now)) ≡ false) }
+{
     for part in parts {
         check_nodes(alloc, part, groups)?;
     }
@@ -62,7 +81,10 @@ fn check_each(alloc: Global, parts: &[Expr], groups: usize) -> Result<(), Compil
 }
 
 /// Group 0 is no group to a reference.
-fn check_reference(group: usize, groups: usize) -> Result<(), CompileError> {
+fn check_reference(group: usize, groups: usize) -> Result<(), CompileError>
+    ensures refused { IfErr result (λ e. (is_no_group groups group && is_invalid group e) ≡ true) }
+    ensures complete { IfOk result (λ _. is_no_group groups group ≡ false) }
+{
     if group > 0 && group < groups {
         Ok(())
     } else {
@@ -70,7 +92,10 @@ fn check_reference(group: usize, groups: usize) -> Result<(), CompileError> {
     }
 }
 
-fn check_call(alloc: Global, group: usize, groups: usize) -> Result<(), CompileError> {
+fn check_call(alloc: Global, group: usize, groups: usize) -> Result<(), CompileError>
+    ensures refused { IfErr result (λ e. (is_memory e || (not (nat_lt group groups) && is_not_found (by_number group) e)) ≡ true) }
+    ensures complete { IfOk result (λ _. not (nat_lt group groups) ≡ false) }
+{
     if group < groups {
         return Ok(());
     }
@@ -78,24 +103,39 @@ fn check_call(alloc: Global, group: usize, groups: usize) -> Result<(), CompileE
     Err(CompileError::SubroutineCallTargetNotFound(target))
 }
 
-/// A call that was not resolved names what is no group.
-fn check_unresolved(alloc: Global, node: &AstNode) -> Result<(), CompileError> {
+/// The cause for which a node is refused that the reader resolves: a call that was not resolved names what is no group.
+#[tactic(auto, unfolding(crate::specs::NodeCauses::some_node))]
+fn unresolved(alloc: Global, node: &AstNode) -> Result<CompileError, AllocError>
+    ensures { IfOk result (λ e. (groups position : ℕ) → some_node (shows groups e) (ast_tree_of node.now position) ≡ true) }
+{
     match node {
         AstNode::SubroutineCall(target) => {
             let target = target_text(alloc, target)?;
-            Err(CompileError::SubroutineCallTargetNotFound(target))
+            Ok(CompileError::SubroutineCallTargetNotFound(target))
         }
-        AstNode::AstGroup { .. } | AstNode::Backref { .. } => Err(CompileError::UnresolvedAstNode),
-        AstNode::BackrefExistsCondition { .. } => Err(CompileError::UnresolvedAstNode),
+        AstNode::AstGroup { .. } => Ok(CompileError::UnresolvedAstNode),
+        AstNode::Backref { .. } => Ok(CompileError::UnresolvedAstNode),
+        AstNode::BackrefExistsCondition { .. } => Ok(CompileError::UnresolvedAstNode),
     }
 }
 
 /// The name, the number, or the distance with its sign.
-fn target_text(alloc: Global, target: &CaptureGroupTarget) -> Result<String, CompileError> {
-    let text = match target {
-        CaptureGroupTarget::ByNumber(number) => format!(in alloc; "{number}")?,
-        CaptureGroupTarget::ByName(name) => String::from_str(alloc, name)?,
-        CaptureGroupTarget::Relative(distance) => format!(in alloc; "{distance:+}")?,
-    };
-    Ok(text)
+fn target_text(alloc: Global, target: &CaptureGroupTarget) -> Result<String, AllocError>
+    ensures { IfOk result (λ text. names (target_of target.now) (string_bytes text) ≡ true) }
+{
+    match target {
+        CaptureGroupTarget::ByNumber(number) => format!(in alloc; "{number}"),
+        CaptureGroupTarget::ByName(name) => String::from_str(alloc, name),
+        CaptureGroupTarget::Relative(distance) => distance_text(alloc, *distance),
+    }
+}
+
+fn distance_text(alloc: Global, distance: isize) -> Result<String, AllocError>
+    ensures { IfOk result (λ text. string_bytes text ≡ signed distance) }
+{
+    if distance < 0 {
+        format!(in alloc; "{distance}")
+    } else {
+        format!(in alloc; "+{distance}")
+    }
 }

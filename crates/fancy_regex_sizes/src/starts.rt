@@ -1,98 +1,170 @@
 //! Calls that are reached before any character is taken.
 
-use crate::closure::reached;
+ghost use Rattle.std.specs.Prelude.{◌≡◌, ℕ, ◌<◌, ◌⊎◌, ◌++◌, length, map, IfOk, IfErr, IfSome, IfNone, true, false};
+ghost use Rattle.fancy_regex_tree.specs.Tree.{tree_of, trees, absent_tree_of, ast_tree_of};
+ghost use Rattle.fancy_regex_meaning.specs.Sizes.{size_with};
+ghost use Rattle.fancy_regex_sizes.specs.NodeCauses.{is_memory};
+ghost use Rattle.fancy_regex_sizes.specs.Reach.{rows};
+ghost use Rattle.fancy_regex_sizes.specs.Rounds.{is_reached_again};
+ghost use Rattle.fancy_regex_sizes.specs.Starts.{first_calls, first_calls_in_row, first_calls_in_branches};
+ghost use Rattle.fancy_regex_sizes.specs.Survey.{reads_in};
+ghost use Rattle.fancy_regex_sizes.specs.Views.{size_at, body_tree};
+
 use crate::error::CompileError;
-use crate::info::Info;
-use fancy_regex_tree::Expr;
+use crate::size::{Size, size_in};
+use crate::tables::recursive_groups;
+use fancy_regex_tree::{Absent, AstNode, Expr};
 use std::alloc::{AllocError, Global};
 
-/// Refuses a pattern in which a call of a group is reached from the start of its own body. With `whole` the pattern is
-/// group 0.
-pub(crate) fn check_starts(alloc: Global, root: &Info, whole: bool) -> Result<(), CompileError> {
-    let mut edges = Vec::new(alloc);
-    if whole {
-        edges.push(first_calls(alloc, root)?)?;
-    }
-    add_group_edges(alloc, root, &mut edges)?;
-    for group in 0..edges.len() {
-        check_start(alloc, &edges, group)?;
-    }
-    Ok(())
-}
-
-fn first_calls(alloc: Global, body: &Info) -> Result<Vec<usize>, AllocError> {
-    let mut calls = Vec::new(alloc);
-    add_first_calls(body, &mut calls)?;
-    Ok(calls)
-}
-
-/// Adds the first calls in the body of each group, in the order in which the groups open.
-fn add_group_edges(
+/// Refuses a pattern in which a call of a group is reached from the start of its own body. These are the bodies of the
+/// groups by their numbers, and what calls of them take.
+pub(crate) fn check_starts(
     alloc: Global,
-    info: &Info,
-    edges: &mut Vec<Vec<usize>>,
-) -> Result<(), AllocError> {
-    let is_group = matches!(info.expr, Expr::Group(_));
-    for child in &info.children {
-        if is_group {
-            edges.push(first_calls(alloc, child)?)?;
+    groups: &[&Expr],
+    sizes: &[Size],
+) -> Result<(), CompileError>
+    ensures refused { IfErr result (λ e. (is_memory e ≡ true) ⊎ ((k : ℕ) × (e ≡ CompileError.LeftRecursiveSubroutineCall k)
+        × (is_reached_again (map (first_calls (size_with (size_at sizes.now))) (map body_tree groups.now)) k ≡ true))) }
+    ensures complete { IfOk result (λ _. (k : ℕ) → k < length groups.now →
+        is_reached_again (map (first_calls (size_with (size_at sizes.now))) (map body_tree groups.now)) k ≡ false) }
+{
+    let calls = first_calls_by_group(alloc, groups, sizes)?;
+    let recursive = recursive_groups(alloc, &calls)?;
+    match first_marked(&recursive) {
+        Some(group) => Err(CompileError::LeftRecursiveSubroutineCall(group)),
+        None => Ok(()),
+    }
+}
+
+/// The first group that is marked, if one is.
+fn first_marked(marks: &[bool]) -> Option<usize>
+    ensures found { IfSome result (λ k. reads_in marks.now k ≡ true) }
+    ensures none { IfNone result ((k : ℕ) → reads_in marks.now k ≡ false) }
+{
+    for (group, is_marked) in marks.iter().enumerate() {
+        if *is_marked {
+            return Some(group);
         }
-        add_group_edges(alloc, child, edges)?;
     }
-    Ok(())
+    None
 }
 
-fn check_start(alloc: Global, edges: &[Vec<usize>], group: usize) -> Result<(), CompileError> {
-    let Some(calls) = edges.get(group) else {
-        return Ok(());
-    };
-    if calls.is_empty() {
-        return Ok(());
+/// The first calls in the body of each group.
+fn first_calls_by_group(
+    alloc: Global,
+    groups: &[&Expr],
+    sizes: &[Size],
+) -> Result<Vec<Vec<usize>>, AllocError>
+    ensures { IfOk result (λ all. rows all.items ≡ map (first_calls (size_with (size_at sizes.now))) (map body_tree groups.now)) }
+{
+    let mut all = Vec::new(alloc);
+    for body in groups {
+        let mut calls = Vec::new(alloc);
+        add_first_calls(body, sizes, &mut calls)?;
+        all.push(calls)?;
     }
-    match reached(alloc, edges, calls)?.get(group) {
-        Some(true) => Err(CompileError::LeftRecursiveSubroutineCall(group)),
-        _ => Ok(()),
-    }
+    Ok(all)
 }
 
-/// Adds the groups that are called in the part with only parts of least size 0 before the call.
+/// Adds the groups that are called in the part with only parts of least size 0 before the call, in the order of the text.
+#[tactic(auto, unfolding(crate::specs::Starts::first_calls))]
 #[cycle(starts)]
-fn add_first_calls(info: &Info, calls: &mut Vec<usize>) -> Result<(), AllocError> {
-    match info.expr {
+fn add_first_calls(expr: &Expr, sizes: &[Size], calls: &mut Vec<usize>) -> Result<(), AllocError>
+    ensures { IfOk result (λ _. calls.new.items ≡ calls.old.items ++ first_calls (size_with (size_at sizes.now)) (tree_of expr.now)) }
+{
+    match expr {
         Expr::SubroutineCall(group) => {
             calls.push(*group)?;
             Ok(())
         }
-        Expr::Concat(_) => add_row_calls(&info.children, calls),
-        Expr::Conditional { .. } => add_conditional_calls(&info.children, calls),
-        _ => {
-            for child in &info.children {
-                add_first_calls(child, calls)?;
+        Expr::Concat(parts) => add_row_starts(parts, sizes, calls),
+        Expr::Alt(branches) => add_branch_starts(branches, sizes, calls),
+        Expr::Conditional {
+            condition,
+            true_branch,
+            false_branch,
+        } => {
+            add_first_calls(condition, sizes, calls)?;
+            if size_in(condition, sizes).least == 0 {
+                add_first_calls(true_branch, sizes, calls)?;
             }
-            Ok(())
+            add_first_calls(false_branch, sizes, calls)
         }
+        Expr::Group(child) | Expr::LookAround(child, _) | Expr::AtomicGroup(child) => {
+            add_first_calls(child, sizes, calls)
+        }
+        Expr::Repeat { child, .. } => add_first_calls(child, sizes, calls),
+        Expr::Absent(absent) => add_absent_starts(absent, sizes, calls),
+        Expr::DefineGroup { definitions } => add_first_calls(definitions, sizes, calls),
+        Expr::AstNode(node, _) => add_unresolved_starts(node, sizes, calls),
+        Expr::Empty | Expr::Any { .. } | Expr::Assertion(_) | Expr::GeneralNewline { .. } => Ok(()),
+        Expr::Literal { .. } | Expr::LiteralBytes { .. } | Expr::Delegate { .. } => Ok(()),
+        Expr::Backref { .. } | Expr::BackrefWithRelativeRecursionLevel { .. } => Ok(()),
+        Expr::KeepOut | Expr::ContinueFromPreviousMatchEnd => Ok(()),
+        Expr::BackrefExistsCondition { .. } | Expr::BacktrackingControlVerb(_) => Ok(()),
     }
 }
 
+#[tactic(auto, unfolding(crate::specs::Starts::first_calls))]
 #[cycle(starts)]
-fn add_row_calls(parts: &[Info], calls: &mut Vec<usize>) -> Result<(), AllocError> {
+fn add_absent_starts(
+    absent: &Absent,
+    sizes: &[Size],
+    calls: &mut Vec<usize>,
+) -> Result<(), AllocError>
+    ensures { IfOk result (λ _. calls.new.items ≡ calls.old.items ++ first_calls (size_with (size_at sizes.now)) (absent_tree_of absent.now)) }
+{
+    match absent {
+        Absent::Repeater(child) | Absent::Stopper(child) => add_first_calls(child, sizes, calls),
+        Absent::Expression { absent, exp } => {
+            add_first_calls(absent, sizes, calls)?;
+            add_first_calls(exp, sizes, calls)
+        }
+        Absent::Clear => Ok(()),
+    }
+}
+
+#[tactic(auto, unfolding(crate::specs::Starts::first_calls))]
+#[cycle(starts)]
+fn add_unresolved_starts(
+    node: &AstNode,
+    sizes: &[Size],
+    calls: &mut Vec<usize>,
+) -> Result<(), AllocError>
+    ensures { IfOk result (λ _. (position : ℕ) →
+        calls.new.items ≡ calls.old.items ++ first_calls (size_with (size_at sizes.now)) (ast_tree_of node.now position)) }
+{
+    match node {
+        AstNode::AstGroup { inner, .. } => add_first_calls(inner, sizes, calls),
+        AstNode::Backref { .. } | AstNode::SubroutineCall(_) => Ok(()),
+        AstNode::BackrefExistsCondition { .. } => Ok(()),
+    }
+}
+
+/// Up to the first part that takes a character at least.
+#[cycle(starts)]
+fn add_row_starts(parts: &[Expr], sizes: &[Size], calls: &mut Vec<usize>) -> Result<(), AllocError>
+    ensures { IfOk result (λ _. calls.new.items ≡ calls.old.items ++ first_calls_in_row (size_with (size_at sizes.now)) (trees (map tree_of parts.now))) }
+{
     for part in parts {
-        add_first_calls(part, calls)?;
-        if part.min_size > 0 {
+        add_first_calls(part, sizes, calls)?;
+        if size_in(part, sizes).least > 0 {
             return Ok(());
         }
     }
     Ok(())
 }
 
-/// Of the condition and the yes branch in a row, and of the no branch.
 #[cycle(starts)]
-fn add_conditional_calls(parts: &[Info], calls: &mut Vec<usize>) -> Result<(), AllocError> {
-    for i in 0..parts.len() {
-        let is_behind_some = i == 1 && parts[0].min_size > 0;
-        if !is_behind_some {
-            add_first_calls(&parts[i], calls)?;
-        }
+fn add_branch_starts(
+    branches: &[Expr],
+    sizes: &[Size],
+    calls: &mut Vec<usize>,
+) -> Result<(), AllocError>
+    ensures { IfOk result (λ _. calls.new.items ≡ calls.old.items ++ first_calls_in_branches (size_with (size_at sizes.now)) (trees (map tree_of branches.now))) }
+{
+    for branch in branches {
+        add_first_calls(branch, sizes, calls)?;
     }
     Ok(())
 }

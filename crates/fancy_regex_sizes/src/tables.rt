@@ -4,7 +4,8 @@ ghost use Rattle.std.specs.Prelude.{◌≡◌, ℕ, ◌<◌, false, map, length,
 ghost use Rattle.fancy_regex_meaning.specs.Sizes.{calls_in};
 ghost use Rattle.fancy_regex_sizes.specs.Reach.{rows};
 ghost use Rattle.fancy_regex_sizes.specs.Rounds.{is_reached_again, size_when, next_size, size_in_round};
-ghost use Rattle.fancy_regex_sizes.specs.Survey.{reads_in};
+ghost use Rattle.fancy_regex_sizes.specs.Endings.{next_end, end_in_round};
+ghost use Rattle.fancy_regex_sizes.specs.Survey.{reads_in, ends_in};
 ghost use Rattle.fancy_regex_sizes.specs.Views.{size_of as meant, size_at, body_tree};
 
 use crate::bodies::add_calls;
@@ -128,11 +129,13 @@ fn are_same(a: &[Size], b: &[Size]) -> bool
 }
 
 /// Which groups have a body that can end.
-pub(crate) fn ending_groups(alloc: Global, groups: &[&Expr]) -> Result<Vec<bool>, AllocError> {
+pub(crate) fn ending_groups(alloc: Global, groups: &[&Expr]) -> Result<Vec<bool>, AllocError>
+    ensures { IfOk result (λ ends. (k : ℕ) → ends_in ends.items k ≡ end_in_round (map body_tree groups.now) (length groups.now) k) }
+{
     let mut ends = vec![in alloc; false; groups.len()]?;
     for _round in 0..groups.len() {
         let next = next_ends(alloc, groups, &ends)?;
-        if next == ends {
+        if are_same_marks(&next, &ends) {
             return Ok(ends);
         }
         ends = next;
@@ -141,10 +144,27 @@ pub(crate) fn ending_groups(alloc: Global, groups: &[&Expr]) -> Result<Vec<bool>
 }
 
 /// The same with one call more inside each call.
-fn next_ends(alloc: Global, groups: &[&Expr], ends: &[bool]) -> Result<Vec<bool>, AllocError> {
+fn next_ends(alloc: Global, groups: &[&Expr], ends: &[bool]) -> Result<Vec<bool>, AllocError>
+    ensures { IfOk result (λ next. (k : ℕ) → ends_in next.items k ≡ next_end (map body_tree groups.now) (ends_in ends.now) k) }
+{
     let mut next = Vec::new(alloc);
-    for body in groups {
-        next.push(can_end_in(body, ends))?;
+    for group in 0..groups.len() {
+        next.push(can_end_in(groups[group], ends))?;
     }
     Ok(next)
+}
+
+/// Whether the marks are the same.
+fn are_same_marks(a: &[bool], b: &[bool]) -> bool
+    ensures { IsTrue result → a.now ≡ b.now }
+{
+    if a.len() != b.len() {
+        return false;
+    }
+    for i in 0..a.len() {
+        if a[i] != b[i] {
+            return false;
+        }
+    }
+    true
 }

@@ -1,7 +1,7 @@
 //! Worked patterns, as trees made by hand.
 
 use crate::{AnalyzeContext, CompileError, Info, analyze};
-use fancy_regex_tree::{Assertion, Expr, ExprTree, LookAround};
+use fancy_regex_tree::{Absent, Assertion, Expr, ExprTree, LookAround};
 use std::alloc::{AllocError, Global};
 use std::collections::{BTreeMap, BTreeSet};
 use std::test::Fail;
@@ -164,5 +164,40 @@ fn texts(rt: HostRuntime) -> Result<(), Fail> {
     assert_eq!(rt; class.as_str(), "inner error: [z-a]");
     let memory = format!(in alloc; "{}", CompileError::Memory)?;
     assert_eq!(rt; memory.as_str(), "Out of memory");
+    Ok(())
+}
+
+#[test]
+fn parts_that_are_written_out(rt: HostRuntime) -> Result<(), Fail> {
+    let alloc = rt.alloc();
+    let unsteady = repeat(alloc, letter(alloc)?, 1, usize::MAX)?;
+    let behind = Expr::LookAround(Box::new(alloc, unsteady)?, LookAround::LookBehind);
+    assert_eq!(rt; cause(alloc, repeat(alloc, behind, 0, 0)?)?, None);
+    let keeping = group(alloc, both(alloc, letter(alloc)?, Expr::KeepOut)?)?;
+    let call = Box::new(alloc, Expr::SubroutineCall(1))?;
+    let ahead = Expr::LookAround(call, LookAround::LookAhead);
+    let kept = CompileError::FeatureNotYetSupported(String::from_str(alloc, "keep out")?);
+    assert_eq!(rt; cause(alloc, both(alloc, keeping, ahead)?)?, Some(kept));
+    let inner = Expr::Absent(Absent::Repeater(Box::new(alloc, letter(alloc)?)?));
+    let call = Box::new(alloc, Expr::SubroutineCall(1))?;
+    let outer = Expr::Absent(Absent::Repeater(call));
+    let absent = CompileError::FeatureNotYetSupported(String::from_str(alloc, "absent operator")?);
+    let tree = both(alloc, group(alloc, inner)?, outer)?;
+    assert_eq!(rt; cause(alloc, tree)?, Some(absent));
+    Ok(())
+}
+
+#[test]
+fn empty_matches_that_are_not_wanted(rt: HostRuntime) -> Result<(), Fail> {
+    let alloc = rt.alloc();
+    let tree = whole(alloc, Expr::Assertion(Assertion::StartText));
+    let context = AnalyzeContext {
+        explicit_capture_group_0: false,
+        find_not_empty: true,
+    };
+    match analyze(alloc, &tree, context) {
+        Err(error) => assert_eq!(rt; error, CompileError::PatternCanNeverMatch),
+        Ok(_) => assert!(rt; false),
+    }
     Ok(())
 }

@@ -1,206 +1,368 @@
 //! What is written out when a program is made of a tree, and what no program is made of.
 
+ghost use Rattle.std.specs.Prelude.{◌≡◌, true, ◌||◌, IfErr};
+ghost use Rattle.fancy_regex_sizes.specs.NodeCauses.{is_memory};
+ghost use Rattle.fancy_regex_sizes.specs.Causes.{is_of_parts};
+
 use crate::closure::reached;
 use crate::error::CompileError;
-use crate::info::Info;
-use fancy_regex_tree::{Absent, BacktrackingControlVerb, Expr, LookAround};
+use crate::size::{Size, size_in};
+use crate::tables::is_marked;
+use fancy_regex_tree::{Absent, AstNode, BacktrackingControlVerb, Expr, LookAround};
 use std::alloc::{AllocError, Global};
 
 /// What a part stands inside of, through calls too.
 #[derive(Clone, Copy, Debug, PartialEq, Eq)]
-enum Inside {
+pub(crate) enum Inside {
     Nothing,
     LookAround,
     Absent,
 }
 
 impl Inside {
-    /// What the children of the node stand inside of.
-    fn children_of(self, expr: &Expr) -> Inside {
-        match (expr, self) {
-            (Expr::Absent(_), _) | (_, Inside::Absent) => Inside::Absent,
-            (Expr::LookAround(_, _), _) => Inside::LookAround,
-            (_, inside) => inside,
+    /// What the body of a look-around stands inside of.
+    fn in_look_around(self) -> Inside {
+        match self {
+            Inside::Nothing | Inside::LookAround => Inside::LookAround,
+            Inside::Absent => Inside::Absent,
+        }
+    }
+
+    fn is_something(self) -> bool {
+        match self {
+            Inside::Nothing => false,
+            Inside::LookAround | Inside::Absent => true,
+        }
+    }
+
+    fn is_absent(self) -> bool {
+        match self {
+            Inside::Nothing | Inside::LookAround => false,
+            Inside::Absent => true,
+        }
+    }
+
+    /// Whether what stands inside of this stands inside of what is wanted at least.
+    fn is_within(self, wanted: Inside) -> bool {
+        match wanted {
+            Inside::Nothing => true,
+            Inside::LookAround => self.is_something(),
+            Inside::Absent => self.is_absent(),
         }
     }
 }
 
-/// The groups that are called in the parts of a body that are written out, by what the call stands inside of.
-#[derive(Drop)]
-struct Calls {
-    all: Vec<usize>,
-    in_look_around: Vec<usize>,
-    in_absent: Vec<usize>,
-}
-
-impl Calls {
-    fn new(alloc: Global) -> Calls {
-        Calls {
-            all: Vec::new(alloc),
-            in_look_around: Vec::new(alloc),
-            in_absent: Vec::new(alloc),
-        }
-    }
-
-    fn push(&mut self, group: usize, inside: Inside) -> Result<(), AllocError> {
-        self.all.push(group)?;
-        match inside {
-            Inside::Nothing => {}
-            Inside::LookAround => self.in_look_around.push(group)?,
-            Inside::Absent => self.in_absent.push(group)?,
-        }
-        Ok(())
-    }
-}
-
-/// Whether the children are not written out.
-fn is_left_out(expr: &Expr) -> bool {
+/// Adds the groups that are called where the part is written out, at least inside of what is wanted, in the order of the
+/// text.
+#[cycle(calls)]
+fn add_written_calls(
+    expr: &Expr,
+    inside: Inside,
+    wanted: Inside,
+    calls: &mut Vec<usize>,
+) -> Result<(), AllocError> {
     match expr {
-        Expr::Repeat { hi, .. } => *hi == 0,
-        Expr::DefineGroup { .. } => true,
-        _ => false,
+        Expr::SubroutineCall(group) => {
+            if inside.is_within(wanted) {
+                calls.push(*group)?;
+            }
+            Ok(())
+        }
+        Expr::Concat(parts) | Expr::Alt(parts) => add_row_calls(parts, inside, wanted, calls),
+        Expr::Group(child) | Expr::AtomicGroup(child) => {
+            add_written_calls(child, inside, wanted, calls)
+        }
+        Expr::LookAround(child, _) => {
+            add_written_calls(child, inside.in_look_around(), wanted, calls)
+        }
+        Expr::Repeat { child, hi, .. } => {
+            if *hi == 0 {
+                return Ok(());
+            }
+            add_written_calls(child, inside, wanted, calls)
+        }
+        Expr::Conditional {
+            condition,
+            true_branch,
+            false_branch,
+        } => {
+            add_written_calls(condition, inside, wanted, calls)?;
+            add_written_calls(true_branch, inside, wanted, calls)?;
+            add_written_calls(false_branch, inside, wanted, calls)
+        }
+        Expr::Absent(absent) => add_absent_calls(absent, wanted, calls),
+        Expr::AstNode(node, _) => add_unresolved_calls(node, inside, wanted, calls),
+        Expr::Empty | Expr::Any { .. } | Expr::Assertion(_) | Expr::GeneralNewline { .. } => Ok(()),
+        Expr::Literal { .. } | Expr::LiteralBytes { .. } | Expr::Delegate { .. } => Ok(()),
+        Expr::Backref { .. } | Expr::BackrefWithRelativeRecursionLevel { .. } => Ok(()),
+        Expr::KeepOut | Expr::ContinueFromPreviousMatchEnd => Ok(()),
+        Expr::BackrefExistsCondition { .. } | Expr::BacktrackingControlVerb(_) => Ok(()),
+        Expr::DefineGroup { .. } => Ok(()),
     }
 }
 
-fn add_written_calls(info: &Info, inside: Inside, calls: &mut Calls) -> Result<(), AllocError> {
-    if let Expr::SubroutineCall(group) = info.expr {
-        calls.push(*group, inside)?;
+#[cycle(calls)]
+fn add_absent_calls(
+    absent: &Absent,
+    wanted: Inside,
+    calls: &mut Vec<usize>,
+) -> Result<(), AllocError> {
+    match absent {
+        Absent::Repeater(child) | Absent::Stopper(child) => {
+            add_written_calls(child, Inside::Absent, wanted, calls)
+        }
+        Absent::Expression { absent, exp } => {
+            add_written_calls(absent, Inside::Absent, wanted, calls)?;
+            add_written_calls(exp, Inside::Absent, wanted, calls)
+        }
+        Absent::Clear => Ok(()),
     }
-    if is_left_out(info.expr) {
-        return Ok(());
+}
+
+#[cycle(calls)]
+fn add_unresolved_calls(
+    node: &AstNode,
+    inside: Inside,
+    wanted: Inside,
+    calls: &mut Vec<usize>,
+) -> Result<(), AllocError> {
+    match node {
+        AstNode::AstGroup { inner, .. } => add_written_calls(inner, inside, wanted, calls),
+        AstNode::Backref { .. } | AstNode::SubroutineCall(_) => Ok(()),
+        AstNode::BackrefExistsCondition { .. } => Ok(()),
     }
-    let inside = inside.children_of(info.expr);
-    for child in &info.children {
-        add_written_calls(child, inside, calls)?;
+}
+
+#[cycle(calls)]
+fn add_row_calls(
+    parts: &[Expr],
+    inside: Inside,
+    wanted: Inside,
+    calls: &mut Vec<usize>,
+) -> Result<(), AllocError> {
+    for part in parts {
+        add_written_calls(part, inside, wanted, calls)?;
     }
     Ok(())
 }
 
-fn written_calls(alloc: Global, info: &Info) -> Result<Calls, AllocError> {
-    let mut calls = Calls::new(alloc);
-    add_written_calls(info, Inside::Nothing, &mut calls)?;
-    Ok(calls)
-}
-
-/// The calls of each group's body, by the numbers of the groups.
-#[derive(Drop)]
-struct CallsByGroup {
-    all: Vec<Vec<usize>>,
-    in_look_around: Vec<Vec<usize>>,
-    in_absent: Vec<Vec<usize>>,
-}
-
-impl CallsByGroup {
-    fn push(&mut self, calls: Calls) -> Result<(), AllocError> {
-        self.all.push(calls.all)?;
-        self.in_look_around.push(calls.in_look_around)?;
-        self.in_absent.push(calls.in_absent)?;
-        Ok(())
-    }
-}
-
-/// With `whole` the pattern is group 0.
-fn calls_by_group(alloc: Global, root: &Info, whole: bool) -> Result<CallsByGroup, AllocError> {
-    let mut calls = CallsByGroup {
-        all: Vec::new(alloc),
-        in_look_around: Vec::new(alloc),
-        in_absent: Vec::new(alloc),
-    };
-    if whole {
-        calls.push(written_calls(alloc, root)?)?;
-    }
-    add_group_calls(alloc, root, &mut calls)?;
-    Ok(calls)
-}
-
-/// Adds the calls of each group's body, in the order in which the groups open.
-fn add_group_calls(alloc: Global, info: &Info, calls: &mut CallsByGroup) -> Result<(), AllocError> {
-    let is_group = matches!(info.expr, Expr::Group(_));
-    for child in &info.children {
-        if is_group {
-            calls.push(written_calls(alloc, child)?)?;
-        }
-        add_group_calls(alloc, child, calls)?;
-    }
-    Ok(())
-}
-
-/// Refuses a pattern in which something is written out that no program is made of. With `whole` the pattern is group 0.
-pub(crate) fn check_written(alloc: Global, root: &Info, whole: bool) -> Result<(), CompileError> {
-    check_part(alloc, root, Inside::Nothing)?;
-    let first = written_calls(alloc, root)?;
-    let calls = calls_by_group(alloc, root, whole)?;
-    let written = reached(alloc, &calls.all, &first.all)?;
-    check_groups(alloc, root, &written, whole, Inside::Nothing)?;
-    let look_around = starts(first.in_look_around, &calls.in_look_around, &written)?;
-    let reached_there = reached(alloc, &calls.all, &look_around)?;
-    check_groups(alloc, root, &reached_there, whole, Inside::LookAround)?;
-    let absent = starts(first.in_absent, &calls.in_absent, &written)?;
-    let reached_there = reached(alloc, &calls.all, &absent)?;
-    check_groups(alloc, root, &reached_there, whole, Inside::Absent)
-}
-
-/// What is called from the root, and from the groups that are written out.
-fn starts(
-    first: Vec<usize>,
-    calls: &[Vec<usize>],
-    written: &[bool],
-) -> Result<Vec<usize>, AllocError> {
-    let mut all = first;
-    for (calls, is_written) in calls.iter().zip(written) {
-        if *is_written {
-            all.extend_from_slice(calls)?;
-        }
+/// The groups that are called where the body of each group is written out.
+fn written_calls_by_group(alloc: Global, groups: &[&Expr]) -> Result<Vec<Vec<usize>>, AllocError> {
+    let mut all = Vec::new(alloc);
+    for body in groups {
+        let mut calls = Vec::new(alloc);
+        add_written_calls(body, Inside::Nothing, Inside::Nothing, &mut calls)?;
+        all.push(calls)?;
     }
     Ok(all)
 }
 
-/// Checks the bodies of the groups that are written out inside of this.
-fn check_groups(
+/// Refuses a pattern in which something is written out that no program is made of. These are the bodies of the groups by
+/// their numbers, and what calls of them take.
+pub(crate) fn check_written(
     alloc: Global,
-    root: &Info,
-    written: &[bool],
-    whole: bool,
-    inside: Inside,
-) -> Result<(), CompileError> {
-    if whole && written.first() == Some(&true) {
-        check_part(alloc, root, inside)?;
-    }
-    check_inner_groups(alloc, root, written, inside)
+    expr: &Expr,
+    groups: &[&Expr],
+    sizes: &[Size],
+) -> Result<(), CompileError>
+    ensures { IfErr result (λ e. (is_memory e || is_of_parts e) ≡ true) }
+{
+    let calls = written_calls_by_group(alloc, groups)?;
+    let mut first = Vec::new(alloc);
+    add_written_calls(expr, Inside::Nothing, Inside::Nothing, &mut first)?;
+    let written = reached(alloc, &calls, &first)?;
+    check_part(alloc, expr, sizes, Inside::Nothing)?;
+    check_inside(
+        alloc,
+        expr,
+        groups,
+        sizes,
+        &calls,
+        &written,
+        Inside::Nothing,
+    )?;
+    check_inside(
+        alloc,
+        expr,
+        groups,
+        sizes,
+        &calls,
+        &written,
+        Inside::LookAround,
+    )?;
+    check_inside(alloc, expr, groups, sizes, &calls, &written, Inside::Absent)
 }
 
-fn check_inner_groups(
+/// Checks the bodies of the groups that are written out inside of this at least, where it is known which are called where a
+/// body is written out, and which bodies are written out at all.
+fn check_inside(
     alloc: Global,
-    info: &Info,
+    expr: &Expr,
+    groups: &[&Expr],
+    sizes: &[Size],
+    calls: &[Vec<usize>],
     written: &[bool],
     inside: Inside,
-) -> Result<(), CompileError> {
-    let is_group = matches!(info.expr, Expr::Group(_));
-    let is_written = is_group && written.get(info.start_group()) == Some(&true);
-    for child in &info.children {
-        if is_written {
-            check_part(alloc, child, inside)?;
+) -> Result<(), CompileError>
+    ensures { IfErr result (λ e. (is_memory e || is_of_parts e) ≡ true) }
+{
+    let starts = calls_inside(alloc, expr, groups, written, inside)?;
+    let there = reached(alloc, calls, &starts)?;
+    check_groups(alloc, groups, sizes, &there, inside)
+}
+
+/// What is called inside of this at least in the tree, and in the bodies of the groups that are marked.
+fn calls_inside(
+    alloc: Global,
+    expr: &Expr,
+    groups: &[&Expr],
+    marks: &[bool],
+    inside: Inside,
+) -> Result<Vec<usize>, AllocError> {
+    let mut calls = Vec::new(alloc);
+    add_written_calls(expr, Inside::Nothing, inside, &mut calls)?;
+    for group in 0..groups.len() {
+        if is_marked(marks, group) {
+            add_written_calls(groups[group], Inside::Nothing, inside, &mut calls)?;
         }
-        check_inner_groups(alloc, child, written, inside)?;
+    }
+    Ok(calls)
+}
+
+/// Checks the bodies of the groups that are marked.
+fn check_groups(
+    alloc: Global,
+    groups: &[&Expr],
+    sizes: &[Size],
+    marks: &[bool],
+    inside: Inside,
+) -> Result<(), CompileError>
+    ensures { IfErr result (λ e. (is_memory e || is_of_parts e) ≡ true) }
+{
+    for group in 0..groups.len() {
+        if is_marked(marks, group) {
+            check_part(alloc, groups[group], sizes, inside)?;
+        }
     }
     Ok(())
 }
 
 /// Refuses a part in which something is written out that no program is made of.
-fn check_part(alloc: Global, info: &Info, inside: Inside) -> Result<(), CompileError> {
-    if let Some(feature) = missing_feature(info.expr, inside) {
+#[cycle(parts)]
+fn check_part(
+    alloc: Global,
+    expr: &Expr,
+    sizes: &[Size],
+    inside: Inside,
+) -> Result<(), CompileError>
+    ensures { IfErr result (λ e. (is_memory e || is_of_parts e) ≡ true) }
+{
+    check_node(alloc, expr, sizes, inside)?;
+    check_below(alloc, expr, sizes, inside)
+}
+
+/// The same apart from the node itself.
+#[cycle(parts)]
+fn check_below(
+    alloc: Global,
+    expr: &Expr,
+    sizes: &[Size],
+    inside: Inside,
+) -> Result<(), CompileError>
+    ensures { IfErr result (λ e. (is_memory e || is_of_parts e) ≡ true) }
+{
+    match expr {
+        Expr::Concat(parts) | Expr::Alt(parts) => check_row(alloc, parts, sizes, inside),
+        Expr::Group(child) | Expr::AtomicGroup(child) => check_part(alloc, child, sizes, inside),
+        Expr::LookAround(child, _) => check_part(alloc, child, sizes, inside.in_look_around()),
+        Expr::Repeat { child, hi, .. } => {
+            if *hi == 0 {
+                return Ok(());
+            }
+            check_part(alloc, child, sizes, inside)
+        }
+        Expr::Conditional {
+            condition,
+            true_branch,
+            false_branch,
+        } => {
+            check_part(alloc, condition, sizes, inside)?;
+            check_part(alloc, true_branch, sizes, inside)?;
+            check_part(alloc, false_branch, sizes, inside)
+        }
+        Expr::Absent(absent) => check_below_absent(alloc, absent, sizes),
+        Expr::AstNode(node, _) => check_below_unresolved(alloc, node, sizes, inside),
+        Expr::Empty | Expr::Any { .. } | Expr::Assertion(_) | Expr::GeneralNewline { .. } => Ok(()),
+        Expr::Literal { .. } | Expr::LiteralBytes { .. } | Expr::Delegate { .. } => Ok(()),
+        Expr::Backref { .. } | Expr::BackrefWithRelativeRecursionLevel { .. } => Ok(()),
+        Expr::KeepOut | Expr::ContinueFromPreviousMatchEnd => Ok(()),
+        Expr::BackrefExistsCondition { .. } | Expr::BacktrackingControlVerb(_) => Ok(()),
+        Expr::DefineGroup { .. } | Expr::SubroutineCall(_) => Ok(()),
+    }
+}
+
+#[cycle(parts)]
+fn check_below_absent(alloc: Global, absent: &Absent, sizes: &[Size]) -> Result<(), CompileError>
+    ensures { IfErr result (λ e. (is_memory e || is_of_parts e) ≡ true) }
+{
+    match absent {
+        Absent::Repeater(child) | Absent::Stopper(child) => {
+            check_part(alloc, child, sizes, Inside::Absent)
+        }
+        Absent::Expression { absent, exp } => {
+            check_part(alloc, absent, sizes, Inside::Absent)?;
+            check_part(alloc, exp, sizes, Inside::Absent)
+        }
+        Absent::Clear => Ok(()),
+    }
+}
+
+#[cycle(parts)]
+fn check_below_unresolved(
+    alloc: Global,
+    node: &AstNode,
+    sizes: &[Size],
+    inside: Inside,
+) -> Result<(), CompileError>
+    ensures { IfErr result (λ e. (is_memory e || is_of_parts e) ≡ true) }
+{
+    match node {
+        AstNode::AstGroup { inner, .. } => check_part(alloc, inner, sizes, inside),
+        AstNode::Backref { .. } | AstNode::SubroutineCall(_) => Ok(()),
+        AstNode::BackrefExistsCondition { .. } => Ok(()),
+    }
+}
+
+#[cycle(parts)]
+fn check_row(
+    alloc: Global,
+    parts: &[Expr],
+    sizes: &[Size],
+    inside: Inside,
+) -> Result<(), CompileError>
+    ensures { IfErr result (λ e. (is_memory e || is_of_parts e) ≡ true) }
+{
+    for part in parts {
+        check_part(alloc, part, sizes, inside)?;
+    }
+    Ok(())
+}
+
+/// Refuses a node that no program is made of, apart from its children.
+fn check_node(
+    alloc: Global,
+    expr: &Expr,
+    sizes: &[Size],
+    inside: Inside,
+) -> Result<(), CompileError>
+    ensures { IfErr result (λ e. (is_memory e || is_of_parts e) ≡ true) }
+{
+    if let Some(feature) = missing_feature(expr, inside) {
         let feature = String::from_str(alloc, feature)?;
         return Err(CompileError::FeatureNotYetSupported(feature));
     }
-    if is_unsteady_look_behind(info) {
+    if is_unsteady(expr, sizes) {
         return Err(CompileError::LookBehindNotConst);
-    }
-    if is_left_out(info.expr) {
-        return Ok(());
-    }
-    let inside = inside.children_of(info.expr);
-    for child in &info.children {
-        check_part(alloc, child, inside)?;
     }
     Ok(())
 }
@@ -209,41 +371,82 @@ fn check_part(alloc: Global, info: &Info, inside: Inside) -> Result<(), CompileE
 fn missing_feature(expr: &Expr, inside: Inside) -> Option<&'static str> {
     match expr {
         Expr::LiteralBytes { .. } => Some("raw bytes"),
-        Expr::BacktrackingControlVerb(verb) if *verb != BacktrackingControlVerb::Fail => {
-            Some("control verb")
-        }
-        Expr::Absent(Absent::Repeater(_)) if inside != Inside::Absent => None,
-        Expr::Absent(_) => Some("absent operator"),
+        Expr::BacktrackingControlVerb(verb) => missing_verb(*verb),
+        Expr::Absent(absent) => missing_absent(absent, inside),
         Expr::BackrefWithRelativeRecursionLevel { .. } => Some("recursion level"),
         Expr::BackrefExistsCondition {
-            relative_recursion_level: Some(_),
+            relative_recursion_level,
             ..
-        } => Some("recursion level"),
-        Expr::KeepOut if inside != Inside::Nothing => Some("keep out"),
-        _ => None,
+        } => {
+            if relative_recursion_level.is_some() {
+                Some("recursion level")
+            } else {
+                None
+            }
+        }
+        Expr::KeepOut => {
+            if inside.is_something() {
+                Some("keep out")
+            } else {
+                None
+            }
+        }
+        Expr::Empty | Expr::Any { .. } | Expr::Assertion(_) | Expr::GeneralNewline { .. } => None,
+        Expr::Literal { .. } | Expr::Delegate { .. } | Expr::Backref { .. } => None,
+        Expr::Concat(_) | Expr::Alt(_) | Expr::Group(_) | Expr::LookAround(_, _) => None,
+        Expr::Repeat { .. } | Expr::AtomicGroup(_) | Expr::Conditional { .. } => None,
+        Expr::ContinueFromPreviousMatchEnd | Expr::SubroutineCall(_) => None,
+        Expr::DefineGroup { .. } | Expr::AstNode(_, _) => None,
+    }
+}
+
+fn missing_verb(verb: BacktrackingControlVerb) -> Option<&'static str> {
+    match verb {
+        BacktrackingControlVerb::Fail => None,
+        BacktrackingControlVerb::Accept | BacktrackingControlVerb::Commit => Some("control verb"),
+        BacktrackingControlVerb::Skip | BacktrackingControlVerb::Prune => Some("control verb"),
+    }
+}
+
+fn missing_absent(absent: &Absent, inside: Inside) -> Option<&'static str> {
+    match absent {
+        Absent::Repeater(_) => {
+            if inside.is_absent() {
+                Some("absent operator")
+            } else {
+                None
+            }
+        }
+        Absent::Expression { .. } | Absent::Stopper(_) | Absent::Clear => Some("absent operator"),
     }
 }
 
 /// A look-behind whose body is not always as long, and no alternation of such branches in turn.
-fn is_unsteady_look_behind(info: &Info) -> bool {
-    match info.expr {
-        Expr::LookAround(_, LookAround::LookBehind | LookAround::LookBehindNeg) => {
-            !info.children.iter().all(|body| is_steady(body))
+fn is_unsteady(expr: &Expr, sizes: &[Size]) -> bool {
+    match expr {
+        Expr::LookAround(body, LookAround::LookBehind | LookAround::LookBehindNeg) => {
+            !is_steady(body, sizes)
         }
         _ => false,
     }
 }
 
 /// Always as long, or an alternation of such branches.
-fn is_steady(info: &Info) -> bool {
-    if info.const_size {
+#[cycle(steady)]
+fn is_steady(expr: &Expr, sizes: &[Size]) -> bool {
+    if size_in(expr, sizes).always {
         return true;
     }
-    let Expr::Alt(_) = info.expr else {
-        return false;
-    };
-    for branch in &info.children {
-        if !is_steady(branch) {
+    match expr {
+        Expr::Alt(branches) => are_steady(branches, sizes),
+        _ => false,
+    }
+}
+
+#[cycle(steady)]
+fn are_steady(branches: &[Expr], sizes: &[Size]) -> bool {
+    for branch in branches {
+        if !is_steady(branch, sizes) {
             return false;
         }
     }

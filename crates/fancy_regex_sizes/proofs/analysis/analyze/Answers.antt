@@ -1,0 +1,60 @@
+use Rattle.std.proofs.Common.{◌≡◌, length, map, ap, sym, subst, ◌∙◌, arith}
+use Rattle.fancy_regex_tree.specs.Tree.{tree_of}
+use Rattle.fancy_regex_sizes.specs.Endings.{never_ends}
+use Rattle.fancy_regex_sizes.specs.Infos.{info_of}
+use Rattle.fancy_regex_sizes.specs.Survey.{Knows}
+use Rattle.fancy_regex_sizes.specs.Views.{body_tree, pattern_in}
+use Rattle.fancy_regex_sizes.proofs.CauseLemmas.{Told, node_told, root_told, start_told, none_passed}
+use Rattle.fancy_regex_sizes.proofs.TellLemmas.{gives}
+use Rattle.fancy_regex_sizes.proofs.WholeLemmas.{length_trees}
+use Rattle.fancy_regex_sizes.proofs.analysis.analyze.Goals as goal
+
+pub returns-in_err-check_nodes-clause-refused : goal.returns-in_err-check_nodes-clause-refused
+returns-in_err-check_nodes-clause-refused c =
+    let e = c.in_err-check_nodes.field-0.0 in
+    let t = tree_of c.args.tree.now.expr in
+    let mark = c.args.tree.now.named_backref_only in
+    let gs = c.in_ok-groups.groups in
+    gives c.from_residual-in_err-check_nodes.result e (Told c.args.context mark t) c.from_residual-in_err-check_nodes.ensures.1
+    (node_told c.args.context mark t c.len.result e
+    (omega (arith, c.len.ensures, gs.ok.0, length_trees gs.items, ap length c.in_ok-groups.ensures)) c.in_err-check_nodes.ensures.refused)
+
+pub returns-in_err-check_root-clause-refused : goal.returns-in_err-check_root-clause-refused
+returns-in_err-check_root-clause-refused c =
+    let e = c.in_err-check_root.field-0.0 in
+    let t = tree_of c.args.tree.now.expr in
+    let mark = c.args.tree.now.named_backref_only in
+    gives c.from_residual-in_err-check_root.result e (Told c.args.context mark t) c.from_residual-in_err-check_root.ensures.1
+    (root_told c.args.context mark t (info_of c.in_ok-info.info) e c.in_ok-info.ensures c.in_err-check_root.ensures.refused)
+
+pub returns-in_err-check_starts-clause-refused : goal.returns-in_err-check_starts-clause-refused
+returns-in_err-check_starts-clause-refused c =
+    let e = c.in_err-check_starts.field-0.0 in
+    let t = tree_of c.args.tree.now.expr in
+    let mark = c.args.tree.now.named_backref_only in
+    let gs = c.deref-5.result.now in
+    let sizes = c.deref-6.result.now in
+    let known : Knows (map body_tree gs) sizes =
+    subst (λ g. Knows (map body_tree g) sizes) (c.deref-2.ensures.value ∙ sym c.deref-5.ensures.value)
+    (subst (λ s. Knows (map body_tree c.deref-2.result.now) s) (sym c.deref-6.ensures.value) c.in_ok-sizes.ensures) in
+    gives c.from_residual-in_err-check_starts.result e (Told c.args.context mark t) c.from_residual-in_err-check_starts.ensures.1
+    (start_told c.args.context mark t (map body_tree gs) sizes e (ap (map body_tree) c.deref-5.ensures.value ∙ c.in_ok-groups.ensures) known
+    c.in_err-check_starts.ensures.refused)
+
+pub returns-clause-complete : goal.returns-clause-complete
+returns-clause-complete c =
+    let t = tree_of c.args.tree.now.expr in
+    let mark = c.args.tree.now.named_backref_only in
+    let own = c.in_ok-groups.groups in
+    let gs = c.deref-5.result.now in
+    let sizes = c.deref-6.result.now in
+    let known : Knows (map body_tree gs) sizes =
+    subst (λ g. Knows (map body_tree g) sizes) (c.deref-2.ensures.value ∙ sym c.deref-5.ensures.value)
+    (subst (λ s. Knows (map body_tree c.deref-2.result.now) s) (sym c.deref-6.ensures.value) c.in_ok-sizes.ensures) in
+    none_passed c.args.context mark t (map body_tree gs) sizes (info_of c.in_ok-info.info) c.len.result
+    (ap (map body_tree) c.deref-5.ensures.value ∙ c.in_ok-groups.ensures) known c.in_ok-info.ensures
+    (omega (arith, c.len.ensures, own.ok.0, length_trees own.items, ap length c.in_ok-groups.ensures))
+    c.if-tree.false c.in_ok-check_nodes.ensures.complete
+    (ap (λ g. never_ends (map body_tree g) t) (c.deref-5.ensures.value ∙ sym c.deref.ensures.value) ∙ c.in_ok-check_end.ensures.complete)
+    c.in_ok-check_root.ensures.complete
+    (λ k lt. c.in_ok-check_starts.ensures.complete k (omega (arith, lt, length_trees gs)))
