@@ -1,6 +1,7 @@
 //! The machine that runs programs: it tries ways one after another, and goes back where one fails.
 #![tactic(auto)]
 
+mod absent;
 mod again;
 mod assertion;
 mod error;

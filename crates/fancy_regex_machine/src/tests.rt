@@ -181,7 +181,28 @@ fn calls(rt: HostRuntime) {
 
 #[test]
 fn absent_repeaters(rt: HostRuntime) {
-    assert!(rt; finds(rt.alloc(), "(?~abc)", "xabcx", &[0, 3]));
+    let alloc = rt.alloc();
+    assert!(rt; finds(alloc, "(?~abc)", "xabcx", &[0, 3]));
+    // each way of the body counts, also one behind another branch
+    assert!(rt; finds(alloc, "(?~\u{345}b|K)", "\u{345}b", &[0, 2]));
+    assert!(rt;
+        is(
+            &found(alloc, "(?i)(?~.|c)(?~b)", "cbcab", 5, false, true, 1000),
+            &[0, 1]
+        )
+    );
+    // nothing ends before an empty way of the body
+    assert!(rt;
+        is_none(&found(
+            alloc,
+            "(?~\\p{^Greek}ſ||(?P<n>ſ))",
+            "AAA\n",
+            4,
+            true,
+            false,
+            1000
+        ))
+    );
 }
 
 #[test]
@@ -219,6 +240,39 @@ fn limits(rt: HostRuntime) {
         matches!(
             &found(alloc, "(a)\\1", "baa", 3, false, false, 0),
             Err("limit")
+        )
+    );
+}
+
+/// So many letters `a`.
+fn letters(alloc: Global, count: usize) -> Result<String, &'static str> {
+    let mut text = String::new(alloc);
+    for _ in 0..count {
+        if text.push_str("a").is_err() {
+            return Err("memory");
+        }
+    }
+    Ok(text)
+}
+
+/// What is found in so many letters `a`, within a million backtracks.
+fn found_in_letters(
+    alloc: Global,
+    pattern: &str,
+    count: usize,
+) -> Result<Option<Vec<usize>>, &'static str> {
+    let text = letters(alloc, count)?;
+    found(alloc, pattern, &text, count, false, false, 1_000_000)
+}
+
+#[test]
+fn limits_of_large_searches(rt: HostRuntime) {
+    let alloc = rt.alloc();
+    assert!(rt; matches!(&found_in_letters(alloc, "(a+)+\\1b", 40), Err("limit")));
+    assert!(rt;
+        matches!(
+            &found_in_letters(alloc, "(a)*\\1c", 1_000_001),
+            Err("stack")
         )
     );
 }

@@ -11,9 +11,9 @@ use crate::error::RuntimeError;
 use crate::plan::Plan;
 use crate::start::first_start;
 use crate::step::Place;
-use crate::turn::{Budget, Kept, Turn, advance};
+use crate::turn::{Budget, Held, Kept, Turn, advance};
 use fancy_regex_program::Insn;
-use fancy_regex_slots::slots::Slots;
+use fancy_regex_slots::slots::{Slots, UNSET};
 use std::alloc::Global;
 
 /// How many branches may be open at once.
@@ -38,7 +38,10 @@ pub(crate) fn run_machine(
         pc: 0,
         position: first,
     };
-    let mut kept = None;
+    let mut held = Held {
+        kept: None,
+        limit: UNSET,
+    };
     let mut budget = Budget { used: 0, limit };
     for step in 0..u64::MAX {
         let _ = step;
@@ -51,11 +54,11 @@ pub(crate) fn run_machine(
             plan,
             &mut slots,
             &mut place,
-            &mut kept,
+            &mut held,
             &mut budget,
         ) {
             Ok(Turn::On) => {}
-            Ok(Turn::Over) => return Ok(kept),
+            Ok(Turn::Over) => return Ok(held.kept),
             Err(error) => return Err(error),
         }
     }

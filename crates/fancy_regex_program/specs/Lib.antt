@@ -3,5 +3,8 @@ pub mod Machine
 pub mod Code
 pub mod Places
 pub mod Shapes
-pub mod Laws
 pub mod Caps
+pub mod Known
+pub mod Writing
+pub mod Groups
+pub mod Programs

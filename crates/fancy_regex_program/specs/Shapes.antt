@@ -1,6 +1,7 @@
 -- The shape of a pattern that programs are made of.
-use Rattle.std.specs.Prelude.{ℕ, ◌<◌, ◌≤◌, Option, Some, None}
+use Rattle.std.specs.Prelude.{ℕ, ◌<◌, ◌≤◌, false, Option, Some, None}
 use Rattle.fancy_regex_pattern.specs.Pats.{Pat, keep_out, cat, alt, group, ahead, never, atomic, repeat, backref, exists, conditional, absent}
+use Rattle.fancy_regex_pattern.specs.Shapes.{IsPlaced}
 use Rattle.fancy_regex_program.specs.Machine.{unset}
 
 -- The kept start stays as it is.
@@ -19,8 +20,8 @@ abbrev pub IsCounted : ℕ → Option ℕ → Type 0
 IsCounted lo None = lo < unset
 IsCounted lo (Some hi) = Unit {0}
 
--- Each group that it has or reads has a number from `first` on, below `end`; no look-around keeps a start; and there is
--- no absent repeater.
+-- Each group that it has or reads has a number from `first` on, below `end`; no look-around keeps a start; and no absent
+-- repeater's body goes back before where it begins.
 abbrev pub IsWritable : ℕ → ℕ → Pat → Type 0
 IsWritable first end (cat a b) = IsWritable first end a × IsWritable first end b
 IsWritable first end (alt a b) = IsWritable first end a × IsWritable first end b
@@ -32,5 +33,5 @@ IsWritable first end (repeat a lo hi greedy) = IsCounted lo hi × IsWritable fir
 IsWritable first end (backref k casei) = (first ≤ k) × (k < end)
 IsWritable first end (exists k) = (first ≤ k) × (k < end)
 IsWritable first end (conditional c a b) = IsWritable first end c × IsWritable first end a × IsWritable first end b
-IsWritable first end (absent a) = ⊥
+IsWritable first end (absent a) = IsPlaced false a × IsWritable first end a
 IsWritable first end _ = Unit {0}

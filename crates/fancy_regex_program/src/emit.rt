@@ -1,79 +1,98 @@
-// From a tree to instructions.
+// From what is known of a tree to instructions.
 
-ghost use Rattle.std.specs.Prelude.{◌≡◌};
+ghost use Rattle.std.specs.Prelude.{◌≡◌, ◌≤◌, length, slice_get, IfOk, Some};
+ghost use Rattle.fancy_regex_meaning.specs.Ways.{is_full as is_full_of};
+ghost use Rattle.fancy_regex_sizes.specs.declared.info.Info.TheViews.{out-Info};
+ghost use Rattle.fancy_regex_program.specs.Ops as op;
+ghost use Rattle.fancy_regex_program.specs.Ops.{op_of};
 
-use crate::emitter::{Emitter, Next, Scope, Task};
+use crate::emitter::{Emitter, Scope, Task, deeper, first_slot, past_slots};
 use crate::insn::{AbsentRepeater, Insn, Repeat, RepeatEpsilon};
 use crate::leaf::{emit_leaf, not_supported};
-use crate::width::constant_width;
-use fancy_regex_sizes::CompileError;
+use fancy_regex_sizes::{CompileError, Info};
 use fancy_regex_tree::{Absent, Expr, LookAround};
 
 /// How often a target may be open.
 pub(crate) const OPEN_CALLS_OF_ONE: usize = 19;
 
-/// Adds the instructions of a part of the pattern, and says which numbers are free behind it.
+/// Adds the instructions of a part of the pattern, and says which slot is free behind it.
 #[cycle(emit)]
 pub(crate) fn emit(
-    task: &Task<'_>,
+    task: &Task<'_, '_, '_>,
     emitter: &mut Emitter,
-    expr: &Expr,
+    info: &Info<'_>,
     scope: Scope,
-    next: Next,
-) -> Result<Next, CompileError>
+    slot: usize,
+) -> Result<usize, CompileError>
     ensures { emitter.new.body.cap ≡ emitter.old.body.cap }
 {
-    let scope = scope.inside()?;
-    match expr {
-        Expr::Empty => Ok(next),
-        Expr::Concat(parts) => emit_row(task, emitter, parts, scope, next),
-        Expr::Alt(branches) => emit_branches(task, emitter, branches, false, scope, next),
-        Expr::Group(child) => emit_group(task, emitter, child, scope, next),
-        Expr::LookAround(child, how) => emit_look_around(task, emitter, child, *how, scope, next),
-        Expr::Repeat {
-            child,
-            lo,
-            hi,
-            greedy,
-        } => emit_repeat(task, emitter, child, (*lo, *hi), *greedy, scope, next),
-        Expr::AtomicGroup(child) => {
-            emitter.body.add(Insn::BeginAtomic(next.slot))?;
-            let behind = emit(task, emitter, child, scope, next.past_slots(1)?)?;
-            emitter.body.add(Insn::EndAtomic(next.slot))?;
-            Ok(behind)
+    let depth_left = deeper(scope.depth_left)?;
+    let inside = Scope {
+        depth_left,
+        ..scope
+    };
+    match info.expr {
+        Expr::Empty => Ok(slot),
+        Expr::Concat(_) => emit_row(task, emitter, &info.children, inside, slot),
+        Expr::Alt(_) => emit_branches(task, emitter, &info.children, false, inside, slot),
+        Expr::Group(_) => {
+            let child = child_at(info, 0)?;
+            emit_group(task, emitter, child, info.start_group(), inside, slot)
         }
-        Expr::Conditional {
-            condition,
-            true_branch,
-            false_branch,
-        } => {
-            let branches = (&**true_branch, &**false_branch);
-            emit_conditional(task, emitter, condition, branches, scope, next)
+        Expr::LookAround(_, how) => {
+            let child = child_at(info, 0)?;
+            emit_look_around(task, emitter, child, *how, inside, slot)
         }
-        Expr::SubroutineCall(group) => emit_call(task, emitter, *group, scope, next),
-        Expr::Absent(Absent::Repeater(child)) => emit_absent(task, emitter, child, scope, next),
-        Expr::DefineGroup { definitions } => Ok(next.past(definitions)),
+        Expr::Repeat { lo, hi, greedy, .. } => {
+            let child = child_at(info, 0)?;
+            emit_repeat(task, emitter, child, (*lo, *hi), *greedy, inside, slot)
+        }
+        Expr::AtomicGroup(_) => {
+            let child = child_at(info, 0)?;
+            emit_atomic(task, emitter, child, inside, slot)
+        }
+        Expr::Conditional { .. } => {
+            let condition = child_at(info, 0)?;
+            let branches = (child_at(info, 1)?, child_at(info, 2)?);
+            emit_conditional(task, emitter, condition, branches, inside, slot)
+        }
+        Expr::SubroutineCall(target) => emit_call(task, emitter, *target, inside, slot),
+        Expr::Absent(Absent::Repeater(_)) => {
+            let child = child_at(info, 0)?;
+            emit_absent(task, emitter, child, inside, slot)
+        }
+        Expr::DefineGroup { .. } => Ok(slot),
         leaf => {
-            emit_leaf(task, emitter, leaf, scope)?;
-            Ok(next)
+            emit_leaf(task, emitter, leaf, inside)?;
+            Ok(slot)
         }
+    }
+}
+
+/// The child at that place. A node that the reader made has it.
+fn child_at<'i, 'e>(info: &'i Info<'e>, place: usize) -> Result<&'i Info<'e>, CompileError>
+    ensures { IfOk result (λ child. slice_get (out-Info info.now).children.items place ≡ Some child.now) }
+{
+    match info.children.get(place) {
+        Some(child) => Ok(child),
+        None => Err(CompileError::UnresolvedAstNode),
     }
 }
 
 /// Adds parts one behind the other.
 #[cycle(emit)]
 fn emit_row(
-    task: &Task<'_>,
+    task: &Task<'_, '_, '_>,
     emitter: &mut Emitter,
-    parts: &[Expr],
+    parts: &[Info<'_>],
     scope: Scope,
-    first: Next,
-) -> Result<Next, CompileError>
+    slot: usize,
+) -> Result<usize, CompileError>
     ensures { emitter.new.body.cap ≡ emitter.old.body.cap }
 {
-    let mut next = first;
-    for part in parts {
-        next = emit(task, emitter, part, scope, next)?;
+    let mut next = slot;
+    for info in parts {
+        next = emit(task, emitter, info, scope, next)?;
     }
     Ok(next)
 }
@@ -81,33 +100,47 @@ fn emit_row(
 /// Adds branches, each perhaps from as far back as it is long.
 #[cycle(emit)]
 fn emit_branches(
-    task: &Task<'_>,
+    task: &Task<'_, '_, '_>,
     emitter: &mut Emitter,
-    branches: &[Expr],
+    branches: &[Info<'_>],
     behind: bool,
     scope: Scope,
-    first: Next,
-) -> Result<Next, CompileError>
+    slot: usize,
+) -> Result<usize, CompileError>
     ensures { emitter.new.body.cap ≡ emitter.old.body.cap }
 {
     if branches.is_empty() {
         emitter.body.add(Insn::Fail)?;
-        return Ok(first);
+        return Ok(slot);
     }
+    if branches.len() == 1 {
+        return emit_side(task, emitter, &branches[0], behind, scope, slot);
+    }
+    emit_choices(task, emitter, branches, behind, scope, slot)
+}
+
+/// Adds two branches or more.
+#[cycle(emit)]
+fn emit_choices(
+    task: &Task<'_, '_, '_>,
+    emitter: &mut Emitter,
+    branches: &[Info<'_>],
+    behind: bool,
+    scope: Scope,
+    slot: usize,
+) -> Result<usize, CompileError>
+    requires { 2 ≤ length branches.now }
+    ensures { emitter.new.body.cap ≡ emitter.old.body.cap }
+{
     emitter.body.flush()?;
     let last = branches.len() - 1;
     let mut jumps = Vec::new(task.alloc);
-    let mut next = first;
-    for branch in &branches[..last] {
-        let split = emitter.body.len();
-        emitter.body.put(Insn::Split(0, 0))?;
-        next = emit_branch(task, emitter, branch, behind, scope, next)?;
-        jumps.push(emitter.body.len())?;
-        emitter.body.put(Insn::Jmp(0))?;
-        let after = emitter.body.len();
-        emitter.body.patch(split, Insn::Split(split + 1, after));
+    let mut next = slot;
+    for info in &branches[..last] {
+        next = emit_choice(task, emitter, info, behind, scope, next)?;
+        jumps.push(emitter.body.len().saturating_sub(1))?;
     }
-    next = emit_branch(task, emitter, &branches[last], behind, scope, next)?;
+    next = emit_closed(task, emitter, &branches[last], behind, scope, next)?;
     let end = emitter.body.len();
     for jump in &jumps {
         emitter.body.patch(*jump, Insn::Jmp(end));
@@ -115,123 +148,211 @@ fn emit_branches(
     Ok(next)
 }
 
-/// Adds a branch, with what waits behind it.
+/// Adds a part, from here or from as far back as it is long.
 #[cycle(emit)]
-fn emit_branch(
-    task: &Task<'_>,
+fn emit_side(
+    task: &Task<'_, '_, '_>,
     emitter: &mut Emitter,
-    branch: &Expr,
+    info: &Info<'_>,
     behind: bool,
     scope: Scope,
-    next: Next,
-) -> Result<Next, CompileError>
+    slot: usize,
+) -> Result<usize, CompileError>
     ensures { emitter.new.body.cap ≡ emitter.old.body.cap }
 {
-    let next = if behind {
-        emit_behind(task, emitter, branch, scope, next)?
+    if behind {
+        emit_behind(task, emitter, info, scope, slot)
     } else {
-        emit(task, emitter, branch, scope, next)?
-    };
+        emit(task, emitter, info, scope, slot)
+    }
+}
+
+/// Adds the same, with what waits behind it.
+#[cycle(emit)]
+fn emit_closed(
+    task: &Task<'_, '_, '_>,
+    emitter: &mut Emitter,
+    info: &Info<'_>,
+    behind: bool,
+    scope: Scope,
+    slot: usize,
+) -> Result<usize, CompileError>
+    ensures { emitter.new.body.cap ≡ emitter.old.body.cap }
+{
+    let after = emit_side(task, emitter, info, behind, scope, slot)?;
     emitter.body.flush()?;
-    Ok(next)
+    Ok(after)
 }
 
 /// Adds a part from as far back as it is long. Branches that are not as long go back each for itself.
 #[cycle(emit)]
 fn emit_behind(
-    task: &Task<'_>,
+    task: &Task<'_, '_, '_>,
     emitter: &mut Emitter,
-    expr: &Expr,
+    info: &Info<'_>,
     scope: Scope,
-    next: Next,
-) -> Result<Next, CompileError>
+    slot: usize,
+) -> Result<usize, CompileError>
     ensures { emitter.new.body.cap ≡ emitter.old.body.cap }
 {
-    match (constant_width(expr), expr) {
-        (Some(width), _) => {
-            emitter.body.add(Insn::GoBack(width))?;
-            emit(task, emitter, expr, scope, next)
-        }
-        (None, Expr::Alt(branches)) => {
-            let scope = scope.inside()?;
-            emit_branches(task, emitter, branches, true, scope, next)
-        }
-        (None, _) => Err(CompileError::LookBehindNotConst),
+    if info.const_size {
+        emitter.body.add(Insn::GoBack(info.min_size))?;
+        return emit(task, emitter, info, scope, slot);
+    }
+    let depth_left = deeper(scope.depth_left)?;
+    let inside = Scope {
+        depth_left,
+        ..scope
+    };
+    match info.expr {
+        Expr::Alt(_) => emit_branches(task, emitter, &info.children, true, inside, slot),
+        _ => Err(CompileError::LookBehindNotConst),
     }
 }
 
-/// Adds a capturing group.
+/// Adds a capturing group with that number.
 #[cycle(emit)]
 fn emit_group(
-    task: &Task<'_>,
+    task: &Task<'_, '_, '_>,
     emitter: &mut Emitter,
-    child: &Expr,
+    child: &Info<'_>,
+    number: usize,
     scope: Scope,
-    next: Next,
-) -> Result<Next, CompileError>
+    slot: usize,
+) -> Result<usize, CompileError>
     ensures { emitter.new.body.cap ≡ emitter.old.body.cap }
 {
-    let slot = next.group.saturating_mul(2);
-    let kept = next.slot;
-    let inside = Next {
-        group: next.group.saturating_add(1),
-        slot: next.past_slots(1)?.slot,
-    };
-    emitter.body.add(Insn::Save(kept))?;
-    let behind = emit(task, emitter, child, scope, inside)?;
-    emitter
-        .body
-        .add(Insn::SaveCaptureGroupStart { kept, slot })?;
-    emitter.body.add(Insn::Save(slot.saturating_add(1)))?;
-    Ok(behind)
+    let inside = past_slots(slot, 1)?;
+    let start = first_slot(number)?;
+    let end = past_slots(start, 1)?;
+    emitter.body.add(Insn::Save(slot))?;
+    let after = emit_closed(task, emitter, child, false, scope, inside)?;
+    emitter.body.put(Insn::SaveCaptureGroupStart {
+        kept: slot,
+        slot: start,
+    })?;
+    emitter.body.put(Insn::Save(end))?;
+    Ok(after)
+}
+
+/// Adds an atomic group.
+#[cycle(emit)]
+fn emit_atomic(
+    task: &Task<'_, '_, '_>,
+    emitter: &mut Emitter,
+    child: &Info<'_>,
+    scope: Scope,
+    slot: usize,
+) -> Result<usize, CompileError>
+    ensures { emitter.new.body.cap ≡ emitter.old.body.cap }
+{
+    let inside = past_slots(slot, 1)?;
+    emitter.body.add(Insn::BeginAtomic(slot))?;
+    let after = emit_closed(task, emitter, child, false, scope, inside)?;
+    emitter.body.put(Insn::EndAtomic(slot))?;
+    Ok(after)
 }
 
 /// Adds a look-around.
 #[cycle(emit)]
 fn emit_look_around(
-    task: &Task<'_>,
+    task: &Task<'_, '_, '_>,
     emitter: &mut Emitter,
-    child: &Expr,
+    child: &Info<'_>,
     how: LookAround,
     scope: Scope,
-    next: Next,
-) -> Result<Next, CompileError>
+    slot: usize,
+) -> Result<usize, CompileError>
     ensures { emitter.new.body.cap ≡ emitter.old.body.cap }
 {
-    let (behind, negative) = match how {
-        LookAround::LookAhead => (false, false),
-        LookAround::LookAheadNeg => (false, true),
-        LookAround::LookBehind => (true, false),
-        LookAround::LookBehindNeg => (true, true),
+    let looking = Scope {
+        may_keep: false,
+        ..scope
     };
-    let inside = next.past_slots(1)?;
-    if !negative {
-        emitter.body.add(Insn::Save(next.slot))?;
-        let after = emit_branch(task, emitter, child, behind, scope.looking(), inside)?;
-        emitter.body.put(Insn::Restore(next.slot))?;
-        return Ok(after);
+    match how {
+        LookAround::LookAhead => emit_found(task, emitter, child, false, looking, slot),
+        LookAround::LookAheadNeg => emit_not_found(task, emitter, child, false, looking, slot),
+        LookAround::LookBehind => emit_found(task, emitter, child, true, looking, slot),
+        LookAround::LookBehindNeg => emit_not_found(task, emitter, child, true, looking, slot),
     }
-    emitter.body.add(Insn::BeginAtomic(next.slot))?;
+}
+
+/// Adds a look-around whose body is to be found.
+#[cycle(emit)]
+fn emit_found(
+    task: &Task<'_, '_, '_>,
+    emitter: &mut Emitter,
+    child: &Info<'_>,
+    behind: bool,
+    scope: Scope,
+    slot: usize,
+) -> Result<usize, CompileError>
+    ensures { emitter.new.body.cap ≡ emitter.old.body.cap }
+{
+    let inside = past_slots(slot, 1)?;
+    emitter.body.add(Insn::Save(slot))?;
+    let after = emit_closed(task, emitter, child, behind, scope, inside)?;
+    emitter.body.put(Insn::Restore(slot))?;
+    Ok(after)
+}
+
+/// Adds a look-around whose body is not to be found.
+#[cycle(emit)]
+fn emit_not_found(
+    task: &Task<'_, '_, '_>,
+    emitter: &mut Emitter,
+    child: &Info<'_>,
+    behind: bool,
+    scope: Scope,
+    slot: usize,
+) -> Result<usize, CompileError>
+    ensures { emitter.new.body.cap ≡ emitter.old.body.cap }
+{
+    let inside = past_slots(slot, 1)?;
+    emitter.body.add(Insn::BeginAtomic(slot))?;
     let split = emitter.body.len();
     emitter.body.put(Insn::Split(0, 0))?;
-    let after = emit_branch(task, emitter, child, behind, scope.looking(), inside)?;
-    emitter.body.put(Insn::FailNegativeLookAround(next.slot))?;
-    let end = emitter.body.len();
-    emitter.body.patch(split, Insn::Split(split + 1, end));
+    let first = emitter.body.len();
+    let after = emit_closed(task, emitter, child, behind, scope, inside)?;
+    emitter.body.put(Insn::FailNegativeLookAround(slot))?;
+    let second = emitter.body.len();
+    emitter.body.patch(split, Insn::Split(first, second));
+    Ok(after)
+}
+
+/// Adds a branch in front of others: a jump behind it leads past these, and is still to be put right.
+#[cycle(emit)]
+fn emit_choice(
+    task: &Task<'_, '_, '_>,
+    emitter: &mut Emitter,
+    info: &Info<'_>,
+    behind: bool,
+    scope: Scope,
+    slot: usize,
+) -> Result<usize, CompileError>
+    ensures { emitter.new.body.cap ≡ emitter.old.body.cap }
+{
+    let split = emitter.body.len();
+    emitter.body.put(Insn::Split(0, 0))?;
+    let first = emitter.body.len();
+    let after = emit_closed(task, emitter, info, behind, scope, slot)?;
+    emitter.body.put(Insn::Jmp(0))?;
+    let second = emitter.body.len();
+    emitter.body.patch(split, Insn::Split(first, second));
     Ok(after)
 }
 
 /// Adds a repeat; the greatest count `usize::MAX` stands for none.
 #[cycle(emit)]
 fn emit_repeat(
-    task: &Task<'_>,
+    task: &Task<'_, '_, '_>,
     emitter: &mut Emitter,
-    child: &Expr,
+    child: &Info<'_>,
     bounds: (usize, usize),
     greedy: bool,
     scope: Scope,
-    next: Next,
-) -> Result<Next, CompileError>
+    slot: usize,
+) -> Result<usize, CompileError>
     ensures { emitter.new.body.cap ≡ emitter.old.body.cap }
 {
     let (lo, hi) = bounds;
@@ -241,75 +362,122 @@ fn emit_repeat(
     if lo == usize::MAX {
         return Err(CompileError::PatternTooComplex);
     }
-    let repeat = next.slot;
-    let inside = next.past_slots(if hi == usize::MAX { 2 } else { 1 })?;
-    emitter.body.add(Insn::BeginRepeat(repeat))?;
+    if hi == usize::MAX {
+        emit_loop(task, emitter, child, lo, greedy, scope, slot)
+    } else {
+        emit_counted(task, emitter, child, (lo, hi), greedy, scope, slot)
+    }
+}
+
+/// Adds a repeat with a greatest count.
+#[cycle(emit)]
+fn emit_counted(
+    task: &Task<'_, '_, '_>,
+    emitter: &mut Emitter,
+    child: &Info<'_>,
+    bounds: (usize, usize),
+    greedy: bool,
+    scope: Scope,
+    slot: usize,
+) -> Result<usize, CompileError>
+    ensures { emitter.new.body.cap ≡ emitter.old.body.cap }
+{
+    let inside = past_slots(slot, 1)?;
+    emitter.body.add(Insn::BeginRepeat(slot))?;
     let head = emitter.body.len();
     emitter.body.put(Insn::Fail)?;
-    let after = emit(task, emitter, child, scope, inside)?;
-    emitter.body.add(Insn::Jmp(head))?;
-    let end = emitter.body.len();
-    emitter
-        .body
-        .patch(head, head_of_repeat((lo, hi), greedy, end, repeat));
+    let after = emit_closed(task, emitter, child, false, scope, inside)?;
+    emitter.body.put(Insn::Jmp(head))?;
+    let (lo, hi) = bounds;
+    let counted = Repeat {
+        lo,
+        hi,
+        next: emitter.body.len(),
+        repeat: slot,
+    };
+    emitter.body.patch(head, head_of_counted(counted, greedy));
     Ok(after)
 }
 
-/// The head of a repeat that is left for `next`, and whose slots begin at `repeat`.
-fn head_of_repeat((lo, hi): (usize, usize), greedy: bool, next: usize, repeat: usize) -> Insn {
-    if hi == usize::MAX {
-        let check = repeat.saturating_add(1);
-        let head = RepeatEpsilon {
-            lo,
-            next,
-            repeat,
-            check,
-        };
-        if greedy {
-            Insn::RepeatEpsilonGr(head)
-        } else {
-            Insn::RepeatEpsilonNg(head)
-        }
+/// The head of a repeat with a greatest count.
+fn head_of_counted(repeat: Repeat, greedy: bool) -> Insn
+    ensures { op_of result ≡ op.repeat greedy repeat.lo repeat.hi repeat.next repeat.repeat }
+{
+    if greedy {
+        Insn::RepeatGr(repeat)
     } else {
-        let head = Repeat {
-            lo,
-            hi,
-            next,
-            repeat,
-        };
-        if greedy {
-            Insn::RepeatGr(head)
-        } else {
-            Insn::RepeatNg(head)
-        }
+        Insn::RepeatNg(repeat)
+    }
+}
+
+/// Adds a repeat without a greatest count.
+#[cycle(emit)]
+fn emit_loop(
+    task: &Task<'_, '_, '_>,
+    emitter: &mut Emitter,
+    child: &Info<'_>,
+    lo: usize,
+    greedy: bool,
+    scope: Scope,
+    slot: usize,
+) -> Result<usize, CompileError>
+    ensures { emitter.new.body.cap ≡ emitter.old.body.cap }
+{
+    let check = past_slots(slot, 1)?;
+    let inside = past_slots(slot, 2)?;
+    emitter.body.add(Insn::BeginRepeat(slot))?;
+    let head = emitter.body.len();
+    emitter.body.put(Insn::Fail)?;
+    let after = emit_closed(task, emitter, child, false, scope, inside)?;
+    emitter.body.put(Insn::Jmp(head))?;
+    let endless = RepeatEpsilon {
+        lo,
+        next: emitter.body.len(),
+        repeat: slot,
+        check,
+    };
+    emitter.body.patch(head, head_of_loop(endless, greedy));
+    Ok(after)
+}
+
+/// The head of a repeat without a greatest count.
+fn head_of_loop(repeat: RepeatEpsilon, greedy: bool) -> Insn
+    ensures { op_of result ≡ op.repeat_epsilon greedy repeat.lo repeat.next repeat.repeat repeat.check }
+{
+    if greedy {
+        Insn::RepeatEpsilonGr(repeat)
+    } else {
+        Insn::RepeatEpsilonNg(repeat)
     }
 }
 
 /// Adds a conditional, with its branches: the first where the condition has a way, the second where it has none.
 #[cycle(emit)]
 fn emit_conditional(
-    task: &Task<'_>,
+    task: &Task<'_, '_, '_>,
     emitter: &mut Emitter,
-    condition: &Expr,
-    branches: (&Expr, &Expr),
+    condition: &Info<'_>,
+    branches: (&Info<'_>, &Info<'_>),
     scope: Scope,
-    next: Next,
-) -> Result<Next, CompileError>
+    slot: usize,
+) -> Result<usize, CompileError>
     ensures { emitter.new.body.cap ≡ emitter.old.body.cap }
 {
     let (yes, no) = branches;
-    emitter.body.add(Insn::BeginAtomic(next.slot))?;
+    let inside = past_slots(slot, 1)?;
+    emitter.body.add(Insn::BeginAtomic(slot))?;
     let split = emitter.body.len();
     emitter.body.put(Insn::Split(0, 0))?;
-    let after = emit_branch(task, emitter, condition, false, scope, next.past_slots(1)?)?;
-    emitter.body.put(Insn::EndAtomic(next.slot))?;
-    let after = emit_branch(task, emitter, yes, false, scope, after)?;
+    let first = emitter.body.len();
+    let tested = emit_closed(task, emitter, condition, false, scope, inside)?;
+    emitter.body.put(Insn::EndAtomic(slot))?;
+    let chosen = emit_closed(task, emitter, yes, false, scope, tested)?;
     let jump = emitter.body.len();
     emitter.body.put(Insn::Jmp(0))?;
     let second = emitter.body.len();
-    emitter.body.patch(split, Insn::Split(split + 1, second));
-    let after = emit_branch(task, emitter, no, false, scope, after)?;
+    let after = emit_closed(task, emitter, no, false, scope, chosen)?;
     let end = emitter.body.len();
+    emitter.body.patch(split, Insn::Split(first, second));
     emitter.body.patch(jump, Insn::Jmp(end));
     Ok(after)
 }
@@ -318,66 +486,69 @@ fn emit_conditional(
 /// may.
 #[cycle(emit)]
 fn emit_call(
-    task: &Task<'_>,
+    task: &Task<'_, '_, '_>,
     emitter: &mut Emitter,
     target: usize,
     scope: Scope,
-    next: Next,
-) -> Result<Next, CompileError>
+    slot: usize,
+) -> Result<usize, CompileError>
     ensures { emitter.new.body.cap ≡ emitter.old.body.cap }
 {
     if target >= task.groups.len() {
         return Err(CompileError::SubroutineCallTargetNotFound(format!(in task.alloc; "{target}")?));
     }
     let body = task.groups[target];
-    let open = emitter.opened.iter().filter(|k| **k == target).count();
-    if open >= OPEN_CALLS_OF_ONE || scope.calls_left == 0 {
+    if is_full(&emitter.opened, target) || scope.calls_left == 0 {
         emitter.body.add(Insn::Fail)?;
-        return Ok(next);
+        return Ok(slot);
     }
     emitter.opened.push(target)?;
-    let inside = Next {
-        group: target.saturating_add(1),
-        ..next
-    };
     let called = Scope {
         calls_left: scope.calls_left - 1,
         ..scope
     };
-    let after = emit(task, emitter, body, called, inside)?;
+    let after = emit(task, emitter, body, called, slot)?;
     emitter.opened.pop();
-    Ok(Next {
-        slot: after.slot,
-        ..next
-    })
+    Ok(after)
+}
+
+/// Whether the target is open as often as it may be.
+fn is_full(opened: &[usize], target: usize) -> bool
+    ensures { result ≡ is_full_of opened.now target }
+{
+    opened.iter().filter(|k| **k == target).count() >= OPEN_CALLS_OF_ONE
 }
 
 /// Adds an absent repeater.
 #[cycle(emit)]
 fn emit_absent(
-    task: &Task<'_>,
+    task: &Task<'_, '_, '_>,
     emitter: &mut Emitter,
-    child: &Expr,
+    child: &Info<'_>,
     scope: Scope,
-    next: Next,
-) -> Result<Next, CompileError>
+    slot: usize,
+) -> Result<usize, CompileError>
     ensures { emitter.new.body.cap ≡ emitter.old.body.cap }
 {
     if !scope.may_be_absent {
         return Err(not_supported(task.alloc, "absent operator"));
     }
-    let start = next.slot;
-    let inside = next.past_slots(2)?;
-    let limit = inside.slot.saturating_sub(1);
-    let begin = AbsentRepeater::Begin { start, limit };
+    let limit = past_slots(slot, 1)?;
+    let inside = past_slots(slot, 2)?;
+    let within = Scope {
+        may_keep: false,
+        may_be_absent: false,
+        ..scope
+    };
+    let begin = AbsentRepeater::Begin { start: slot, limit };
     emitter.body.add(Insn::AbsentRepeater(begin))?;
     let scan = emitter.body.len();
     emitter.body.put(Insn::Fail)?;
-    let after = emit(task, emitter, child, scope.absent(), inside)?;
+    let after = emit_closed(task, emitter, child, false, within, inside)?;
     let limits = AbsentRepeater::Limit { limit };
-    emitter.body.add(Insn::AbsentRepeater(limits))?;
+    emitter.body.put(Insn::AbsentRepeater(limits))?;
     let end = emitter.body.len();
-    let ends = AbsentRepeater::End { start, limit };
+    let ends = AbsentRepeater::End { start: slot, limit };
     emitter.body.put(Insn::AbsentRepeater(ends))?;
     let scans = AbsentRepeater::Scan { limit, end };
     emitter.body.patch(scan, Insn::AbsentRepeater(scans));

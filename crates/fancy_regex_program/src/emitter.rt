@@ -1,19 +1,17 @@
 // What the compiler knows while it writes a program.
 
-ghost use Rattle.std.specs.Prelude.{◌≡◌, ◌+◌, IfOk};
+ghost use Rattle.std.specs.Prelude.{◌≡◌, ◌+◌, ◌*◌, IfOk};
 
 use crate::body::Body;
-use crate::groups::count_groups;
-use fancy_regex_sizes::CompileError;
-use fancy_regex_tree::Expr;
+use fancy_regex_sizes::{CompileError, Info};
 use std::alloc::Global;
 
 /// The pattern's groups, and what is asked for.
 #[derive(Clone, Copy)]
-pub(crate) struct Task<'e> {
+pub(crate) struct Task<'g, 'i, 'e> {
     pub alloc: Global,
     /// The body of each group by its number, or the whole pattern.
-    pub groups: &'e [&'e Expr],
+    pub groups: &'g Vec<&'i Info<'e>>,
     /// Group 0 is the whole.
     pub whole: bool,
     pub unicode: bool,
@@ -39,60 +37,32 @@ pub(crate) struct Scope {
     pub may_be_absent: bool,
 }
 
-impl Scope {
-    /// One part further inside, or a refusal where that is too deep.
-    pub fn inside(self) -> Result<Scope, CompileError>
-        ensures { IfOk result (λ scope. scope.depth_left + 1 ≡ self.depth_left) }
-    {
-        match self.depth_left.checked_sub(1) {
-            Some(depth_left) => Ok(Scope { depth_left, ..self }),
-            None => Err(CompileError::PatternTooComplex),
-        }
-    }
-
-    /// In a look-around.
-    pub fn looking(self) -> Scope
-        ensures { result.depth_left ≡ self.depth_left }
-    {
-        Scope {
-            may_keep: false,
-            ..self
-        }
-    }
-
-    /// In an absent repeater.
-    pub fn absent(self) -> Scope
-        ensures { result.depth_left ≡ self.depth_left }
-    {
-        Scope {
-            may_keep: false,
-            may_be_absent: false,
-            ..self
-        }
+/// One part further inside, or a refusal where that is too deep.
+pub(crate) fn deeper(depth_left: usize) -> Result<usize, CompileError>
+    ensures { IfOk result (λ left. left + 1 ≡ depth_left) }
+{
+    match depth_left.checked_sub(1) {
+        Some(left) => Ok(left),
+        None => Err(CompileError::PatternTooComplex),
     }
 }
 
-/// The next free numbers.
-#[derive(Clone, Copy)]
-pub(crate) struct Next {
-    pub group: usize,
-    pub slot: usize,
+/// The slot so many slots further on. There is no memory for more than can be numbered.
+pub(crate) fn past_slots(slot: usize, count: usize) -> Result<usize, CompileError>
+    ensures { IfOk result (λ after. after ≡ slot + count) }
+{
+    match slot.checked_add(count) {
+        Some(after) => Ok(after),
+        None => Err(CompileError::Memory),
+    }
 }
 
-impl Next {
-    /// Behind groups that are not written.
-    pub fn past(self, expr: &Expr) -> Next {
-        Next {
-            group: self.group.saturating_add(count_groups(expr)),
-            ..self
-        }
-    }
-
-    /// Behind so many slots. There is no memory for more than can be numbered.
-    pub fn past_slots(self, count: usize) -> Result<Next, CompileError> {
-        match self.slot.checked_add(count) {
-            Some(slot) => Ok(Next { slot, ..self }),
-            None => Err(CompileError::Memory),
-        }
+/// The first of the two slots of a group. There is no memory for more than can be numbered.
+pub(crate) fn first_slot(group: usize) -> Result<usize, CompileError>
+    ensures { IfOk result (λ slot. slot ≡ 2 * group) }
+{
+    match group.checked_mul(2) {
+        Some(slot) => Ok(slot),
+        None => Err(CompileError::Memory),
     }
 }

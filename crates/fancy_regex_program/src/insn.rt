@@ -108,17 +108,18 @@ pub struct RepeatEpsilon {
     pub check: usize,
 }
 
-/// What an absent repeater does at this instruction. The body is tried at each place from the start on, to find how far
-/// the repeater may read; then it ends there, and later one character before, until it is back at its start.
+/// What an absent repeater does at this instruction. The body is tried at each place from the start on, as far as the
+/// lowest place at which a way of it was found to end; the run holds that limit, and going back does not undo it. Then the
+/// repeater ends below the limit, and later one character before, until it is back at its start.
 #[derive(Clone, Copy, Debug, PartialEq, Eq)]
 pub enum AbsentRepeater {
-    /// Writes the position to the slot `start`, and nothing to the slot `limit`.
+    /// Writes the position to the slot `start`, and the limit that the run holds to the slot `limit`; then the run holds
+    /// none. Goes on behind the next instruction, and later at it.
     Begin { start: usize, limit: usize },
-    /// Where the limit is not passed, tries the body from here, and comes here again one character on; else goes to
-    /// `end`.
+    /// Where the next place is below the limit, tries the body there, and later comes here again; else writes the limit to
+    /// the slot `limit`, holds the one that was there, and goes to `end`.
     Scan { limit: usize, end: usize },
-    /// A way of the body ends here: lowers the limit to the position, if it is above, and goes back to the next branch
-    /// with it.
+    /// A way of the body ends here: lowers the limit that the run holds to the position, if it is above, and goes back.
     Limit { limit: usize },
     /// Ends the repeater here, if this lies before the limit, and later one character before, down to the start.
     End { start: usize, limit: usize },

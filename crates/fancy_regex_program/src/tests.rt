@@ -1,12 +1,13 @@
 //! Programs of worked patterns, whose trees are made by hand.
 
-use crate::compiler::compile_expr;
+use crate::compiler::compile;
 use crate::insn::Insn;
 use crate::prog::Prog;
 use crate::range::CaptureGroupRange;
-use fancy_regex_sizes::{CompileError, CompileOptions};
-use fancy_regex_tree::{Expr, LookAround};
+use fancy_regex_sizes::{AnalyzeContext, CompileError, CompileOptions, analyze};
+use fancy_regex_tree::{Expr, ExprTree, LookAround};
 use std::alloc::{AllocError, Global};
+use std::collections::{BTreeMap, BTreeSet};
 use std::test::Fail;
 
 fn character(alloc: Global, wanted: char) -> Result<Expr, AllocError> {
@@ -46,6 +47,31 @@ fn optional(alloc: Global, child: Expr) -> Result<Expr, AllocError> {
     })
 }
 
+/// The program of a tree, or why there is none.
+fn compiled(
+    alloc: Global,
+    expr: Expr,
+    whole: bool,
+    options: &CompileOptions,
+) -> Result<Prog, CompileError> {
+    let tree = ExprTree {
+        expr,
+        backrefs: BTreeSet::new(alloc),
+        named_groups: BTreeMap::new(alloc),
+        contains_subroutines: false,
+        total_groups: 0,
+        reference_above_total: false,
+        named_backref_only: false,
+        calls_whole: false,
+    };
+    let context = AnalyzeContext {
+        explicit_capture_group_0: !whole,
+        find_not_empty: false,
+    };
+    let info = analyze(alloc, &tree, context)?;
+    compile(alloc, &info, options)
+}
+
 fn capped(max_prog_size: usize) -> CompileOptions {
     CompileOptions {
         max_prog_size: Some(max_prog_size),
@@ -83,8 +109,7 @@ fn shown(alloc: Global, prog: &Prog) -> Result<String, Fail> {
 #[test]
 fn literals_merge(rt: HostRuntime) -> Result<(), Fail> {
     let alloc = rt.alloc();
-    let abc = text(alloc, "abc")?;
-    let whole = compile_expr(alloc, &abc, true, &CompileOptions::default())?;
+    let whole = compiled(alloc, text(alloc, "abc")?, true, &CompileOptions::default())?;
     assert_eq!(rt;
         shown(alloc, &whole)?.as_str(),
         "SplitUnanchored Save0 Lit(abc) Save(1) End "
@@ -93,7 +118,7 @@ fn literals_merge(rt: HostRuntime) -> Result<(), Fail> {
         anchored: true,
         ..CompileOptions::default()
     };
-    let plain = compile_expr(alloc, &abc, false, &anchored)?;
+    let plain = compiled(alloc, text(alloc, "abc")?, false, &anchored)?;
     assert_eq!(rt; shown(alloc, &plain)?.as_str(), "Lit(abc) End ");
     Ok(())
 }
@@ -101,10 +126,9 @@ fn literals_merge(rt: HostRuntime) -> Result<(), Fail> {
 #[test]
 fn a_cap_is_kept(rt: HostRuntime) -> Result<(), Fail> {
     let alloc = rt.alloc();
-    let abc = text(alloc, "abc")?;
-    let given = compile_expr(alloc, &abc, true, &capped(5))?;
+    let given = compiled(alloc, text(alloc, "abc")?, true, &capped(5))?;
     assert_eq!(rt; given.body().len(), 5);
-    match compile_expr(alloc, &abc, true, &capped(3)) {
+    match compiled(alloc, text(alloc, "abc")?, true, &capped(3)) {
         Err(CompileError::PatternTooComplex) => {}
         _ => assert!(rt; false),
     }
@@ -117,7 +141,7 @@ fn calls_are_written_out(rt: HostRuntime) -> Result<(), Fail> {
     let branches = branches(alloc, character(alloc, 'a')?, character(alloc, 'b')?)?;
     let group = Expr::Group(Box::new(alloc, branches)?);
     let pattern = row(alloc, group, Expr::SubroutineCall(1))?;
-    let prog = compile_expr(alloc, &pattern, true, &CompileOptions::default())?;
+    let prog = compiled(alloc, pattern, true, &CompileOptions::default())?;
     assert_eq!(rt;
         shown(alloc, &prog)?.as_str(),
         "SplitUnanchored Save0 Save(4) Split(4,6) Lit(a) Jmp(7) Lit(b) SaveCaptureGroupStart(4,2) Save(3) Split(10,12) Lit(a) Jmp(13) Lit(b) Save(1) End "
@@ -132,7 +156,7 @@ fn a_call_opens_nineteen_times(rt: HostRuntime) -> Result<(), Fail> {
     let call = optional(alloc, Expr::SubroutineCall(1))?;
     let body = row(alloc, character(alloc, 'a')?, call)?;
     let pattern = Expr::Group(Box::new(alloc, body)?);
-    let prog = compile_expr(alloc, &pattern, true, &CompileOptions::default())?;
+    let prog = compiled(alloc, pattern, true, &CompileOptions::default())?;
     let failing = prog
         .body()
         .iter()
@@ -158,7 +182,7 @@ fn recursion_meets_the_cap(rt: HostRuntime) -> Result<(), Fail> {
     )?;
     let body = row(alloc, character(alloc, 'a')?, calls)?;
     let pattern = Expr::Group(Box::new(alloc, body)?);
-    match compile_expr(alloc, &pattern, true, &capped(1000)) {
+    match compiled(alloc, pattern, true, &capped(1000)) {
         Err(CompileError::PatternTooComplex) => {}
         _ => assert!(rt; false),
     }
@@ -171,7 +195,7 @@ fn branches_go_back_each_for_itself(rt: HostRuntime) -> Result<(), Fail> {
     let unequal = branches(alloc, character(alloc, 'a')?, text(alloc, "bc")?)?;
     let look = Expr::LookAround(Box::new(alloc, unequal)?, LookAround::LookBehind);
     let pattern = row(alloc, look, character(alloc, 'd')?)?;
-    let prog = compile_expr(alloc, &pattern, true, &CompileOptions::default())?;
+    let prog = compiled(alloc, pattern, true, &CompileOptions::default())?;
     assert_eq!(rt;
         shown(alloc, &prog)?.as_str(),
         "SplitUnanchored Save0 Save(2) Split(4,7) GoBack(1) Lit(a) Jmp(9) GoBack(2) Lit(bc) Restore(2) Lit(d) Save(1) End "
@@ -183,10 +207,49 @@ fn branches_go_back_each_for_itself(rt: HostRuntime) -> Result<(), Fail> {
         greedy: true,
     };
     let endless = Expr::LookAround(Box::new(alloc, repeat)?, LookAround::LookBehind);
-    match compile_expr(alloc, &endless, true, &CompileOptions::default()) {
+    match compiled(alloc, endless, true, &CompileOptions::default()) {
         Err(CompileError::LookBehindNotConst) => {}
         _ => assert!(rt; false),
     }
+    Ok(())
+}
+
+#[test]
+fn a_look_behind_over_a_call_goes_back(rt: HostRuntime) -> Result<(), Fail> {
+    let alloc = rt.alloc();
+    let call = Expr::SubroutineCall(1);
+    let look = Expr::LookAround(Box::new(alloc, call)?, LookAround::LookBehind);
+    let group = Expr::Group(Box::new(alloc, text(alloc, "ab")?)?);
+    let pattern = row(alloc, look, group)?;
+    let prog = compiled(alloc, pattern, true, &CompileOptions::default())?;
+    assert_eq!(rt;
+        shown(alloc, &prog)?.as_str(),
+        "SplitUnanchored Save0 Save(4) GoBack(2) Lit(ab) Restore(4) Save(5) Lit(ab) SaveCaptureGroupStart(5,2) Save(3) Save(1) End "
+    );
+    Ok(())
+}
+
+#[test]
+fn nested_repeats_count_in_slots_of_their_own(rt: HostRuntime) -> Result<(), Fail> {
+    let alloc = rt.alloc();
+    let inner = Expr::Repeat {
+        child: Box::new(alloc, text(alloc, "ab")?)?,
+        lo: 2,
+        hi: 3,
+        greedy: true,
+    };
+    let outer = Expr::Repeat {
+        child: Box::new(alloc, inner)?,
+        lo: 4,
+        hi: 5,
+        greedy: true,
+    };
+    let prog = compiled(alloc, outer, true, &CompileOptions::default())?;
+    assert_eq!(rt;
+        shown(alloc, &prog)?.as_str(),
+        "SplitUnanchored Save0 BeginRepeat(2) RepeatGr(9,2) BeginRepeat(3) RepeatGr(8,3) Lit(ab) Jmp(5) Jmp(3) Save(1) End "
+    );
+    assert_eq!(rt; prog.slots(), 4);
     Ok(())
 }
 
@@ -202,10 +265,10 @@ fn the_start_is_kept_outside_of_look_arounds(rt: HostRuntime) -> Result<(), Fail
     let alloc = rt.alloc();
     let inside = row(alloc, character(alloc, 'a')?, Expr::KeepOut)?;
     let look = Expr::LookAround(Box::new(alloc, inside)?, LookAround::LookAhead);
-    let refused = compile_expr(alloc, &look, true, &CompileOptions::default());
+    let refused = compiled(alloc, look, true, &CompileOptions::default());
     assert!(rt; is_keep_out(&refused));
     let pattern = row(alloc, character(alloc, 'a')?, Expr::KeepOut)?;
-    let prog = compile_expr(alloc, &pattern, true, &CompileOptions::default())?;
+    let prog = compiled(alloc, pattern, true, &CompileOptions::default())?;
     assert_eq!(rt;
         shown(alloc, &prog)?.as_str(),
         "SplitUnanchored Save0 Lit(a) Save(0) Save(1) End "

@@ -1,10 +1,10 @@
 use Rattle.std.proofs.Common.{◌≡◌, ◌+◌, ◌-◌, ◌<◌, ◌≤◌, ◌∙◌, ℕ, [], Some, None, length, refl, sym, ap, subst, arith}
 use Rattle.fancy_regex_slots.specs.Memory.{Memory}
-use Rattle.fancy_regex_program.specs.Machine.{first_thread}
+use Rattle.fancy_regex_program.specs.Machine.{nothing_held, first_thread}
 use Rattle.fancy_regex_program.specs.Ops.{ops_of}
 use Rattle.fancy_regex_machine.specs.Plans.{rules_of}
 use Rattle.fancy_regex_machine.specs.Steps.{thread_of}
-use Rattle.fancy_regex_machine.specs.Turns.{kept_of}
+use Rattle.fancy_regex_machine.specs.Turns.{kept_of, held_of}
 use Rattle.fancy_regex_machine.proofs.Exec.{Running, begins, started, in_place, too_high, is_over, runs_on, told_error}
 use Rattle.fancy_regex_machine.proofs.whole.run_machine.Goals as goal
 
@@ -16,48 +16,48 @@ loop-step-init c =
       within = omega arith;
       same = refl;
       running = λ n e is.
-          subst (λ (m : Memory). Running code r n e None (thread_of (record { pc = 0; position = c.in-Some.first }) m) m.stack 0 0) (sym c.in_ok-slots.ensures)
-          (begins code r n e None (first_thread c.args.slot_count c.in-Some.first) [] (started code c.args.slot_count r n c.in-Some.first e c.in-Some.ensures is));
+          subst (λ (m : Memory). Running code r n e nothing_held (thread_of (record { pc = 0; position = c.in-Some.first }) m) m.stack 0 0) (sym c.in_ok-slots.ensures)
+          (begins code r n e nothing_held (first_thread c.args.slot_count c.in-Some.first) [] (started code c.args.slot_count r n c.in-Some.first e c.in-Some.ensures is));
     }
 
 pub returns-then-height-gt-MOST_BRANCHES : goal.returns-then-height-gt-MOST_BRANCHES
 returns-then-height-gt-MOST_BRANCHES c n e is =
     let t = thread_of c.loop-step.place c.loop-step.slots in
-    too_high (ops_of c.args.body.now) (rules_of c.args.plan.now) n e (kept_of c.loop-step.kept) t c.loop-step.slots.stack c.loop-step.budget.used c.loop-step.step
+    too_high (ops_of c.args.body.now) (rules_of c.args.plan.now) n e (held_of c.loop-step.held) t c.loop-step.slots.stack c.loop-step.budget.used c.loop-step.step
     (c.loop-step.invariant.running n e is) (omega (arith, c.height.ensures, c.if-height-gt-MOST_BRANCHES.true))
 
 pub returns-in-Ok-Over : goal.returns-in-Ok-Over
 returns-in-Ok-Over c n e is =
     let code = ops_of c.args.body.now in
     let r = rules_of c.args.plan.now in
-    let kept = kept_of c.loop-step.kept in
+    let held = held_of c.loop-step.held in
     let t = thread_of c.loop-step.place c.loop-step.slots in
     let stack = c.loop-step.slots.stack in
     let used = c.loop-step.budget.used in
     let step = c.loop-step.step in
     let run = c.loop-step.invariant.running n e is in
-    let told = rw c.in-Ok-Over.field-0-is at (rw c.in-Ok-Over.is at (c.advance.ensures.told (in_place code r n e kept t stack used step run))) in
-    let over = is_over code r n e kept t stack used step run (kept_of c.advance.new.kept) (omega (arith, c.height.ensures, c.if-height-gt-MOST_BRANCHES.false)) told.1 in
+    let told = rw c.in-Ok-Over.field-0-is at (rw c.in-Ok-Over.is at (c.advance.ensures.told (in_place code r n e held t stack used step run))) in
+    let over = is_over code r n e held t stack used step run (kept_of c.advance.new.held.kept) (omega (arith, c.height.ensures, c.if-height-gt-MOST_BRANCHES.false)) told.1 in
     (over.0, omega (arith, over.1, c.loop-step.invariant.within, c.loop-step.invariant.same), over.2)
 
 pub returns-in-Err : goal.returns-in-Err
 returns-in-Err c n e is =
     let code = ops_of c.args.body.now in
     let r = rules_of c.args.plan.now in
-    let kept = kept_of c.loop-step.kept in
+    let held = held_of c.loop-step.held in
     let t = thread_of c.loop-step.place c.loop-step.slots in
     let stack = c.loop-step.slots.stack in
     let used = c.loop-step.budget.used in
     let step = c.loop-step.step in
     let run = c.loop-step.invariant.running n e is in
-    let told = rw c.in-Err.is at (c.advance.ensures.told (in_place code r n e kept t stack used step run)) in
-    told_error code r n e kept t stack step {used = used} run c.args.limit c.in-Err.error (kept_of c.advance.new.kept) c.loop-step.budget c.advance.new.budget c.advance.new.place c.advance.new.slots c.loop-step.invariant.same refl told
+    let told = rw c.in-Err.is at (c.advance.ensures.told (in_place code r n e held t stack used step run)) in
+    told_error code r n e held t stack step {used = used} run c.args.limit c.in-Err.error (held_of c.advance.new.held) c.loop-step.budget c.advance.new.budget c.advance.new.place c.advance.new.slots c.loop-step.invariant.same refl told
 
 pub loop-step-preserved : goal.loop-step-preserved
 loop-step-preserved c =
     let code = ops_of c.args.body.now in
     let r = rules_of c.args.plan.now in
-    let kept = kept_of c.loop-step.kept in
+    let held = held_of c.loop-step.held in
     let t = thread_of c.loop-step.place c.loop-step.slots in
     let stack = c.loop-step.slots.stack in
     let used = c.loop-step.budget.used in
@@ -68,10 +68,10 @@ loop-step-preserved c =
       same = budget.0 ∙ c.loop-step.invariant.same;
       running = λ n e is.
           let run = c.loop-step.invariant.running n e is in
-          let told = rw c.in-Ok-On.field-0-is at (rw c.in-Ok-On.is at (c.advance.ensures.told (in_place code r n e kept t stack used step run))) in
+          let told = rw c.in-Ok-On.field-0-is at (rw c.in-Ok-On.is at (c.advance.ensures.told (in_place code r n e held t stack used step run))) in
           let more = c.advance.new.budget.used - used in
           let sum : used + more ≡ c.advance.new.budget.used = omega (arith, told.1) in
-          subst (λ (k : ℕ). Running code r n e (kept_of c.advance.new.kept) (thread_of c.advance.new.place c.advance.new.slots) c.advance.new.slots.stack k (step + 1)) sum
-          (runs_on code r n e kept t stack used step run (kept_of c.advance.new.kept) (thread_of c.advance.new.place c.advance.new.slots) c.advance.new.slots.stack more
+          subst (λ (k : ℕ). Running code r n e (held_of c.advance.new.held) (thread_of c.advance.new.place c.advance.new.slots) c.advance.new.slots.stack k (step + 1)) sum
+          (runs_on code r n e held t stack used step run (held_of c.advance.new.held) (thread_of c.advance.new.place c.advance.new.slots) c.advance.new.slots.stack more
           (omega (arith, c.height.ensures, c.if-height-gt-MOST_BRANCHES.false)) told.3);
     }

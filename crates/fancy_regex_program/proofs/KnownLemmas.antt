@@ -1,0 +1,201 @@
+-- What the analysis says of a tree gives the pattern of the definitions.
+use Rattle.std.proofs.Common.{◌≡◌, ℕ, zero, suc, ◌+◌, ◌*◌, Bool, true, false, cond, not, List, [], ◌∷◌, ◌++◌, map, length, count_by, sum_by, Option, Some, None, option_map, refl, sym, ap, ap₂, ◌∙◌, arith, append_assoc, append-nil, length-append}
+use Rattle.std.specs.Prelude.{slice_get, slice_index, ◌==◌, nat_le}
+use Rattle.std.proofs.lemmas.List.Sums.{sum_by-append, sum_by-cons}
+use Rattle.std.proofs.Math.Path.{fun_ext}
+use Rattle.fancy_regex_tree.specs.Tree as tree
+use Rattle.fancy_regex_tree.specs.Tree.{Tree, Trees, no_trees, more_trees}
+use Rattle.fancy_regex_meaning.specs.Groups.{Pattern, bodies, row_bodies, group_count, row_group_count, pattern_of, explicit_pattern_of}
+use Rattle.fancy_regex_meaning.specs.Sizes.{size, target}
+use Rattle.fancy_regex_meaning.specs.Ways.{is_full, open_calls_of_one, most_calls}
+use Rattle.fancy_regex_pattern.specs.Pats.{Pat, any, literal, class, nothing, read, general_newline, check, continue, keep_out, fail, group, atomic, repeat, backref, exists, conditional, absent}
+use Rattle.fancy_regex_pattern.specs.Unfolded.{Written, pat_for, cat_all, alt_all, look, node, branches, written, written_all, written_call, pat_of}
+use Rattle.fancy_regex_sizes.specs.Analysis.{analysis}
+use Rattle.fancy_regex_sizes.specs.References.{is_read}
+use Rattle.fancy_regex_sizes.specs.Infos.{Facts, InfoTree, InfoTrees, known, no_infos, more_infos, facts_in, facts, described, described_row}
+use Rattle.fancy_regex_sizes.specs.Views.{pattern_in}
+use Rattle.fancy_regex_program.specs.Known.{front_of, behind_of, layer, info_written, info_written_all, info_call, listed, bodies_in, row_bodies_in, groups_in, most_calls_in, pat_in}
+
+module _ (groups : List Tree) (reads : ℕ → Bool) where
+  abbrev D : ℕ → Tree → InfoTree
+  D = described groups reads
+
+  own : (n : ℕ) (t : Tree) → facts_in (D n t) ≡ facts groups reads n t
+  unfolding described
+  own n (tree.concat ts) = refl
+  own n _ = refl
+
+  module _ (call : ℕ → Pat) where
+    mutual
+      unfolding described described_row info_written info_written_all front_of behind_of written written_all
+
+      known_is : (n : ℕ) (t : Tree) → info_written call (D n t) ≡ written groups call n t
+      known_is n (tree.alt ts) = ap (branches groups (tree.alt ts)) (known_all n ts)
+      known_is n (tree.concat ts) = ap (λ us. node groups (tree.concat ts) (cat_all us)) (known_all n ts)
+      known_is n (tree.group t) = ap (λ v. node groups (tree.group t) (group n v.front)) (known_is (n + 1) t)
+      known_is n (tree.look_around t how) = ap (λ v. node groups (tree.look_around t how) (look how v)) (known_is n t)
+      known_is n (tree.repeat t lo hi greedy) = ap (λ v. node groups (tree.repeat t lo hi greedy) (front_of call n (tree.repeat t lo hi greedy) (v ∷ []))) (known_is n t)
+      known_is n (tree.atomic_group t) = ap (λ v. node groups (tree.atomic_group t) (atomic v.front)) (known_is n t)
+      known_is n (tree.conditional c a b) =
+          ap₂ (λ x y. node groups (tree.conditional c a b) (conditional x.front y.front (info_written call (D (n + group_count c + group_count a) b)).front))
+          (known_is n c) (known_is (n + group_count c) a)
+          ∙ ap (λ z. node groups (tree.conditional c a b) (conditional (written groups call n c).front (written groups call (n + group_count c) a).front z.front))
+          (known_is (n + group_count c + group_count a) b)
+      known_is n (tree.absent_repeater t) = ap (λ v. node groups (tree.absent_repeater t) (absent v.front)) (known_is n t)
+      known_is n (tree.backref_exists k None) = refl
+      known_is n (tree.backref_exists k (Some level)) = refl
+      known_is n _ = refl
+
+      known_all : (n : ℕ) (ts : Trees) → info_written_all call (described_row groups reads n ts) ≡ written_all groups call n ts
+      known_all n no_trees = refl
+      known_all n (more_trees t ts) = ap₂ (λ v vs. v ∷ vs) (known_is n t) (known_all (n + group_count t) ts)
+
+  -- the bodies of groups, of which the first has that number
+  abbrev pub bodies_from : ℕ → List Tree → List InfoTree
+  bodies_from n [] = []
+  bodies_from n (t ∷ ts) = D (n + 1) t ∷ bodies_from (n + 1) ts
+
+  length_from : (n : ℕ) (ts : List Tree) → length (bodies_from n ts) ≡ length ts
+  length_from n [] = refl
+  length_from n (t ∷ ts) = ap suc (length_from (n + 1) ts)
+
+  from_append : (n : ℕ) (xs ys : List Tree) → bodies_from n (xs ++ ys) ≡ bodies_from n xs ++ bodies_from (n + length xs) ys
+  from_append n [] ys = let same : n ≡ n + 0 = omega arith in ap (λ k. bodies_from k ys) same
+  from_append n (x ∷ xs) ys =
+      let same : n + 1 + length xs ≡ n + suc (length xs) = omega arith in
+      ap (λ l. D (n + 1) x ∷ l) (from_append (n + 1) xs ys ∙ ap (λ k. bodies_from (n + 1) xs ++ bodies_from k ys) same)
+
+  get_from : (n : ℕ) (ts : List Tree) (k : ℕ) → slice_get (bodies_from n ts) k ≡ option_map (D (n + k + 1)) (slice_get ts k)
+  get_from n [] k = refl
+  get_from n (t ∷ ts) zero = let same : n + 1 ≡ n + 0 + 1 = omega arith in ap (λ j. Some (D j t)) same
+  get_from n (t ∷ ts) (suc k) =
+      let same : n + 1 + k + 1 ≡ n + suc k + 1 = omega arith in
+      get_from (n + 1) ts k ∙ ap (λ j. option_map (D j) (slice_get ts k)) same
+
+  mutual
+    unfolding bodies row_bodies group_count row_group_count
+
+    counted : (t : Tree) → length (bodies t) ≡ group_count t
+    counted (tree.group t) = omega (arith, counted t)
+    counted (tree.concat ts) = counted_row ts
+    counted (tree.alt ts) = counted_row ts
+    counted (tree.look_around t how) = counted t
+    counted (tree.repeat t lo hi greedy) = counted t
+    counted (tree.atomic_group t) = counted t
+    counted (tree.conditional c a b) = omega (arith, length-append (bodies c) (bodies a ++ bodies b), length-append (bodies a) (bodies b), counted c, counted a, counted b)
+    counted (tree.absent_repeater t) = counted t
+    counted (tree.absent_expression a t) = omega (arith, length-append (bodies a) (bodies t), counted a, counted t)
+    counted (tree.absent_stopper t) = counted t
+    counted (tree.define_group t) = counted t
+    counted (tree.ast_group name t position) = counted t
+    counted _ = refl
+
+    counted_row : (ts : Trees) → length (row_bodies ts) ≡ row_group_count ts
+    counted_row no_trees = refl
+    counted_row (more_trees t ts) = omega (arith, length-append (bodies t) (row_bodies ts), counted t, counted_row ts)
+
+  one_body : (n : ℕ) (t : Tree) → bodies_in (D n t) ≡ bodies_from n (bodies t) → bodies_in (D n t) ++ [] ≡ bodies_from n (bodies t)
+  one_body n t e = append-nil (bodies_in (D n t)) ∙ e
+
+  behind_bodies : (n : ℕ) (t : Tree) (us : List Tree) (xs : List InfoTree) → bodies_in (D n t) ≡ bodies_from n (bodies t) →
+      xs ≡ bodies_from (n + group_count t) us → bodies_in (D n t) ++ xs ≡ bodies_from n (bodies t ++ us)
+  behind_bodies n t us xs e f =
+      ap₂ (λ l m. l ++ m) e (f ∙ ap (λ k. bodies_from (n + k) us) (sym (counted t))) ∙ sym (from_append n (bodies t) us)
+
+  mutual
+    unfolding described described_row bodies row_bodies bodies_in row_bodies_in
+
+    bodies_are : (n : ℕ) (t : Tree) → bodies_in (D n t) ≡ bodies_from n (bodies t)
+    bodies_are n (tree.group t) = ap (λ l. D (n + 1) t ∷ l) (one_body (n + 1) t (bodies_are (n + 1) t))
+    bodies_are n (tree.concat ts) = row_bodies_are n ts
+    bodies_are n (tree.alt ts) = row_bodies_are n ts
+    bodies_are n (tree.look_around t how) = one_body n t (bodies_are n t)
+    bodies_are n (tree.repeat t lo hi greedy) = one_body n t (bodies_are n t)
+    bodies_are n (tree.atomic_group t) = one_body n t (bodies_are n t)
+    bodies_are n (tree.conditional c a b) =
+        behind_bodies n c (bodies a ++ bodies b) _ (bodies_are n c)
+        (behind_bodies (n + group_count c) a (bodies b) _ (bodies_are (n + group_count c) a)
+        (one_body (n + group_count c + group_count a) b (bodies_are (n + group_count c + group_count a) b)))
+    bodies_are n (tree.absent_repeater t) = one_body n t (bodies_are n t)
+    bodies_are n (tree.absent_expression a t) =
+        behind_bodies n a (bodies t) _ (bodies_are n a) (one_body (n + group_count a) t (bodies_are (n + group_count a) t))
+    bodies_are n (tree.absent_stopper t) = one_body n t (bodies_are n t)
+    bodies_are n (tree.define_group t) = one_body n t (bodies_are n t)
+    bodies_are n (tree.ast_group name t position) = one_body n t (bodies_are n t)
+    bodies_are n _ = refl
+
+    row_bodies_are : (n : ℕ) (ts : Trees) → row_bodies_in (described_row groups reads n ts) ≡ bodies_from n (row_bodies ts)
+    row_bodies_are n no_trees = refl
+    row_bodies_are n (more_trees t ts) = behind_bodies n t (row_bodies ts) _ (bodies_are n t) (row_bodies_are (n + group_count t) ts)
+
+  -- as often open in the one list as in the other
+  abbrev AsOpen : List ℕ → List ℕ → Type 0
+  AsOpen xs ys = (j : ℕ) → count_by (λ i. i == j) xs ≡ count_by (λ i. i == j) ys
+
+  one_more_open : (xs ys : List ℕ) (k : ℕ) → AsOpen xs ys → AsOpen (xs ++ k ∷ []) (k ∷ ys)
+  one_more_open xs ys k same j =
+      let f : ℕ → ℕ = λ i. cond (i == j) 1 0 in
+      omega (arith, sum_by-append f xs (k ∷ []), sum_by-cons f k [], sum_by-cons f k ys, same j)
+
+  picked : (f : InfoTree → Pat) (g : Tree → Pat) (d : Tree → InfoTree) → ((t : Tree) → f (d t) ≡ g t) → (o : Option Tree) →
+      pat_for f (option_map d o) ≡ pat_for g o
+  picked f g d same None = refl
+  picked f g d same (Some t) = same t
+
+  call_is : (m : ℕ) (xs ys : List ℕ) → AsOpen xs ys → (k : ℕ) → info_call (bodies_from 0 groups) m xs k ≡ written_call groups m ys k
+  unfolding info_call written_call
+  call_is zero xs ys same k = refl
+  call_is (suc m) xs ys same k =
+      let inner = info_call (bodies_from 0 groups) m (xs ++ k ∷ []) in
+      let next : 0 + k + 1 ≡ k + 1 = omega arith in
+      let calls : inner ≡ written_call groups m (k ∷ ys) = fun_ext (call_is m (xs ++ k ∷ []) (k ∷ ys) (one_more_open xs ys k same)) in
+      ap₂ (λ b p. cond b fail p) (ap (λ c. nat_le open_calls_of_one c) (same k))
+      (ap (pat_for (λ x. (info_written inner x).front)) (get_from 0 groups k ∙ ap (λ j. option_map (D j) (slice_get groups k)) next)
+      ∙ picked (λ x. (info_written inner x).front) (λ body. (written groups (written_call groups m (k ∷ ys)) (k + 1) body).front) (D (k + 1))
+      (λ body. ap (λ v. v.front) (known_is inner (k + 1) body) ∙ ap (λ c. (written groups c (k + 1) body).front) calls)
+      (slice_get groups k))
+
+pub start_is : (explicit : Bool) (t : Tree) → (facts_in (analysis explicit t)).start ≡ (pattern_in explicit t).first_group
+start_is explicit t =
+    let pattern = pattern_in explicit t in
+    ap (λ f. f.start) (own pattern.groups (is_read (length pattern.groups) t) pattern.first_group t)
+
+groups_are : (explicit : Bool) (t : Tree) → groups_in (not explicit) (analysis explicit t)
+    ≡ bodies_from (pattern_in explicit t).groups (is_read (length (pattern_in explicit t).groups) t) 0 (pattern_in explicit t).groups
+groups_are true t = bodies_are (bodies t) (is_read (length (bodies t)) t) 0 t
+groups_are false t =
+    let gs = t ∷ bodies t in
+    ap (λ l. analysis false t ∷ l) (bodies_are gs (is_read (length gs) t) 1 t)
+
+pub count_is : (explicit : Bool) (t : Tree) → length (groups_in (not explicit) (analysis explicit t)) ≡ length (pattern_in explicit t).groups
+count_is explicit t =
+    let pattern = pattern_in explicit t in
+    ap length (groups_are explicit t) ∙ length_from pattern.groups (is_read (length pattern.groups) t) 0 pattern.groups
+
+pat_of_groups : (whole : Bool) (x : InfoTree) →
+    pat_in whole x ≡ (info_written (info_call (groups_in whole x) (open_calls_of_one * length (groups_in whole x)) []) x).front
+unfolding pat_in
+pat_of_groups whole x = refl
+
+pat_of_written : (p : Pattern) → (written p.groups (written_call p.groups (most_calls p.groups) []) p.first_group p.tree).front ≡ pat_of p
+unfolding pat_of
+pat_of_written p = refl
+
+tree_is : (explicit : Bool) (t : Tree) → (pattern_in explicit t).tree ≡ t
+tree_is true t = refl
+tree_is false t = refl
+
+-- The whole pattern is that of the definitions.
+pub pat_is : (explicit : Bool) (t : Tree) → pat_in (not explicit) (analysis explicit t) ≡ pat_of (pattern_in explicit t)
+pat_is explicit t =
+    let pattern = pattern_in explicit t in
+    let reads = is_read (length pattern.groups) t in
+    let n = most_calls pattern.groups in
+    let x = analysis explicit t in
+    let front : List InfoTree → ℕ → Pat = λ gs m. (info_written (info_call gs (open_calls_of_one * m) []) x).front in
+    pat_of_groups (not explicit) x
+    ∙ ap₂ front (groups_are explicit t) (count_is explicit t)
+    ∙ ap (λ (c : ℕ → Pat). (info_written c x).front) (fun_ext (call_is pattern.groups reads n [] [] (λ j. refl)))
+    ∙ ap (λ (v : Written). v.front) (known_is pattern.groups reads (written_call pattern.groups n []) pattern.first_group t)
+    ∙ ap (λ r. (written pattern.groups (written_call pattern.groups n []) pattern.first_group r).front) (sym (tree_is explicit t))
+    ∙ pat_of_written pattern

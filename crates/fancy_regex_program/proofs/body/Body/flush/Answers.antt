@@ -1,0 +1,29 @@
+use Rattle.std.proofs.Common.{refl, sym, ap, map, ◌∙◌, [], ◌∷◌, ◌++◌, append-nil, chars, string_bytes, string_len, length, ◌≡◌, rules}
+use Rattle.std.proofs.lemmas.Str.{IsUtf8-string_bytes, chars-nil}
+use Rattle.fancy_regex_program.specs.Ops.{op_of, ops_of}
+use Rattle.fancy_regex_program.specs.Ops as op
+use Rattle.fancy_regex_program.specs.Code.{flushed}
+use Rattle.fancy_regex_program.specs.Writing.{closed_draft, with_op}
+use Rattle.fancy_regex_program.proofs.Drafts.{same_draft}
+use Rattle.fancy_regex_program.proofs.TextLemmas.{no_text, some_text}
+use Rattle.fancy_regex_program.proofs.body.Body.flush.Goals as goal
+
+pub returns-then-is_empty-clause-draft : goal.returns-then-is_empty-clause-draft
+unfolding closed_draft
+returns-then-is_empty-clause-draft c =
+    let b = c.args.self.now in
+    let long : string_len b.waiting ≡ length (string_bytes b.waiting) = search rules in
+    let none = no_text (string_bytes b.waiting) (string_len b.waiting) long (sym c.if-is_empty.ensures) in
+    same_draft (sym (append-nil (ops_of b.insns.items)) ∙ ap (λ t. ops_of b.insns.items ++ flushed t) (sym none)) none
+
+pub returns-clause-draft : goal.returns-clause-draft
+unfolding closed_draft with_op
+returns-clause-draft c =
+    let b = c.args.self.now in
+    let long : string_len b.waiting ≡ length (string_bytes b.waiting) = search rules in
+    let bytes = string_bytes b.waiting in
+    c.in_ok-put.ensures.draft
+    ∙ same_draft
+    (ap (λ s. ops_of b.insns.items ++ op.lit (chars (string_bytes s)) ∷ []) c.replace-text.ensures.value
+    ∙ ap (λ l. ops_of b.insns.items ++ l) (sym (some_text bytes (string_len b.waiting) long (IsUtf8-string_bytes b.waiting) (sym c.if-is_empty.ensures))))
+    (ap (λ s. chars (string_bytes s)) c.replace-text.ensures.after ∙ ap chars c.new.ensures.bytes ∙ chars-nil)

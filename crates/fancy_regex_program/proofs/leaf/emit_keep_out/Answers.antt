@@ -1,0 +1,32 @@
+use Rattle.std.proofs.Common.{◌≡◌, ◌+◌, ℕ, Bool, refl, sym, ap, ◌∙◌, cond, arith}
+use Rattle.fancy_regex_pattern.specs.Pats.{keep_out}
+use Rattle.fancy_regex_program.specs.Ops as op
+use Rattle.fancy_regex_program.specs.Writing.{Wrote, draft_of, added, closed_draft}
+use Rattle.fancy_regex_program.specs.declared.emitter.Emitter.{Emitter}
+use Rattle.fancy_regex_program.proofs.Drafts.{pat_keep}
+use Rattle.fancy_regex_program.proofs.leaf.emit_keep_out.Goals as goal
+use Rattle.fancy_regex_program.proofs.leaf.emit_keep_out.Goals.{then-task+in_ok-add, else-task+in_ok-flush}
+
+kept : (u w : Bool) (old new : Emitter) (slot : ℕ) →
+    draft_of new.body ≡ cond w (added (op.save 0) (draft_of old.body)) (closed_draft (draft_of old.body)) →
+    new.opened.items ≡ old.opened.items → Wrote u w old new slot slot keep_out
+kept u w old new slot drew opened = record {
+  draft = drew ∙ sym (pat_keep u w slot (draft_of old.body));
+  slots = omega arith;
+  opened = opened;
+}
+
+pub returns-clause-wrote : goal.returns-clause-wrote
+returns-clause-wrote c slot =
+    let u = c.args.task.now.unicode in
+    let w = c.args.task.now.whole in
+    let old = c.args.emitter.now in
+    let d = draft_of old.body in
+    elim c.if-task.branch [
+      | then-task+in_ok-add z ↦ kept u w old c.if-task.emitter slot
+          (ap (λ e. draft_of e.body) z.emitter-is ∙ z.in_ok-add.ensures.draft ∙ ap (λ b. cond b (added (op.save 0) d) (closed_draft d)) (sym z.if-task.true))
+          (ap (λ e. e.opened.items) z.emitter-is)
+      | else-task+in_ok-flush z ↦ kept u w old c.if-task.emitter slot
+          (ap (λ e. draft_of e.body) z.emitter-is ∙ z.in_ok-flush.ensures.draft ∙ ap (λ b. cond b (added (op.save 0) d) (closed_draft d)) (sym z.if-task.false))
+          (ap (λ e. e.opened.items) z.emitter-is)
+    ]

@@ -1,0 +1,14 @@
+mod Denote
+mod Runs
+mod Laid
+mod Parts
+mod Loops
+mod Moves
+mod Steps
+mod Absents
+mod Emitted
+mod Trail
+mod AbsentWays
+mod WaysOf
+mod Tales
+mod Whole
