@@ -1,5 +1,5 @@
 -- A try depends on what follows only from its start on; and the equation of a loop.
-use Rattle.std.proofs.Common.{◌||◌, ◌⊎◌, true≢false, ◌≡◌, ℕ, zero, suc, ◌+◌, ◌*◌, ◌-◌, ◌<◌, ◌≤◌, Bool, true, false, List, refl, sym, ap, ap₂, ◌∙◌, inl, inr, ⊎_elim, arith, ltb-true, leb-true, lt-ltb, le-ltb}
+use Rattle.std.proofs.Common.{◌||◌, ◌⊎◌, true≢false, ◌≡◌, ℕ, zero, suc, ◌+◌, ◌*◌, ◌-◌, ◌<◌, ◌≤◌, Bool, true, false, refl, sym, ap, ap₂, ◌∙◌, inl, inr, ⊎_elim, arith, ltb-true, leb-true, lt-ltb, le-ltb}
 use Rattle.std.proofs.lemmas.Bool.{cases_lt, and_parts}
 use Rattle.fancy_regex_runner.specs.Meaning.{View, reads, is_unbounded}
 use Rattle.fancy_regex_runner.specs.Program.{never_empty}

@@ -1,5 +1,5 @@
 -- What a search over the states of a plain pattern finds is the match of its tree.
-use Rattle.std.proofs.Common.{◌≡◌, ℕ, zero, suc, ◌+◌, ◌*◌, ◌-◌, ◌<◌, ◌≤◌, ◌==◌, Bool, true, false, cond, not, ◌&&◌, List, [], ◌∷◌, length, map, replicate, Option, Some, None, if◌then◌else◌, nat_le, nat_lt, set, refl, sym, ap, ap₂, ◌∙◌, subst, inr, ⊎_elim, arith, lt-ltb, le-ltb, slice_get}
+use Rattle.std.proofs.Common.{◌≡◌, ℕ, zero, suc, ◌+◌, ◌*◌, ◌<◌, ◌≤◌, ◌==◌, Bool, true, false, cond, not, ◌&&◌, List, [], ◌∷◌, length, map, replicate, Option, Some, None, if◌then◌else◌, nat_le, nat_lt, set, refl, sym, ap, ◌∙◌, subst, inr, ⊎_elim, arith, lt-ltb, le-ltb, slice_get}
 use Rattle.std.specs.Prelude.{option_map}
 use Rattle.std.specs.List.{filter}
 use Rattle.std.proofs.lemmas.Bool.{cond-true, cond-false}
@@ -7,12 +7,11 @@ use native.Mathlib.Bridge.{le_prop}
 use mathlib.Core.HLevel.{Π_prop, ×_prop, Unit-prop}
 use mathlib.Core.Logic.{∥∥₁_elim}
 use Rattle.std.proofs.Math.Nat.{mul-le-mul_left}
-use Rattle.fancy_regex_tree.specs.Tree.{Tree, Text}
 use Rattle.fancy_regex_meaning.specs.Groups.{Pattern}
 use Rattle.fancy_regex_meaning.specs.Places.{boundaries}
 use Rattle.fancy_regex_meaning.specs.Sizes.{tree_weight}
-use Rattle.fancy_regex_meaning.specs.Ways.{Way, Pairs, Setting, meaning, ways, call_ways, most_calls}
-use Rattle.fancy_regex_meaning.specs.Searches.{Search, Match, first_some, first_item, farther, first_longest, chosen, is_admitted, match_of, start_way, ways_at, match_at, starts, first_match}
+use Rattle.fancy_regex_meaning.specs.Ways.{Way, Setting, ways, call_ways, most_calls}
+use Rattle.fancy_regex_meaning.specs.Searches.{Search, Match, first_some, farther, first_longest, chosen, is_admitted, match_of, start_way, ways_at, match_at, starts, first_match}
 use Rattle.fancy_regex_meaning.specs.Laws.{Each}
 use Rattle.fancy_regex_meaning.proofs.EachLemmas.{Each-filter, Each-weaker, boundaries_within}
 use Rattle.fancy_regex_meaning.proofs.KeptProofs.{chosen_holds}
@@ -20,12 +19,12 @@ use Rattle.fancy_regex_runner.specs.Re.{Re}
 use Rattle.fancy_regex_runner.specs.Meaning.{Spot, View, kept}
 use Rattle.fancy_regex_runner.specs.Meaning as plain
 use Rattle.fancy_regex_runner.specs.Attempt.{Rest, accept, attempt, better_spot, apply, land}
-use Rattle.fancy_regex_runner.specs.Program.{emitted, IsSound, NamesBelow, AgreeBut, weight}
+use Rattle.fancy_regex_runner.specs.Program.{emitted, NamesBelow, AgreeBut}
 use Rattle.fancy_regex_runner.specs.Search.{Closed, AllAgree}
 use Rattle.fancy_regex_runner.specs.Find.{Hit, earliest, tried, places}
 use Rattle.fancy_regex_runner.specs.Plain.{IsPlain, classes, re_of, flat, places_of}
 use Rattle.fancy_regex_runner.specs.Sees.{view_of}
-use Rattle.fancy_regex_runner.specs.Easy.{IsProgramOf, IsMade, Serves, setting_for, search_for, hit_places}
+use Rattle.fancy_regex_runner.specs.Easy.{IsProgramOf, IsMade, setting_for, search_for, hit_places}
 use Rattle.fancy_regex_runner.specs.declared.input.RunInput.{RunInput}
 use Rattle.fancy_regex_runner.specs.declared.state.State.{State}
 use Rattle.fancy_regex_runner.specs.declared.state.State.TheVariants.{Split, Enter, Leave}
@@ -35,7 +34,7 @@ use Rattle.fancy_regex_runner.proofs.WeightLemmas.{emitted_weighs}
 use Rattle.fancy_regex_runner.proofs.WaysLemmas.{best_from, onward, attempt_lists}
 use Rattle.fancy_regex_runner.proofs.BoundLemmas.{ways_kept}
 use Rattle.fancy_regex_runner.proofs.DfsLemmas.{first_is_best}
-use Rattle.fancy_regex_runner.proofs.PlainLemmas.{sound, light}
+use Rattle.fancy_regex_runner.proofs.PlainLemmas.{light}
 use Rattle.fancy_regex_runner.proofs.MeaningLemmas.{spot_of, tree_same}
 use Rattle.fancy_regex_runner.proofs.KeptLemmas.{keeps_start}
 

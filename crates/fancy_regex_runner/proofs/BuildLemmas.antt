@@ -1,30 +1,35 @@
 -- What is built of a row of trees, part by part.
-use Rattle.std.proofs.Common.{◌≡◌, ◌==◌, not, zero, suc, ℕ, ◌+◌, ◌<◌, ◌≤◌, ◌||◌, ◌&&◌, Bool, true, false, List, [], ◌∷◌, ◌++◌, length, map, take, get_or, refl, sym, ap, ap₂, ◌∙◌, arith, length-append, ne_eqb}
+use Rattle.std.proofs.Common.{◌≡◌, ◌==◌, not, zero, suc, ℕ, ◌+◌, ◌<◌, ◌≤◌, ◌||◌, ◌&&◌, Bool, List, [], ◌∷◌, ◌++◌, length, map, take, get_or, refl, sym, ap, ap₂, ◌∙◌, arith, length-append, ne_eqb, Result, Ok, Err, IfOk}
 use Rattle.std.proofs.lemmas.List.{take_more, take_all, map-append, append_assoc, append-nil}
+use Rattle.std.specs.List.{Contains}
+use Rattle.std.proofs.lemmas.List.Elements.{All-nil, All-cons, All-append, Contains-append_left, Contains-append_right}
 use Rattle.std.proofs.Math.Bool.{or_assoc, and_assoc, and-true}
-use Rattle.std.proofs.Math.Nat.{add_assoc}
 use Rattle.regex_class.proofs.RangesLemmas.{or-false}
-use Rattle.fancy_regex_tree.specs.Tree.{Tree, Trees, Text, trees, tree_of, no_trees, more_trees}
+use Rattle.fancy_regex_tree.specs.Tree.{Tree, Text, trees, tree_of}
 use Rattle.fancy_regex_tree.specs.declared.expr.Expr.{Expr}
 use Rattle.fancy_regex_meaning.specs.Groups.{group_count, row_group_count}
 use Rattle.fancy_regex_class.specs.declared.class.CharClassMatcher.{CharClassMatcher}
 use Rattle.fancy_regex_class.specs.Matchers.{IsMatcherOf}
+use Rattle.fancy_regex_sizes.specs.declared.error.CompileError.{CompileError}
+use Rattle.fancy_regex_sizes.specs.declared.error.CompileError.TheVariants.{InnerError, Memory}
 use Rattle.fancy_regex_runner.specs.Re.{Re, cats, alts, cat, alt, shape, shapes}
 use Rattle.fancy_regex_runner.specs.declared.node.Node.{Node}
-use Rattle.fancy_regex_runner.specs.Program.{never_empty}
+use Rattle.fancy_regex_runner.specs.Program.{IsSound, never_empty}
 use Rattle.fancy_regex_runner.specs.Plain.{IsPlain, ArePlain, classes, row_classes, re_of, row_of, branches_of}
 use Rattle.fancy_regex_runner.specs.Easy.{Serve}
-use Rattle.fancy_regex_runner.specs.Made.{all_trees, Extends, row_list, all_move, BuildsRow}
+use Rattle.fancy_regex_runner.specs.Refused.{IsRead, IsClassCause}
+use Rattle.fancy_regex_runner.specs.Made.{all_trees, Extends, row_list, all_move, AreSound, BuildsRow}
 use Rattle.fancy_regex_runner.specs.declared.build.Walk.{Walk}
 
--- each tree of a plain row is plain
-plain_in : (es : List Expr) (i : ℕ) (x : Expr) → i < length es → ArePlain (all_trees es) → IsPlain (tree_of (get_or es i x))
-plain_in [] i x h p = absurd (omega arith)
-plain_in (e ∷ es) zero x h p = p.0
-plain_in (e ∷ es) (suc i) x h p = plain_in es i x (omega arith) p.1
+-- what follows of what was answered
+pub if_ok : {X E : Type 0} {P Q : X → Type 0} (r : Result X E) → ((x : X) → P x → Q x) → IfOk r P → IfOk r Q
+if_ok (Ok x) f h = f x h
+if_ok (Err e) f h = tt
 
-pub plain_at : (es : List Expr) (i : ℕ) (x : Expr) → i < length es → x ≡ get_or es i x → ArePlain (all_trees es) → IsPlain (tree_of x)
-plain_at es i x h e p = rw e (plain_in es i x h p)
+-- a row with one more tree is plain if both are
+pub plain_more : (ts : List Tree) (t : Tree) → ArePlain (trees (ts ++ t ∷ [])) → ArePlain (trees ts) × IsPlain t
+plain_more [] t p = (tt, p.0)
+plain_more (u ∷ ts) t p = let rest = plain_more ts t p.1 in ((p.0, rest.0), rest.1)
 
 -- one more tree of a row
 pub trees_more : (es : List Expr) (i : ℕ) (x : Expr) → i < length es → x ≡ get_or es i x
@@ -42,10 +47,11 @@ module _ (unicode : Bool) where
 
   -- one more matcher
   pub extends_more : (ms : List CharClassMatcher) (m : CharClassMatcher) (class : Text) (casei : Bool) → IsMatcherOf m unicode class casei
-      → Extends unicode ms (ms ++ m ∷ []) ((class, casei) ∷ [])
-  extends_more ms m class casei h = record {
+      → IsRead unicode (class, casei) → Extends unicode ms (ms ++ m ∷ []) ((class, casei) ∷ [])
+  extends_more ms m class casei h r = record {
     count = length-append ms (m ∷ []);
     serve = λ ds s. serve_more ms ds m (class, casei) s h;
+    read = All-cons (IsRead unicode) (class, casei) [] r (All-nil (IsRead unicode));
   }
 
   -- first these classes, and then those
@@ -54,6 +60,7 @@ module _ (unicode : Bool) where
   extends_both a b c cs ds x y = record {
     count = omega (arith, x.count, y.count, length-append cs ds);
     serve = λ es s. rw (← append_assoc es cs ds) (y.serve (es ++ cs) (x.serve es s));
+    read = All-append (IsRead unicode) cs ds x.read y.read;
   }
 
 -- the groups and classes of a row, with one more tree
@@ -61,6 +68,21 @@ pub groups_more : (ts : List Tree) (t : Tree) → row_group_count (trees (ts ++ 
 unfolding group_count
 groups_more [] t = omega arith
 groups_more (u ∷ ts) t = omega (arith, groups_more ts t)
+
+-- the groups of a row are counted tree by tree
+pub count_step : (es : List Expr) (i : ℕ) (e : Expr) (sum n : ℕ) → i < length es → e ≡ get_or es i e
+    → (ArePlain (trees (map tree_of (take i es))) → sum ≡ row_group_count (trees (map tree_of (take i es))))
+    → (IsPlain (tree_of e) → n ≡ group_count (tree_of e))
+    → ArePlain (trees (map tree_of (take (i + 1) es))) → sum + n ≡ row_group_count (trees (map tree_of (take (i + 1) es)))
+count_step es i e sum n h is done one =
+    rw (trees_more es i e h is)
+    (λ (plain : ArePlain (trees (map tree_of (take i es) ++ tree_of e ∷ []))).
+    let both = plain_more (map tree_of (take i es)) (tree_of e) plain in
+    omega (arith, done both.0, one both.1, groups_more (map tree_of (take i es)) (tree_of e)))
+
+pub count_whole : (es : List Expr) (i sum : ℕ) → length es ≤ i → (ArePlain (trees (map tree_of (take i es))) → sum ≡ row_group_count (trees (map tree_of (take i es))))
+    → ArePlain (all_trees es) → sum ≡ row_group_count (all_trees es)
+count_whole es i sum h done = rw (take_all i es h) at done
 
 pub classes_more : (ts : List Tree) (t : Tree) → row_classes (trees (ts ++ t ∷ [])) ≡ row_classes (trees ts) ++ classes t
 unfolding classes
@@ -121,46 +143,86 @@ branches_move [] = refl
 branches_move (x ∷ xs) =
     each_branch x xs ∙ sym (ap (λ b. all_move (x ∷ xs) && not b) (ne_eqb (suc (length xs)) 0 (omega arith)) ∙ and-true (all_move (x ∷ xs)))
 
+-- one more sound pattern
+sound_more : (xs : List Re) (x : Re) → AreSound xs → IsSound x → AreSound (xs ++ x ∷ [])
+sound_more [] x h k = (k, tt)
+sound_more (y ∷ ys) x h k = (h.0, sound_more ys x h.1 k)
+
+-- a row, and branches, are sound if each of their parts is
+pub row_sound : (xs : List Re) → AreSound xs → IsSound (cats xs)
+row_sound [] h = tt
+row_sound (x ∷ xs) h = (h.0, row_sound xs h.1)
+
+pub branches_sound : (xs : List Re) → AreSound xs → IsSound (alts xs)
+branches_sound [] h = tt
+branches_sound (x ∷ []) h = h.0
+branches_sound (x ∷ y ∷ ys) h = (h.0, branches_sound (y ∷ ys) h.1)
+
+-- a class of one tree of a row is a class of the row
+class_in : (es : List Expr) (i : ℕ) (x : Expr) (c : Text × Bool) → i < length es → Contains (classes (tree_of (get_or es i x))) c
+    → Contains (row_classes (all_trees es)) c
+unfolding classes
+class_in [] i x c h there = absurd (omega arith)
+class_in (e ∷ es) zero x c h there = Contains-append_left (classes (tree_of e)) (row_classes (all_trees es)) c there
+class_in (e ∷ es) (suc i) x c h there =
+    Contains-append_right (classes (tree_of e)) (row_classes (all_trees es)) c (class_in es i x c (omega arith) there)
+
+-- a cause among some classes is one among more of them
+cause_more : (unicode : Bool) (cs ds : List (Text × Bool)) (error : CompileError) → ((c : Text × Bool) → Contains cs c → Contains ds c)
+    → IsClassCause unicode cs error → IsClassCause unicode ds error
+cause_more unicode cs ds (InnerError shown) into h =
+    record { class = h.class; is_there = into h.class h.is_there; is_shown = h.is_shown; refused = h.refused }
+cause_more unicode cs ds Memory into h = tt
+cause_more unicode cs ds _ into h = absurd h
+
+pub cause_in_row : (unicode : Bool) (es : List Expr) (i : ℕ) (x : Expr) (error : CompileError) → i < length es → x ≡ get_or es i x
+    → IsClassCause unicode (classes (tree_of x)) error → IsClassCause unicode (row_classes (all_trees es)) error
+cause_in_row unicode es i x error h is cause =
+    cause_more unicode (classes (tree_of x)) (row_classes (all_trees es)) error (λ c there. class_in es i x c h (rw is at there)) cause
+
 -- no tree of a row was walked over
 pub row_none : (walk : Walk) → BuildsRow walk walk [] []
 unfolding row_list group_count classes
 row_none walk = record {
   unicode = refl;
-  groups = omega arith;
-  matchers = record { count = omega arith; serve = λ ds s. rw (append-nil ds) s };
-  patterns = λ groups. refl;
+  matchers = record { count = omega arith; serve = λ ds s. rw (append-nil ds) s; read = All-nil (IsRead walk.unicode) };
+  sound = tt;
+  groups = λ plain. omega arith;
+  patterns = λ plain groups. refl;
 }
 
 -- one more was
 pub row_step : (before mid after : Walk) (ts : List Tree) (xs : List Re) (t : Tree) (x : Re) → BuildsRow before mid ts xs
-    → after.unicode ≡ mid.unicode → after.next_group ≡ mid.next_group + group_count t
-    → Extends mid.unicode mid.matchers.items after.matchers.items (classes t)
-    → ((groups : List Tree) → x ≡ re_of mid.unicode groups mid.next_group (length mid.matchers.items) t)
+    → after.unicode ≡ mid.unicode → (IsPlain t → after.next_group ≡ mid.next_group + group_count t)
+    → Extends mid.unicode mid.matchers.items after.matchers.items (classes t) → IsSound x
+    → (IsPlain t → (groups : List Tree) → x ≡ re_of mid.unicode groups mid.next_group (length mid.matchers.items) t)
     → BuildsRow before after (ts ++ t ∷ []) (xs ++ x ∷ [])
-row_step before mid after ts xs t x done unicode groups matchers pattern =
+row_step before mid after ts xs t x done unicode groups matchers sound pattern =
     let more : Extends before.unicode mid.matchers.items after.matchers.items (classes t) = rw done.unicode at matchers in
     record {
       unicode = unicode ∙ done.unicode;
-      groups = omega (arith, groups, done.groups, groups_more ts t);
       matchers = rw (classes_more ts t) (extends_both before.unicode _ _ _ (row_classes (trees ts)) (classes t) done.matchers more);
-      patterns = λ gs.
-          ap₂ (λ (ys : List Re) (y : Re). ys ++ y ∷ []) (done.patterns gs)
-          (pattern gs
+      sound = sound_more xs x done.sound sound;
+      groups = λ plain. let both = plain_more ts t plain in omega (arith, groups both.1, done.groups both.0, groups_more ts t);
+      patterns = λ plain gs.
+          let both = plain_more ts t plain in
+          ap₂ (λ (ys : List Re) (y : Re). ys ++ y ∷ []) (done.patterns both.0 gs)
+          (pattern both.1 gs
           ∙ ap (λ b. re_of b gs mid.next_group (length mid.matchers.items) t) done.unicode
-          ∙ ap₂ (λ (a b : ℕ). re_of before.unicode gs a b t) done.groups done.matchers.count)
+          ∙ ap₂ (λ (a b : ℕ). re_of before.unicode gs a b t) (done.groups both.0) done.matchers.count)
           ∙ sym (list_more before.unicode gs ts t before.next_group (length before.matchers.items));
     }
 
 -- the same of the nodes of expressions
 pub nodes_step : (before mid after : Walk) (es : List Expr) (i : ℕ) (e : Expr) (nodes now : List Node) (node : Node) → i < length es
     → e ≡ get_or es i e → now ≡ nodes ++ node ∷ [] → BuildsRow before mid (map tree_of (take i es)) (shapes nodes)
-    → after.unicode ≡ mid.unicode → after.next_group ≡ mid.next_group + group_count (tree_of e)
-    → Extends mid.unicode mid.matchers.items after.matchers.items (classes (tree_of e))
-    → ((groups : List Tree) → shape node ≡ re_of mid.unicode groups mid.next_group (length mid.matchers.items) (tree_of e))
+    → after.unicode ≡ mid.unicode → (IsPlain (tree_of e) → after.next_group ≡ mid.next_group + group_count (tree_of e))
+    → Extends mid.unicode mid.matchers.items after.matchers.items (classes (tree_of e)) → IsSound (shape node)
+    → (IsPlain (tree_of e) → (groups : List Tree) → shape node ≡ re_of mid.unicode groups mid.next_group (length mid.matchers.items) (tree_of e))
     → BuildsRow before after (map tree_of (take (i + 1) es)) (shapes now)
-nodes_step before mid after es i e nodes now node h is added done unicode groups matchers pattern =
+nodes_step before mid after es i e nodes now node h is added done unicode groups matchers sound pattern =
     rw (trees_more es i e h is, added, map-append shape nodes (node ∷ []))
-    (row_step before mid after (map tree_of (take i es)) (shapes nodes) (tree_of e) (shape node) done unicode groups matchers pattern)
+    (row_step before mid after (map tree_of (take i es)) (shapes nodes) (tree_of e) (shape node) done unicode groups matchers sound pattern)
 
 -- all of them were
 pub row_whole : (before after : Walk) (es : List Expr) (i : ℕ) (xs : List Re) → length es ≤ i

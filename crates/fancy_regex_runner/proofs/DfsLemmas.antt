@@ -1,10 +1,10 @@
 -- Each step of the search keeps `Dfs`.
-use Rattle.std.proofs.Common.{◌≡◌, ℕ, ◌+◌, ◌*◌, ◌<◌, ◌≤◌, ◌⊎◌, Bool, true, false, List, [], ◌∷◌, Option, Some, None, refl, sym, ◌∙◌, subst, inl, inr, arith, get_or, set, set-set, ap, ⊎_elim, true≢false}
+use Rattle.std.proofs.Common.{◌≡◌, ℕ, ◌+◌, ◌<◌, ◌≤◌, ◌⊎◌, Bool, true, false, List, [], ◌∷◌, Option, Some, None, refl, sym, ◌∙◌, subst, inl, inr, arith, get_or, set, set-set, ap, true≢false}
 use Rattle.std.proofs.lemmas.List.{set-get_or}
 use Rattle.std.proofs.lemmas.Bool.{cases_lt}
 use Rattle.fancy_regex_runner.specs.Meaning.{Spot}
 use Rattle.std.specs.Prelude.{is_some, IfNone}
-use Rattle.fancy_regex_runner.specs.Attempt.{Trace, Rest, Res, write, save, either, guard, failed, accept, score, better, better_trace, better_spot, apply, land}
+use Rattle.fancy_regex_runner.specs.Attempt.{Trace, Rest, Res, write, save, either, guard, failed, accept, score, better_trace, better_spot, apply, land}
 use Rattle.fancy_regex_runner.specs.Visited.{Adds}
 use Rattle.fancy_regex_runner.specs.Search.{slots_at_bottom, pending, Reaches, IsAsGood, ReachesBelow, Covers, Dfs, resume_result}
 use Rattle.fancy_regex_runner.specs.declared.frame.Frame.{Frame}

@@ -20,3 +20,4 @@ pub mod AnswerLemmas
 pub mod ShapeLemmas
 pub mod BuildLemmas
 pub mod MadeLemmas
+pub mod ServedLemmas

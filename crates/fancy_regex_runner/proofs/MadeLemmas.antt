@@ -1,42 +1,37 @@
 -- What the walk over a plain tree and the states of its part make together.
-use mathlib.Core.Logic.{∥∥₁_elim}
-use Rattle.std.proofs.Common.{◌≡◌, ℕ, ◌+◌, ◌==◌, Bool, true, false, not, cond, if◌then◌else◌, List, [], ◌∷◌, length, refl, sym, ap, ap₂, ◌∙◌, arith}
+use Rattle.std.proofs.Common.{◌≡◌, ℕ, ◌+◌, ◌==◌, Bool, true, false, not, if◌then◌else◌, List, [], ◌∷◌, length, refl, sym, ap, ap₂, ◌∙◌, arith}
 use Rattle.fancy_regex_tree.specs.Tree.{Tree, Text}
-use Rattle.fancy_regex_meaning.specs.Groups.{Pattern, group_count}
+use Rattle.fancy_regex_meaning.specs.Groups.{group_count}
 use Rattle.fancy_regex_meaning.proofs.GroupProofs.{groups_are_counted}
 use Rattle.fancy_regex_class.specs.declared.class.CharClassMatcher.{CharClassMatcher}
 use Rattle.fancy_regex_runner.specs.Re.{Re, shape}
-use Rattle.fancy_regex_runner.specs.Program.{emitted}
+use Rattle.fancy_regex_runner.specs.Program.{emitted, IsSound}
 use Rattle.fancy_regex_runner.specs.Plain.{IsPlain, classes, re_of}
-use Rattle.fancy_regex_runner.specs.Easy.{IsMade, Serve, Serves, easy_pattern}
+use Rattle.fancy_regex_sizes.specs.Views.{pattern_in}
+use Rattle.fancy_regex_runner.specs.Easy.{IsMade, Serve, Serves}
 use Rattle.fancy_regex_runner.specs.Made.{Extends}
-use Rattle.fancy_regex_runner.specs.Runner.{IsEasyOf}
 use Rattle.fancy_regex_runner.specs.declared.build.Walk.{Walk}
-use Rattle.fancy_regex_runner.specs.declared.easy.Easy.{Easy}
 use Rattle.fancy_regex_runner.specs.declared.node.Node.{Node}
 use Rattle.fancy_regex_runner.specs.declared.state.State.{State}
 use Rattle.fancy_regex_runner.specs.declared.state.State.TheVariants.{Match as End}
-use Rattle.fancy_regex_runner.proofs.PlainLemmas.{sound}
 
--- states that are emitted for a plain tree
-pub is_made : (unicode : Bool) (groups : List Tree) (n k : ℕ) (tree : Tree) (states : List State) (entry : ℕ) → IsPlain tree
-    → emitted (re_of unicode groups n k tree) (End ∷ []) 0 ≡ (states, entry) → IsMade states entry
-is_made unicode groups n k tree states entry plain e =
-    ∣ (re_of unicode groups n k tree, (e, sound unicode groups n k tree plain)) ∣₁
+-- states that are emitted for a sound pattern
+pub is_made : (re : Re) (states : List State) (entry : ℕ) → IsSound re → emitted re (End ∷ []) 0 ≡ (states, entry) → IsMade states entry
+is_made re states entry sound e = ∣ (re, (e, sound)) ∣₁
 
-first_is : (explicit : Bool) (tree : Tree) → (if explicit then 0 else 1) ≡ (easy_pattern explicit tree).first_group
+first_is : (explicit : Bool) (tree : Tree) → (if explicit then 0 else 1) ≡ (pattern_in explicit tree).first_group
 first_is true tree = refl
 first_is false tree = refl
 
-tree_is : (explicit : Bool) (tree : Tree) → (easy_pattern explicit tree).tree ≡ tree
+tree_is : (explicit : Bool) (tree : Tree) → (pattern_in explicit tree).tree ≡ tree
 tree_is true tree = refl
 tree_is false tree = refl
 
-pub count_is : (explicit : Bool) (tree : Tree) (n : ℕ) → n ≡ (if explicit then 0 else 1) → n + group_count tree ≡ length (easy_pattern explicit tree).groups
+pub count_is : (explicit : Bool) (tree : Tree) (n : ℕ) → n ≡ (if explicit then 0 else 1) → n + group_count tree ≡ length (pattern_in explicit tree).groups
 count_is true tree n e = omega (arith, groups_are_counted tree)
 count_is false tree n e = omega (arith, groups_are_counted tree)
 
-pub whole_is : (explicit : Bool) (tree : Tree) → not explicit ≡ not ((easy_pattern explicit tree).first_group == 0)
+pub whole_is : (explicit : Bool) (tree : Tree) → not explicit ≡ not ((pattern_in explicit tree).first_group == 0)
 whole_is true tree = refl
 whole_is false tree = refl
 
@@ -45,10 +40,10 @@ pub program_is : (unicode explicit : Bool) (tree : Tree) (walk : Walk) (node : N
     → walk.unicode ≡ unicode → walk.next_group ≡ (if explicit then 0 else 1) → walk.matchers.items ≡ []
     → ((groups : List Tree) → shape node ≡ re_of walk.unicode groups walk.next_group (length walk.matchers.items) tree)
     → emitted (shape node) (End ∷ []) 0 ≡ (states, entry)
-    → emitted (re_of unicode (easy_pattern explicit tree).groups (easy_pattern explicit tree).first_group 0 tree) (End ∷ []) 0 ≡ (states, entry)
+    → emitted (re_of unicode (pattern_in explicit tree).groups (pattern_in explicit tree).first_group 0 tree) (End ∷ []) 0 ≡ (states, entry)
 program_is unicode explicit tree walk node states entry mode first none built e =
-    let groups = (easy_pattern explicit tree).groups in
-    let same : shape node ≡ re_of unicode groups (easy_pattern explicit tree).first_group 0 tree =
+    let groups = (pattern_in explicit tree).groups in
+    let same : shape node ≡ re_of unicode groups (pattern_in explicit tree).first_group 0 tree =
     built groups
     ∙ ap (λ b. re_of b groups walk.next_group (length walk.matchers.items) tree) mode
     ∙ ap₂ (λ (n : ℕ) (ms : List CharClassMatcher). re_of unicode groups n (length ms) tree) (first ∙ first_is explicit tree) none in
@@ -59,7 +54,7 @@ pub serves_all : (unicode : Bool) (before after : List CharClassMatcher) (cs : L
 serves_all unicode before after cs none e = let from : Extends unicode [] after cs = rw none at e in from.serve [] tt
 
 pub serves : (unicode explicit : Bool) (tree : Tree) (states : List State) (entry : ℕ) (matchers : List CharClassMatcher) → IsPlain tree
-    → emitted (re_of unicode (easy_pattern explicit tree).groups (easy_pattern explicit tree).first_group 0 tree) (End ∷ []) 0 ≡ (states, entry)
-    → Serve unicode matchers (classes tree) → Serves unicode states entry matchers (easy_pattern explicit tree)
+    → emitted (re_of unicode (pattern_in explicit tree).groups (pattern_in explicit tree).first_group 0 tree) (End ∷ []) 0 ≡ (states, entry)
+    → Serve unicode matchers (classes tree) → Serves unicode states entry matchers (pattern_in explicit tree)
 serves unicode true tree states entry matchers plain program s = record { plain = plain; program = program; matchers_are = s }
 serves unicode false tree states entry matchers plain program s = record { plain = plain; program = program; matchers_are = s }

@@ -1,8 +1,8 @@
 -- A plain pattern has the ways of its tree.
-use Rattle.std.proofs.Common.{◌≡◌, ◌≢◌, ℕ, zero, suc, ◌+◌, ◌*◌, ◌-◌, ◌<◌, ◌≤◌, ◌==◌, Bool, true, false, cond, not, ◌&&◌, List, [], ◌∷◌, ◌++◌, map, length, Option, Some, None, if◌then◌else◌, nat_lt, nat_le, slice_get, slice_index, set, refl, sym, ap, ap₂, ◌∙◌, subst, ⊎_elim, inl, inr, arith, lt-ltb, le-ltb, le-leb, eq-eqb, ne_eqb, eqb-true, length-append, append-nil}
+use Rattle.std.proofs.Common.{◌≡◌, ◌≢◌, ℕ, zero, suc, ◌+◌, ◌*◌, ◌-◌, ◌<◌, ◌≤◌, ◌==◌, Bool, true, false, cond, ◌&&◌, List, [], ◌∷◌, ◌++◌, map, length, Option, Some, None, if◌then◌else◌, slice_get, slice_index, set, refl, sym, ap, ap₂, ◌∙◌, subst, inl, inr, arith, lt-ltb, le-ltb, le-leb, eq-eqb, ne_eqb, eqb-true, length-append, append-nil}
 use Rattle.std.specs.List.{flat_map}
 use Rattle.std.specs.Char.{len_utf8}
-use Rattle.std.proofs.lemmas.Bool.{cases_lt, cases_eq, cond-true, cond-false}
+use Rattle.std.proofs.lemmas.Bool.{and_parts, cases_lt}
 use Rattle.std.proofs.lemmas.List.{map-append}
 use Rattle.std.proofs.lemmas.Str.{len_utf8_bounds}
 use Rattle.regex_hir.specs.Text.{is_some_and, char_at}
@@ -11,7 +11,7 @@ use Rattle.fancy_regex_tree.specs.Tree.{Tree, Trees, Text, empty, any, assertion
 use Rattle.fancy_regex_tree.specs.declared.expr.Assertion.{Assertion}
 use Rattle.fancy_regex_tree.specs.declared.expr.Assertion.TheVariants as A
 use Rattle.fancy_regex_meaning.specs.Groups.{group_count}
-use Rattle.fancy_regex_meaning.specs.Sizes.{bound_of, unbounded}
+use Rattle.fancy_regex_meaning.specs.Sizes.{bound_of}
 use Rattle.fancy_regex_meaning.specs.Ways.{Way, Moves, Pairs, Setting, Meaning, meaning, meanings, all_of, any_of, prefer, due, up_to, loop, character, at_place, stay_if, holds}
 use Rattle.fancy_regex_meaning.specs.Ways as ways
 use Rattle.fancy_regex_class.specs.Classes.{folded}
@@ -19,13 +19,13 @@ use Rattle.fancy_regex_runner.specs.Re.{Re, nothing, read, test, cat}
 use Rattle.fancy_regex_runner.specs.Re as re
 use Rattle.fancy_regex_runner.specs.Meaning.{Spot, View, each, in_order, after_round, loop_ways, times_ways, upto_ways, tail_ways, is_unbounded, reads}
 use Rattle.fancy_regex_runner.specs.Meaning as plain
-use Rattle.fancy_regex_runner.specs.Plain.{IsPlain, ArePlain, IsServed, test_of, served, classes, row_classes, re_of, row_of, branches_of, flat}
-use Rattle.fancy_regex_runner.specs.Sees.{view_of, takes, assertion_of}
+use Rattle.fancy_regex_runner.specs.Plain.{IsPlain, ArePlain, IsServed, test_of, served, is_left_out, unless, classes, row_classes, re_of, row_of, branches_of, flat}
+use Rattle.fancy_regex_runner.specs.Sees.{view_of, takes}
 use Rattle.fancy_regex_runner.specs.declared.node.Leaf.{Leaf}
 use Rattle.fancy_regex_runner.specs.declared.node.Leaf.TheVariants.{Any, Char, Folded, Class}
-use Rattle.fancy_regex_runner.proofs.BoundLemmas.{AllOf, Between, Ends, ways_end, times_ends, upto_ends, loop_ends, tail_ends}
+use Rattle.fancy_regex_runner.proofs.BoundLemmas.{AllOf, Between, Ends, ways_end, tail_ends}
 use Rattle.fancy_regex_runner.proofs.PlainLemmas.{lacks}
-use Rattle.fancy_regex_runner.proofs.CarryLemmas.{Lacks, Carries, put, ways_carry, map_same, map_twice}
+use Rattle.fancy_regex_runner.proofs.CarryLemmas.{Lacks, put, ways_carry, map_twice}
 
 -- where a way is, with its pairs as places
 abbrev pub spot_of : Way → Spot
@@ -100,6 +100,17 @@ repeat_same s lo hi g true f lf e ef a w p =
 repeat_same s lo hi g false f lf e ef a w p =
     due_same (length s.text) lo f (up_to (hi - lo) g f) lf (tail_ways false (length s.text) g lf (hi - lo)) ef (tail_ends false (length s.text) g lf ef (hi - lo)) a
     (λ v q. upto_same (length s.text) (hi - lo) g f lf ef a v q) w p
+
+-- a repeat that may be left out
+no_rounds : (lo hi : ℕ) → is_left_out lo hi ≡ true → (lo ≡ 0) × (hi ≡ 0)
+no_rounds lo hi e = let both = and_parts _ _ e in (eqb-true lo 0 both.0, eqb-true hi 0 both.1)
+
+out_by : (s : Setting) (lo hi : ℕ) (g : Bool) (f : Moves) (view : View) (a : Re) (b : Bool) → (b ≡ true → (lo ≡ 0) × (hi ≡ 0))
+    → (b ≡ false → Same (length s.text) (ways.repeat s lo (bound_of hi) g f) (plain.ways view (length s.text) a))
+    → Same (length s.text) (ways.repeat s lo (bound_of hi) g f) (plain.ways view (length s.text) (unless b a))
+unfolding plain.ways
+out_by s lo hi g f view a true zeros h w p = rw ((zeros refl).0, (zeros refl).1) refl
+out_by s lo hi g f view a false zeros h w p = h refl w p
 
 -- places of a pair that is written
 flat_set : (ps : Pairs) (k a b : ℕ) → flat (set ps k (Some (a, b))) ≡ set (set (flat ps) (2 * k) a) (2 * k + 1) b
@@ -183,6 +194,10 @@ module _ (s : Setting) (groups : List Tree) (unicode : Bool) (call : ℕ → Mov
       let e : k + length xs + j ≡ k + (length xs + j) = omega arith in
       ap (slice_get cs) e ∙ h (length xs + j) (omega (arith, length-append xs ys)) ∙ get_right xs ys j
 
+  -- the classes of a repeat that is not left out are its body's
+  all_stand : (k lo hi : ℕ) (t : Tree) → is_left_out lo hi ≡ false → StandAt k (if is_left_out lo hi then [] else classes t) → StandAt k (classes t)
+  all_stand k lo hi t made h = subst (λ b. StandAt k (if b then [] else classes t)) made h
+
   assertion_same : (a : Assertion) → IsServed (test_of a) → Same len (λ w. stay_if (holds s a w.position) w) (plain.ways view len (served (test_of a)))
   unfolding plain.ways
   assertion_same A.StartText p w q = stay_same _ w
@@ -225,8 +240,9 @@ module _ (s : Setting) (groups : List Tree) (unicode : Bool) (call : ℕ → Mov
         group_same view len n (meaning s groups call (n + 1) t).from (re_of unicode groups (n + 1) k t) (lacks unicode groups n (n + 1) k t (omega arith))
         (tree_same (n + 1) k t p h) w q
     tree_same n k (repeat t lo hi greedy) p h w q =
-        repeat_same s lo hi greedy (is_unbounded hi) (meaning s groups call n t).from (plain.ways view len (re_of unicode groups n k t)) refl
-        (ways_end view len (re_of unicode groups n k t)) (tree_same n k t p h) w q
+        out_by s lo hi greedy (meaning s groups call n t).from view _ (is_left_out lo hi) (no_rounds lo hi)
+        (λ made. repeat_same s lo hi greedy (is_unbounded hi) (meaning s groups call n t).from (plain.ways view len (re_of unicode groups n k t)) refl
+        (ways_end view len (re_of unicode groups n k t)) (tree_same n k t p (all_stand k lo hi t made h))) w q
     tree_same n k _ p h w q = absurd p
 
     row_same : (n k : ℕ) (ts : Trees) → ArePlain ts → StandAt k (row_classes ts) → Same len (all_of (meanings s groups call n ts)) (plain.ways view len (row_of unicode groups n k ts))

@@ -1,10 +1,7 @@
 -- What the pattern of a plain tree is: sound, no heavier than the tree, and numbered from its first group on.
-use Rattle.std.proofs.Common.{◌≡◌, ◌≢◌, ℕ, zero, suc, ◌+◌, ◌*◌, ◌-◌, ◌<◌, ◌≤◌, ◌==◌, min, max, Bool, true, false, cond, not, ◌&&◌, ◌||◌, List, length, Option, Some, None, nat_lt, refl, sym, ap, ap₂, ◌∙◌, inl, inr, ⊎_elim, arith, eq-eqb, ne_eqb, lt-ltb, le-ltb, true≢false}
-use Rattle.std.proofs.lemmas.Bool.{cases_eq, cases_lt}
+use Rattle.std.proofs.Common.{◌≡◌, ◌≢◌, ℕ, zero, suc, ◌+◌, ◌*◌, ◌-◌, ◌<◌, ◌≤◌, ◌==◌, min, max, Bool, true, false, cond, not, ◌&&◌, ◌||◌, List, length, Option, Some, None, nat_lt, refl, sym, ap, ap₂, ◌∙◌, arith, eq-eqb, ne_eqb, lt-ltb, true≢false}
 use Rattle.std.proofs.Math.Nat.{mul-le-mul_left}
 use Rattle.fancy_regex_tree.specs.Tree.{Tree, Trees, empty, any, assertion, literal, concat, alt, group, repeat, delegate, no_trees, more_trees}
-use Rattle.fancy_regex_tree.specs.declared.expr.Assertion.{Assertion}
-use Rattle.fancy_regex_tree.specs.declared.expr.Assertion.TheVariants as A
 use Rattle.fancy_regex_meaning.specs.Groups.{group_count}
 use Rattle.fancy_regex_meaning.specs.Sizes.{Size, size_with, sum_size, branch_size, size, size_through, may_be_empty, unbounded, bound_of, weights, branch_gaps}
 use Rattle.fancy_regex_meaning.specs.Sizes as sizes
@@ -12,7 +9,7 @@ use Rattle.fancy_regex_runner.specs.Re.{Re, nothing, read, test, cat}
 use Rattle.fancy_regex_runner.specs.Re as re
 use Rattle.fancy_regex_runner.specs.Meaning.{is_unbounded}
 use Rattle.fancy_regex_runner.specs.Program.{never_empty, IsSound, weight, repeat_weight}
-use Rattle.fancy_regex_runner.specs.Plain.{IsPlain, ArePlain, IsServed, test_of, served, classes, re_of, row_of, branches_of}
+use Rattle.fancy_regex_runner.specs.Plain.{IsPlain, ArePlain, test_of, served, is_left_out, unless, classes, re_of, row_of, branches_of}
 use Rattle.fancy_regex_runner.specs.declared.node.Test.{Test}
 use Rattle.fancy_regex_runner.proofs.CarryLemmas.{Lacks}
 
@@ -34,6 +31,27 @@ unfolding never_empty
 never_served None = refl
 never_served (Some t) = refl
 
+-- a repeat that is left out
+out_lacks : (m : ℕ) (b : Bool) (x : Re) → Lacks m x → Lacks m (unless b x)
+out_lacks m true x h = tt
+out_lacks m false x h = h
+
+out_sound : (b : Bool) (x : Re) → IsSound x → IsSound (unless b x)
+out_sound true x h = tt
+out_sound false x h = h
+
+out_light : (b : Bool) (x : Re) (n : ℕ) → weight x ≤ n → weight (unless b x) ≤ n
+unfolding weight
+out_light true x n h = omega arith
+out_light false x n h = h
+
+-- a repeat without rounds is never sure to move
+out_moves : (lo hi : ℕ) (greedy strict : Bool) (x : Re) → never_empty (unless (is_left_out lo hi) (re.repeat lo hi greedy strict x)) ≡ (nat_lt 0 lo && never_empty x)
+unfolding never_empty
+out_moves zero zero greedy strict x = refl
+out_moves zero (suc hi) greedy strict x = rw (ne_eqb (suc hi) 0 (omega arith)) refl
+out_moves (suc lo) hi greedy strict x = rw (ne_eqb (suc lo) 0 (omega arith)) refl
+
 module _ (unicode : Bool) (groups : List Tree) where
   mutual
     unfolding re_of
@@ -48,7 +66,7 @@ module _ (unicode : Bool) (groups : List Tree) where
     lacks m n k (concat ts) h = row_lacks m n k ts h
     lacks m n k (alt ts) h = branches_lack m n k ts h
     lacks m n k (group t) h = (λ e. omega arith, lacks m (n + 1) k t (omega arith))
-    lacks m n k (repeat t lo hi greedy) h = lacks m n k t h
+    lacks m n k (repeat t lo hi greedy) h = out_lacks m (is_left_out lo hi) _ (lacks m n k t h)
     lacks m n k _ h = tt
 
     row_lacks : (m n k : ℕ) (ts : Trees) → m < n → Lacks m (row_of unicode groups n k ts)
@@ -106,7 +124,7 @@ module _ (unicode : Bool) (groups : List Tree) (call : ℕ → Size) where
     empties n k (alt ts) p = branch_empties n k ts p.0 p.1
     empties n k (group t) p = empties (n + 1) k t p
     empties n k (repeat t lo hi greedy) p =
-        product_zero lo (size_with call t).least ∙ ap₂ ◌||◌ (zero_test lo) (empties n k t p) ∙ not_and (nat_lt 0 lo) _
+        product_zero lo (size_with call t).least ∙ ap₂ ◌||◌ (zero_test lo) (empties n k t p) ∙ not_and (nat_lt 0 lo) _ ∙ sym (ap not (out_moves lo hi greedy _ _))
     empties n k _ p = absurd p
 
     row_empties : (n k : ℕ) (ts : Trees) → ArePlain ts → ((sum_size call ts).least == 0) ≡ not (never_empty (row_of unicode groups n k ts))
@@ -158,7 +176,7 @@ module _ (unicode : Bool) (groups : List Tree) where
     sound n k (concat ts) p = row_sound n k ts p
     sound n k (alt ts) p = branches_sound n k ts p.1
     sound n k (group t) p = sound (n + 1) k t p
-    sound n k (repeat t lo hi greedy) p = (never n k t p, sound n k t p)
+    sound n k (repeat t lo hi greedy) p = out_sound (is_left_out lo hi) _ (never n k t p, sound n k t p)
     sound n k _ p = absurd p
 
     row_sound : (n k : ℕ) (ts : Trees) → ArePlain ts → IsSound (row_of unicode groups n k ts)
@@ -192,7 +210,8 @@ module _ (unicode : Bool) (groups : List Tree) where
     light n k (concat ts) p = omega (arith, row_light n k ts p)
     light n k (alt ts) p = branches_light n k ts p.0 p.1
     light n k (group t) p = omega (arith, light (n + 1) k t p)
-    light n k (repeat t lo hi greedy) p = lighter (is_unbounded hi) (may_be_empty groups t) lo hi _ _ (light n k t p)
+    light n k (repeat t lo hi greedy) p =
+        out_light (is_left_out lo hi) _ _ (lighter (is_unbounded hi) (may_be_empty groups t) lo hi _ _ (light n k t p))
     light n k _ p = absurd p
 
     row_light : (n k : ℕ) (ts : Trees) → ArePlain ts → weight (row_of unicode groups n k ts) ≤ weights groups ts

@@ -1,7 +1,7 @@
 -- Rows and branches are emitted from the last to the first.
 use Rattle.std.proofs.Common.{◌≡◌, ℕ, ◌+◌, ◌<◌, ◌≤◌, List, [], ◌∷◌, ◌++◌, length, take, get_or, refl, sym, ap, ap₂, ◌∙◌}
 use Rattle.std.proofs.lemmas.List.{take_more, take_all, map-append}
-use Rattle.fancy_regex_runner.specs.Re.{Re, nothing, cat, alt, cats, alts, shape, shapes}
+use Rattle.fancy_regex_runner.specs.Re.{Re, cats, alts, shape, shapes}
 use Rattle.fancy_regex_runner.specs.declared.node.Node.{Node}
 use Rattle.fancy_regex_runner.specs.Program.{push, emitted, emitted_both, with_branch, with_branch_both, with_branches, with_branches_both}
 use Rattle.fancy_regex_runner.specs.declared.state.State.{State}

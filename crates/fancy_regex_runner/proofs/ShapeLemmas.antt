@@ -1,5 +1,5 @@
 -- What each kind of node and of expression is in mathematics.
-use Rattle.std.proofs.Common.{◌≡◌, ℕ, Bool, map, Vec, Box, Global, sym, ap, ◌∙◌}
+use Rattle.std.proofs.Common.{◌≡◌, ℕ, Bool, Vec, Box, Global, sym, ap, ◌∙◌}
 use Rattle.fancy_regex_tree.specs.Tree.{Tree, absent_tree, ast_tree, node_tree, tree_of, concat, alt}
 use Rattle.fancy_regex_tree.specs.declared.expr.Expr.{Expr}
 use Rattle.fancy_regex_tree.specs.declared.expr.Expr.TheVariants as expr

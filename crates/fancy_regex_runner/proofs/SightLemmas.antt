@@ -1,31 +1,30 @@
 -- What looks at a text show of it is what the meaning of a plain pattern sees.
-use Rattle.std.proofs.Common.{◌≡◌, ℕ, zero, suc, ◌+◌, ◌-◌, ◌<◌, ◌≤◌, ◌==◌, Bool, true, false, not, cond, ◌&&◌, ◌||◌, List, [], ◌∷◌, ◌++◌, length, take, drop, Option, Some, None, slice_get, get_or, slice_index, encode_utf8, IsUtf8, IsCharBoundary, refl, sym, ap, ap₂, ◌∙◌, subst, inl, inr, ⊎_elim, arith, eq-eqb, ne_eqb, lt-ltb, le-ltb, true≢false, append_assoc, append-nil, length-append, length-drop}
-use Rattle.std.specs.Prelude.{is_none, option_map, unwrap_or}
+use Rattle.std.proofs.Common.{◌≡◌, ℕ, zero, suc, ◌+◌, ◌<◌, ◌≤◌, ◌==◌, Bool, true, false, not, ◌&&◌, ◌||◌, List, [], ◌∷◌, ◌++◌, length, drop, Option, Some, None, slice_get, slice_index, encode_utf8, IsUtf8, IsCharBoundary, refl, sym, ap, ap₂, ◌∙◌, inl, inr, ⊎_elim, arith, eq-eqb, ne_eqb, lt-ltb, le-ltb, append_assoc, length-append}
+use Rattle.std.specs.Prelude.{is_none}
 use Rattle.std.specs.Str.{encode_utf8_all}
 use lib.Utf8.{scalar, scalars}
 use Rattle.std.specs.Char.{len_utf8, IsScalar}
-use Rattle.std.proofs.lemmas.Bool.{cases_lt, cases_eq, cond-true, cond-false, and_parts}
+use Rattle.std.proofs.lemmas.Bool.{cases_lt, cond-true, cond-false, and_parts}
 use Rattle.std.proofs.lemmas.List.{take-append-drop, length-take-le}
 use Rattle.std.proofs.lemmas.Option.{slice_get-get_or, slice_get_past}
 use Rattle.std.proofs.lemmas.Str.{IsUtf8-take, IsUtf8-drop, length-encode, drop_past_char, len_utf8_bounds}
 use Rattle.regex_hir.specs.Text.{is_some_and, byte_before, char_at, char_before}
-use Rattle.regex_hir.proofs.TextLemmas.{char_at_from, char_at_parts, char_at_fits, char_at_past, char_at_ascii, char_before-zero, byte_before-zero, byte_before-add-one}
+use Rattle.regex_hir.proofs.TextLemmas.{char_at_from, char_at_parts, char_at_fits, char_before-zero, byte_before-zero, byte_before-add-one}
 use Rattle.regex_hir.proofs.Utf8Lemmas.{char_at_cases, IsOneByteAt, IsTwoBytesAt, IsThreeBytesAt, IsFourBytesAt}
 use Rattle.fancy_regex_tree.specs.Tree.{Text}
-use Rattle.fancy_regex_meaning.specs.Places.{is_after_byte, is_before_byte, is_line_start, is_line_end, is_at_end}
-use Rattle.fancy_regex_meaning.specs.Ways.{Setting, holds}
-use Rattle.fancy_regex_class.specs.Classes.{in_class, folded, setting_of}
-use Rattle.fancy_regex_class.specs.Matchers.{has, IsMatcherOf}
+use Rattle.fancy_regex_meaning.specs.Places.{is_after_byte, is_before_byte, is_at_end}
+use Rattle.fancy_regex_meaning.specs.Ways.{holds}
+use Rattle.fancy_regex_class.specs.Classes.{in_class}
+use Rattle.fancy_regex_class.specs.Matchers.{has}
 use Rattle.fancy_regex_class.specs.declared.class.CharClassMatcher.{CharClassMatcher}
 use Rattle.fancy_regex_class.proofs.LookLemmas.{char_before_past}
-use Rattle.fancy_regex_runner.specs.Sight.{takes_char, is_char, is_word_char, passes, Shows, ShowsAll}
+use Rattle.fancy_regex_runner.specs.Sight.{takes_char, is_char, passes, ShowsAll}
 use Rattle.fancy_regex_runner.specs.Sees.{takes, view_of, assertion_of}
 use Rattle.fancy_regex_runner.specs.Easy.{Serve, setting_for, rules_for}
 use Rattle.fancy_regex_runner.specs.declared.node.Leaf.{Leaf}
 use Rattle.fancy_regex_runner.specs.declared.node.Leaf.TheVariants.{Any, Char, Folded, Class}
 use Rattle.fancy_regex_runner.specs.declared.node.Test.{Test}
 use Rattle.fancy_regex_runner.specs.declared.node.Test.TheVariants.{StartText, EndText, StartLine, EndLine, WordBoundary, NotWordBoundary, LeftWordBoundary, RightWordBoundary}
-use Rattle.fancy_regex_runner.specs.declared.rules.Rules.{Rules}
 use Rattle.fancy_regex_runner.specs.declared.input.RunInput.{RunInput}
 use Rattle.fancy_regex_runner.proofs.StartLemmas.{char_of}
 

@@ -1,19 +1,19 @@
 -- The places that a search tries, one character after another.
-use Rattle.std.proofs.Common.{◌≡◌, ℕ, zero, suc, ◌+◌, ◌-◌, ◌<◌, ◌≤◌, ◌⊎◌, min, Bool, true, false, cond, List, [], ◌∷◌, ◌++◌, length, drop, Option, Some, None, refl, sym, ap, ◌∙◌, inl, inr, ⊎_elim, arith, lt-ltb, le-ltb, length-drop, slice_index, encode_utf8, IsUtf8, IsCharBoundary}
+use Rattle.std.proofs.Common.{◌≡◌, ℕ, zero, suc, ◌+◌, ◌-◌, ◌<◌, ◌≤◌, Bool, true, false, List, [], ◌∷◌, length, drop, Option, Some, None, refl, sym, ap, ◌∙◌, inl, inr, ⊎_elim, arith, lt-ltb, le-ltb, length-drop, slice_index, IsUtf8, IsCharBoundary}
 use Rattle.std.specs.List.{filter}
 use Rattle.std.specs.Str.{encode_utf8_all}
 use lib.Utf8.{scalars}
-use Rattle.std.specs.Char.{len_utf8, IsScalar}
+use Rattle.std.specs.Char.{len_utf8}
 use Rattle.std.proofs.lemmas.Bool.{cond-true, cond-false, cases_lt, and_parts}
 use Rattle.std.proofs.lemmas.Bool.Decides.{nat_tests}
 use Rattle.std.proofs.lemmas.Option.{slice_get-get_or, slice_get_past, none-some}
 use Rattle.std.proofs.lemmas.Str.{IsUtf8-drop, len_utf8_bounds}
-use Rattle.regex_hir.specs.Text.{char_at, is_boundary, is_scalar}
+use Rattle.regex_hir.specs.Text.{char_at, is_boundary}
 use Rattle.regex_hir.proofs.TextLemmas.{char_at_from}
 use Rattle.regex_hir.proofs.Utf8Lemmas.{char_at_cases, IsOneByteAt, IsTwoBytesAt, IsThreeBytesAt, IsFourBytesAt}
 use Rattle.fancy_regex_meaning.specs.Places.{numbers_from, boundaries}
 use Rattle.fancy_regex_runner.specs.Meaning.{Spot}
-use Rattle.fancy_regex_runner.specs.Find.{Hit, earliest, tried, places}
+use Rattle.fancy_regex_runner.specs.Find.{earliest, tried, places}
 
 pub test_of_IsCharBoundary : (text : List ℕ) (i : ℕ) → IsCharBoundary text i → is_boundary text i ≡ true
 unfolding is_boundary

@@ -1,5 +1,5 @@
 -- What a step over one state keeps.
-use Rattle.std.proofs.Common.{◌≡◌, ℕ, ◌+◌, ◌-◌, ◌*◌, ◌^◌, ◌<◌, ◌≤◌, min, Bool, true, false, ◌&&◌, List, ◌∷◌, length, Option, Some, None, if◌then◌else◌, nat_le, nat_lt, get_or, set, refl, sym, ap, ◌∙◌, subst, arith, lt-ltb, le-leb, leb-true, true≢false, inl, inr}
+use Rattle.std.proofs.Common.{◌≡◌, ℕ, ◌+◌, ◌-◌, ◌^◌, ◌<◌, ◌≤◌, min, Bool, true, false, ◌&&◌, List, ◌∷◌, length, Option, Some, None, if◌then◌else◌, nat_le, get_or, set, refl, sym, ap, ◌∙◌, subst, arith, lt-ltb, le-leb, leb-true, true≢false, inl, inr}
 use Rattle.std.proofs.lemmas.List.{set_past}
 use Rattle.std.proofs.lemmas.Bool.{and_from, and_left, and_right, and_parts, lt-leb, cases_lt}
 use Rattle.std.proofs.lemmas.Str.{len_utf8_bounds}
@@ -10,7 +10,7 @@ use Rattle.fancy_regex_runner.specs.Meaning.{Spot, View, reads}
 use Rattle.fancy_regex_runner.specs.Attempt.{Rest, save, guard}
 use Rattle.fancy_regex_runner.specs.Visited.{Adds}
 use Rattle.fancy_regex_runner.specs.Sight.{takes_char, Shows, read_next}
-use Rattle.fancy_regex_runner.specs.Search.{Dfs, After, IsPair, NextWithin}
+use Rattle.fancy_regex_runner.specs.Search.{Dfs, After, NextWithin}
 use Rattle.fancy_regex_runner.specs.declared.node.Leaf.{Leaf}
 use Rattle.fancy_regex_class.specs.declared.class.CharClassMatcher.{CharClassMatcher}
 use Rattle.fancy_regex_runner.specs.declared.rules.Rules.{Rules}

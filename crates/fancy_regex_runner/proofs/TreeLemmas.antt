@@ -1,7 +1,7 @@
 -- The states of a tree do what trying it does.
 use Rattle.std.proofs.Common.{◌≡◌, ℕ, ◌+◌, ◌*◌, ◌<◌, List, length, refl, sym, ap, ap₂, ◌∙◌, inr, ⊎_elim, arith}
 use Rattle.std.proofs.lemmas.Bool.{cases_lt}
-use Rattle.fancy_regex_runner.specs.Meaning.{View, reads, is_unbounded}
+use Rattle.fancy_regex_runner.specs.Meaning.{View, is_unbounded}
 use Rattle.fancy_regex_runner.specs.Attempt.{Res, Rest, guard, either, save, pick, attempt}
 use Rattle.fancy_regex_runner.specs.Program.{IsSound, push, emitted, emitted_both, emitted_both_group, AgreeBut}
 use Rattle.fancy_regex_runner.specs.Re.{Re, nothing, read, test, cat, alt, group, repeat}

@@ -1,6 +1,6 @@
 -- Rows of bits as flags.
 use Rattle.std.proofs.Common.{◌≡◌, ℕ, zero, suc, ◌+◌, ◌-◌, ◌*◌, ◌/◌, ◌%◌, ◌^◌, ◌<◌, ◌≤◌, ◌⊎◌, Bool, true, false, not, cond, eqb, List, ◌++◌, length, map, replicate, get_or, set, refl, sym, ◌∙◌, ap, subst, inl, inr, arith, ext_get_or, length-set, length-append, get_or-set_same, get_or-set_other, eq-eqb, ne_eqb, w64, true≢false}
-use Rattle.std.proofs.lemmas.List.{length-map, length-replicate, get_or-replicate, get_or_past, set-get_or, get_or_append_left, get_or-append_right}
+use Rattle.std.proofs.lemmas.List.{length-replicate, get_or-replicate, get_or_past, set-get_or, get_or_append_left, get_or-append_right}
 use Rattle.std.proofs.lemmas.List.Sums.{sum_by-set, sum_by-append, count_by-le-length}
 use Rattle.std.proofs.lemmas.List.Folds.{sum_by-replicate}
 use Rattle.std.proofs.lemmas.List.FromFn.{length-map-range_with_len, get_or-map-range_with_len}

@@ -1,9 +1,9 @@
 -- A plain pattern made ready for searches.
-use Rattle.std.specs.Prelude.{◌≡◌, ℕ, Bool, true, false, not, List, [], ◌∷◌, length, Option, Some, None, option_map, if◌then◌else◌, ◌==◌, slice_set}
-use Rattle.fancy_regex_tree.specs.Tree.{Tree, Text}
-use Rattle.fancy_regex_meaning.specs.Groups.{Pattern, pattern_of, explicit_pattern_of}
+use Rattle.std.specs.Prelude.{◌≡◌, ℕ, Bool, false, List, [], ◌∷◌, if◌then◌else◌, slice_set}
+use Rattle.fancy_regex_tree.specs.Tree.{Text}
+use Rattle.fancy_regex_meaning.specs.Groups.{Pattern}
 use Rattle.fancy_regex_meaning.specs.Ways.{Setting}
-use Rattle.fancy_regex_meaning.specs.Searches.{Search, Match}
+use Rattle.fancy_regex_meaning.specs.Searches.{Search}
 use Rattle.fancy_regex_class.specs.Classes.{setting_of}
 use Rattle.fancy_regex_class.specs.Matchers.{IsMatcherOf}
 use Rattle.fancy_regex_class.specs.declared.class.CharClassMatcher.{CharClassMatcher}
@@ -70,7 +70,3 @@ hit_places whole h = if whole then slice_set (slice_set h.way.slots 0 h.start) 1
 -- the way from a place to another, with these slots
 abbrev pub hit_at : ℕ → ℕ → List ℕ → Hit
 hit_at start end slots = record { start = start; way = record { at = end; slots = slots } }
-
--- the pattern of a tree, where groups count from 0 or from 1
-abbrev pub easy_pattern : Bool → Tree → Pattern
-easy_pattern explicit t = if explicit then explicit_pattern_of t else pattern_of t

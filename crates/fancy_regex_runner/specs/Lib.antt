@@ -11,4 +11,5 @@ pub mod Sees
 pub mod PlainFact
 pub mod Easy
 pub mod Runner
+pub mod Refused
 pub mod Made

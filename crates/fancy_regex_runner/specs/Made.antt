@@ -1,22 +1,15 @@
 -- How a plain pattern is made ready.
-use Rattle.std.specs.Prelude.{◌≡◌, ℕ, ◌+◌, ◌&&◌, true, Bool, List, [], ◌∷◌, ◌++◌, length, map}
+use Rattle.std.specs.Prelude.{◌≡◌, ℕ, ◌+◌, ◌&&◌, true, Bool, List, [], ◌∷◌, ◌++◌, length, map, All}
 use Rattle.fancy_regex_tree.specs.Tree.{Tree, Trees, Text, trees, tree_of}
 use Rattle.fancy_regex_tree.specs.declared.expr.Expr.{Expr}
 use Rattle.fancy_regex_meaning.specs.Groups.{group_count, row_group_count}
 use Rattle.fancy_regex_class.specs.declared.class.CharClassMatcher.{CharClassMatcher}
-use Rattle.fancy_regex_class.specs.declared.class.ClassError.{ClassError}
-use Rattle.fancy_regex_class.specs.declared.class.ClassError.TheVariants as class_error
 use Rattle.fancy_regex_runner.specs.Re.{Re}
-use Rattle.fancy_regex_runner.specs.Plain.{classes, row_classes, re_of}
-use Rattle.fancy_regex_runner.specs.Program.{never_empty}
+use Rattle.fancy_regex_runner.specs.Plain.{ArePlain, classes, row_classes, re_of}
+use Rattle.fancy_regex_runner.specs.Program.{IsSound, never_empty}
 use Rattle.fancy_regex_runner.specs.Easy.{Serve}
+use Rattle.fancy_regex_runner.specs.Refused.{IsRead}
 use Rattle.fancy_regex_runner.specs.declared.build.Walk.{Walk}
-use Rattle.fancy_regex_runner.specs.declared.error.EasyError.{EasyError}
-use Rattle.fancy_regex_runner.specs.declared.error.EasyError.TheVariants.{InnerError, Memory}
-
-abbrev pub easy_error : ClassError → EasyError
-easy_error (class_error.InnerError shown) = InnerError shown
-easy_error class_error.Memory = Memory
 
 -- the trees of a row
 abbrev pub all_trees : List Expr → Trees
@@ -26,6 +19,7 @@ all_trees es = trees (map tree_of es)
 pub record Extends (unicode : Bool) (before after : List CharClassMatcher) (cs : List (Text × Bool)) : Type 0 where
   pub count : length after ≡ length before + length cs
   pub serve : (ds : List (Text × Bool)) → Serve unicode before ds → Serve unicode after (ds ++ cs)
+  pub read : All (IsRead unicode) cs
 
 -- the patterns of a row, with the numbers of the group that opens first in it and of its first class
 unfoldable pub row_list : Bool → List Tree → ℕ → ℕ → List Tree → List Re
@@ -38,9 +32,16 @@ unfoldable pub all_move : List Re → Bool
 all_move [] = true
 all_move (x ∷ xs) = never_empty x && all_move xs
 
+-- each of the patterns is sound
+abbrev pub AreSound : List Re → Type 0
+AreSound [] = Unit {0}
+AreSound (x ∷ xs) = IsSound x × AreSound xs
+
 -- After a walk over these trees there are these patterns, and the groups and classes of the trees were met.
 pub record BuildsRow (before after : Walk) (ts : List Tree) (xs : List Re) : Type 0 where
   pub unicode : after.unicode ≡ before.unicode
-  pub groups : after.next_group ≡ before.next_group + row_group_count (trees ts)
   pub matchers : Extends before.unicode before.matchers.items after.matchers.items (row_classes (trees ts))
-  pub patterns : (groups : List Tree) → xs ≡ row_list before.unicode groups before.next_group (length before.matchers.items) ts
+  pub sound : AreSound xs
+  pub groups : ArePlain (trees ts) → after.next_group ≡ before.next_group + row_group_count (trees ts)
+  pub patterns : ArePlain (trees ts) → (groups : List Tree)
+      → xs ≡ row_list before.unicode groups before.next_group (length before.matchers.items) ts

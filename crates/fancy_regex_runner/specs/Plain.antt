@@ -1,6 +1,5 @@
 -- Plain trees, and the patterns of two branches at most that they become.
-use Rattle.std.specs.Prelude.{◌≡◌, ◌≢◌, ℕ, ◌+◌, ◌*◌, Bool, true, false, not, List, [], ◌∷◌, ◌++◌, length, Option, Some, None, slice_index, slice_get, slice_set, if◌then◌else◌, ◌==◌, chars, string_bytes}
-use Rattle.std.specs.Char.{IsScalar}
+use Rattle.std.specs.Prelude.{◌≢◌, ℕ, ◌+◌, Bool, true, false, not, ◌&&◌, List, [], ◌∷◌, ◌++◌, length, Option, Some, None, slice_index, slice_set, if◌then◌else◌, ◌==◌}
 use Rattle.fancy_regex_tree.specs.Tree.{Tree, Trees, Text, empty, any, assertion, literal, concat, alt, group, repeat, delegate, no_trees, more_trees}
 use Rattle.fancy_regex_tree.specs.declared.expr.Assertion.{Assertion}
 use Rattle.fancy_regex_tree.specs.declared.expr.Assertion.TheVariants as A
@@ -52,6 +51,14 @@ abbrev mutual
   ArePlain no_trees = Unit {0}
   ArePlain (more_trees t ts) = IsPlain t × ArePlain ts
 
+-- a repeat that has no round at all: nothing is made of its body
+abbrev pub is_left_out : ℕ → ℕ → Bool
+is_left_out lo hi = (lo == 0) && (hi == 0)
+
+abbrev pub unless : Bool → Re → Re
+unless true x = re.nothing
+unless false x = x
+
 -- the classes of a plain tree in order: the text of each, and whether case is disregarded
 unfoldable mutual
   pub classes : Tree → List (Text × Bool)
@@ -59,7 +66,7 @@ unfoldable mutual
   classes (concat ts) = row_classes ts
   classes (alt ts) = row_classes ts
   classes (group t) = classes t
-  classes (repeat t lo hi greedy) = classes t
+  classes (repeat t lo hi greedy) = if is_left_out lo hi then [] else classes t
   classes _ = []
 
   pub row_classes : Trees → List (Text × Bool)
@@ -82,7 +89,8 @@ module _ (unicode : Bool) (groups : List Tree) where
     re_of n k (concat ts) = row_of n k ts
     re_of n k (alt ts) = branches_of n k ts
     re_of n k (group t) = re.group n (re_of (n + 1) k t)
-    re_of n k (repeat t lo hi greedy) = re.repeat lo hi greedy (not (may_be_empty groups t)) (re_of n k t)
+    re_of n k (repeat t lo hi greedy) =
+        unless (is_left_out lo hi) (re.repeat lo hi greedy (not (may_be_empty groups t)) (re_of n k t))
     re_of n k _ = re.nothing
 
     pub row_of : ℕ → ℕ → Trees → Re

@@ -1,4 +1,4 @@
-ghost use Rattle.std.specs.Prelude.{◌≡◌, ◌+◌, true, false, ◌++◌, ◌∷◌, [], List, length, not, OnOk, IfOk, IfSome, chars, string_bytes, slice_index, if◌then◌else◌};
+ghost use Rattle.std.specs.Prelude.{◌≡◌, ◌+◌, true, false, ◌++◌, ◌∷◌, [], List, length, not, All, OnOk, IfOk, IfErr, IfSome, chars, string_bytes, slice_index, if◌then◌else◌};
 ghost use Rattle.fancy_regex_tree.specs.Tree.{Tree, tree_of};
 ghost use Rattle.fancy_regex_meaning.specs.Groups.{group_count, row_group_count};
 ghost use Rattle.fancy_regex_class.specs.Classes.{folded};
@@ -6,16 +6,20 @@ ghost use Rattle.fancy_regex_runner.specs.Re.{shape};
 ghost use Rattle.fancy_regex_runner.specs.Re as re;
 ghost use Rattle.fancy_regex_runner.specs.declared.node.Leaf.TheVariants as leaf;
 ghost use Rattle.fancy_regex_meaning.specs.Sizes.{may_be_empty};
-ghost use Rattle.fancy_regex_runner.specs.Program.{never_empty};
-ghost use Rattle.fancy_regex_runner.specs.Plain.{test_of as test_of_assertion, IsPlain, ArePlain, classes, row_classes, re_of, row_of, branches_of};
+ghost use Rattle.fancy_regex_runner.specs.Program.{IsSound, never_empty};
+ghost use Rattle.fancy_regex_runner.specs.Plain.{test_of as test_of_assertion, IsPlain, ArePlain, is_left_out, unless, classes, row_classes, re_of, row_of, branches_of};
 ghost use Rattle.fancy_regex_runner.specs.Made.{all_trees, Extends};
+ghost use Rattle.fancy_regex_runner.specs.Refused.{IsRead, IsClassCause};
+ghost use Rattle.fancy_regex_sizes.specs.declared.error.CompileError.TheVariants as errors;
+ghost use Rattle.fancy_regex_class.specs.Matchers.{IsMatcherOf};
 
 use crate::node::{Leaf, Node, Test};
 use fancy_regex_class::{CharClassMatcher, ClassError, fold};
+use fancy_regex_sizes::CompileError;
 use fancy_regex_tree::{Assertion, Expr};
 use std::alloc::{AllocError, Global};
 
-/// What a walk over a plain tree has met so far.
+/// What a walk over a tree has met so far. Of a tree that is not plain the walk makes something that means nothing.
 #[derive(Drop)]
 pub struct Walk {
     pub alloc: Global,
@@ -85,6 +89,24 @@ fn boxed(alloc: Global, node: Node) -> Result<Box<Node>, AllocError>
     Ok(Box::new(alloc, node)?)
 }
 
+/// The matcher of a class, unless `regex` refuses it.
+fn matcher(
+    alloc: Global,
+    class: &str,
+    casei: bool,
+    unicode: bool,
+) -> Result<CharClassMatcher, CompileError>
+    ensures members { IfOk result (λ m. IsMatcherOf m unicode (chars class.now) casei) }
+    ensures read { IfOk result (λ _. IsRead unicode (chars class.now, casei)) }
+    ensures refused { IfErr result (IsClassCause unicode ((chars class.now, casei) ∷ [])) }
+{
+    match CharClassMatcher::new(alloc, class, casei, unicode) {
+        Ok(matcher) => Ok(matcher),
+        Err(ClassError::InnerError(shown)) => Err(CompileError::InnerError(shown)),
+        Err(ClassError::Memory) => Err(CompileError::Memory),
+    }
+}
+
 impl Walk {
     /// The walk before the first tree; groups count from 0 or from 1.
     pub fn new(alloc: Global, unicode: bool, explicit_capture_group_0: bool) -> Walk
@@ -100,16 +122,18 @@ impl Walk {
         }
     }
 
-    /// The part that a plain tree is; its groups and classes count on from those that were met.
+    /// The part that a plain tree is; its groups and classes count on from those that were met. What is not plain in the
+    /// tree is left out.
     #[cycle(build)]
     #[tactic(auto, unfolding(crate::specs::Plain::re_of, crate::specs::Plain::classes, fancy_regex_meaning::specs::Groups::group_count, crate::specs::Program::never_empty))]
-    pub fn part(&mut self, expr: &Expr) -> Result<Part, ClassError>
-        requires plain { IsPlain (tree_of expr.now) }
+    pub fn part(&mut self, expr: &Expr) -> Result<Part, CompileError>
         ensures unicode { self.new.unicode ≡ self.old.unicode }
-        ensures groups { IfOk result (λ _. self.new.next_group ≡ self.old.next_group + group_count (tree_of expr.now)) }
+        ensures groups { IfOk result (λ _. IsPlain (tree_of expr.now) → self.new.next_group ≡ self.old.next_group + group_count (tree_of expr.now)) }
         ensures matchers { IfOk result (λ _. Extends self.old.unicode self.old.matchers.items self.new.matchers.items (classes (tree_of expr.now))) }
         ensures moves { IfOk result (λ part. part.moves ≡ never_empty (shape part.node)) }
-        ensures shape { IfOk result (λ part. (groups : List Tree) → shape part.node
+        ensures sound { IfOk result (λ part. IsSound (shape part.node)) }
+        ensures refused { IfErr result (IsClassCause self.old.unicode (classes (tree_of expr.now))) }
+        ensures shape { IfOk result (λ part. IsPlain (tree_of expr.now) → (groups : List Tree) → shape part.node
             ≡ re_of self.old.unicode groups self.old.next_group (length self.old.matchers.items) (tree_of expr.now)) }
     {
         match expr {
@@ -153,28 +177,30 @@ impl Walk {
     }
 
     /// What takes a member of a class, with a matcher of its own.
-    fn class(&mut self, class: &str, casei: bool) -> Result<Part, ClassError>
+    fn class(&mut self, class: &str, casei: bool) -> Result<Part, CompileError>
         ensures unicode { self.new.unicode ≡ self.old.unicode }
         ensures groups { self.new.next_group ≡ self.old.next_group }
         ensures matchers { IfOk result (λ _. Extends self.old.unicode self.old.matchers.items self.new.matchers.items ((chars class.now, casei) ∷ [])) }
         ensures moves { IfOk result (λ part. part.moves ≡ true) }
+        ensures refused { IfErr result (IsClassCause self.old.unicode ((chars class.now, casei) ∷ [])) }
         ensures node { IfOk result (λ part. shape part.node ≡ re.read (leaf.Class (length self.old.matchers.items))) }
     {
         let number = self.matchers.len();
-        let matcher = CharClassMatcher::new(self.alloc, class, casei, self.unicode)?;
+        let matcher = matcher(self.alloc, class, casei, self.unicode)?;
         add(&mut self.matchers, matcher)?;
         Ok(Part::moving(Node::Read(Leaf::Class(number))))
     }
 
     /// The parts of a row: it takes a character if one of them does.
     #[cycle(build)]
-    fn row(&mut self, children: &[Expr]) -> Result<Part, ClassError>
-        requires plain { ArePlain (all_trees children.now) }
+    fn row(&mut self, children: &[Expr]) -> Result<Part, CompileError>
         ensures unicode { self.new.unicode ≡ self.old.unicode }
-        ensures groups { IfOk result (λ _. self.new.next_group ≡ self.old.next_group + row_group_count (all_trees children.now)) }
+        ensures groups { IfOk result (λ _. ArePlain (all_trees children.now) → self.new.next_group ≡ self.old.next_group + row_group_count (all_trees children.now)) }
         ensures matchers { IfOk result (λ _. Extends self.old.unicode self.old.matchers.items self.new.matchers.items (row_classes (all_trees children.now))) }
         ensures moves { IfOk result (λ part. part.moves ≡ never_empty (shape part.node)) }
-        ensures shape { IfOk result (λ part. (groups : List Tree) → shape part.node
+        ensures sound { IfOk result (λ part. IsSound (shape part.node)) }
+        ensures refused { IfErr result (IsClassCause self.old.unicode (row_classes (all_trees children.now))) }
+        ensures shape { IfOk result (λ part. ArePlain (all_trees children.now) → (groups : List Tree) → shape part.node
             ≡ row_of self.old.unicode groups self.old.next_group (length self.old.matchers.items) (all_trees children.now)) }
     {
         let mut parts = Vec::new(self.alloc);
@@ -192,13 +218,14 @@ impl Walk {
 
     /// The branches of an alternation: it takes a character if each of them does.
     #[cycle(build)]
-    fn branches(&mut self, children: &[Expr]) -> Result<Part, ClassError>
-        requires plain { ArePlain (all_trees children.now) }
+    fn branches(&mut self, children: &[Expr]) -> Result<Part, CompileError>
         ensures unicode { self.new.unicode ≡ self.old.unicode }
-        ensures groups { IfOk result (λ _. self.new.next_group ≡ self.old.next_group + row_group_count (all_trees children.now)) }
+        ensures groups { IfOk result (λ _. ArePlain (all_trees children.now) → self.new.next_group ≡ self.old.next_group + row_group_count (all_trees children.now)) }
         ensures matchers { IfOk result (λ _. Extends self.old.unicode self.old.matchers.items self.new.matchers.items (row_classes (all_trees children.now))) }
         ensures moves { IfOk result (λ part. part.moves ≡ never_empty (shape part.node)) }
-        ensures shape { IfOk result (λ part. (groups : List Tree) → shape part.node
+        ensures sound { IfOk result (λ part. IsSound (shape part.node)) }
+        ensures refused { IfErr result (IsClassCause self.old.unicode (row_classes (all_trees children.now))) }
+        ensures shape { IfOk result (λ part. ArePlain (all_trees children.now) → (groups : List Tree) → shape part.node
             ≡ branches_of self.old.unicode groups self.old.next_group (length self.old.matchers.items) (all_trees children.now)) }
     {
         let mut parts = Vec::new(self.alloc);
@@ -218,17 +245,18 @@ impl Walk {
     /// A group, which has the next number.
     #[cycle(build)]
     #[tactic(auto, unfolding(crate::specs::Program::never_empty))]
-    fn group(&mut self, child: &Expr) -> Result<Part, ClassError>
-        requires plain { IsPlain (tree_of child.now) }
+    fn group(&mut self, child: &Expr) -> Result<Part, CompileError>
         ensures unicode { self.new.unicode ≡ self.old.unicode }
-        ensures groups { IfOk result (λ _. self.new.next_group ≡ self.old.next_group + (group_count (tree_of child.now) + 1)) }
+        ensures groups { IfOk result (λ _. IsPlain (tree_of child.now) → self.new.next_group ≡ self.old.next_group + (group_count (tree_of child.now) + 1)) }
         ensures matchers { IfOk result (λ _. Extends self.old.unicode self.old.matchers.items self.new.matchers.items (classes (tree_of child.now))) }
         ensures moves { IfOk result (λ part. part.moves ≡ never_empty (shape part.node)) }
-        ensures shape { IfOk result (λ part. (groups : List Tree) → shape part.node
+        ensures sound { IfOk result (λ part. IsSound (shape part.node)) }
+        ensures refused { IfErr result (IsClassCause self.old.unicode (classes (tree_of child.now))) }
+        ensures shape { IfOk result (λ part. IsPlain (tree_of child.now) → (groups : List Tree) → shape part.node
             ≡ re.group self.old.next_group (re_of self.old.unicode groups (self.old.next_group + 1) (length self.old.matchers.items) (tree_of child.now))) }
     {
         let number = self.next_group;
-        self.next_group = number.checked_add(1).ok_or(ClassError::Memory)?;
+        self.next_group = number.checked_add(1).ok_or(CompileError::Memory)?;
         let part = self.part(child)?;
         Ok(Part {
             node: Node::Group {
@@ -239,7 +267,7 @@ impl Walk {
         })
     }
 
-    /// A repeat.
+    /// A repeat. What can have no round is left out: nothing is made of its body.
     #[cycle(build)]
     #[tactic(auto, unfolding(crate::specs::Program::never_empty))]
     fn repeat(
@@ -248,15 +276,20 @@ impl Walk {
         lo: usize,
         hi: usize,
         greedy: bool,
-    ) -> Result<Part, ClassError>
-        requires plain { IsPlain (tree_of child.now) }
+    ) -> Result<Part, CompileError>
         ensures unicode { self.new.unicode ≡ self.old.unicode }
-        ensures groups { IfOk result (λ _. self.new.next_group ≡ self.old.next_group + group_count (tree_of child.now)) }
-        ensures matchers { IfOk result (λ _. Extends self.old.unicode self.old.matchers.items self.new.matchers.items (classes (tree_of child.now))) }
+        ensures groups { IfOk result (λ _. IsPlain (tree_of child.now) → self.new.next_group ≡ self.old.next_group + group_count (tree_of child.now)) }
+        ensures matchers { IfOk result (λ _. Extends self.old.unicode self.old.matchers.items self.new.matchers.items (if is_left_out lo hi then [] else classes (tree_of child.now))) }
+        ensures sound { IfOk result (λ part. IsSound (shape part.node)) }
         ensures moves { IfOk result (λ part. part.moves ≡ never_empty (shape part.node)) }
-        ensures shape { IfOk result (λ part. (groups : List Tree) → shape part.node
-            ≡ re.repeat lo hi greedy (not (may_be_empty groups (tree_of child.now))) (re_of self.old.unicode groups self.old.next_group (length self.old.matchers.items) (tree_of child.now))) }
+        ensures refused { IfErr result (IsClassCause self.old.unicode (if is_left_out lo hi then [] else classes (tree_of child.now))) }
+        ensures shape { IfOk result (λ part. IsPlain (tree_of child.now) → (groups : List Tree) → shape part.node
+            ≡ unless (is_left_out lo hi) (re.repeat lo hi greedy (not (may_be_empty groups (tree_of child.now))) (re_of self.old.unicode groups self.old.next_group (length self.old.matchers.items) (tree_of child.now)))) }
     {
+        if has_no_round(lo, hi) {
+            self.skip_groups(child)?;
+            return Ok(Part::still(Node::Empty));
+        }
         let part = self.part(child)?;
         Ok(Part {
             node: Node::Repeat {
@@ -269,4 +302,52 @@ impl Walk {
             moves: lo > 0 && part.moves,
         })
     }
+
+    /// Counts on past the groups of a tree that nothing is made of.
+    fn skip_groups(&mut self, child: &Expr) -> Result<(), CompileError>
+        ensures unicode { self.new.unicode ≡ self.old.unicode }
+        ensures matchers { self.new.matchers ≡ self.old.matchers }
+        ensures groups { IfOk result (λ _. IsPlain (tree_of child.now) → self.new.next_group ≡ self.old.next_group + group_count (tree_of child.now)) }
+        ensures refused { IfErr result (λ error. error ≡ errors.Memory) }
+    {
+        let skipped = groups_in(child).ok_or(CompileError::Memory)?;
+        self.next_group = self
+            .next_group
+            .checked_add(skipped)
+            .ok_or(CompileError::Memory)?;
+        Ok(())
+    }
+}
+
+/// Whether a repeat with these counts can have no round.
+fn has_no_round(lo: usize, hi: usize) -> bool
+    ensures { result ≡ is_left_out lo hi }
+{
+    lo == 0 && hi == 0
+}
+
+/// How many groups a plain tree has, where that is a `usize`.
+#[cycle(count)]
+#[tactic(auto, unfolding(fancy_regex_meaning::specs::Groups::group_count))]
+fn groups_in(expr: &Expr) -> Option<usize>
+    ensures { IfSome result (λ n. IsPlain (tree_of expr.now) → n ≡ group_count (tree_of expr.now)) }
+{
+    match expr {
+        Expr::Group(child) => groups_in(child)?.checked_add(1),
+        Expr::Repeat { child, .. } => groups_in(child),
+        Expr::Concat(children) | Expr::Alt(children) => groups_in_row(children),
+        _ => Some(0),
+    }
+}
+
+/// The same of the trees of a row.
+#[cycle(count)]
+fn groups_in_row(children: &[Expr]) -> Option<usize>
+    ensures { IfSome result (λ n. ArePlain (all_trees children.now) → n ≡ row_group_count (all_trees children.now)) }
+{
+    let mut sum = 0usize;
+    for i in 0..children.len() {
+        sum = sum.checked_add(groups_in(&children[i])?)?;
+    }
+    Some(sum)
 }

@@ -1,39 +1,26 @@
-ghost use Rattle.std.specs.Prelude.{◌≡◌, ◌+◌, ◌-◌, ◌*◌, ◌^◌, ◌≤◌, min, length, vec_len, IfOk, option_map, IsCharBoundary, replicate, slice_set, ◌<◌};
+ghost use Rattle.std.specs.Prelude.{◌≡◌, Bool, false, IfErr, ◌+◌, ◌-◌, ◌*◌, ◌^◌, ◌≤◌, min, length, vec_len, IfOk, option_map, IsCharBoundary, replicate, slice_set, ◌<◌};
 ghost use Rattle.fancy_regex_meaning.specs.Groups.{Pattern};
 ghost use Rattle.fancy_regex_meaning.specs.Sizes.{tree_weight};
 ghost use Rattle.fancy_regex_meaning.specs.Searches.{first_match, match_at, starts};
-ghost use Rattle.fancy_regex_runner.specs.Easy.{IsMade, easy_pattern, setting_for, search_for, rules_for, hit_places, hit_at};
+ghost use Rattle.fancy_regex_runner.specs.Easy.{IsMade, setting_for, search_for, rules_for, hit_places, hit_at};
 ghost use Rattle.fancy_regex_runner.specs.Find.{tried};
-ghost use Rattle.fancy_regex_runner.specs.Plain.{places_of, IsPlain};
-ghost use Rattle.fancy_regex_tree.specs.Tree.{tree_of};
+ghost use Rattle.fancy_regex_runner.specs.Plain.{places_of};
+ghost use Rattle.fancy_regex_tree.specs.Tree.{Tree};
 
 use crate::build::Walk;
 use crate::emit::emit;
-use crate::error::EasyError;
 use crate::input::RunInput;
 use crate::rules::Rules;
 use crate::search::{Plan, earliest_way};
 use crate::state::{State, add};
 use crate::trail::Trail;
 use crate::visited::Visited;
-use crate::weight::weight;
 use fancy_regex_class::{CharClassMatcher, Counted, Steps};
-use fancy_regex_tree::Expr;
+use fancy_regex_sizes::{BytesMode, CompileError, CompileOptions, Info};
 use std::alloc::{AllocError, Global};
 
-/// The greatest weight of a pattern that is made ready, without the two of the whole.
-const GREATEST_WEIGHT: u64 = 4_294_967_293;
-
-/// How a pattern is made ready.
-#[derive(Clone, Copy, Debug)]
-pub struct EasyOptions {
-    /// Classes have members past ASCII, and letters past ASCII have case.
-    pub unicode: bool,
-    /// The way that ends farthest is wanted, and not the first.
-    pub leftmost_longest: bool,
-    /// Groups count from 0, and none is the whole.
-    pub explicit_capture_group_0: bool,
-}
+/// The greatest weight of a whole pattern.
+const GREATEST_WEIGHT: u64 = 4_294_967_295;
 
 /// A plain pattern made ready for searches.
 #[derive(Drop)]
@@ -52,20 +39,39 @@ pub struct Easy {
 
 impl Easy {
     ghost use Rattle.fancy_regex_runner.specs.Runner.{IsEasyOf};
+    ghost use Rattle.fancy_regex_runner.specs.Refused.{IsTaken, IsCause};
+    ghost use Rattle.fancy_regex_sizes.specs.Analysis.{analysis};
+    ghost use Rattle.fancy_regex_sizes.specs.Infos.{info_of};
+    ghost use Rattle.fancy_regex_sizes.specs.declared.info.Info.{out-Info};
+    ghost use Rattle.fancy_regex_sizes.specs.Views.{pattern_in};
 
-    /// Makes a plain tree ready. Refused where `regex` does not take one of its classes, and where its weight passes
-    /// 4,294,967,295.
-    pub fn new(alloc: Global, tree: &Expr, options: &EasyOptions) -> Result<Easy, EasyError>
-        requires plain { IsPlain (tree_of tree.now) }
-        ensures made { IfOk result (λ easy. IsEasyOf easy (easy_pattern options.now.explicit_capture_group_0 (tree_of tree.now))) }
+    /// Makes the pattern ready that was looked at. The error is `InnerError` with the text of a class that `regex`
+    /// refuses, `PatternTooComplex` where the weight of the whole passes 4,294,967,295, `FeatureNotYetSupported` for
+    /// bytes that are not Unicode, or `Memory`. Of several causes that hold any may be told.
+    pub fn new(
+        alloc: Global,
+        info: &Info<'_>,
+        options: &CompileOptions,
+    ) -> Result<Easy, CompileError>
+        requires easy { (out-Info info.now).hard ≡ false }
+        ensures made { IfOk result (λ easy. (explicit : Bool) (t : Tree) → info_of info.now ≡ analysis explicit t
+            → IsEasyOf easy (pattern_in explicit t)) }
+        ensures taken { IfOk result (λ _. (explicit : Bool) (t : Tree) → info_of info.now ≡ analysis explicit t
+            → IsTaken options.now (pattern_in explicit t)) }
+        ensures refused { IfErr result (λ error. (explicit : Bool) (t : Tree) → info_of info.now ≡ analysis explicit t
+            → IsCause options.now (pattern_in explicit t) error) }
         ensures options { IfOk result (λ easy. (easy.unicode ≡ options.now.unicode) × (easy.longest ≡ options.now.leftmost_longest)) }
     {
-        let explicit = options.explicit_capture_group_0;
-        let mut walk = Walk::new(alloc, options.unicode, explicit);
-        let part = walk.part(tree)?;
-        if weight(&part.node) > GREATEST_WEIGHT {
-            return Err(EasyError::PatternTooComplex);
+        if options.bytes_mode != BytesMode::Unicode {
+            let feature = String::from_str(alloc, "bytes mode")?;
+            return Err(CompileError::FeatureNotYetSupported(feature));
         }
+        if info.weight.saturating_add(2) > GREATEST_WEIGHT {
+            return Err(CompileError::PatternTooComplex);
+        }
+        let explicit = info.start_group() == 0;
+        let mut walk = Walk::new(alloc, options.unicode, explicit);
+        let part = walk.part(info.expr)?;
         let mut states = Vec::new(alloc);
         add(&mut states, State::Match)?;
         let entry = emit(&part.node, &mut states, 0)?;

@@ -5,7 +5,6 @@ mod build;
 mod easy;
 mod emit;
 mod emit_both;
-mod error;
 mod frame;
 mod input;
 mod node;
@@ -17,8 +16,6 @@ mod state;
 mod tests;
 mod trail;
 mod visited;
-mod weight;
 
-pub use easy::{Easy, EasyOptions};
-pub use error::EasyError;
+pub use easy::Easy;
 pub use input::RunInput;

@@ -1,25 +1,50 @@
-//! Worked patterns.
-ghost use Rattle.std.specs.Prelude.{IfOk, ◌≡◌, ◌∷◌, []};
-ghost use Rattle.fancy_regex_tree.specs.Tree.{tree_of};
-ghost use Rattle.fancy_regex_runner.specs.Plain.{IsPlain};
-ghost use Rattle.fancy_regex_runner.specs.PlainFact.{plain_fact};
+//! Worked patterns, from their texts on.
 
-use crate::{Easy, EasyError, EasyOptions, RunInput};
+use crate::{Easy, RunInput};
 use fancy_regex_class::Steps;
-use fancy_regex_tree::{Assertion, Expr};
+use fancy_regex_sizes::{AnalyzeContext, BytesMode, CompileError, CompileOptions, analyze};
+use fancy_regex_tree::{Error, Expr};
 use std::alloc::{AllocError, Global};
-use std::test::Fail;
 
-/// A tree that the runner serves.
-#[derive(Drop)]
-struct Plain {
-    tree: Expr,
-    ghost plain: { IsPlain (tree_of tree) } by { plain_fact (tree_of tree) },
+/// Why there is no answer.
+#[derive(Debug, Drop)]
+enum Fault {
+    Memory,
+    /// The text is no pattern.
+    Reading,
+    Refused(CompileError),
+    /// The pattern is not plain.
+    Hard,
+}
+
+impl From<AllocError> for Fault {
+    fn from(_: AllocError) -> Fault {
+        Fault::Memory
+    }
+}
+
+impl From<Error> for Fault {
+    fn from(error: Error) -> Fault {
+        match error {
+            Error::Memory => Fault::Memory,
+            _ => Fault::Reading,
+        }
+    }
+}
+
+impl From<CompileError> for Fault {
+    fn from(error: CompileError) -> Fault {
+        match error {
+            CompileError::Memory => Fault::Memory,
+            other => Fault::Refused(other),
+        }
+    }
 }
 
 /// What a pattern is asked, and what it answers.
-#[derive(Drop)]
+#[derive(Clone, Copy)]
 struct Case<'t> {
+    pattern: &'t str,
     text: &'t str,
     /// Where the range ends.
     end: usize,
@@ -29,150 +54,46 @@ struct Case<'t> {
     longest: bool,
 }
 
-fn character(alloc: Global, wanted: char) -> Result<Plain, AllocError> {
-    let mut val = String::new(alloc);
-    val.push(wanted)?;
-    let tree = Expr::Literal { val, casei: false };
-    Ok(Plain { tree })
-}
-
-fn class(alloc: Global, text: &str) -> Result<Plain, AllocError> {
-    let tree = Expr::Delegate {
-        inner: String::from_str(alloc, text)?,
-        casei: false,
-    };
-    Ok(Plain { tree })
-}
-
-fn dot() -> Plain {
-    let tree = Expr::Any {
-        newline: true,
-        crlf: false,
-    };
-    Plain { tree }
-}
-
-fn nothing() -> Plain {
-    Plain { tree: Expr::Empty }
-}
-
-fn boundary() -> Plain {
-    Plain {
-        tree: Expr::Assertion(Assertion::WordBoundary),
+/// The case of a pattern that finds these places in the text up to the end.
+fn found<'t>(pattern: &'t str, text: &'t str, end: usize, places: &'t [usize]) -> Case<'t> {
+    Case {
+        pattern,
+        text,
+        end,
+        places: Some(places),
+        looks: u64::MAX,
+        longest: false,
     }
 }
 
-fn two(alloc: Global, first: Expr, second: Expr) -> Result<Vec<Expr>, AllocError>
-    ensures { IfOk result (λ v. v.items ≡ first ∷ second ∷ []) }
-{
-    let mut both = Vec::new(alloc);
-    both.push(first)?;
-    both.push(second)?;
-    Ok(both)
-}
-
-fn row(alloc: Global, first: Plain, second: Plain) -> Result<Plain, AllocError> {
-    let children = two(alloc, first.tree, second.tree)?;
-    Ok(Plain {
-        tree: Expr::Concat(children),
-    })
-}
-
-fn either(alloc: Global, first: Plain, second: Plain) -> Result<Plain, AllocError> {
-    let children = two(alloc, first.tree, second.tree)?;
-    Ok(Plain {
-        tree: Expr::Alt(children),
-    })
-}
-
-fn group(alloc: Global, child: Plain) -> Result<Plain, AllocError> {
-    Ok(Plain {
-        tree: Expr::Group(Box::new(alloc, child.tree)?),
-    })
-}
-
-fn repeat(
-    alloc: Global,
-    child: Plain,
-    lo: usize,
-    hi: usize,
-    greedy: bool,
-) -> Result<Plain, AllocError> {
-    Ok(Plain {
-        tree: Expr::Repeat {
-            child: Box::new(alloc, child.tree)?,
-            lo,
-            hi,
-            greedy,
-        },
-    })
-}
-
-fn star(alloc: Global, child: Plain) -> Result<Plain, AllocError> {
-    repeat(alloc, child, 0, usize::MAX, true)
-}
-
-fn maybe(alloc: Global, child: Plain) -> Result<Plain, AllocError> {
-    repeat(alloc, child, 0, 1, true)
-}
-
-/// The characters of the text in a row.
-fn written(alloc: Global, text: &str) -> Result<Plain, AllocError> {
-    let mut all = nothing();
-    for c in text.chars().rev() {
-        let first = character(alloc, c)?;
-        all = row(alloc, first, all)?;
+/// The same where the way that ends farthest is wanted.
+fn longest<'t>(pattern: &'t str, text: &'t str, end: usize, places: &'t [usize]) -> Case<'t> {
+    Case {
+        longest: true,
+        ..found(pattern, text, end, places)
     }
-    Ok(all)
 }
 
-/// `(a|b|ab)*bc`
-fn branches(alloc: Global) -> Result<Plain, AllocError> {
-    let b = character(alloc, 'b')?;
-    let later = either(alloc, b, written(alloc, "ab")?)?;
-    let body = either(alloc, character(alloc, 'a')?, later)?;
-    let round = star(alloc, group(alloc, body)?)?;
-    row(alloc, round, written(alloc, "bc")?)
+/// The case of a pattern that finds nothing, with so many looks at most.
+fn missed<'t>(pattern: &'t str, text: &'t str, looks: u64) -> Case<'t> {
+    Case {
+        pattern,
+        text,
+        end: text.len(),
+        places: None,
+        looks,
+        longest: false,
+    }
 }
 
-/// `(a|b?)*`
-fn maybe_empty(alloc: Global) -> Result<Plain, AllocError> {
-    let b = maybe(alloc, character(alloc, 'b')?)?;
-    let body = either(alloc, character(alloc, 'a')?, b)?;
-    star(alloc, group(alloc, body)?)
-}
-
-/// `((?s).).`
-fn two_dots(alloc: Global) -> Result<Plain, AllocError> {
-    row(alloc, group(alloc, dot())?, dot())
-}
-
-/// `(?:a?){30}a{30}`
-fn maybe_thirty(alloc: Global) -> Result<Plain, AllocError> {
-    let a = maybe(alloc, character(alloc, 'a')?)?;
-    let front = repeat(alloc, a, 30, 30, true)?;
-    let back = repeat(alloc, character(alloc, 'a')?, 30, 30, true)?;
-    row(alloc, front, back)
-}
-
-/// `\bfoo\b`
-fn whole_word(alloc: Global) -> Result<Plain, AllocError> {
-    let rest = row(alloc, written(alloc, "foo")?, boundary())?;
-    row(alloc, boundary(), rest)
-}
-
-/// `a|ab`
-fn short_or_long(alloc: Global) -> Result<Plain, AllocError> {
-    either(alloc, character(alloc, 'a')?, written(alloc, "ab")?)
-}
-
-/// `(a|ab)(c|bcd)(d*)`
-fn three_groups(alloc: Global) -> Result<Plain, AllocError> {
-    let c = character(alloc, 'c')?;
-    let second = either(alloc, c, written(alloc, "bcd")?)?;
-    let third = star(alloc, character(alloc, 'd')?)?;
-    let rest = row(alloc, group(alloc, second)?, group(alloc, third)?)?;
-    row(alloc, group(alloc, short_or_long(alloc)?)?, rest)
+/// The runner of the pattern.
+fn made(alloc: Global, pattern: &str, options: &CompileOptions) -> Result<Easy, Fault> {
+    let tree = Expr::parse_tree(alloc, pattern)?;
+    let info = analyze(alloc, &tree, AnalyzeContext::default())?;
+    if info.hard {
+        return Err(Fault::Hard);
+    }
+    Ok(Easy::new(alloc, &info, options)?)
 }
 
 /// Searches the text from its start, in the range up to the end.
@@ -194,9 +115,15 @@ fn ask(
     easy.search(alloc, text, &input, steps)
 }
 
-fn is_answered(alloc: Global, easy: &Easy, case: &Case<'_>) -> Result<bool, AllocError> {
+/// Makes the pattern ready and searches: whether the answer is the case's.
+fn is_answered(alloc: Global, case: Case<'_>) -> Result<bool, Fault> {
+    let options = CompileOptions {
+        leftmost_longest: case.longest,
+        ..CompileOptions::default()
+    };
+    let easy = made(alloc, case.pattern, &options)?;
     let mut steps = Steps::new();
-    let found = ask(alloc, easy, case.text, case.end, &mut steps)?;
+    let found = ask(alloc, &easy, case.text, case.end, &mut steps)?;
     let is_same = match (&found, case.places) {
         (Some(places), Some(wanted)) => places.as_slice() == wanted,
         (None, None) => true,
@@ -205,152 +132,53 @@ fn is_answered(alloc: Global, easy: &Easy, case: &Case<'_>) -> Result<bool, Allo
     Ok(is_same && steps.count() <= case.looks)
 }
 
-/// Makes the tree ready and searches.
-fn answer(alloc: Global, plain: &Plain, case: &Case<'_>) -> Result<bool, EasyError> {
-    let options = EasyOptions {
-        unicode: true,
-        leftmost_longest: case.longest,
-        explicit_capture_group_0: false,
-    };
-    let easy = Easy::new(alloc, &plain.tree, &options)?;
-    Ok(is_answered(alloc, &easy, case)?)
-}
-
-/// Whether the tree could be made, and answers so.
-fn answers(alloc: Global, plain: Result<Plain, AllocError>, case: &Case<'_>) -> bool {
-    match plain {
-        Ok(plain) => match answer(alloc, &plain, case) {
-            Ok(is_same) => is_same,
-            Err(_) => false,
-        },
-        Err(_) => false,
-    }
-}
-
-/// The case of a pattern that finds these places in the text up to the end.
-fn found<'t>(text: &'t str, end: usize, places: &'t [usize]) -> Case<'t> {
-    Case {
-        text,
-        end,
-        places: Some(places),
-        looks: u64::MAX,
-        longest: false,
-    }
-}
-
-/// The same where the way that ends farthest is wanted.
-fn longest<'t>(text: &'t str, end: usize, places: &'t [usize]) -> Case<'t> {
-    Case {
-        text,
-        end,
-        places: Some(places),
-        looks: u64::MAX,
-        longest: true,
-    }
-}
-
-/// The case of a pattern that finds nothing, with so many looks at most.
-fn missed(text: &str, looks: u64) -> Case<'_> {
-    Case {
-        text,
-        end: text.len(),
-        places: None,
-        looks,
-        longest: false,
-    }
-}
-
-/// Patterns with groups, branches, boundaries and repeats.
-#[derive(Clone, Copy)]
-enum Worked {
-    TwoDots,
-    MaybeEmpty,
-    WholeWord,
-    Branches,
-    ThreeGroups,
-}
-
-fn worked_tree(alloc: Global, worked: Worked) -> Result<Plain, AllocError> {
-    match worked {
-        Worked::TwoDots => two_dots(alloc),
-        Worked::MaybeEmpty => maybe_empty(alloc),
-        Worked::WholeWord => whole_word(alloc),
-        Worked::Branches => branches(alloc),
-        Worked::ThreeGroups => three_groups(alloc),
-    }
-}
-
-fn case_of(worked: Worked) -> Case<'static> {
-    match worked {
-        Worked::TwoDots => found("\n\n", 2, &[0, 2, 0, 1]),
-        Worked::MaybeEmpty => found("ab", 2, &[0, 2, 2, 2]),
-        Worked::WholeWord => found("food foo", 8, &[5, 8]),
-        Worked::Branches => missed(ABABAC, 1121),
-        Worked::ThreeGroups => longest("abcd", 4, &[0, 4, 0, 1, 1, 4, 4, 4]),
-    }
-}
-
-fn tried(alloc: Global, worked: Worked) -> Result<bool, EasyError> {
-    let plain = worked_tree(alloc, worked)?;
-    answer(alloc, &plain, &case_of(worked))
+fn answers(alloc: Global, case: Case<'_>) -> bool {
+    matches!(is_answered(alloc, case), Ok(true))
 }
 
 /// Whether the answer is right, if need be at a second try: only want of memory may stand in the way of the first.
-fn is_right(alloc: Global, worked: Worked) -> bool {
-    match tried(alloc, worked) {
-        Ok(is_same) => is_same,
-        Err(EasyError::Memory) => match tried(alloc, worked) {
-            Ok(is_same) => is_same,
-            Err(_) => false,
-        },
-        Err(_) => false,
+fn is_right(alloc: Global, case: Case<'_>) -> bool {
+    match is_answered(alloc, case) {
+        Err(Fault::Memory) => answers(alloc, case),
+        first => matches!(first, Ok(true)),
     }
 }
 
-#[test]
-fn finds_the_first_way_unless_memory_runs_out(rt: HostRuntime) {
-    let alloc = rt.alloc();
-    assert!(rt; is_right(alloc, Worked::TwoDots));
-    assert!(rt; is_right(alloc, Worked::MaybeEmpty));
-    assert!(rt; is_right(alloc, Worked::WholeWord));
-    assert!(rt; is_right(alloc, Worked::Branches));
-    assert!(rt; is_right(alloc, Worked::ThreeGroups));
-}
-
-#[test]
-fn finds_in_a_range(rt: HostRuntime) -> Result<(), Fail> {
-    let alloc = rt.alloc();
-    let letters = repeat(alloc, class(alloc, "[a-c]")?, 1, usize::MAX, true);
-    assert!(rt; answers(alloc, letters, &found("xabcd", 5, &[1, 4])));
-    let many = star(alloc, character(alloc, 'a')?);
-    assert!(rt; answers(alloc, many, &found("aaaa", 2, &[0, 2])));
-    Ok(())
-}
-
-#[test]
-fn finds_the_farthest_way(rt: HostRuntime) -> Result<(), Fail> {
-    let alloc = rt.alloc();
-    assert!(rt; answers(alloc, short_or_long(alloc), &longest("ab", 2, &[0, 2])));
-    assert!(rt;
-        answers(
-            alloc,
-            three_groups(alloc),
-            &longest("abcd", 4, &[0, 4, 0, 1, 1, 4, 4, 4])
-        )
-    );
-    let lazy = repeat(alloc, character(alloc, 'a')?, 0, usize::MAX, false);
-    assert!(rt; answers(alloc, lazy, &longest("aaaa", 2, &[0, 2])));
-    Ok(())
-}
+const BRANCHES: &str = "(a|b|ab)*bc";
 
 const ABABAC: &str = "ababababababababababababababababababababababababababababac";
 
 const A63: &str = "aaaaaaaaaaaaaaaaaaaaaaaaaaaaaaaaaaaaaaaaaaaaaaaaaaaaaaaaaaaaaaa";
 
+#[test]
+fn finds_the_first_way_unless_memory_runs_out(rt: HostRuntime) {
+    let alloc = rt.alloc();
+    assert!(rt; is_right(alloc, found("((?s).)(?s).", "\n\n", 2, &[0, 2, 0, 1])));
+    assert!(rt; is_right(alloc, found("(a|b?)*", "ab", 2, &[0, 2, 2, 2])));
+    assert!(rt; is_right(alloc, found("\\bfoo\\b", "food foo", 8, &[5, 8])));
+    assert!(rt; is_right(alloc, missed(BRANCHES, ABABAC, 1121)));
+    let places = [0, 4, 0, 1, 1, 4, 4, 4];
+    assert!(rt; is_right(alloc, longest("(a|ab)(c|bcd)(d*)", "abcd", 4, &places)));
+}
+
+#[test]
+fn finds_in_a_range(rt: HostRuntime) {
+    let alloc = rt.alloc();
+    assert!(rt; answers(alloc, found("[a-c]+", "xabcd", 5, &[1, 4])));
+    assert!(rt; answers(alloc, found("a*", "aaaa", 2, &[0, 2])));
+}
+
+#[test]
+fn finds_the_farthest_way(rt: HostRuntime) {
+    let alloc = rt.alloc();
+    assert!(rt; answers(alloc, longest("a|ab", "ab", 2, &[0, 2])));
+    assert!(rt; answers(alloc, longest("a*?", "aaaa", 2, &[0, 2])));
+}
+
 /// Whether so many `a` in a row miss one `a` less, with so many looks at most.
 fn misses_row(alloc: Global, count: usize, looks: u64) -> bool {
     match (A63.get(..count), A63.get(1..count)) {
-        (Some(row), Some(text)) => answers(alloc, written(alloc, row), &missed(text, looks)),
+        (Some(row), Some(text)) => answers(alloc, missed(row, text, looks)),
         _ => false,
     }
 }
@@ -358,60 +186,55 @@ fn misses_row(alloc: Global, count: usize, looks: u64) -> bool {
 #[test]
 fn looks_little(rt: HostRuntime) {
     let alloc = rt.alloc();
-    assert!(rt; answers(alloc, branches(alloc), &missed(ABABAC, 1121)));
     assert!(rt; misses_row(alloc, 61, 3843));
     assert!(rt; misses_row(alloc, 62, 3968));
     assert!(rt; misses_row(alloc, 63, 4095));
     let case = Case {
-        text: A63,
-        end: 30,
-        places: Some(&[0, 30]),
         looks: 4712,
-        longest: false,
+        ..found("(?:a?){30}a{30}", A63, 30, &[0, 30])
     };
-    assert!(rt; answers(alloc, maybe_thirty(alloc), &case));
+    assert!(rt; answers(alloc, case));
 }
 
-/// Makes the tree ready.
-fn made(alloc: Global, plain: &Plain) -> Result<Easy, EasyError> {
-    let options = EasyOptions {
-        unicode: true,
-        leftmost_longest: false,
-        explicit_capture_group_0: false,
+/// Why the pattern has no runner.
+fn refusal(alloc: Global, pattern: &str, bytes_mode: BytesMode) -> Option<CompileError> {
+    let options = CompileOptions {
+        bytes_mode,
+        ..CompileOptions::default()
     };
-    Easy::new(alloc, &plain.tree, &options)
-}
-
-/// Whether so many `a` in a row, so many times, are refused.
-fn is_too_complex(alloc: Global, inner: usize, outer: usize) -> Result<bool, AllocError> {
-    let row = repeat(alloc, character(alloc, 'a')?, inner, inner, true)?;
-    let rows = repeat(alloc, row, outer, outer, true)?;
-    match made(alloc, &rows) {
-        Err(EasyError::PatternTooComplex) => Ok(true),
-        Err(EasyError::InnerError(_class)) => Ok(false),
-        Err(EasyError::Memory) => Ok(false),
-        Ok(_easy) => Ok(false),
+    match made(alloc, pattern, &options) {
+        Err(Fault::Refused(cause)) => Some(cause),
+        _ => None,
     }
 }
 
-/// Whether the class is refused, with its own text.
-fn is_refused(alloc: Global, text: &str) -> Result<bool, AllocError> {
-    let plain = class(alloc, text)?;
-    match made(alloc, &plain) {
-        Err(EasyError::InnerError(shown)) => Ok(shown.as_str() == text),
-        Err(EasyError::PatternTooComplex) => Ok(false),
-        Err(EasyError::Memory) => Ok(false),
-        Ok(_easy) => Ok(false),
+/// Whether it is the class of this text.
+fn is_class(cause: &Option<CompileError>, text: &str) -> bool {
+    match cause {
+        Some(CompileError::InnerError(shown)) => shown.as_str() == text,
+        _ => false,
     }
 }
 
 #[test]
-fn refuses(rt: HostRuntime) -> Result<(), Fail> {
+fn refuses(rt: HostRuntime) {
     let alloc = rt.alloc();
-    assert!(rt; is_too_complex(alloc, 65536, 65536)?);
-    assert!(rt; is_too_complex(alloc, usize::MAX - 1, 1)?);
-    assert!(rt; !is_too_complex(alloc, 256, 256)?);
-    assert!(rt; is_refused(alloc, "[z-a]")?);
-    assert!(rt; !is_refused(alloc, "[a-z]")?);
-    Ok(())
+    let class = refusal(alloc, "a[z-a]", BytesMode::Unicode);
+    assert!(rt; is_class(&class, "[z-a]"));
+    let heavy = refusal(alloc, "(?:a{65536}){65536}", BytesMode::Unicode);
+    assert!(rt; matches!(&heavy, Some(CompileError::PatternTooComplex)));
+    let bytes = refusal(alloc, "a", BytesMode::Ascii);
+    assert!(rt; matches!(&bytes, Some(CompileError::FeatureNotYetSupported(_))));
+    assert!(rt; refusal(alloc, "[a-z]", BytesMode::Unicode).is_none());
+    assert!(rt;
+        answers(
+            alloc,
+            found(
+                "(?:([z-a])){0}(a)",
+                "a",
+                1,
+                &[0, 1, usize::MAX, usize::MAX, 0, 1]
+            )
+        )
+    );
 }

@@ -1,9 +1,9 @@
-use Rattle.std.proofs.Common.{◌≡◌, ℕ, ◌+◌, ◌-◌, ◌*◌, ◌≤◌, ◌∙◌, ◌∷◌, [], List, Option, Some, None, Bool, true, false, refl, sym, ap, subst, arith, length, true≢false}
+use Rattle.std.proofs.Common.{◌≡◌, ℕ, ◌+◌, ◌-◌, ◌∙◌, ◌∷◌, [], List, Option, Some, None, Bool, true, refl, sym, ap, arith, length, true≢false}
 use Rattle.std.proofs.lemmas.List.{nil_from_length}
 use Rattle.fancy_regex_class.specs.Looks.{looked_text}
 use Rattle.fancy_regex_runner.specs.Meaning.{Spot, View}
 use Rattle.fancy_regex_runner.specs.Attempt.{Rest, better_spot, land}
-use Rattle.fancy_regex_runner.specs.Visited.{Has, members}
+use Rattle.fancy_regex_runner.specs.Visited.{Has}
 use Rattle.fancy_regex_runner.specs.Search.{AllWithin, AllFail, Explains, Dfs, top_first, ended}
 use Rattle.fancy_regex_runner.specs.declared.frame.Frame.TheVariants.{Explore}
 use Rattle.fancy_regex_runner.proofs.VisitedLemmas.{members_cap}

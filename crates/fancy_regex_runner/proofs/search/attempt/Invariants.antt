@@ -1,4 +1,4 @@
-use Rattle.std.proofs.Common.{◌≡◌, ℕ, ◌+◌, ◌-◌, ◌*◌, ◌^◌, ◌≤◌, ◌∷◌, Bool, false, None, length, min, vec_len}
+use Rattle.std.proofs.Common.{◌≡◌, ℕ, ◌+◌, ◌-◌, ◌*◌, ◌^◌, ◌≤◌, ◌∷◌, false, None, length, min, vec_len}
 use Rattle.fancy_regex_class.specs.Looks.{looked_text, look_count, SameCounter}
 use Rattle.fancy_regex_runner.specs.Meaning.{View}
 use Rattle.fancy_regex_runner.specs.Attempt.{Rest, land}

@@ -1,6 +1,5 @@
-use Rattle.std.proofs.Common.{◌≡◌, ◌∙◌, ◌+◌, ◌*◌, false, true, ap, sym, subst, arith}
+use Rattle.std.proofs.Common.{◌≡◌, ◌∙◌, ◌+◌, ◌*◌, false, true, ap, sym, arith}
 use Rattle.fancy_regex_runner.specs.Program.{visit as state_visit}
-use Rattle.fancy_regex_runner.specs.Search.{NextWithin}
 use Rattle.fancy_regex_runner.specs.Visited.{Has}
 use Rattle.fancy_regex_runner.proofs.DfsLemmas.{Dfs-dead, Dfs-moved, Dfs-split, Dfs-matched, guard_yes, guard_no}
 use Rattle.fancy_regex_runner.proofs.StepLemmas.{read_tracked, read_within, write_tracked}

@@ -1,15 +1,15 @@
-use Rattle.std.proofs.Common.{◌≡◌, ℕ, vec_len, Bool, true, false, ◌==◌, ap₂, ◌+◌, ◌∙◌, ◌++◌, ◌∷◌, [], ◌&&◌, ◌||◌, List, not, length, map, take, nat_lt, ap, sym, refl, arith, rules}
-use Rattle.fancy_regex_tree.specs.Tree.{Tree, tree_of, concat, alt}
+use Rattle.std.proofs.Common.{◌≡◌, ℕ, vec_len, Bool, true, false, ◌==◌, ap₂, ◌∙◌, ◌∷◌, [], ◌&&◌, ◌||◌, not, length, map, ap, sym, refl, rules}
+use Rattle.fancy_regex_tree.specs.Tree.{tree_of, concat, alt}
 use Rattle.fancy_regex_runner.specs.Re as re
 use Rattle.fancy_regex_runner.specs.Re.{Re, shape, shapes, cats, alts}
 use Rattle.fancy_regex_meaning.specs.Sizes.{may_be_empty}
 use Rattle.fancy_regex_runner.specs.Program.{never_empty}
-use Rattle.fancy_regex_runner.specs.Plain.{re_of, row_of, branches_of}
-use Rattle.fancy_regex_runner.specs.Made.{all_trees, Extends, row_list, all_move}
+use Rattle.fancy_regex_runner.specs.Plain.{classes, re_of}
+use Rattle.fancy_regex_runner.specs.Refused.{IsClassCause}
+use Rattle.fancy_regex_runner.specs.Made.{all_trees, all_move}
 use Rattle.fancy_regex_runner.proofs.PlainLemmas.{flag_is}
-use Rattle.fancy_regex_runner.proofs.BuildLemmas.{plain_at, row_none, nodes_step, row_whole, row_is, branches_is, row_moves, all_moves, branches_move}
+use Rattle.fancy_regex_runner.proofs.BuildLemmas.{row_none, row_sound, branches_sound, cause_in_row, if_ok, nodes_step, row_whole, row_is, branches_is, row_moves, all_moves, branches_move}
 use Rattle.std.proofs.lemmas.List.{map-append, length-map}
-use Rattle.fancy_regex_tree.specs.declared.expr.Expr as laws
 use Rattle.fancy_regex_runner.proofs.ShapeLemmas.{tree_concat, tree_alt, shape_concat, shape_alt, shape_repeat}
 use Rattle.fancy_regex_runner.proofs.build.Walk.+build.Goals as goal
 use Rattle.fancy_regex_runner.proofs.build.Walk.+build.Goals.{row-then-moves, row-else-moves, branches-then-moves, branches-else-moves, branches-then-moves-2, branches-else-moves-2}
@@ -26,23 +26,20 @@ unfolding re_of
 part-returns-in-Alt-clause-shape t c =
     let e : tree_of c.args.expr.now ≡ alt (all_trees c.deref-in-Alt.result.now) =
     ap tree_of c.in-Alt.is ∙ tree_alt c.in-Alt.children ∙ ap (λ es. alt (all_trees es)) (sym c.deref-in-Alt.ensures.value) in
-    rw e c.branches.ensures.shape
+    rw e (if_ok c.branches.result (λ part h p groups. h p.1 groups) c.branches.ensures.shape)
 
 pub repeat-returns-clause-shape : goal.repeat-returns-clause-shape
-repeat-returns-clause-shape t c = λ groups.
+repeat-returns-clause-shape t c = λ plain groups.
     let unicode = c.args.self.now.unicode in
     let n = c.args.self.now.next_group in
     let k = length c.args.self.now.matchers.items in
     let child = tree_of c.args.child.now in
     let flag : c.in_ok-part.part.moves ≡ not (may_be_empty groups child) =
-    c.in_ok-part.ensures.moves ∙ ap never_empty (c.in_ok-part.ensures.shape groups) ∙ sym (flag_is unicode groups n k child c.requires.plain) in
-    let body : shape c.in_ok-boxed.field-0.value ≡ re_of unicode groups n k child = ap shape c.in_ok-boxed.ensures ∙ c.in_ok-part.ensures.shape groups in
-    shape_repeat c.in_ok-boxed.field-0 c.args.lo c.args.hi c.args.greedy c.in_ok-part.part.moves
-    ∙ ap₂ (λ (b : Bool) (x : Re). re.repeat c.args.lo c.args.hi c.args.greedy b x) flag body
-
-pub row-part-requires : goal.row-part-requires
-row-part-requires t c =
-    (search (rules, laws.the_lemmas), plain_at c.args.children.now c.loop-i.i c.index-children-i.result c.loop-i-test.true c.index-children-i.is c.requires.plain)
+    c.in_ok-part.ensures.moves ∙ ap never_empty (c.in_ok-part.ensures.shape plain groups) ∙ sym (flag_is unicode groups n k child plain) in
+    let body : shape c.in_ok-boxed.field-0.value ≡ re_of unicode groups n k child = ap shape c.in_ok-boxed.ensures ∙ c.in_ok-part.ensures.shape plain groups in
+    rw (sym c.has_no_round.ensures ∙ c.if-has_no_round.false)
+    (shape_repeat c.in_ok-boxed.field-0 c.args.lo c.args.hi c.args.greedy c.in_ok-part.part.moves
+    ∙ ap₂ (λ (b : Bool) (x : Re). re.repeat c.args.lo c.args.hi c.args.greedy b x) flag body)
 
 pub row-loop-i-init : goal.row-loop-i-init
 unfolding never_empty
@@ -59,7 +56,7 @@ row-loop-i-preserved t c =
       built =
           nodes_step c.args.self.now c.loop-i.self c.part.new.self c.args.children.now c.loop-i.i c.index-children-i.result c.loop-i.parts.items
           c.add.new.values.items c.in_ok-part.part.node c.loop-i-test.true c.index-children-i.is c.in_ok-add.ensures c.loop-i.invariant.built
-          c.in_ok-part.ensures.unicode c.in_ok-part.ensures.groups c.in_ok-part.ensures.matchers c.in_ok-part.ensures.shape;
+          c.in_ok-part.ensures.unicode c.in_ok-part.ensures.groups c.in_ok-part.ensures.matchers c.in_ok-part.ensures.sound c.in_ok-part.ensures.shape;
       moves =
           moves
           ∙ ap₂ ◌||◌ c.loop-i.invariant.moves c.in_ok-part.ensures.moves
@@ -73,16 +70,17 @@ row-returns-clause-groups t c = (row_whole _ _ c.args.children.now c.loop-i.i _ 
 pub row-returns-clause-matchers : goal.row-returns-clause-matchers
 row-returns-clause-matchers t c = (row_whole _ _ c.args.children.now c.loop-i.i _ c.loop-i-test.false c.loop-i.invariant.built).matchers
 
+pub row-returns-clause-sound : goal.row-returns-clause-sound
+row-returns-clause-sound t c =
+    let built = row_whole _ _ c.args.children.now c.loop-i.i _ c.loop-i-test.false c.loop-i.invariant.built in
+    rw (shape_concat c.loop-i.parts) (row_sound (shapes c.loop-i.parts.items) built.sound)
+
 pub row-returns-clause-shape : goal.row-returns-clause-shape
-row-returns-clause-shape t c = λ groups.
+row-returns-clause-shape t c = λ plain groups.
     let built = row_whole _ _ c.args.children.now c.loop-i.i _ c.loop-i-test.false c.loop-i.invariant.built in
     shape_concat c.loop-i.parts
-    ∙ ap cats (built.patterns groups)
+    ∙ ap cats (built.patterns plain groups)
     ∙ row_is c.args.self.now.unicode groups (map tree_of c.args.children.now) c.args.self.now.next_group (length c.args.self.now.matchers.items)
-
-pub branches-part-requires : goal.branches-part-requires
-branches-part-requires t c =
-    (search (rules, laws.the_lemmas), plain_at c.args.children.now c.loop-i.i c.index-children-i.result c.loop-i-test.true c.index-children-i.is c.requires.plain)
 
 pub branches-loop-i-init : goal.branches-loop-i-init
 unfolding all_move
@@ -99,7 +97,7 @@ branches-loop-i-preserved t c =
       built =
           nodes_step c.args.self.now c.loop-i.self c.part.new.self c.args.children.now c.loop-i.i c.index-children-i.result c.loop-i.parts.items
           c.add.new.values.items c.in_ok-part.part.node c.loop-i-test.true c.index-children-i.is c.in_ok-add.ensures c.loop-i.invariant.built
-          c.in_ok-part.ensures.unicode c.in_ok-part.ensures.groups c.in_ok-part.ensures.matchers c.in_ok-part.ensures.shape;
+          c.in_ok-part.ensures.unicode c.in_ok-part.ensures.groups c.in_ok-part.ensures.matchers c.in_ok-part.ensures.sound c.in_ok-part.ensures.shape;
       moves =
           moves
           ∙ ap₂ ◌&&◌ c.loop-i.invariant.moves c.in_ok-part.ensures.moves
@@ -128,9 +126,32 @@ branches-returns-clause-moves t c =
     ∙ sym (branches_move (shapes c.loop-i.parts.items))
     ∙ ap never_empty (sym (shape_alt c.loop-i.parts))
 
+pub branches-returns-clause-sound : goal.branches-returns-clause-sound
+branches-returns-clause-sound t c =
+    let built = row_whole _ _ c.args.children.now c.loop-i.i _ c.loop-i-test.false c.loop-i.invariant.built in
+    rw (shape_alt c.loop-i.parts) (branches_sound (shapes c.loop-i.parts.items) built.sound)
+
 pub branches-returns-clause-shape : goal.branches-returns-clause-shape
-branches-returns-clause-shape t c = λ groups.
+branches-returns-clause-shape t c = λ plain groups.
     let built = row_whole _ _ c.args.children.now c.loop-i.i _ c.loop-i-test.false c.loop-i.invariant.built in
     shape_alt c.loop-i.parts
-    ∙ ap alts (built.patterns groups)
+    ∙ ap alts (built.patterns plain groups)
     ∙ branches_is c.args.self.now.unicode groups (map tree_of c.args.children.now) c.args.self.now.next_group (length c.args.self.now.matchers.items)
+
+pub row-returns-in_err-part-clause-refused : goal.row-returns-in_err-part-clause-refused
+row-returns-in_err-part-clause-refused t c =
+    let cause : IsClassCause c.args.self.now.unicode (classes (tree_of c.index-children-i.result)) c.in_err-part.field-0.0 =
+    rw c.loop-i.invariant.built.unicode at c.in_err-part.ensures.refused in
+    let all =
+    cause_in_row c.args.self.now.unicode c.args.children.now c.loop-i.i c.index-children-i.result c.in_err-part.field-0.0 c.loop-i-test.true
+    c.index-children-i.is cause in
+    search rules
+
+pub branches-returns-in_err-part-clause-refused : goal.branches-returns-in_err-part-clause-refused
+branches-returns-in_err-part-clause-refused t c =
+    let cause : IsClassCause c.args.self.now.unicode (classes (tree_of c.index-children-i.result)) c.in_err-part.field-0.0 =
+    rw c.loop-i.invariant.built.unicode at c.in_err-part.ensures.refused in
+    let all =
+    cause_in_row c.args.self.now.unicode c.args.children.now c.loop-i.i c.index-children-i.result c.in_err-part.field-0.0 c.loop-i-test.true
+    c.index-children-i.is cause in
+    search rules

@@ -1,4 +1,4 @@
-use Rattle.std.proofs.Common.{◌≡◌, ℕ, ◌+◌, ◌-◌, ◌*◌, ◌^◌, ◌≤◌, ◌<◌, ◌∙◌, List, min, length, replicate, Option, Some, None, refl, sym, ap, arith, rules, vec_len}
+use Rattle.std.proofs.Common.{◌≡◌, ℕ, ◌+◌, ◌-◌, ◌*◌, ◌^◌, ◌≤◌, ◌∙◌, List, min, length, replicate, Option, Some, sym, ap, arith, rules}
 use Rattle.std.specs.Prelude.{option_map}
 use Rattle.fancy_regex_meaning.specs.Groups.{Pattern}
 use Rattle.fancy_regex_meaning.specs.Sizes.{tree_weight}
@@ -13,7 +13,7 @@ use Rattle.fancy_regex_runner.specs.Easy.{setting_for, search_for, hit_places}
 use Rattle.fancy_regex_runner.specs.Runner.{IsEasyOf}
 use Rattle.fancy_regex_runner.proofs.PlainLemmas.{sound}
 use Rattle.fancy_regex_runner.proofs.SightLemmas.{shows_all}
-use Rattle.fancy_regex_runner.proofs.AnswerLemmas.{Does, program_does, closed, entry_in, found_is_match, tried_is_same, none_past, none_tried, states_weigh, steps_bound}
+use Rattle.fancy_regex_runner.proofs.AnswerLemmas.{program_does, closed, entry_in, found_is_match, tried_is_same, none_past, none_tried, states_weigh, steps_bound}
 use Rattle.fancy_regex_runner.proofs.easy.Easy.search.Goals as goal
 use Rattle.fancy_regex_runner.proofs.easy.Easy.search.Goals.{After-earliest_way, In_ok-span}
 

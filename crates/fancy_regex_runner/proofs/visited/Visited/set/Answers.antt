@@ -1,8 +1,6 @@
-use Rattle.std.proofs.Common.{◌≡◌, ◌+◌, ◌-◌, ◌*◌, ◌/◌, ◌%◌, ◌<◌, ◌∙◌, length, get_or, refl, sym, ap, not, eqb, arith, set, ℕ}
+use Rattle.std.proofs.Common.{◌≡◌, ◌+◌, ◌-◌, ◌*◌, ◌/◌, ◌%◌, ◌<◌, ◌∙◌, get_or, refl, sym, ap, not, eqb, arith, ℕ}
 use Rattle.std.proofs.lemmas.List.{get_or_read}
-use Rattle.std.specs.Prelude.{bit_or, bit_and, ◌^◌}
 use Rattle.std.specs.Int.{bit_at}
-use Rattle.fancy_regex_runner.specs.Visited.{flags, flags_of}
 use Rattle.fancy_regex_runner.proofs.VisitedLemmas.{place_below, bit_clear, flag_of, flags-set, length-flags, adds_set, counted_set}
 use Rattle.fancy_regex_runner.proofs.visited.Visited.set.Goals as goal
 

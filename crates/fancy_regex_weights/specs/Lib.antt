@@ -1,0 +1,2 @@
+pub mod Uncounted
+pub mod WeightBounds
