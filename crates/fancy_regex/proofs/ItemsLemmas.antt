@@ -1,0 +1,127 @@
+-- One search of an iteration, in what is left of it.
+use Rattle.std.proofs.Common.{◌≡◌, ℕ, suc, ◌+◌, ◌-◌, ◌<◌, ◌≤◌, max, Bool, true, false, List, [], ◌∷◌, length, Option, Some, None, ◌==◌, nat_lt, if◌then◌else◌, refl, arith, ap, sym, ◌∙◌, rules, eqb}
+use Rattle.std.specs.Option.{option_eq}
+use Rattle.fancy_regex_meaning.specs.Places.{place_after}
+use Rattle.fancy_regex_meaning.specs.Ways.{for_some}
+use Rattle.fancy_regex_meaning.specs.Searches.{Match, items, is_last_end, search_from, all_items}
+use Rattle.fancy_regex_meaning.specs.ListLaws.{ItemsNeedNoMore}
+use Rattle.fancy_regex_input.specs.Inputs.{input_of}
+use Rattle.fancy_regex_input.specs.declared.asked.Asked.{Asked}
+use Rattle.fancy_regex_search.specs.Patterns.{options_in, setting_in}
+use Rattle.fancy_regex_search.specs.Owned.{own_found_from, own_pattern}
+use Rattle.fancy_regex_search.specs.declared.searcher.Searcher.{Searcher}
+use Rattle.fancy_regex.specs.Left.{items_left, all_left}
+use Rattle.fancy_regex.specs.declared.walk.Standing.{Standing}
+
+nat_lt-yes : (a b : ℕ) → a < b → nat_lt a b ≡ true
+nat_lt-yes a b h = search rules
+
+nat_lt-no : (a b : ℕ) → b ≤ a → nat_lt a b ≡ false
+nat_lt-no a b h = search rules
+
+turn : (b : Bool) (o : Option Match) (F : Match → List Match) (m : Match) → b ≡ false → o ≡ Some m → (if b then [] else for_some F o) ≡ F m
+turn b o F m e f = rw (e, f) refl
+
+stopped : (b : Bool) (o : Option Match) (F : Match → List Match) → b ≡ false → o ≡ None → (if b then [] else for_some F o) ≡ []
+stopped b o F e f = rw (e, f) refl
+
+beyond : (b : Bool) (o : Option Match) (F : Match → List Match) → b ≡ true → (if b then [] else for_some F o) ≡ []
+beyond b o F e = rw e refl
+
+pick-first : (b c : Bool) (A B C : List Match) → b ≡ true → (if b then A else if c then B else C) ≡ A
+pick-first b c A B C e = rw e refl
+
+pick-second : (b c : Bool) (A B C : List Match) → b ≡ false → c ≡ true → (if b then A else if c then B else C) ≡ B
+pick-second b c A B C e f = rw (e, f) refl
+
+pick-third : (b c : Bool) (A B C : List Match) → b ≡ false → c ≡ false → (if b then A else if c then B else C) ≡ C
+pick-third b c A B C e f = rw (e, f) refl
+
+-- a search does not read where it was to start
+found-same : (s : Searcher) (text : List ℕ) (a : Asked) (p : ℕ) → own_found_from s text (record a { start = p }) ≡ own_found_from s text a
+unfolding search_from
+found-same s text a p = refl
+
+-- before the first search
+pub left-all : (s : Searcher) (text : List ℕ) (a : Asked) → items_left s text a (record { last = None; off = false; is_done = false }) ≡ all_left s text a
+unfolding all_items
+left-all s text a = refl
+
+-- whether a match ends where the last one did
+abbrev repeats : Option ℕ → ℕ → Bool
+repeats last e = option_eq eqb last (Some e)
+
+module _ (s : Searcher) (text : List ℕ) (a : Asked) where
+  last-end : (last : Option ℕ) (e : ℕ) → is_last_end text (own_found_from s text a) a.range_start a.range_end last e ≡ repeats last e
+  last-end None e = refl
+  last-end (Some l) e = refl
+
+  left-turn : (last : Option ℕ) (off : Bool) →
+      items text (own_found_from s text a) a.range_start a.range_end (length text + 2) a.start last off
+      ≡ items text (own_found_from s text a) a.range_start a.range_end (suc (length text + 1)) a.start last off
+  left-turn last off = let e : length text + 2 ≡ suc (length text + 1) = omega arith in rw e refl
+
+  items-past : (n p : ℕ) (last : Option ℕ) (off : Bool) → a.range_end < max p a.range_start →
+      items text (own_found_from s text a) a.range_start a.range_end (suc n) p last off ≡ []
+  unfolding items
+  items-past n p last off h = rw (nat_lt-yes a.range_end (max p a.range_start) h) refl
+
+  pub left-past : (st : Standing) → st.is_done ≡ false → a.range_end < max a.start a.range_start → items_left s text a st ≡ []
+  left-past st going h = rw going (left-turn st.last st.off ∙ items-past (length text + 1) a.start st.last st.off h)
+
+  pub left-none : (st : Standing) → st.is_done ≡ false → max a.start a.range_start ≤ a.range_end → own_found_from s text a (max a.start a.range_start) st.off ≡ None →
+      items_left s text a st ≡ []
+  unfolding items
+  left-none st going inside found = rw going (left-turn st.last st.off ∙ stopped _ _ _ (nat_lt-no _ _ inside) found)
+
+  module _ (more : ItemsNeedNoMore) (within : a.range_end ≤ length text) where
+    -- what is left after a search, from a place that is not the start of the text
+    after : (p : ℕ) (l : Option ℕ) (o : Bool) → 1 ≤ p →
+        items text (own_found_from s text a) a.range_start a.range_end (length text + 1) p l o
+        ≡ items_left s text (record a { start = p }) (record { last = l; off = o; is_done = false })
+    after p l o h =
+        let one : a.range_end + 1 - p < length text + 1 = omega arith in
+        let two : a.range_end + 1 - p < length text + 2 = omega arith in
+        more (setting_in s.options text a) (own_pattern s) (options_in s.options) (input_of a) (length text + 1) (length text + 2) p l o one two
+        ∙ sym (ap (λ f. items text f a.range_start a.range_end (length text + 2) p l o) (found-same s text a p))
+
+    module _ (st : Standing) (going : st.is_done ≡ false) (m : Match) (inside : max a.start a.range_start ≤ a.range_end)
+        (found : own_found_from s text a (max a.start a.range_start) st.off ≡ Some m) where
+      pub left-item : m.start < m.end → items_left s text a st
+          ≡ m ∷ items_left s text (record a { start = m.end }) (record { last = Some m.end; off = false; is_done = false })
+      unfolding items
+      left-item l = rw going (
+          left-turn st.last st.off ∙ turn _ _ _ m (nat_lt-no _ _ inside) found
+          ∙ pick-first (nat_lt m.start m.end) (is_last_end text (own_found_from s text a) a.range_start a.range_end st.last m.end)
+          (m ∷ items text (own_found_from s text a) a.range_start a.range_end (length text + 1) m.end (Some m.end) false)
+          (items text (own_found_from s text a) a.range_start a.range_end (length text + 1) (place_after text m.end) (Some m.end) (m.end == max a.start a.range_start))
+          (m ∷ items text (own_found_from s text a) a.range_start a.range_end (length text + 1) (place_after text m.end) (Some m.end) (m.end == max a.start a.range_start))
+          (nat_lt-yes m.start m.end l)
+          ∙ ap (λ xs. m ∷ xs) (after m.end (Some m.end) false (omega arith))
+          )
+
+      module _ (onward : m.end < place_after text m.end) where
+        rest-same : items text (own_found_from s text a) a.range_start a.range_end (length text + 1) (place_after text m.end) (Some m.end) (m.end == max a.start a.range_start)
+            ≡ items_left s text (record a { start = place_after text m.end }) (record { last = Some m.end; off = m.end == max a.start a.range_start; is_done = false })
+        rest-same = let h : 1 ≤ place_after text m.end = omega (arith, onward) in after (place_after text m.end) (Some m.end) (m.end == max a.start a.range_start) h
+
+        pub left-skip : m.end ≤ m.start → repeats st.last m.end ≡ true → items_left s text a st
+            ≡ items_left s text (record a { start = place_after text m.end }) (record { last = Some m.end; off = m.end == max a.start a.range_start; is_done = false })
+        unfolding items
+        left-skip l e = rw going (
+            left-turn st.last st.off ∙ turn _ _ _ m (nat_lt-no _ _ inside) found ∙ pick-second _ _ _ _ _ (nat_lt-no m.start m.end l) (last-end st.last m.end ∙ e) ∙ rest-same
+            )
+
+        pub left-empty : m.end ≤ m.start → repeats st.last m.end ≡ false → items_left s text a st
+            ≡ m ∷ items_left s text (record a { start = place_after text m.end }) (record { last = Some m.end; off = m.end == max a.start a.range_start; is_done = false })
+        unfolding items
+        left-empty l e = rw going (
+            left-turn st.last st.off ∙ turn _ _ _ m (nat_lt-no _ _ inside) found ∙ pick-third _ _ _ _ _ (nat_lt-no m.start m.end l) (last-end st.last m.end ∙ e) ∙ ap (λ xs. m ∷ xs) rest-same
+            )
+
+-- the same where the code's values stand
+pub moved : (s : Searcher) (text text' : List ℕ) (a a' : Asked) (e e' p p' : ℕ) (o o' d : Bool) → text' ≡ text → a' ≡ record a { start = p' } → p' ≡ p → o' ≡ o → d ≡ false → e' ≡ e →
+    items_left s text (record a { start = p }) (record { last = Some e; off = o; is_done = false }) ≡ items_left s text' a' (record { last = Some e'; off = o'; is_done = d })
+moved s text text' a a' e e' p p' o o' d t x y w k z =
+    let whole : a' ≡ record a { start = p } = x ∙ ap (λ q. record a { start = q }) y in
+    λ i. items_left s (sym t i) (sym whole i) (record { last = Some (sym z i); off = sym w i; is_done = sym k i })

@@ -1,0 +1,32 @@
+use Rattle.std.proofs.Common.{◌≡◌, ◌∙◌, ℕ, max, refl, sym, ap, Some, None, false, List}
+use Rattle.std.specs.Prelude.{slice_index, option_map, string_bytes}
+use Rattle.fancy_regex_runner.specs.Plain.{places_of}
+use Rattle.fancy_regex_search.specs.Owned.{own_pattern, own_found_from}
+use Rattle.fancy_regex_search.specs.Patterns.{tree_in}
+use Rattle.fancy_regex_search.specs.Places.{IsWithin}
+use Rattle.fancy_regex.specs.Shown.{span_in}
+use Rattle.fancy_regex.proofs.PlaceLemmas.{some-of, none-of, span-is, found-is}
+use Rattle.fancy_regex.proofs.regex.Regex.find_input_counted.Goals as goal
+
+pub returns-in-Some : goal.returns-in-Some
+returns-in-Some g c ready =
+    let s = c.args.self.now.searcher in
+    let text = g.S.Input.text c.args.input.haystack in
+    let a = c.args.input.asked in
+    let v = c.in-Some.places.items in
+    let told : Some v ≡ option_map (places_of (own_pattern s)) (own_found_from s text a (max a.start a.range_start) false) =
+    rw (c.haystack-haystack.ensures, c.asked-asked.ensures) at (sym (ap (option_map (λ w. w.items)) c.in-Some.is) ∙ c.in_ok-places.ensures.answer ready) in
+    let f = some-of (places_of (own_pattern s)) (own_found_from s text a (max a.start a.range_start) false) v told in
+    let within = rw c.in-Some.is at c.in_ok-places.ensures.within in
+    let k = span-is (tree_in s.options (string_bytes s.pattern)) f.0 v f.2 within.whole in
+    ap Some (c.whole_of.ensures ∙ (λ i. (slice_index (c.deref.ensures.value i) 0, slice_index (c.deref.ensures.value i) 1)) ∙ (λ i. (k.0 i, k.1 i)))
+    ∙ sym (ap (option_map span_in) (found-is s text a ∙ f.1))
+
+pub returns-in-None : goal.returns-in-None
+returns-in-None g c ready =
+    let s = c.args.self.now.searcher in
+    let text = g.S.Input.text c.args.input.haystack in
+    let a = c.args.input.asked in
+    let told : None ≡ option_map (places_of (own_pattern s)) (own_found_from s text a (max a.start a.range_start) false) =
+    rw (c.haystack-haystack.ensures, c.asked-asked.ensures) at (sym (ap (option_map (λ w. w.items)) c.in-None.is) ∙ c.in_ok-places.ensures.answer ready) in
+    sym (ap (option_map span_in) (found-is s text a ∙ none-of (places_of (own_pattern s)) _ told))

@@ -1,0 +1,77 @@
+use Rattle.std.proofs.Common.{◌≡◌, ◌≤◌, ◌<◌, ◌∙◌, ◌==◌, ℕ, max, refl, sym, ap, arith, true, false, Some, eqb, List, ◌∷◌, Bool}
+use Rattle.std.specs.Prelude.{string_bytes}
+use Rattle.std.specs.Option.{option_eq}
+use Rattle.std.proofs.lemmas.List.{get_or_default}
+use Rattle.fancy_regex_meaning.specs.Places.{place_after}
+use Rattle.fancy_regex_meaning.specs.Searches.{Match}
+use Rattle.fancy_regex_runner.specs.Plain.{places_of}
+use Rattle.fancy_regex_search.specs.Owned.{IsOwnReady, own_pattern, own_found_from}
+use Rattle.fancy_regex_search.specs.Patterns.{tree_in}
+use Rattle.fancy_regex.proofs.PlaceLemmas.{some-of, span-is}
+use Rattle.fancy_regex.proofs.ItemsLemmas.{left-item, left-skip, left-empty, moved}
+use Rattle.fancy_regex.proofs.walk.Walk.land.Goals as goal
+
+pub returns-then-start-end-clause-gives : goal.returns-then-start-end-clause-gives
+returns-then-start-end-clause-gives g c ready =
+    let self = c.args.self.now in
+    let s = self.regex.now.searcher in
+    let text = g.S.Input.text self.input.haystack in
+    let a = self.input.asked in
+    let f = some-of (places_of (own_pattern s)) (own_found_from s text a (max a.start a.range_start) self.standing.off) c.args.places.items (c.requires.found ready) in
+    let m : Match = f.0 in
+    let k = span-is (tree_in s.options (string_bytes s.pattern)) m c.args.places.items f.2 c.requires.within.whole in
+    let start : c.index-start.result.now ≡ m.start = c.index-start.ensures ∙ sym (get_or_default c.args.places.items 0 0 c.index-start.result.now (omega (arith, c.requires.within.whole))) ∙ k.0 in
+    let end : c.index-end.result.now ≡ m.end = c.index-end.ensures ∙ sym (get_or_default c.args.places.items 1 0 c.index-end.result.now (omega (arith, c.requires.within.whole))) ∙ k.1 in
+    let inside : max a.start a.range_start ≤ a.range_end = omega (arith, c.requires.within.behind, c.requires.within.cuts.ordered, c.requires.within.inside) in
+    let less : m.start < m.end = omega (arith, start, end, c.if-start-end.true) in (
+      m,
+      left-item s text a c.laws_of_items.ensures.more self.input.fits.range_end.0 self.standing c.requires.going m inside f.1 less
+          ∙ ap (λ (xs : List Match). m ∷ xs) (moved s text _ a _ m.end c.index-end.result.now m.end c.index-end.result.now false false self.standing.is_done
+          (ap g.S.Input.text c.set_start.ensures.haystack) c.set_start.ensures.asked end refl c.requires.going end),
+      f.2,
+    )
+
+pub returns-then-is_repeated-clause-gives : goal.returns-then-is_repeated-clause-gives
+returns-then-is_repeated-clause-gives g c ready =
+    let self = c.args.self.now in
+    let s = self.regex.now.searcher in
+    let text = g.S.Input.text self.input.haystack in
+    let a = self.input.asked in
+    let f = some-of (places_of (own_pattern s)) (own_found_from s text a (max a.start a.range_start) self.standing.off) c.args.places.items (c.requires.found ready) in
+    let m : Match = f.0 in
+    let k = span-is (tree_in s.options (string_bytes s.pattern)) m c.args.places.items f.2 c.requires.within.whole in
+    let start : c.index-start.result.now ≡ m.start = c.index-start.ensures ∙ sym (get_or_default c.args.places.items 0 0 c.index-start.result.now (omega (arith, c.requires.within.whole))) ∙ k.0 in
+    let end : c.index-end.result.now ≡ m.end = c.index-end.ensures ∙ sym (get_or_default c.args.places.items 1 0 c.index-end.result.now (omega (arith, c.requires.within.whole))) ∙ k.1 in
+    let inside : max a.start a.range_start ≤ a.range_end = omega (arith, c.requires.within.behind, c.requires.within.cuts.ordered, c.requires.within.inside) in
+    let most : m.end ≤ m.start = omega (arith, start, end, c.if-start-end.false) in
+    let next : c.advance_position-next.result ≡ place_after text m.end = c.advance_position-next.ensures.value ∙ (λ i. place_after (g.S.Input.text (c.haystack.ensures i)) (end i)) in
+    let onward : m.end < place_after text m.end = omega (arith, next, end, c.advance_position-next.ensures.after) in
+    let off : (c.index-end.result.now == c.effective_start.result) ≡ (m.end == max a.start a.range_start) = λ i. end i == c.effective_start.ensures i in
+    left-skip s text a c.laws_of_items.ensures.more self.input.fits.range_end.0 self.standing c.requires.going m inside f.1 onward most
+    (ap (λ (e : ℕ). option_eq eqb self.standing.last (Some e)) (sym end) ∙ sym c.eq-is_repeated.ensures ∙ c.if-is_repeated.true)
+    ∙ moved s text _ a _ m.end c.index-end.result.now (place_after text m.end) c.advance_position-next.result (m.end == max a.start a.range_start) _ self.standing.is_done
+    (ap g.S.Input.text c.set_start-2.ensures.haystack) c.set_start-2.ensures.asked next off c.requires.going end
+
+pub returns-clause-gives : goal.returns-clause-gives
+returns-clause-gives g c ready =
+    let self = c.args.self.now in
+    let s = self.regex.now.searcher in
+    let text = g.S.Input.text self.input.haystack in
+    let a = self.input.asked in
+    let f = some-of (places_of (own_pattern s)) (own_found_from s text a (max a.start a.range_start) self.standing.off) c.args.places.items (c.requires.found ready) in
+    let m : Match = f.0 in
+    let k = span-is (tree_in s.options (string_bytes s.pattern)) m c.args.places.items f.2 c.requires.within.whole in
+    let start : c.index-start.result.now ≡ m.start = c.index-start.ensures ∙ sym (get_or_default c.args.places.items 0 0 c.index-start.result.now (omega (arith, c.requires.within.whole))) ∙ k.0 in
+    let end : c.index-end.result.now ≡ m.end = c.index-end.ensures ∙ sym (get_or_default c.args.places.items 1 0 c.index-end.result.now (omega (arith, c.requires.within.whole))) ∙ k.1 in
+    let inside : max a.start a.range_start ≤ a.range_end = omega (arith, c.requires.within.behind, c.requires.within.cuts.ordered, c.requires.within.inside) in
+    let most : m.end ≤ m.start = omega (arith, start, end, c.if-start-end.false) in
+    let next : c.advance_position-next.result ≡ place_after text m.end = c.advance_position-next.ensures.value ∙ (λ i. place_after (g.S.Input.text (c.haystack.ensures i)) (end i)) in
+    let onward : m.end < place_after text m.end = omega (arith, next, end, c.advance_position-next.ensures.after) in
+    let off : (c.index-end.result.now == c.effective_start.result) ≡ (m.end == max a.start a.range_start) = λ i. end i == c.effective_start.ensures i in (
+      m,
+      left-empty s text a c.laws_of_items.ensures.more self.input.fits.range_end.0 self.standing c.requires.going m inside f.1 onward most
+          (ap (λ (e : ℕ). option_eq eqb self.standing.last (Some e)) (sym end) ∙ sym c.eq-is_repeated.ensures ∙ c.if-is_repeated.false)
+          ∙ ap (λ (xs : List Match). m ∷ xs) (moved s text _ a _ m.end c.index-end.result.now (place_after text m.end) c.advance_position-next.result (m.end == max a.start a.range_start) _ self.standing.is_done
+          (ap g.S.Input.text c.set_start-2.ensures.haystack) c.set_start-2.ensures.asked next off c.requires.going end),
+      f.2,
+    )

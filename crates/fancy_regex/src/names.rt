@@ -1,0 +1,60 @@
+//! The names of groups.
+
+ghost use Rattle.std.specs.Prelude.{◌≡◌, ◌+◌, ◌-◌, ◌≤◌, ◌<◌, MatchOption, length};
+ghost use Rattle.std.specs.Iterator.{at_most};
+ghost use Rattle.fancy_regex_search.specs.Owned.{own_pattern};
+
+use crate::regex::Regex;
+use fancy_regex_tree::NamedGroups;
+use std::fmt;
+
+/// The name of each group of a regex in order, from group 0 on; `None` for a group without a name.
+#[derive(Clone, Drop)]
+pub struct CaptureNames<'r> {
+    regex: &'r Regex,
+    /// The number of the group that comes next.
+    next: usize,
+}
+
+/// The name that has the group among its numbers.
+fn name_of(named: &NamedGroups, group: usize) -> Option<&str> {
+    for (name, numbers) in named.iter() {
+        if numbers.contains(&group) {
+            return Some(name.as_str());
+        }
+    }
+    None
+}
+
+impl<'r> CaptureNames<'r> {
+    pub(crate) fn new(regex: &'r Regex) -> CaptureNames<'r>
+        ensures regex { result.regex ≡ regex.entry }
+        ensures next { result.next ≡ 0 }
+    {
+        CaptureNames { regex, next: 0 }
+    }
+}
+
+impl<'r> Iterator for CaptureNames<'r> {
+    type Item = Option<&'r str>;
+
+    ghost next_gives = { λ s r t. MatchOption r ((length (own_pattern s.regex.now.searcher).groups ≤ s.next) × (t ≡ s))
+        (λ item. (s.next < length (own_pattern s.regex.now.searcher).groups) × (t.next ≡ s.next + 1) × (t.regex ≡ s.regex)) };
+
+    ghost remaining = { λ s. at_most (length (own_pattern s.regex.now.searcher).groups - s.next) };
+
+    fn next(&mut self) -> Option<Option<&'r str>> {
+        let group = self.next;
+        if group >= self.regex.captures_len() {
+            return None;
+        }
+        self.next = group + 1;
+        Some(name_of(self.regex.searcher.named_groups(), group))
+    }
+}
+
+impl fmt::Debug for CaptureNames<'_> {
+    fn fmt<W: fmt::Write>(&self, f: &mut fmt::Formatter<W>) -> fmt::Result {
+        f.write_str("<CaptureNames>")
+    }
+}

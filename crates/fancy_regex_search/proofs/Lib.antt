@@ -1,0 +1,3 @@
+pub mod EngineLemmas
+pub mod BridgeLemmas
+pub mod SearchLemmas
