@@ -1,4 +1,4 @@
-use fancy_regex_runner::EasyError;
+use fancy_regex::Error;
 use std::alloc::AllocError;
 use std::io;
 use std::num::ParseIntError;
@@ -10,7 +10,8 @@ pub enum Fault {
     Words,
     /// The clock, or standard error.
     System,
-    Pattern,
+    /// A pattern is refused, or a search ended in an error.
+    Regex,
     Memory,
 }
 
@@ -20,9 +21,9 @@ impl From<AllocError> for Fault {
     }
 }
 
-impl From<EasyError> for Fault {
-    fn from(_: EasyError) -> Fault {
-        Fault::Pattern
+impl From<Error> for Fault {
+    fn from(_: Error) -> Fault {
+        Fault::Regex
     }
 }
 
