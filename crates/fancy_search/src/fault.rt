@@ -2,21 +2,25 @@
 
 ghost use Rattle.std.specs.Prelude.{◌≡◌};
 ghost use Rattle.fancy_search.specs.declared.fault.Fault.TheVariants.{Memory};
-ghost use Rattle.fancy_search.specs.Causes.{fault_of};
+ghost use Rattle.fancy_search.specs.Causes.{of_regex, of_words};
 
-use fancy_regex_tree::{Error as TreeError, ParseError};
+use fancy_regex::Error as RegexError;
+use fancy_search_words::Refusal;
 use std::alloc::{AllocError, AllocFailed};
 use thiserror::Error;
 
 /// Why a call of the program answers nothing. It shows the text that the program prints.
 #[derive(Debug, PartialEq, Eq, Drop, Error)]
 pub enum Fault {
-    /// The words ask nothing that the program does, or the pattern is one that it does not search with yet.
-    #[error("pattern not yet carried")]
-    NotCarried,
-    /// The pattern has no tree. The first fault from the left is at the byte of this number, counted from 0.
-    #[error("Parsing error at position {0}: {1}")]
-    Pattern(usize, ParseError),
+    /// The words do not parse; `clap`'s text.
+    #[error("{0}")]
+    Words(String),
+    /// The words ask for help; `clap`'s text.
+    #[error("{0}")]
+    Help(String),
+    /// The pattern is none, or is refused, or a search passed a limit.
+    #[error("{0}")]
+    Regex(RegexError),
     #[error("cannot read input")]
     Input,
     #[error("input is not UTF-8")]
@@ -44,13 +48,25 @@ impl<T: Drop> From<AllocFailed<T>> for Fault {
     }
 }
 
-impl From<TreeError> for Fault {
-    ghost from_gives = { λ e f. f ≡ fault_of e };
+impl From<Refusal> for Fault {
+    ghost from_gives = { λ cause f. f ≡ of_words cause };
 
-    fn from(cause: TreeError) -> Fault {
+    fn from(cause: Refusal) -> Fault {
         match cause {
-            TreeError::ParseError(position, kind) => Fault::Pattern(position, kind),
-            TreeError::Memory => Fault::Memory,
+            Refusal::Words(text) => Fault::Words(text),
+            Refusal::Help(text) => Fault::Help(text),
+            Refusal::Memory => Fault::Memory,
+        }
+    }
+}
+
+impl From<RegexError> for Fault {
+    ghost from_gives = { λ cause f. f ≡ of_regex cause };
+
+    fn from(cause: RegexError) -> Fault {
+        match cause {
+            RegexError::Memory => Fault::Memory,
+            other => Fault::Regex(other),
         }
     }
 }

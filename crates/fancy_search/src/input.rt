@@ -2,7 +2,7 @@
 
 ghost use Rattle.std.specs.Prelude.{◌≡◌, IfOk, IfSome, IfErr, OnOk};
 ghost use Rattle.std.specs.Io.KnownBytes.{IsAtEnd};
-ghost use Rattle.fancy_search.specs.Due.{Hides};
+ghost use Rattle.fancy_search.specs.Due.{IsOfReading};
 
 use crate::fault::Fault;
 use std::alloc::Global;
@@ -15,7 +15,7 @@ const CHUNK: usize = 8192;
 pub fn read_whole<R: Read>(alloc: Global, reader: &mut R) -> Result<Vec<u8>, Fault>
     ensures value { IfOk result (λ v. IfSome (R.remaining reader.old) (λ xs. v.items ≡ xs)) }
     ensures end { OnOk result (IsAtEnd (R.remaining reader.new)) }
-    ensures fault { IfErr result Hides }
+    ensures fault { IfErr result IsOfReading }
 {
     let mut bytes = Vec::new(alloc);
     let mut chunk = [0; CHUNK];

@@ -1,26 +1,12 @@
-//! Shows the matches, and writes them.
+//! Writes the output.
 
-ghost use Rattle.std.specs.Prelude.{◌≡◌, map, string_bytes, IfOk, OnOk, OnErr, IfErr};
+ghost use Rattle.std.specs.Prelude.{◌≡◌, OnOk, OnErr, IfErr};
 ghost use Rattle.std.specs.Io.KnownBytes.{Appends};
-ghost use Rattle.fancy_search.specs.Due.{lines, AppendsPart};
-ghost use Rattle.fancy_search_lister.specs.Spans.{pair_of};
+ghost use Rattle.fancy_search.specs.Due.{AppendsPart};
 ghost use Rattle.fancy_search.specs.declared.fault.Fault.TheVariants.{Output};
 
 use crate::fault::Fault;
-use fancy_search_lister::Span;
-use std::alloc::{AllocError, Global};
 use std::io::Write;
-
-/// A line `START..END` for each match.
-pub fn shown(alloc: Global, spans: &[Span]) -> Result<String, AllocError>
-    ensures { IfOk result (λ text. string_bytes text ≡ lines (map pair_of spans.now)) }
-{
-    let mut text = String::new(alloc);
-    for span in spans {
-        writeln!(text, "{}..{}", span.start, span.end)?;
-    }
-    Ok(text)
-}
 
 /// Writes all the bytes; `Fault::Output` where a write fails or takes none, and then a beginning of them is out.
 pub fn write_whole<W: Write>(writer: &mut W, bytes: &[u8]) -> Result<(), Fault>

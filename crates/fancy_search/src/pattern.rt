@@ -1,24 +1,29 @@
-//! Reading a pattern with which the program can search.
+//! The regex that the words ask for.
 
-ghost use Rattle.std.specs.Prelude.{chars, IfOk};
-ghost use Rattle.fancy_regex_tree.specs.Tree.{tree_of};
-ghost use Rattle.fancy_search_lister.specs.Served.{IsServed};
-ghost use Rattle.fancy_search.specs.Pattern.{Parses, pattern_at};
-
-use crate::fault::Fault;
-use fancy_regex_tree::Expr;
-use fancy_search_lister::serves;
+use fancy_regex::{Regex, RegexOptionsBuilder, Result};
+use fancy_search_words::{Asked, Options};
 use std::alloc::Global;
 
-/// The tree of a pattern, where its matches can be listed.
-pub fn parse(alloc: Global, pattern: &str) -> Result<Expr, Fault>
-    ensures parses { Parses result (pattern_at (chars pattern.now)) }
-    ensures served { IfOk result (λ expr. IsServed (tree_of expr)) }
-{
-    let tree = Expr::parse_tree(alloc, pattern)?;
-    if serves(&tree.expr) {
-        Ok(tree.expr)
-    } else {
-        Err(Fault::NotCarried)
+/// The regex of the pattern under the options.
+pub fn regex(alloc: Global, asked: Asked<'_>) -> Result<Regex> {
+    let pattern = String::from_str(alloc, asked.pattern)?;
+    builder(asked.options).build(alloc, pattern)
+}
+
+/// The builder with these options, and else the defaults.
+fn builder(options: Options) -> RegexOptionsBuilder {
+    let mut builder = RegexOptionsBuilder::new();
+    builder
+        .case_insensitive(options.case_insensitive)
+        .multi_line(options.multi_line)
+        .dot_matches_new_line(options.dot_matches_new_line)
+        .ignore_whitespace(options.ignore_whitespace)
+        .unicode_mode(!options.ascii)
+        .oniguruma_mode(options.oniguruma)
+        .find_not_empty(options.not_empty)
+        .leftmost_longest(options.longest);
+    if let Some(limit) = options.limit {
+        builder.backtrack_limit(limit as usize);
     }
+    builder
 }

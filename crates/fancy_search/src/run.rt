@@ -1,15 +1,14 @@
 //! The program as a call, over words, a reader and a writer.
 
-ghost use Rattle.std.specs.Prelude.{◌≡◌, ◌≢◌, ℕ, List, None, map, chars, string_bytes, IfOk, IfErr, IfSome, OnOk, Some, Err};
+ghost use Rattle.std.specs.Prelude.{◌≡◌, ◌≢◌, ℕ, List, map, string_bytes, None, Some, IfOk, IfErr, IfSome, OnOk};
 ghost use Rattle.std.specs.Io.KnownBytes.{IsAtEnd};
-ghost use Rattle.fancy_regex_meaning.specs.Ways.{Setting};
-ghost use Rattle.fancy_search.specs.Pattern.{pattern_at};
-ghost use Rattle.fancy_search.specs.Due.{asked, due, due_asked, due_at, Outcome, Finds};
-ghost use Rattle.fancy_search.specs.declared.fault.Fault.TheVariants.{NotCarried, Output};
+ghost use Rattle.fancy_search.specs.Due.{Outcome, RefusesWords, IsOfRegex, status_of};
+ghost use Rattle.fancy_search.specs.declared.fault.Fault.TheVariants.{Output};
+ghost use Rattle.fancy_search_words.specs.Words.{asked};
 
 use crate::fault::Fault;
-use crate::{input, output, pattern, words};
-use fancy_search_lister::spans;
+use crate::{input, output, pattern, search};
+use fancy_search_words::{Asked, Subcommand, read_words};
 use std::alloc::Global;
 use std::convert::AsStr;
 use std::io::{Read, Write};
@@ -30,62 +29,61 @@ struct Found {
     status: Status,
 }
 
-/// Does what the words after the program's name ask: `find P` writes a line `START..END`, in bytes, for each
-/// match of the pattern P in the reader's whole text.
+/// Does what the words after the program's name ask: `find P` writes a line `START..END`, in bytes, for each match of
+/// the pattern P in the reader's whole text, and `captures P` the spans of all groups, with `-` for a group that is not
+/// set.
 ///
-/// The fault is the first that holds of: words, reading, UTF-8, pattern, writing; want of memory comes anywhere.
-/// Nothing is written on a fault, unless writing failed: then a beginning of the output is out.
+/// The fault is the first that holds of: words, reading, UTF-8, pattern, a search in order, writing; want of memory comes
+/// anywhere. Nothing is written on a fault, unless writing failed: then a beginning of the output is out.
 pub fn run<S: AsStr, R: Read, W: Write>(
     alloc: Global,
     words: &[S],
     reader: &mut R,
     writer: &mut W,
 ) -> Result<Status, Fault>
-    ensures words { asked (map S.text words.now) ≡ None → (result ≡ Err NotCarried) × (reader.new ≡ reader.old) }
-    ensures outcome { (input : List ℕ) × IfSome (R.remaining reader.old) (λ xs. input ≡ xs)
-        × ((s : Setting) → s.text ≡ input → Outcome (W.contents writer.old) (W.contents writer.new) (due s (map S.text words.now)) result) }
+    ensures words { asked (map S.text words.now) ≡ None → RefusesWords (map S.text words.now) result × (reader.new ≡ reader.old) }
+    ensures outcome { asked (map S.text words.now) ≢ None → (input : List ℕ) × IfSome (R.remaining reader.old) (λ xs. input ≡ xs)
+        × Outcome (W.contents writer.old) (W.contents writer.new) input result }
     ensures end { OnOk result (IsAtEnd (R.remaining reader.new)) }
     ensures untouched { IfErr result (λ f. f ≢ Output → writer.new ≡ writer.old) }
 {
-    let Some(pattern) = words::pattern_asked(words) else {
-        return Err(Fault::NotCarried);
-    };
+    let asked = read_words(alloc, words)?;
     let input = input::read_whole(alloc, reader)?;
-    respond(alloc, pattern, &input, writer)
+    respond(alloc, asked, &input, writer)
 }
 
-/// Writes what the pattern finds in the input.
+/// Writes what is found in the input.
 fn respond<W: Write>(
     alloc: Global,
-    pattern: &str,
+    asked: Asked<'_>,
     input: &[u8],
     writer: &mut W,
 ) -> Result<Status, Fault>
-    ensures outcome { (s : Setting) → s.text ≡ input.now
-        → Outcome (W.contents writer.old) (W.contents writer.new) (due_asked s (Some pattern.now)) result }
+    ensures outcome { Outcome (W.contents writer.old) (W.contents writer.new) input.now result }
     ensures untouched { IfErr result (λ f. f ≢ Output → writer.new ≡ writer.old) }
 {
     let Ok(text) = str::from_utf8(input) else {
         return Err(Fault::NotUtf8);
     };
-    let found = find(alloc, pattern, text)?;
+    let found = find(alloc, asked, text)?;
     output::write_whole(writer, found.lines.as_bytes())?;
     Ok(found.status)
 }
 
-/// What the pattern finds in the text.
-fn find(alloc: Global, pattern: &str, text: &str) -> Result<Found, Fault>
-    ensures { (s : Setting) → s.text ≡ text.now → Finds result (due_at s (pattern_at (chars pattern.now))) }
+/// What is found in the text.
+fn find(alloc: Global, asked: Asked<'_>, text: &str) -> Result<Found, Fault>
+    ensures status { IfOk result (λ found. found.status ≡ status_of (string_bytes found.lines)) }
+    ensures fault { IfErr result IsOfRegex }
 {
-    let tree = pattern::parse(alloc, pattern)?;
-    let spans = spans(alloc, &tree, text)?;
-    let status = if spans.is_empty() {
+    let regex = pattern::regex(alloc, asked)?;
+    let lines = match asked.subcommand {
+        Subcommand::Find => search::find_lines(alloc, &regex, text)?,
+        Subcommand::Captures => search::captures_lines(alloc, &regex, text)?,
+    };
+    let status = if lines.is_empty() {
         Status::Nothing
     } else {
         Status::Done
     };
-    Ok(Found {
-        lines: output::shown(alloc, &spans)?,
-        status,
-    })
+    Ok(Found { lines, status })
 }

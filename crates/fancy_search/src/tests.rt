@@ -2,7 +2,7 @@ ghost use Rattle.std.specs.Prelude.{Some};
 
 use crate::fault::Fault;
 use crate::run::{Status, run};
-use fancy_regex_tree::ParseError;
+use fancy_regex::{CompileError, Error, ParseError, RuntimeError};
 use std::alloc::Global;
 use std::io;
 use std::io::{ErrorKind, Read, Write};
@@ -97,64 +97,162 @@ fn room_for(alloc: Global, room: usize) -> Narrow {
 
 #[test]
 fn finds(rt: HostRuntime) {
-    for (pattern, input, status, output) in [
-        ("ab|b", "xabb", Status::Done, "1..3\n3..4\n"),
-        ("a|", "ba", Status::Done, "0..0\n1..2\n"),
-        (".", "\n", Status::Nothing, ""),
-        ("é", "xéé", Status::Done, "1..3\n3..5\n"),
-        ("(?:a|(?:))(?:b)", "abb", Status::Done, "0..2\n2..3\n"),
+    for (words, input, status, output) in [
+        (
+            ["find", "ab|b"].as_slice(),
+            "xabb",
+            Status::Done,
+            "1..3\n3..4\n",
+        ),
+        (
+            ["find", "a|"].as_slice(),
+            "ba",
+            Status::Done,
+            "0..0\n1..2\n",
+        ),
+        (["find", "."].as_slice(), "\n", Status::Nothing, ""),
+        (
+            ["find", "é"].as_slice(),
+            "xéé",
+            Status::Done,
+            "1..3\n3..5\n",
+        ),
+        (
+            ["find", "\\w+(?=!)"].as_slice(),
+            "so fancy! even with! iterators!",
+            Status::Done,
+            "3..8\n15..19\n21..30\n",
+        ),
+        (
+            ["find", "--longest", "a|ab"].as_slice(),
+            "abab",
+            Status::Done,
+            "0..2\n2..4\n",
+        ),
+        (["find", "b"].as_slice(), "a", Status::Nothing, ""),
+        (
+            ["captures", "(a)|(b)"].as_slice(),
+            "ab",
+            Status::Done,
+            "0..1 0..1 -\n1..2 - 1..2\n",
+        ),
+        (
+            ["captures", "(\\d{4})-(\\d{2})"].as_slice(),
+            "It was between 2018-04 and 2020-01",
+            Status::Done,
+            "15..22 15..19 20..22\n27..34 27..31 32..34\n",
+        ),
+        (["captures", "x"].as_slice(), "a", Status::Nothing, ""),
     ] {
-        let (result, written) = answer(rt.alloc(), &["find", pattern], input.as_bytes());
-        assert_eq!(rt; result, Ok(status), "{pattern}");
-        assert_eq!(rt; written.as_slice(), output.as_bytes(), "{pattern}");
+        let (result, written) = answer(rt.alloc(), words, input.as_bytes());
+        assert_eq!(rt; result, Ok(status));
+        assert_eq!(rt; written.as_slice(), output.as_bytes());
+    }
+}
+
+#[test]
+fn options_reach_the_pattern(rt: HostRuntime) {
+    for (words, input, output) in [
+        (["find", "-i", "É"].as_slice(), "é", "0..2\n"),
+        (["find", "-m", "^a"].as_slice(), "b\na", "2..3\n"),
+        (["find", "-s", "a.b"].as_slice(), "a\nb", "0..3\n"),
+        (["find", "-x", "a b # ab"].as_slice(), "ab", "0..2\n"),
+        (["find", "--ascii", "\\w"].as_slice(), "éa", "2..3\n"),
+        (
+            ["find", "\\<\\w*\\>"].as_slice(),
+            "turbo::<Fish>",
+            "0..5\n8..12\n",
+        ),
+        (
+            ["find", "--oniguruma", "\\<\\w*\\>"].as_slice(),
+            "turbo::<Fish>",
+            "7..13\n",
+        ),
+        (["find", "--not-empty", "a*"].as_slice(), "ba", "1..2\n"),
+        (
+            ["find", "--limit", "1000", "(a|aa)+\\1"].as_slice(),
+            "aaa",
+            "0..3\n",
+        ),
+    ] {
+        let (result, written) = answer(rt.alloc(), words, input.as_bytes());
+        assert_eq!(rt; result, Ok(Status::Done));
+        assert_eq!(rt; written.as_slice(), output.as_bytes());
     }
 }
 
 #[test]
 fn refuses(rt: HostRuntime) {
-    for (pattern, fault) in [
-        ("(?:a", Fault::Pattern(4, ParseError::UnclosedOpenParen)),
-        ("é(?:", Fault::Pattern(5, ParseError::UnclosedOpenParen)),
-        ("(", Fault::Pattern(1, ParseError::UnclosedOpenParen)),
-        ("[a", Fault::Pattern(2, ParseError::InvalidClass)),
-        ("a**", Fault::Pattern(2, ParseError::TargetNotRepeatable)),
-        ("a\\", Fault::Pattern(1, ParseError::TrailingBackslash)),
-        ("a*", Fault::NotCarried),
-        ("(a)", Fault::NotCarried),
-        ("(?i)a", Fault::NotCarried),
+    for (words, fault) in [
+        (
+            ["find", "("].as_slice(),
+            Error::ParseError(1, ParseError::UnclosedOpenParen),
+        ),
+        (
+            ["captures", "é(?:"].as_slice(),
+            Error::ParseError(5, ParseError::UnclosedOpenParen),
+        ),
+        (
+            ["find", "a**"].as_slice(),
+            Error::ParseError(2, ParseError::TargetNotRepeatable),
+        ),
+        (
+            ["find", "(a\\g<1>)"].as_slice(),
+            Error::CompileError(CompileError::NeverEndingRecursion),
+        ),
+        (
+            ["find", "--not-empty", "^"].as_slice(),
+            Error::CompileError(CompileError::PatternCanNeverMatch),
+        ),
+        (
+            ["captures", "--limit", "0", "(?:(a|aa)+)\\1x"].as_slice(),
+            Error::RuntimeError(RuntimeError::BacktrackLimitExceeded),
+        ),
     ] {
-        let met = fault_of(rt.alloc(), &["find", pattern], b"a");
-        assert_eq!(rt; met, Some(fault), "{pattern}");
+        assert_eq!(rt;
+            fault_of(rt.alloc(), words, b"aaaaaa"),
+            Some(Fault::Regex(fault))
+        );
     }
 }
 
 #[test]
 fn first_fault(rt: HostRuntime) {
+    let alloc = rt.alloc();
     assert_eq!(rt;
-        fault_of(rt.alloc(), &["find", "a"], b"\xFF"),
+        fault_of(alloc, &["find", "a"], b"\xFF"),
         Some(Fault::NotUtf8)
     );
     assert_eq!(rt;
-        fault_of(rt.alloc(), &["find", ")"], b"\xFF"),
+        fault_of(alloc, &["find", ")"], b"\xFF"),
         Some(Fault::NotUtf8)
     );
-    assert_eq!(rt;
-        fault_of(rt.alloc(), &["seek", "a"], b"\xFF"),
-        Some(Fault::NotCarried)
-    );
-    assert_eq!(rt;
-        fault_of(rt.alloc(), &["find"], b"a"),
-        Some(Fault::NotCarried)
-    );
+    for words in [["seek", "a"].as_slice(), ["find"].as_slice()] {
+        let mut reader = Broken { is_first: true };
+        let mut output = Vec::new(alloc);
+        let result = run(alloc, words, &mut reader, &mut output);
+        assert!(rt; matches!(&result, Err(Fault::Words(_))));
+        assert!(rt; reader.is_first && output.is_empty());
+    }
+    assert!(rt; matches!(&fault_of(alloc, &["--help"], b"\xFF"), Some(Fault::Help(_))));
 }
 
 #[test]
 fn shows_faults(rt: HostRuntime) -> Result<(), Fail> {
+    let alloc = rt.alloc();
     for (fault, text) in [
-        (Fault::NotCarried, "pattern not yet carried"),
+        (Fault::Words(String::from_str(alloc, "w")?), "w"),
         (
-            Fault::Pattern(4, ParseError::UnclosedOpenParen),
+            Fault::Regex(Error::ParseError(4, ParseError::UnclosedOpenParen)),
             "Parsing error at position 4: Opening parenthesis without closing parenthesis",
+        ),
+        (
+            Fault::Regex(Error::CompileError(CompileError::NeverEndingRecursion)),
+            "Error compiling regex: never ending recursion",
+        ),
+        (
+            Fault::Regex(Error::RuntimeError(RuntimeError::BacktrackLimitExceeded)),
+            "Error executing regex: backtrack limit exceeded",
         ),
         (Fault::Input, "cannot read input"),
         (Fault::NotUtf8, "input is not UTF-8"),
@@ -202,25 +300,4 @@ fn writer_takes_little(rt: HostRuntime) {
     assert_eq!(rt; result, Err(Fault::Output));
     let result = run(rt.alloc(), &["find", "a"], &mut b"b".as_slice(), &mut Full);
     assert_eq!(rt; result, Ok(Status::Nothing));
-}
-
-#[test]
-fn shows_faults_of_patterns(rt: HostRuntime) -> Result<(), Fail> {
-    for (pattern, text) in [
-        (
-            "a)",
-            "Parsing error at position 1: General parsing error: end of string not reached",
-        ),
-        ("\\q", "Parsing error at position 0: Invalid escape: \\q"),
-        (
-            "(?q)",
-            "Parsing error at position 0: Unknown group flag: (?q",
-        ),
-    ] {
-        match fault_of(rt.alloc(), &["find", pattern], b"a") {
-            Some(fault) => assert_eq!(rt; fault.to_string(rt.alloc())?.as_str(), text),
-            None => assert!(rt; false, "{pattern}"),
-        }
-    }
-    Ok(())
 }

@@ -1,8 +1,0 @@
-mod TreeLemmas
-mod RowLemmas
-mod MeaningLemmas
-mod ReachLemmas
-mod ItemLemmas
-mod SpanLemmas
-mod ServedLemmas
-pub mod ServesLemmas

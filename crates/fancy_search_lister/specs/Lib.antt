@@ -1,3 +1,0 @@
-pub mod Served
-pub mod Ends
-pub mod Spans

@@ -1,0 +1,4 @@
+pub mod Apps
+pub mod Numbers
+pub mod Rows
+pub mod Taken

@@ -1,0 +1,65 @@
+-- What a parse found, by rows.
+use Rattle.std.proofs.Common.{◌≡◌, ◌∷◌, List, [], Option, Some, None, true, false, refl, sym, ap}
+use Rattle.std.specs.Prelude.{option_map, option_and_then, codes, bytes_eq}
+use Rattle.clap.specs.Faults.{fault_of, is_simple_and_free}
+use Rattle.clap.specs.Kinds.{Kinds, IsAmong}
+use Rattle.clap.specs.Matches.{subcommand_name_of, first_value}
+use Rattle.clap.specs.Simple.{subcommand_of, subcommand_rows_of}
+use Rattle.clap.specs.Walk.{Row, Text, first_of, rows_of}
+use Rattle.clap.specs.declared.error.kind.ErrorKind.{ErrorKind}
+use Rattle.clap.specs.declared.parser.matches.ArgMatches.{ArgMatches}
+use Rattle.clap.specs.declared.parser.matches.ArgMatches.TheViews.{out-ArgMatches}
+use Rattle.clap.specs.declared.parser.matches.Found.{Found}
+use Rattle.clap.proofs.WalkLemmas.{first_value-rows}
+use Rattle.clap.proofs.OnLiterals.{clap_on_literals}
+use Rattle.fancy_search_words.specs.Rules.{the_app}
+use Rattle.fancy_search_words.specs.Words.{asked, asked_by, request_in, request_of, subcommand_named, is_given}
+use Rattle.fancy_search_words.specs.declared.asked.Subcommand.{Subcommand}
+
+pub is_read : is_simple_and_free the_app ≡ true
+unfolding clap_on_literals
+is_read = refl
+
+maps : {A B C : Type 0} (f : A → B) (g : B → C) (o : Option A) → option_map g (option_map f o) ≡ option_map (λ x. g (f x)) o
+maps f g None = refl
+maps f g (Some x) = refl
+
+pub name_in_rows : (m : ArgMatches) → subcommand_name_of m ≡ option_map (λ p. p.0) (subcommand_rows_of m)
+name_in_rows m = sym (maps _ (λ p. p.0) (out-ArgMatches m).subcommand)
+
+pub no_pair : {A B : Type 0} (o : Option (A × B)) → None ≡ option_map (λ p. p.0) o → o ≡ None
+no_pair None e = refl
+no_pair (Some p) e = cc
+
+pub pair_of : {A B : Type 0} (o : Option (A × B)) (n : A) (r : B) → Some n ≡ option_map (λ p. p.0) o → Some r ≡ option_map (λ p. p.1) o → o ≡ Some (n, r)
+pair_of None n r e f = cc
+pair_of (Some (a, b)) n r e f = cc
+
+-- a request, of its parts
+pub request_is : (name : Text) (rows : List Row) (s : Subcommand) (p : Text) → subcommand_named name ≡ Some s → first_of (codes "pattern") rows ≡ Some p
+    → request_in (name, rows) ≡ Some (request_of s rows p)
+request_is name rows s p e f = rw (e, f) refl
+
+pub no_subcommand : (name : Text) (rows : List Row) → subcommand_named name ≡ None → request_in (name, rows) ≡ None
+no_subcommand name rows e = rw e refl
+
+pub no_pattern : (name : Text) (rows : List Row) (s : Subcommand) → subcommand_named name ≡ Some s → first_of (codes "pattern") rows ≡ None → request_in (name, rows) ≡ None
+no_pattern name rows s e f = rw (e, f) refl
+
+-- what is asked where `clap` takes the words
+pub asked_taken : (words : List Text) → fault_of the_app words ≡ [] → asked words ≡ option_and_then request_in (subcommand_of the_app words)
+asked_taken words e = ap (λ (ks : Kinds). asked_by ks (subcommand_of the_app words)) e
+
+-- where it does not, nothing is
+pub asked_refused : (words : List Text) (k : ErrorKind) → IsAmong k (fault_of the_app words) → asked words ≡ None
+asked_refused words k = go (fault_of the_app words)
+  where
+    go : (ks : Kinds) → IsAmong k ks → asked_by ks (subcommand_of the_app words) ≡ None
+    go [] h = absurd h
+    go (x ∷ xs) h = refl
+
+pub given_some : (f : Found) (id t : Text) → Some t ≡ first_value f id → bytes_eq t (codes "true") ≡ is_given id (rows_of f)
+given_some f id t e = rw (← first_value-rows f id, ← e) refl
+
+pub given_none : (f : Found) (id : Text) → None ≡ first_value f id → false ≡ is_given id (rows_of f)
+given_none f id e = rw (← first_value-rows f id, ← e) refl

@@ -1,0 +1,190 @@
+//! The words that the program takes, as a command of `clap`.
+
+ghost use Rattle.std.specs.Prelude.{◌≡◌, false, IfOk};
+ghost use Rattle.clap.specs.Words.{app_of, rule_of, new_app, with_rule, with_subcommand};
+ghost use Rattle.clap.specs.declared.builder.command.Command.TheViews.{out-Command};
+ghost use Rattle.fancy_search_words.specs.Rules as rules;
+ghost use Rattle.fancy_search_words.specs.Rules.{the_app, short_rule, long_rule, limit_rule, pattern_rule};
+
+use clap::builder::ValueParser;
+use clap::{Arg, ArgAction, Command};
+use std::alloc::{AllocError, Global};
+
+const ABOUT: &str = "Finds the matches of a pattern in the text on standard input.";
+
+const USES: &str = "\
+Examples:
+  fancy_search find 'ab|b'
+  fancy_search captures -i '(?<year>\\d{4})-(?<month>\\d{2})'
+  fancy_search find -- '-a'
+
+Status:
+  0  matches were printed
+  1  nothing was found
+  2  a fault, told on standard error, or help";
+
+const FIND: &str =
+    "Prints the span of each match, in bytes, as START..END, a line for each. Example: find 'a+'";
+
+const CAPTURES: &str =
+    "Prints a line for each match: the spans of all groups in order, - for a group that is not set. Example: captures '(a)|(b)'";
+
+const PATTERN: &str = "The pattern. One that begins with - stands after --";
+
+const CASE_INSENSITIVE: &str = "Takes upper and lower case for the same. Example: find -i 'straße'";
+
+const MULTI_LINE: &str =
+    "Lets ^ and $ stand at the start and the end of each line. Example: find -m '^a'";
+
+const DOT_MATCHES_NEW_LINE: &str = "Lets . match a newline too. Example: find -s 'a.b'";
+
+const IGNORE_WHITESPACE: &str =
+    "Skips blanks, and comments from # on, in the pattern. Example: find -x 'a b # ab'";
+
+const ASCII: &str = "Takes classes and cases by ASCII alone. Example: find --ascii '\\w+'";
+
+const ONIGURUMA: &str =
+    "Reads the pattern as Oniguruma does. Example: find --oniguruma '\\<\\w*\\>'";
+
+const NOT_EMPTY: &str = "Finds no empty match. Example: find --not-empty 'a*'";
+
+const LONGEST: &str =
+    "Finds the longest match at each place, and not the first. Example: find --longest 'a|ab'";
+
+const LIMIT: &str =
+    "Ends in a fault where a search goes back more often than N times; 1000000 if left out. Example: find --limit 100 '(a|aa)+\\1'";
+
+/// The command of the program. Its words are those after the program's name.
+pub fn command<'a>(alloc: Global) -> Result<Command<'a>, AllocError>
+    ensures { IfOk result (λ c. app_of c ≡ the_app) }
+{
+    let find = searching(alloc, "find", FIND)?;
+    let captures = searching(alloc, "captures", CAPTURES)?;
+    let more = joined(top(alloc), find)?;
+    joined(more, captures)
+}
+
+/// The command without its subcommands.
+fn top<'a>(alloc: Global) -> Command<'a>
+    ensures app { app_of result ≡ rules.top }
+{
+    Command::new(alloc, "fancy_search")
+        .no_binary_name(true)
+        .subcommand_required(true)
+        .about(ABOUT)
+        .after_help(USES)
+}
+
+/// The command with one more subcommand.
+fn joined<'a>(command: Command<'a>, subcommand: Command<'a>) -> Result<Command<'a>, AllocError>
+    requires { (out-Command subcommand).has_globals ≡ false }
+    ensures { IfOk result (λ c. app_of c ≡ with_subcommand (app_of command.entry) (app_of subcommand.entry).top) }
+{
+    command.subcommand(subcommand)
+}
+
+/// A subcommand that searches with one pattern.
+fn searching<'a>(alloc: Global, name: &'a str, about: &'a str) -> Result<Command<'a>, AllocError>
+    ensures app { IfOk result (λ c. app_of c ≡ rules.searching name.entry.now) }
+    ensures local { IfOk result (λ c. (out-Command c).has_globals ≡ false) }
+{
+    let bare = with(bare(alloc, name, about), pattern(alloc))?;
+    let flagged = with_flags(alloc, bare)?;
+    with_wishes(alloc, flagged)
+}
+
+/// A command that takes no words.
+fn bare<'a>(alloc: Global, name: &'a str, about: &'a str) -> Command<'a>
+    ensures app { app_of result ≡ new_app name.entry.now }
+    ensures local { (out-Command result).has_globals ≡ false }
+{
+    Command::new(alloc, name).about(about)
+}
+
+/// The command with one more argument.
+fn with<'a>(command: Command<'a>, arg: Arg<'a>) -> Result<Command<'a>, AllocError>
+    requires arg { arg.global ≡ false }
+    requires command { (out-Command command).has_globals ≡ false }
+    ensures app { IfOk result (λ c. app_of c ≡ with_rule (app_of command.entry) (rule_of arg.entry)) }
+    ensures local { IfOk result (λ c. (out-Command c).has_globals ≡ false) }
+{
+    command.arg(arg)
+}
+
+/// The command with the options that a pattern can set for its parts too.
+fn with_flags<'a>(alloc: Global, command: Command<'a>) -> Result<Command<'a>, AllocError>
+    requires { (out-Command command).has_globals ≡ false }
+    ensures app { IfOk result (λ c. app_of c ≡ rules.with_flags (app_of command.entry)) }
+    ensures local { IfOk result (λ c. (out-Command c).has_globals ≡ false) }
+{
+    let case_insensitive = letter(alloc, "case_insensitive", 'i', CASE_INSENSITIVE);
+    let multi_line = letter(alloc, "multi_line", 'm', MULTI_LINE);
+    let dot_matches_new_line = letter(alloc, "dot_matches_new_line", 's', DOT_MATCHES_NEW_LINE);
+    let ignore_whitespace = letter(alloc, "ignore_whitespace", 'x', IGNORE_WHITESPACE);
+    let one = with(command, case_insensitive)?;
+    let two = with(one, multi_line)?;
+    let three = with(two, dot_matches_new_line)?;
+    with(three, ignore_whitespace)
+}
+
+/// The command with the other options.
+fn with_wishes<'a>(alloc: Global, command: Command<'a>) -> Result<Command<'a>, AllocError>
+    requires { (out-Command command).has_globals ≡ false }
+    ensures app { IfOk result (λ c. app_of c ≡ rules.with_wishes (app_of command.entry)) }
+    ensures local { IfOk result (λ c. (out-Command c).has_globals ≡ false) }
+{
+    let ascii = named(alloc, "ascii", "ascii", ASCII);
+    let oniguruma = named(alloc, "oniguruma", "oniguruma", ONIGURUMA);
+    let not_empty = named(alloc, "not_empty", "not-empty", NOT_EMPTY);
+    let longest = named(alloc, "longest", "longest", LONGEST);
+    let one = with(command, ascii)?;
+    let two = with(one, oniguruma)?;
+    let three = with(two, not_empty)?;
+    let four = with(three, longest)?;
+    with(four, limit(alloc))
+}
+
+/// The one word that is no option.
+fn pattern<'a>(alloc: Global) -> Arg<'a>
+    ensures rule { rule_of result ≡ pattern_rule }
+    ensures local { result.global ≡ false }
+{
+    Arg::new(alloc, "pattern")
+        .value_name("PATTERN")
+        .required(true)
+        .help(PATTERN)
+}
+
+/// An option without a value, by its one letter.
+fn letter<'a>(alloc: Global, id: &'a str, letter: char, help: &'a str) -> Arg<'a>
+    ensures rule { rule_of result ≡ short_rule id.entry.now letter }
+    ensures local { result.global ≡ false }
+{
+    Arg::new(alloc, id)
+        .short(letter)
+        .action(ArgAction::SetTrue)
+        .help(help)
+}
+
+/// An option without a value, by its name.
+fn named<'a>(alloc: Global, id: &'a str, name: &'a str, help: &'a str) -> Arg<'a>
+    ensures rule { rule_of result ≡ long_rule id.entry.now name.entry.now }
+    ensures local { result.global ≡ false }
+{
+    Arg::new(alloc, id)
+        .long(name)
+        .action(ArgAction::SetTrue)
+        .help(help)
+}
+
+/// The option with a number.
+fn limit<'a>(alloc: Global) -> Arg<'a>
+    ensures rule { rule_of result ≡ limit_rule }
+    ensures local { result.global ≡ false }
+{
+    Arg::new(alloc, "limit")
+        .long("limit")
+        .value_name("N")
+        .value_parser(ValueParser::unsigned(0, u64::MAX))
+        .help(LIMIT)
+}
