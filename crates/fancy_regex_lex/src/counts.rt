@@ -1,7 +1,8 @@
 //! The bounds that a quantifier sets, and the marks behind it.
 
-ghost use Rattle.std.specs.Prelude.{◌≡◌, ◌<◌, ◌≤◌, length, chars, option_map, IfOk, IfSome};
+ghost use Rattle.std.specs.Prelude.{◌≡◌, ◌<◌, ◌≤◌, length, chars, option_map, IfOk, IfErr, IfSome};
 ghost use Rattle.fancy_regex_text.specs.Fault.{Gives};
+ghost use Rattle.fancy_regex_text.specs.Sure.{IsFault};
 ghost use Rattle.fancy_regex_lex.specs.Counts.{spaced_digits, bounds, from_on, exactly, range, behind_comma, behind_number, counted, sign, quantifier_at, lazy_mark, possessive_mark, marks};
 
 use crate::token::{Count, Marks};
@@ -152,7 +153,7 @@ fn possessive_mark(may: bool, text: &str) -> (bool, &str)
 }
 
 /// The marks behind a quantifier, in braces or not, and what follows them. Stops where the layout before them does not
-/// end. In Oniguruma mode a `+` behind braces is no mark.
+/// end. In Oniguruma mode a `+` behind braces is no mark. Asks for no memory.
 #[tactic(auto, unfolding(crate::specs::Counts::marks))]
 pub fn marks(
     oniguruma: bool,
@@ -162,6 +163,7 @@ pub fn marks(
 ) -> Result<(Marks, &str), ReadError>
     ensures value { Gives (λ x. (x.0, chars x.1.now)) result (marks oniguruma verbose braces (chars text.now)) }
     ensures shorter { IfOk result (λ x. length (chars x.1.now) ≤ length (chars text.now)) }
+    ensures sure { IfErr result IsFault }
 {
     let here = skip(verbose, text)?;
     let (lazy, after) = lazy_mark(here);

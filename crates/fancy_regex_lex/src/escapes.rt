@@ -1,8 +1,9 @@
 //! What a backslash begins.
 
-ghost use Rattle.std.specs.Prelude.{◌≡◌, ◌<◌, ◌≤◌, ◌^◌, length, chars, option_map, string_bytes, IfOk, IfSome, OnOk, [], ◌∷◌};
+ghost use Rattle.std.specs.Prelude.{◌≡◌, ◌<◌, ◌≤◌, ◌^◌, length, chars, option_map, string_bytes, IfOk, IfErr, IfSome, OnOk, [], ◌∷◌};
 ghost use Rattle.fancy_regex_text.specs.Text.{digit_front, span_most, is_hexadecimal, value};
 ghost use Rattle.fancy_regex_text.specs.Fault.{Gives};
+ghost use Rattle.fancy_regex_text.specs.Sure.{IsFault};
 ghost use Rattle.fancy_regex_text.specs.Names.{referred_of};
 ghost use Rattle.fancy_regex_lex.specs.Escapes.{class_escape, control_letter, class_letter, place_letter, other_letter, plain_sign, other_sign, one_letter, code_point, braced_digits, braced_hex, plain_digits, plain_hex, hex, property_class, property, half_boundary, boundary, reference_up_to, bracketed_reference, numbered_reference, single, after_backslash, escape, class_of, escape_of};
 
@@ -328,7 +329,7 @@ fn boundary(text: &str) -> (Place, &str)
     half_boundary(text)
 }
 
-/// A reference up to a closing character; `here` is the start of its construct.
+/// A reference up to a closing character; `here` is the start of its construct. Asks for no memory.
 #[tactic(auto, unfolding(crate::specs::Escapes::reference_up_to))]
 pub fn reference_up_to<'t>(
     leveled: bool,
@@ -338,6 +339,7 @@ pub fn reference_up_to<'t>(
 ) -> Result<(Reference<'t>, &'t str), ReadError>
     ensures value { Gives (λ x. (referred_of x.0, chars x.1.now)) result (reference_up_to leveled close (chars here.now) (chars text.now)) }
     ensures shorter { IfOk result (λ x. length (chars x.1.now) ≤ length (chars text.now)) }
+    ensures sure { IfErr result IsFault }
 {
     let Some((inside, rest)) = up_to(text, close) else {
         return stop(ParseError::InvalidGroupName, here);

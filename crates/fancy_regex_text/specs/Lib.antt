@@ -5,3 +5,4 @@ pub mod Places
 pub mod Names
 pub mod LayoutRows
 pub mod NameRows
+pub mod Sure

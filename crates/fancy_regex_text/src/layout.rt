@@ -1,9 +1,10 @@
 //! What stands between tokens.
 
-ghost use Rattle.std.specs.Prelude.{◌≡◌, ◌≤◌, ◌<◌, length, chars, option_map, IfOk, IfSome, ◌∷◌};
+ghost use Rattle.std.specs.Prelude.{◌≡◌, ◌≤◌, ◌<◌, length, chars, option_map, IfOk, IfErr, IfSome, ◌∷◌};
 ghost use Rattle.fancy_regex_text.specs.Layout.{behind_blank, begins_comment, behind_first, first_step, ended, next_token, skip};
 ghost use Rattle.fancy_regex_text.specs.Fault.{Gives};
 ghost use Rattle.fancy_regex_text.specs.Places.{inside_of};
+ghost use Rattle.fancy_regex_text.specs.Sure.{IsFault};
 
 use crate::fault::{Fault, ParseError, ReadError};
 use crate::text::{begins, split_first};
@@ -107,11 +108,12 @@ pub fn next_token(verbose: bool, text: &str) -> Option<&str>
     ended(inside, rest)
 }
 
-/// The text from the first token on. Stops at the end of the text where it ends in a comment.
+/// The text from the first token on. Stops at the end of the text where it ends in a comment. Asks for no memory.
 #[tactic(auto, unfolding(crate::specs::Layout::skip, crate::specs::Text::bytes))]
 pub fn skip(verbose: bool, text: &str) -> Result<&str, ReadError>
     ensures value { Gives (λ rest. chars rest.now) result (skip verbose (chars text.now)) }
     ensures shorter { IfOk result (λ rest. length (chars rest.now) ≤ length (chars text.now)) }
+    ensures sure { IfErr result IsFault }
 {
     let Some(rest) = next_token(verbose, text) else {
         return Err(ReadError::Fault(Fault {

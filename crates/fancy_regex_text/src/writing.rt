@@ -1,6 +1,6 @@
 //! Texts that are written, seen as characters.
 
-ghost use Rattle.std.specs.Prelude.{◌≡◌, ◌<◌, ◌++◌, All, chars, string_bytes, IfOk, OnOk, [], ◌∷◌};
+ghost use Rattle.std.specs.Prelude.{◌≡◌, ◌<◌, ◌++◌, All, chars, string_bytes, IfOk, OnOk, OnErr, [], ◌∷◌};
 
 use std::alloc::{AllocError, Global};
 
@@ -11,26 +11,29 @@ pub fn empty(alloc: Global) -> String
     String::new(alloc)
 }
 
-/// Adds a character.
+/// Adds a character. After a refusal what is written is as before.
 pub fn push(out: &mut String, c: char) -> Result<(), AllocError>
-    ensures { OnOk result (chars (string_bytes out.new) ≡ chars (string_bytes out.old) ++ c ∷ []) }
+    ensures added { OnOk result (chars (string_bytes out.new) ≡ chars (string_bytes out.old) ++ c ∷ []) }
+    ensures refused { OnErr result (string_bytes out.new ≡ string_bytes out.old) }
 {
     out.push(c)?;
     Ok(())
 }
 
-/// Adds a text.
+/// Adds a text. After a refusal what is written is as before.
 pub fn push_text(out: &mut String, text: &str) -> Result<(), AllocError>
-    ensures { OnOk result (chars (string_bytes out.new) ≡ chars (string_bytes out.old) ++ chars text.now) }
+    ensures added { OnOk result (chars (string_bytes out.new) ≡ chars (string_bytes out.old) ++ chars text.now) }
+    ensures refused { OnErr result (string_bytes out.new ≡ string_bytes out.old) }
 {
     out.push_str(text)?;
     Ok(())
 }
 
-/// Adds a text in ASCII.
+/// Adds a text in ASCII. After a refusal what is written is as before.
 pub fn push_ascii(out: &mut String, text: &str) -> Result<(), AllocError>
     requires { All (λ b. b < 128) text.now }
-    ensures { OnOk result (chars (string_bytes out.new) ≡ chars (string_bytes out.old) ++ text.now) }
+    ensures added { OnOk result (chars (string_bytes out.new) ≡ chars (string_bytes out.old) ++ text.now) }
+    ensures refused { OnErr result (string_bytes out.new ≡ string_bytes out.old) }
 {
     push_text(out, text)?;
     Ok(())

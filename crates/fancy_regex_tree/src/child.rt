@@ -50,6 +50,8 @@ impl Absent {
 
 impl Expr {
     /// The i-th child, in the order of `children_iter`, lent for writing; `None` where there is no such child.
+    ///
+    /// Which child is lent is proved. What this node is after a write through it is not; of `replace_child` it is.
     pub fn child_mut(&mut self, i: usize) -> Option<&mut Expr>
         ensures { option_map tree_lent result ≡ slice_get (children (tree_of self.old)) i }
     {

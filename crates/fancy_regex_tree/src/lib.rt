@@ -14,13 +14,9 @@ mod groups;
 mod marks;
 mod nodes;
 mod parse;
-mod parse_rows;
 #[cfg(test)]
 mod parse_tests;
 mod print;
-mod print_rows;
-#[cfg(test)]
-mod print_table_tests;
 #[cfg(test)]
 mod print_tests;
 mod print_text;
@@ -29,10 +25,8 @@ mod printable;
 mod profile;
 mod quantifiers;
 mod read;
-#[cfg(test)]
-mod read_tests;
+mod replace;
 mod resolve;
-mod rows;
 mod shapes;
 mod walks;
 
@@ -46,7 +40,4 @@ pub use flag_bits::{
     FLAG_CASEI, FLAG_CRLF, FLAG_DOTNL, FLAG_IGNORE_NUMBERED_GROUPS_WHEN_NAMED_GROUPS_EXIST,
     FLAG_IGNORE_SPACE, FLAG_MULTI, FLAG_ONIGURUMA_MODE, FLAG_SWAP_GREED, FLAG_UNICODE,
 };
-pub use parse_rows::{mark_rows, name_rows, reference_rows};
-pub use print_rows::printing_rows;
-pub use rows::{atom_rows, group_rows, quantifier_rows, smallest_faults};
 pub use walks::ExprChildrenIter;

@@ -6,7 +6,7 @@ ghost use Rattle.fancy_regex_tree.specs.Tree.{tree_of};
 ghost use Rattle.fancy_regex_tree.specs.Groups.{read_whole};
 ghost use Rattle.fancy_regex_tree.specs.Numbering.{Meets};
 ghost use Rattle.fancy_regex_tree.specs.Parse.{options_of, placed, parse};
-ghost use Rattle.fancy_regex_tree.specs.ParseRows.{unicode_alone};
+ghost use Rattle.fancy_regex_tree.specs.Options.{unicode_alone};
 ghost use Rattle.fancy_regex_tree.specs.Told.{IsParsed, IsWithin, AreGroups, AreMarks};
 
 use crate::error::{Error, Result};

@@ -70,3 +70,19 @@ fn walks(rt: HostRuntime) -> Result<(), Fail> {
     }
     Ok(())
 }
+
+#[test]
+fn replaces_a_child(rt: HostRuntime) -> Result<(), Fail> {
+    match Expr::parse_tree(rt.alloc(), "(?(a)b|c)") {
+        Ok(found) => {
+            let (tree, replaced) = found.expr.replace_child(2, Expr::KeepOut);
+            let shown = format!(in rt.alloc(); "{tree:?} {replaced:?}")?;
+            assert_eq!(rt;
+                shown.as_str(),
+                "Conditional { condition: Literal { val: \"a\", casei: false }, true_branch: Literal { val: \"b\", casei: false }, false_branch: KeepOut } Ok(Literal { val: \"c\", casei: false })"
+            );
+        }
+        Err(_) => assert!(rt; false),
+    }
+    Ok(())
+}

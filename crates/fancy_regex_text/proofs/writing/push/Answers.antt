@@ -3,7 +3,7 @@ use Rattle.std.proofs.lemmas.Str.{IsUtf8-string_bytes}
 use Rattle.fancy_regex_text.proofs.Texts.{pushed_chars}
 use Rattle.fancy_regex_text.proofs.writing.push.Goals as goal
 
-pub returns : goal.returns
-returns c =
+pub returns-clause-added : goal.returns-clause-added
+returns-clause-added c =
     pushed_chars (string_bytes c.args.out.now) (string_bytes c.push.new.self) c.args.c (IsUtf8-string_bytes c.args.out.now)
     (IsUtf8-string_bytes c.push.new.self) c.in_ok-push.ensures.bytes

@@ -1,0 +1,11 @@
+pub mod Computing
+pub mod ParseComputing
+pub mod PrintingComputing
+pub mod SmallestFaultsProof
+pub mod AtomRowsProof
+pub mod QuantifierRowsProof
+pub mod GroupRowsProof
+pub mod ReferenceRowsProof
+pub mod ParsedNameRowsProof
+pub mod MarkRowsProof
+pub mod PrintingRowsProof

@@ -1,0 +1,10 @@
+pub mod PatternRows
+pub mod SmallestFaults
+pub mod AtomRows
+pub mod QuantifierRows
+pub mod GroupRows
+pub mod ParseRows
+pub mod ReferenceRows
+pub mod NameRows
+pub mod MarkRows
+pub mod PrintingRows
