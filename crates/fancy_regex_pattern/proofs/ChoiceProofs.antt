@@ -15,7 +15,7 @@ use Rattle.fancy_regex_meaning.specs.Choices.{Count, and_then, all_choices, any_
 use Rattle.fancy_regex_meaning.specs.Searches.{start_way}
 use Rattle.fancy_regex_pattern.specs.Pats.{any, literal, class, Pat, nothing, read, general_newline, check, continue, keep_out, fail, cat, group, back, atomic, repeat, backref, exists, conditional, absent}
 use Rattle.fancy_regex_pattern.specs.PatWays.{pat_ways, pat_choices}
-use Rattle.fancy_regex_pattern.specs.Unfolded.{Written, pat_for, cat_all, alt_all, look, node, branches, written, written_all, written_call, pat_of}
+use Rattle.fancy_regex_pattern.specs.Unfolded.{repeated, Written, pat_for, cat_all, alt_all, look, node, branches, written, written_all, written_call, pat_of}
 use Rattle.fancy_regex_pattern.specs.Laws.{UnfoldedHasTheChoices, PatternHasTheChoices}
 use Rattle.fancy_regex_pattern.proofs.WaysProofs.{Has, AllSame, same, same_all, same_calls}
 
@@ -124,6 +124,13 @@ module _ (s : Setting) where
   unfolding pat_choices
   chooses_repeat lo hi greedy f own p h k = record { is = λ i w. repeat_choices s lo hi (h.is i) (k.is i) w }
 
+  chooses_repeated : (lo hi : ℕ) (greedy : Bool) (f : Moves) (own : Way → ℕ) (p : Pat) → Has s f p → Chooses s own p →
+      Chooses s (repeat_choices s lo (bound_of hi) f own) (repeated p lo hi greedy)
+  unfolding pat_choices
+  chooses_repeated zero zero greedy f own p h k = record { is = refl }
+  chooses_repeated zero (suc hi) greedy f own p h k = chooses_repeat 0 (bound_of (suc hi)) greedy f own p h k
+  chooses_repeated (suc lo) hi greedy f own p h k = chooses_repeat (suc lo) (bound_of hi) greedy f own p h k
+
   chooses_conditional : (f : Moves) (own first second : Way → ℕ) (p q r : Pat) → Has s f p → Chooses s own p → Chooses s first q → Chooses s second r →
       Chooses s (λ w. 1 + own w + branch_choices (f w) first second w) (conditional p q r)
   unfolding pat_choices
@@ -178,7 +185,7 @@ module _ (s : Setting) where
             (chooses_look how (count s groups call call_count n t) (written groups pat n t) (agrees n t))
         agrees n (tree.repeat t lo hi greedy) =
             agrees_node (tree.repeat t lo hi greedy) _ _
-            (chooses_repeat lo (bound_of hi) greedy _ _ _ (ways_of n t) (agrees n t).front)
+            (chooses_repeated lo hi greedy _ _ _ (ways_of n t) (agrees n t).front)
         agrees n (tree.atomic_group t) = agrees_node (tree.atomic_group t) _ _ (chooses_atomic _ _ (agrees n t).front)
         agrees n (tree.backref k casei) = agrees_leaf (tree.backref k casei) (backref k casei) (record { is = refl })
         agrees n (tree.backref_exists k None) = agrees_leaf (tree.backref_exists k None) (exists k) (record { is = refl })

@@ -12,7 +12,7 @@ use Rattle.fancy_regex_meaning.proofs.GroupProofs.{groups_are_counted, bodies_st
 use Rattle.fancy_regex_meaning.specs.Sizes.{size, target}
 use Rattle.fancy_regex_meaning.specs.Ways.{is_full, most_calls}
 use Rattle.fancy_regex_pattern.specs.Pats.{any, literal, class, Pat, nothing, read, general_newline, check, continue, keep_out, fail, cat, group, back, atomic, backref, exists, absent}
-use Rattle.fancy_regex_pattern.specs.Unfolded.{Written, pat_for, cat_all, alt_all, look, node, branches, written, written_all, written_call, pat_of}
+use Rattle.fancy_regex_pattern.specs.Unfolded.{repeated, Written, pat_for, cat_all, alt_all, look, node, branches, written, written_all, written_call, pat_of}
 use Rattle.fancy_regex_pattern.specs.Shapes.{HasGroups}
 use Rattle.fancy_regex_pattern.specs.Laws.{PatternHasItsGroups}
 
@@ -141,6 +141,11 @@ module _ (first end : ℕ) where
   held_look LookBehind u h = record { is = h.behind }
   held_look LookBehindNeg u h = record { is = h.behind }
 
+  held_repeated : (p : Pat) (lo hi : ℕ) (greedy : Bool) → HasGroups first end p → HasGroups first end (repeated p lo hi greedy)
+  held_repeated p zero zero greedy h = tt
+  held_repeated p zero (suc hi) greedy h = h
+  held_repeated p (suc lo) hi greedy h = h
+
   module _ (groups : List Tree) where
     hold_node : (t : Tree) (p : Pat) → HasGroups first end p → BothHeld (node groups t p)
     hold_node t p h = record { front = h; behind = (tt, h) }
@@ -168,7 +173,8 @@ module _ (first end : ℕ) where
             hold_node (tree.group t) (group n (written groups pat (n + 1) t).front)
             (le, omega arith, (hold (n + 1) t (omega arith) (omega arith)).front)
         hold n (tree.look_around t how) le room = hold_node (tree.look_around t how) _ (held_look how _ (hold n t le room)).is
-        hold n (tree.repeat t lo hi greedy) le room = hold_node (tree.repeat t lo hi greedy) _ (hold n t le room).front
+        hold n (tree.repeat t lo hi greedy) le room =
+            hold_node (tree.repeat t lo hi greedy) _ (held_repeated _ lo hi greedy (hold n t le room).front)
         hold n (tree.atomic_group t) le room =
             hold_node (tree.atomic_group t) (atomic (written groups pat n t).front) (hold n t le room).front
         hold n (tree.backref k casei) le room = hold_node (tree.backref k casei) (backref k casei) tt

@@ -8,7 +8,7 @@ use Rattle.fancy_regex_meaning.specs.Groups.{group_count}
 use Rattle.fancy_regex_meaning.specs.Sizes.{size, target}
 use Rattle.fancy_regex_meaning.specs.Ways.{is_full}
 use Rattle.fancy_regex_pattern.specs.Pats.{any, literal, class, Pat, nothing, read, general_newline, check, continue, keep_out, fail, cat, alt, group, ahead, never, back, atomic, repeat, backref, exists, conditional, absent}
-use Rattle.fancy_regex_pattern.specs.Unfolded.{Written, pat_for, cat_all, alt_all, look, node, branches, written, written_all, written_call}
+use Rattle.fancy_regex_pattern.specs.Unfolded.{repeated, Written, pat_for, cat_all, alt_all, look, node, branches, written, written_all, written_call}
 use Rattle.fancy_regex_pattern.specs.Shapes.{IsPlaced}
 use Rattle.fancy_regex_pattern.specs.Laws.{UnfoldedIsPlaced}
 
@@ -38,6 +38,11 @@ freely true (exists k) h = tt
 freely true (conditional c a b) h = h
 freely true (absent a) h = h
 freely false p h = h
+
+placed_repeated : (free : Bool) (p : Pat) (lo hi : ℕ) (greedy : Bool) → IsPlaced false p → IsPlaced free (repeated p lo hi greedy)
+placed_repeated free p zero zero greedy h = tt
+placed_repeated free p zero (suc hi) greedy h = h
+placed_repeated free p (suc lo) hi greedy h = h
 
 pub record BothPlaced (u : Written) : Type 0 where
   pub front : IsPlaced false u.front
@@ -88,7 +93,8 @@ module _ (groups : List Tree) where
       place n (tree.delegate text casei) = place_node (tree.delegate text casei) (read (class text casei)) tt
       place n (tree.group t) = place_node (tree.group t) (group n (written groups pat (n + 1) t).front) (place (n + 1) t).front
       place n (tree.look_around t how) = place_node (tree.look_around t how) _ (placed_look how _ (place n t)).is
-      place n (tree.repeat t lo hi greedy) = place_node (tree.repeat t lo hi greedy) _ (place n t).front
+      place n (tree.repeat t lo hi greedy) =
+          place_node (tree.repeat t lo hi greedy) _ (placed_repeated false _ lo hi greedy (place n t).front)
       place n (tree.atomic_group t) = place_node (tree.atomic_group t) (atomic (written groups pat n t).front) (place n t).front
       place n (tree.backref k casei) = place_node (tree.backref k casei) (backref k casei) tt
       place n (tree.backref_exists k None) = place_node (tree.backref_exists k None) (exists k) tt

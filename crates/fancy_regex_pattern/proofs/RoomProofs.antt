@@ -9,7 +9,7 @@ use Rattle.fancy_regex_meaning.specs.Sizes.{size, target}
 use Rattle.fancy_regex_meaning.specs.Ways.{is_full, most_calls}
 use Rattle.fancy_regex_meaning.specs.Choices.{nodes_with, row_nodes_with, called_nodes, sum_some, program_nodes}
 use Rattle.fancy_regex_pattern.specs.Pats.{any, literal, class, Pat, nothing, read, general_newline, check, continue, keep_out, fail, backref, exists}
-use Rattle.fancy_regex_pattern.specs.Unfolded.{Written, pat_for, cat_all, alt_all, look, node, branches, written, written_all, written_call, pat_of}
+use Rattle.fancy_regex_pattern.specs.Unfolded.{repeated, Written, pat_for, cat_all, alt_all, look, node, branches, written, written_all, written_call, pat_of}
 use Rattle.fancy_regex_pattern.specs.Rooms.{room}
 use Rattle.fancy_regex_pattern.specs.Laws.{UnfoldedHasRoom, PatternHasRoom}
 
@@ -57,6 +57,12 @@ module _ (groups : List Tree) where
   unfolding room
   fit_node t p n h = record { front = h; behind = omega (arith, h) }
 
+  room_repeated : (p : Pat) (lo hi : ℕ) (greedy : Bool) → room (repeated p lo hi greedy) ≤ 12 + room p
+  unfolding room
+  room_repeated p zero zero greedy = omega arith
+  room_repeated p zero (suc hi) greedy = omega arith
+  room_repeated p (suc lo) hi greedy = omega arith
+
   fit_branches : (t : Tree) (us : List Written) (n : ℕ) → AllFit us n → BothFit (branches groups t us) (1 + n)
   unfolding room
   fit_branches t us n h = record {
@@ -79,7 +85,8 @@ module _ (groups : List Tree) where
       fit n (tree.delegate text casei) = fit_node (tree.delegate text casei) (read (class text casei)) 1 (omega arith)
       fit n (tree.group t) = fit_node (tree.group t) _ _ (omega (arith, (fit (n + 1) t).front))
       fit n (tree.look_around t how) = fit_node (tree.look_around t how) _ _ (fits_look how _ _ (fit n t)).is
-      fit n (tree.repeat t lo hi greedy) = fit_node (tree.repeat t lo hi greedy) _ _ (omega (arith, (fit n t).front))
+      fit n (tree.repeat t lo hi greedy) =
+          fit_node (tree.repeat t lo hi greedy) _ _ (omega (arith, (fit n t).front, room_repeated (written groups pat n t).front lo hi greedy))
       fit n (tree.atomic_group t) = fit_node (tree.atomic_group t) _ _ (omega (arith, (fit n t).front))
       fit n (tree.backref k casei) = fit_node (tree.backref k casei) (backref k casei) 1 (omega arith)
       fit n (tree.backref_exists k None) = fit_node (tree.backref_exists k None) (exists k) 1 (omega arith)

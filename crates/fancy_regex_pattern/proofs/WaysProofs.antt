@@ -14,7 +14,7 @@ use Rattle.fancy_regex_meaning.specs.Ways as row
 use Rattle.fancy_regex_meaning.specs.Ways.{Way, Moves, Meaning, Setting, at_place, for_some, all_of, any_of, pairs_alone, stay_if, is_none_of, first_of_all, call_ways, meaning, meanings, ways, is_full, most_calls}
 use Rattle.fancy_regex_pattern.specs.Pats.{any, literal, class, Pat, nothing, read, general_newline, check, continue, keep_out, fail, cat, group, back, atomic, repeat, backref, exists, conditional, absent}
 use Rattle.fancy_regex_pattern.specs.PatWays.{pat_ways}
-use Rattle.fancy_regex_pattern.specs.Unfolded.{Written, pat_for, cat_all, alt_all, look, node, branches, written, written_all, written_call, pat_of}
+use Rattle.fancy_regex_pattern.specs.Unfolded.{repeated, Written, pat_for, cat_all, alt_all, look, node, branches, written, written_all, written_call, pat_of}
 use Rattle.fancy_regex_pattern.specs.Laws.{UnfoldedHasTheWays, PatternHasTheWays}
 
 -- The pattern has these ways.
@@ -97,6 +97,13 @@ module _ (s : Setting) where
   unfolding pat_ways
   has_repeat lo hi greedy f p h = record { is = λ i w. row.repeat s lo hi greedy (h.is i) w }
 
+  has_repeated : (lo hi : ℕ) (greedy : Bool) (f : Moves) (p : Pat) → Has s f p →
+      Has s (row.repeat s lo (bound_of hi) greedy f) (repeated p lo hi greedy)
+  unfolding pat_ways
+  has_repeated zero zero greedy f p h = record { is = refl }
+  has_repeated zero (suc hi) greedy f p h = has_repeat 0 (bound_of (suc hi)) greedy f p h
+  has_repeated (suc lo) hi greedy f p h = has_repeat (suc lo) (bound_of hi) greedy f p h
+
   has_conditional : (f g h : Moves) (p q r : Pat) → Has s f p → Has s g q → Has s h r →
       Has s (λ w. row.conditional (f w) g h w) (conditional p q r)
   unfolding pat_ways
@@ -143,7 +150,7 @@ module _ (s : Setting) where
         same n (tree.look_around t how) = same_node (tree.look_around t how) _ _
             (has_look how (meaning s groups call n t) (written groups pat n t) (same n t))
         same n (tree.repeat t lo hi greedy) =
-            same_node (tree.repeat t lo hi greedy) _ _ (has_repeat lo (bound_of hi) greedy _ _ (same n t).front)
+            same_node (tree.repeat t lo hi greedy) _ _ (has_repeated lo hi greedy _ _ (same n t).front)
         same n (tree.atomic_group t) = same_node (tree.atomic_group t) _ _ (has_atomic _ _ (same n t).front)
         same n (tree.backref k casei) = same_leaf (tree.backref k casei) (backref k casei)
         same n (tree.backref_exists k None) = same_leaf (tree.backref_exists k None) (exists k)

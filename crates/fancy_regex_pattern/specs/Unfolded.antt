@@ -1,5 +1,5 @@
 -- The pattern that a tree is written out to.
-use Rattle.std.specs.Prelude.{ℕ, zero, suc, ◌+◌, List, [], ◌∷◌, map, slice_index, Option, Some, None, if◌then◌else◌}
+use Rattle.std.specs.Prelude.{ℕ, zero, suc, ◌+◌, Bool, List, [], ◌∷◌, map, slice_index, Option, Some, None, if◌then◌else◌}
 use Rattle.fancy_regex_tree.specs.declared.expr.LookAround.{LookAround}
 use Rattle.fancy_regex_tree.specs.declared.expr.LookAround.TheVariants.{LookAhead, LookAheadNeg, LookBehind, LookBehindNeg}
 use Rattle.fancy_regex_tree.specs.Tree as tree
@@ -36,6 +36,12 @@ fronts us = map (λ u. u.front) us
 abbrev pub behinds : List Written → List Pat
 behinds us = map (λ u. u.behind) us
 
+-- A repeat. What is repeated no times is not written out.
+abbrev pub repeated : Pat → ℕ → ℕ → Bool → Pat
+repeated p zero zero greedy = nothing
+repeated p zero (suc hi) greedy = repeat p 0 (bound_of (suc hi)) greedy
+repeated p (suc lo) hi greedy = repeat p (suc lo) (bound_of hi) greedy
+
 abbrev pub look : LookAround → Written → Pat
 look LookAhead u = ahead u.front
 look LookAheadNeg u = never u.front
@@ -70,7 +76,7 @@ module _ (groups : List Tree) where
     written call n (tree.group t) = node (tree.group t) (group n (written call (n + 1) t).front)
     written call n (tree.look_around t how) = node (tree.look_around t how) (look how (written call n t))
     written call n (tree.repeat t lo hi greedy) =
-        node (tree.repeat t lo hi greedy) (repeat (written call n t).front lo (bound_of hi) greedy)
+        node (tree.repeat t lo hi greedy) (repeated (written call n t).front lo hi greedy)
     written call n (tree.atomic_group t) = node (tree.atomic_group t) (atomic (written call n t).front)
     written call n (tree.backref k casei) = node (tree.backref k casei) (backref k casei)
     written call n (tree.backref_exists k None) = node (tree.backref_exists k None) (exists k)
