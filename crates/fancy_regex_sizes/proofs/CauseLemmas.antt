@@ -1,26 +1,31 @@
 -- Each refusal has its cause, and no cause is passed over.
-use Rattle.std.proofs.Common.{◌≡◌, ℕ, ◌+◌, ◌<◌, ◌≤◌, min, ◌⊎◌, ⊎_elim, inl, inr, Bool, true, false, not, ◌&&◌, ◌||◌, ◌==◌, nat_eq, nat_lt, List, [], ◌∷◌, map, length, refl, sym, ap, ap₂, subst, ◌∙◌, arith, eqb-true, eq-eqb}
+use Rattle.std.proofs.Common.{◌≡◌, ℕ, ◌+◌, ◌<◌, min, ◌⊎◌, ⊎_elim, inl, inr, Bool, true, false, not, ◌&&◌, ◌||◌, ◌==◌, nat_lt, List, map, length, refl, sym, ap, subst, ◌∙◌, arith, eqb-true, eq-eqb}
 use borrow.Author.Tests.{ltb-true, lt-ltb}
 use Rattle.std.proofs.Math.Path.{fun_ext}
-use Rattle.fancy_regex_tree.specs.Tree.{Tree, Trees, concat, alt, group, look_around, repeat, atomic_group, backref, backref_with_level, backref_exists, conditional, subroutine_call, keep_out, absent_repeater, absent_expression, absent_stopper, define_group, ast_group, ast_backref, ast_call, ast_condition, no_trees, more_trees}
-use Rattle.fancy_regex_meaning.specs.Sizes.{Size, unbounded, size, size_with, weight, tree_weight}
+use Rattle.fancy_regex_tree.specs.Tree.{Tree, Trees, concat, alt, group, look_around, repeat, atomic_group, backref, backref_with_level, backref_exists, conditional, subroutine_call, absent_repeater, absent_expression, absent_stopper, define_group, ast_group, ast_backref, ast_call, ast_condition, no_trees, more_trees}
+use Rattle.fancy_regex_meaning.specs.Sizes.{unbounded, size, size_with, weight}
 use Rattle.fancy_regex_sizes.specs.Analysis.{analysis}
-use Rattle.fancy_regex_sizes.specs.Causes.{is_of_parts, WholeShows, is_too_heavy, is_always_empty, is_too_complex, is_never_matching, is_root_refused, root_shows, Holds}
+use Rattle.fancy_regex_sizes.specs.Causes.{WholeShows, is_too_heavy, is_always_empty, is_too_complex, is_never_matching, is_root_refused, root_shows, Holds}
 use Rattle.fancy_regex_sizes.specs.Endings.{never_ends, is_never_ending}
-use Rattle.fancy_regex_sizes.specs.Infos.{Facts, InfoTree, facts_in}
-use Rattle.fancy_regex_sizes.specs.NodeCauses.{some_node, some_node_of, is_memory, is_faulty, shows, is_no_group, is_reversed, is_invalid, is_not_found}
+use Rattle.fancy_regex_sizes.specs.Infos.{InfoTree, facts_in}
+use Rattle.fancy_regex_sizes.specs.NodeCauses.{some_node, some_node_of, is_memory, is_faulty, shows, is_no_group, is_reversed, is_invalid}
+use Rattle.fancy_regex_sizes.specs.PartCauses.{is_stopped, stops}
 use Rattle.fancy_regex_sizes.specs.References.{is_read}
 use Rattle.fancy_regex_sizes.specs.Rounds.{is_reached_again}
 use Rattle.fancy_regex_sizes.specs.Starts.{first_calls}
 use Rattle.fancy_regex_sizes.specs.Survey.{Knows}
 use Rattle.fancy_regex_sizes.specs.Views.{size_at, pattern_in}
+use Rattle.fancy_regex_sizes.specs.Written.{some_written, IsWhole, SomePart}
 use Rattle.fancy_regex_sizes.specs.declared.options.AnalyzeContext.{AnalyzeContext}
 use Rattle.fancy_regex_sizes.specs.declared.error.CompileError.{CompileError}
 use Rattle.fancy_regex_sizes.specs.declared.error.CompileError.TheVariants.{Memory, NamedBackrefOnly, LeftRecursiveSubroutineCall, NeverEndingRecursion, PatternTooComplex, PatternCanNeverMatch}
 use Rattle.fancy_regex_sizes.specs.declared.size.Size as code
+use Rattle.fancy_regex_sizes.specs.declared.written.Inside.{Inside}
 use Rattle.fancy_regex_sizes.proofs.DescribeLemmas.{own}
+use Rattle.fancy_regex_sizes.proofs.PlaceLemmas.{whole_found}
 use Rattle.fancy_regex_sizes.proofs.ReachLemmas.{or_left, or_right, or_cases}
 use Rattle.fancy_regex_sizes.proofs.TellLemmas.{or_keeps}
+use Rattle.fancy_regex_sizes.proofs.PartLemmas.{some_written_keeps, stops_stopped}
 use Rattle.fancy_regex_sizes.proofs.StartLemmas.{left_recursive, reached_again, target_inside}
 
 pub and_left : (a b : Bool) → (a && b) ≡ true → a ≡ true
@@ -110,7 +115,7 @@ no_node_shows n e t none h =
 
 -- Each refusal holds.
 abbrev pub Told : AnalyzeContext → Bool → Tree → CompileError → Type 0
-Told context is_marked t e = ((is_memory e || is_of_parts e) ≡ true) ⊎ Holds context is_marked t e
+Told context is_marked t e = (is_memory e ≡ true) ⊎ Holds context is_marked t e
 
 module _ (context : AnalyzeContext) (is_marked : Bool) (t : Tree) where
   abbrev groups : List Tree
@@ -120,20 +125,20 @@ module _ (context : AnalyzeContext) (is_marked : Bool) (t : Tree) where
   Here = Told context is_marked t
 
   pub memory_told : (e : CompileError) → e ≡ Memory → Here e
-  memory_told e is = inl (ap (λ f. is_memory f || is_of_parts f) is)
+  memory_told e is = inl (ap is_memory is)
 
   pub mark_told : is_marked ≡ true → Here NamedBackrefOnly
   mark_told h = inr (inl h)
 
   pub node_told : (n : ℕ) (e : CompileError) → n ≡ length groups → (is_memory e || some_node (shows n e) t) ≡ true → Here e
   node_told n e is h =
-      ⊎_elim (λ m. inl (or_left (is_memory e) (is_of_parts e) m))
-      (λ s. inr (inr (subst (λ k. some_node (shows k e) t ≡ true) is s)))
+      ⊎_elim (λ m. inl m)
+      (λ s. inr (inr (inl (subst (λ k. some_node (shows k e) t ≡ true) is s))))
       (or_cases (is_memory e) (some_node (shows n e) t) h)
 
   pub end_told : (gs : List Tree) (e : CompileError) → gs ≡ groups → (is_memory e || (never_ends gs t && is_never_ending e)) ≡ true → Here e
   end_told gs e is h =
-      ⊎_elim (λ m. inl (or_left (is_memory e) (is_of_parts e) m))
+      ⊎_elim (λ m. inl m)
       (λ s.
       subst Here (sym (never_ending_is e (and_right (never_ends gs t) (is_never_ending e) s)))
       (inr (inl (subst (λ us. never_ends us t ≡ true) is (and_left (never_ends gs t) (is_never_ending e) s)))))
@@ -176,12 +181,44 @@ module _ (context : AnalyzeContext) (is_marked : Bool) (t : Tree) where
       (is_memory e ≡ true) ⊎ ((k : ℕ) × (e ≡ LeftRecursiveSubroutineCall k)
       × (is_reached_again (map (first_calls (size_with (size_at sizes))) gs) k ≡ true)) → Here e
   start_told gs sizes e is known h =
-      ⊎_elim (λ m. inl (or_left (is_memory e) (is_of_parts e) m))
+      ⊎_elim (λ m. inl m)
       (λ r.
       subst Here (sym r.1) (inr (inl (left_recursive groups r.0 (sym (recursion_is gs sizes r.0 is known) ∙ r.2)))))
       h
 
-  -- and no cause is passed over
+  -- what is written out stands in bodies whose sizes are known
+  pub part_told : (gs : List Tree) (sizes : List code.Size) (e : CompileError) → gs ≡ groups → Knows gs sizes →
+      (is_memory e ≡ true) ⊎ SomePart gs t (stops (size_with (size_at sizes)) e) → Here e
+  part_told gs sizes e is known h =
+      ⊎_elim (λ m. inl m)
+      (λ p.
+      inr (inr (inr (subst (λ us. SomePart us t (stops (size us) e)) is
+      (subst (λ s. SomePart gs t (stops s e)) (sym (fun_ext known)) p)))))
+      h
+
+  -- and no part is passed over
+  pub no_stopped_part : (gs : List Tree) (sizes : List code.Size) → gs ≡ groups → Knows gs sizes →
+      ((i : Inside) (u : Tree) → IsWhole gs t i u → some_written (is_stopped (size_with (size_at sizes))) i u ≡ false) →
+      SomePart groups t (is_stopped (size groups)) → ⊥
+  no_stopped_part gs sizes is known clear p =
+      let here : SomePart gs t (is_stopped (size_with (size_at sizes))) =
+      subst (λ s. SomePart gs t (is_stopped s)) (fun_ext known) (subst (λ us. SomePart us t (is_stopped (size us))) (sym is) p) in
+      let whole = whole_found gs t (is_stopped (size_with (size_at sizes))) here in
+      clash (some_written (is_stopped (size_with (size_at sizes))) whole.0 whole.1) whole.3 (clear whole.0 whole.1 whole.2)
+
+  -- and no cause
+  no_part : (gs : List Tree) (sizes : List code.Size) → gs ≡ groups → Knows gs sizes →
+      ((i : Inside) (u : Tree) → IsWhole gs t i u → some_written (is_stopped (size_with (size_at sizes))) i u ≡ false) →
+      (e : CompileError) → SomePart groups t (stops (size groups) e) → ⊥
+  no_part gs sizes is known clear e p =
+      let here : SomePart gs t (stops (size_with (size_at sizes)) e) =
+      subst (λ s. SomePart gs t (stops s e)) (fun_ext known) (subst (λ us. SomePart us t (stops (size us) e)) (sym is) p) in
+      let whole = whole_found gs t (stops (size_with (size_at sizes)) e) here in
+      clash (some_written (is_stopped (size_with (size_at sizes))) whole.0 whole.1)
+      (some_written_keeps (stops (size_with (size_at sizes)) e) (is_stopped (size_with (size_at sizes)))
+      (stops_stopped (size_with (size_at sizes)) e) whole.0 whole.1 whole.3)
+      (clear whole.0 whole.1 whole.2)
+
   no_whole : (gs : List Tree) (sizes : List code.Size) (x : InfoTree) → gs ≡ groups → Knows gs sizes →
       x ≡ analysis context.explicit_capture_group_0 t → is_marked ≡ false → never_ends gs t ≡ false →
       is_root_refused context.find_not_empty (facts_in x) ≡ false →
@@ -214,7 +251,12 @@ module _ (context : AnalyzeContext) (is_marked : Bool) (t : Tree) where
       x ≡ analysis context.explicit_capture_group_0 t → n ≡ length groups → is_marked ≡ false → some_node (is_faulty n) t ≡ false →
       never_ends gs t ≡ false → is_root_refused context.find_not_empty (facts_in x) ≡ false →
       ((k : ℕ) → k < length gs → is_reached_again (map (first_calls (size_with (size_at sizes))) gs) k ≡ false) →
+      ((i : Inside) (u : Tree) → IsWhole gs t i u → some_written (is_stopped (size_with (size_at sizes))) i u ≡ false) →
       (e : CompileError) → Holds context is_marked t e → ⊥
-  none_passed gs sizes x n is known info long unmarked sound ends light starts e h =
+  none_passed gs sizes x n is known info long unmarked sound ends light starts clear e h =
       ⊎_elim (λ w. no_whole gs sizes x is known info unmarked ends light starts e w)
-      (λ s. no_node_shows n e t sound (subst (λ k. some_node (shows k e) t ≡ true) (sym long) s)) h
+      (λ r. ⊎_elim
+      (λ s. no_node_shows n e t sound (subst (λ k. some_node (shows k e) t ≡ true) (sym long) s))
+      (λ p. no_part gs sizes is known clear e p)
+      r)
+      h

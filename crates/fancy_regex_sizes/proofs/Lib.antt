@@ -17,3 +17,13 @@ pub mod SettledLemmas
 pub mod StartLemmas
 pub mod TellLemmas
 pub mod CauseLemmas
+pub mod PartLemmas
+pub mod WrittenLemmas
+pub mod AnchorLemmas
+pub mod AllLemmas
+pub mod FoundLemmas
+pub mod CountLemmas
+pub mod ReferenceLemmas
+pub mod PlaceLemmas
+pub mod InsideLemmas
+pub mod AnyLemmas

@@ -1,13 +1,13 @@
 -- Calls at the start of a part, through calls too.
-use Rattle.std.proofs.Common.{◌≡◌, ℕ, zero, suc, ◌+◌, ◌<◌, ◌≤◌, ◌⊎◌, ⊎_elim, Bool, true, false, ◌==◌, List, [], ◌∷◌, ◌++◌, Option, Some, None, map, length, take, drop, get_or, refl, sym, ap, ap₂, subst, ◌∙◌, arith, append_assoc, eq-eqb, eqb-true, Vec, Global}
+use Rattle.std.proofs.Common.{◌≡◌, ℕ, zero, suc, ◌+◌, ◌<◌, ◌≤◌, ⊎_elim, Bool, true, false, ◌==◌, List, [], ◌∷◌, ◌++◌, Option, Some, None, map, length, take, drop, get_or, refl, sym, ap, subst, ◌∙◌, arith, append_assoc, eq-eqb, eqb-true, Vec, Global}
 use Rattle.std.proofs.lemmas.Bool.{cases_lt}
 use Rattle.std.proofs.lemmas.List.{append-nil, at_drop_more}
 use Rattle.std.proofs.Math.ListN.{drop_of_length-le}
 use Rattle.std.specs.Prelude.{slice_get}
-use Rattle.fancy_regex_tree.specs.Tree.{Tree, Trees, tree_of, trees}
+use Rattle.fancy_regex_tree.specs.Tree.{Tree, tree_of, trees}
 use Rattle.fancy_regex_tree.specs.declared.expr.Expr.{Expr}
 use Rattle.fancy_regex_meaning.specs.Sizes.{Size, size, target}
-use Rattle.fancy_regex_sizes.specs.Reach.{rows, has, or_none, following, through}
+use Rattle.fancy_regex_sizes.specs.Reach.{rows, has, following, through}
 use Rattle.fancy_regex_sizes.specs.Rounds.{is_reached_again}
 use Rattle.fancy_regex_sizes.specs.Starts.{where_so, first_calls, first_calls_in_row, first_calls_in_branches, BeginsWith, at_once, through_call, IsLeftRecursive}
 use Rattle.fancy_regex_sizes.specs.Survey.{reads_in}

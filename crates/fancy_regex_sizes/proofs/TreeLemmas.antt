@@ -1,6 +1,7 @@
 -- What each kind of node is in mathematics.
 use Rattle.std.proofs.Common.{◌≡◌, ℕ, ℤ, Bool, Option, map, Box, Vec, String, Global, ap, sym, ◌∙◌}
 use Rattle.std.specs.Prelude.{chars, string_bytes, option_map}
+use Rattle.fancy_regex_tree.specs.declared.expr.BacktrackingControlVerb.{BacktrackingControlVerb}
 use Rattle.fancy_regex_tree.specs.declared.expr.CaptureGroupTarget.{CaptureGroupTarget}
 use Rattle.fancy_regex_tree.specs.declared.expr.Expr.{Expr}
 use Rattle.fancy_regex_tree.specs.declared.expr.LookAround.{LookAround}
@@ -10,7 +11,7 @@ use Rattle.fancy_regex_tree.specs.declared.expr.Absent.TheVariants as absent
 use Rattle.fancy_regex_tree.specs.declared.expr.AstNode.TheVariants as ast
 use Rattle.fancy_regex_tree.specs.declared.expr.Absent.TheOpen.{Expr-F, Absent-F, AstNode-F}
 use Rattle.fancy_regex_tree.specs.declared.expr.Absent.TheFolds.{fold-roll-Expr, fold-roll-Absent, fold-roll-AstNode}
-use Rattle.fancy_regex_tree.specs.Tree.{Tree, absent_tree, ast_tree, node_tree, tree_of, absent_tree_of, ast_tree_of, target_of, trees, concat, alt, group, look_around, repeat, atomic_group, conditional, define_group, absent_repeater, absent_expression, absent_stopper, absent_clear, ast_group, ast_backref, ast_call, ast_condition}
+use Rattle.fancy_regex_tree.specs.Tree.{Tree, absent_tree, ast_tree, node_tree, tree_of, absent_tree_of, ast_tree_of, target_of, trees, concat, alt, group, look_around, repeat, atomic_group, conditional, verb, define_group, absent_repeater, absent_expression, absent_stopper, absent_clear, ast_group, ast_backref, ast_call, ast_condition}
 
 pub tree_concat : (ts : Vec Expr Global) → tree_of (view.Concat ts) ≡ concat (trees (map tree_of ts.items))
 tree_concat ts = ap tree_of (sym (view.rolls-Concat ts)) ∙ fold-roll-Expr Tree (ℕ → Tree) Tree absent_tree ast_tree node_tree (Expr-F.Concat ts)
@@ -33,6 +34,9 @@ tree_atomic t = ap tree_of (sym (view.rolls-AtomicGroup t)) ∙ fold-roll-Expr T
 pub tree_conditional : (c a b : Box Expr Global) →
     tree_of (view.Conditional c a b) ≡ conditional (tree_of c.value) (tree_of a.value) (tree_of b.value)
 tree_conditional c a b = ap tree_of (sym (view.rolls-Conditional c a b)) ∙ fold-roll-Expr Tree (ℕ → Tree) Tree absent_tree ast_tree node_tree (Expr-F.Conditional c a b)
+
+pub tree_verb : (v : BacktrackingControlVerb) → tree_of (view.BacktrackingControlVerb v) ≡ verb v
+tree_verb v = ap tree_of (sym (view.rolls-BacktrackingControlVerb v)) ∙ fold-roll-Expr Tree (ℕ → Tree) Tree absent_tree ast_tree node_tree (Expr-F.BacktrackingControlVerb v)
 
 pub tree_define : (t : Box Expr Global) → tree_of (view.DefineGroup t) ≡ define_group (tree_of t.value)
 tree_define t = ap tree_of (sym (view.rolls-DefineGroup t)) ∙ fold-roll-Expr Tree (ℕ → Tree) Tree absent_tree ast_tree node_tree (Expr-F.DefineGroup t)

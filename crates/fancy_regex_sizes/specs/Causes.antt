@@ -1,22 +1,18 @@
 -- The causes for which the analysis refuses a tree.
-use Rattle.std.specs.Prelude.{◌≡◌, ℕ, ◌<◌, ◌⊎◌, Bool, true, false, ◌&&◌, ◌||◌, ◌==◌, nat_lt, length}
+use Rattle.std.specs.Prelude.{◌≡◌, ◌<◌, ◌⊎◌, Bool, true, false, ◌&&◌, ◌||◌, ◌==◌, nat_lt, length}
 use Rattle.fancy_regex_tree.specs.Tree.{Tree}
 use Rattle.fancy_regex_meaning.specs.Groups.{Pattern}
 use Rattle.fancy_regex_meaning.specs.Sizes.{size, tree_weight}
 use Rattle.fancy_regex_sizes.specs.Endings.{never_ends}
 use Rattle.fancy_regex_sizes.specs.Infos.{Facts}
-use Rattle.fancy_regex_sizes.specs.NodeCauses.{some_node, shows}
+use Rattle.fancy_regex_sizes.specs.NodeCauses.{some_node, is_faulty, shows}
+use Rattle.fancy_regex_sizes.specs.PartCauses.{is_stopped, stops}
 use Rattle.fancy_regex_sizes.specs.Starts.{IsLeftRecursive}
 use Rattle.fancy_regex_sizes.specs.Views.{pattern_in}
+use Rattle.fancy_regex_sizes.specs.Written.{SomePart}
 use Rattle.fancy_regex_sizes.specs.declared.options.AnalyzeContext.{AnalyzeContext}
 use Rattle.fancy_regex_sizes.specs.declared.error.CompileError.{CompileError}
-use Rattle.fancy_regex_sizes.specs.declared.error.CompileError.TheVariants.{LookBehindNotConst, FeatureNotYetSupported, NamedBackrefOnly, LeftRecursiveSubroutineCall, NeverEndingRecursion, PatternTooComplex, PatternCanNeverMatch}
-
--- the cause is one of parts that are written out
-abbrev pub is_of_parts : CompileError → Bool
-is_of_parts LookBehindNotConst = true
-is_of_parts (FeatureNotYetSupported text) = true
-is_of_parts _ = false
+use Rattle.fancy_regex_sizes.specs.declared.error.CompileError.TheVariants.{NamedBackrefOnly, LeftRecursiveSubroutineCall, NeverEndingRecursion, PatternTooComplex, PatternCanNeverMatch}
 
 -- what the facts of the whole tree show
 abbrev pub is_too_heavy : Facts → Bool
@@ -60,5 +56,19 @@ module _ (context : AnalyzeContext) (is_marked : Bool) (t : Tree) where
   WholeShows (LeftRecursiveSubroutineCall k) = IsLeftRecursive pattern.groups k
   WholeShows _ = ⊥
 
+  -- some part that is written out shows it
+  abbrev pub PartShows : CompileError → Type 0
+  PartShows e = SomePart pattern.groups t (stops (size pattern.groups) e)
+
   abbrev pub Holds : CompileError → Type 0
-  Holds e = WholeShows e ⊎ NodeShows e
+  Holds e = WholeShows e ⊎ (NodeShows e ⊎ PartShows e)
+
+-- What is refused whatever else is asked of the tree; its groups count from 0, or from 1.
+module _ (explicit : Bool) (t : Tree) where
+  -- a cause holds of some node alone
+  abbrev pub has_faulty_node : Bool
+  has_faulty_node = some_node (is_faulty (length (pattern_in explicit t).groups)) t
+
+  -- a part is written out that no program is made of
+  abbrev pub HasStoppedPart : Type 0
+  HasStoppedPart = SomePart (pattern_in explicit t).groups t (is_stopped (size (pattern_in explicit t).groups))

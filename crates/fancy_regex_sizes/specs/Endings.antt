@@ -1,5 +1,5 @@
 -- What can end, found in rounds: in each round one call more is followed inside each call.
-use Rattle.std.specs.Prelude.{ℕ, zero, suc, Bool, true, false, not, ◌&&◌, List, [], ◌∷◌, length, Option, Some, None}
+use Rattle.std.specs.Prelude.{ℕ, zero, suc, Bool, true, false, not, ◌&&◌, List, [], ◌∷◌, Option, Some, None}
 use Rattle.fancy_regex_tree.specs.Tree.{Tree}
 use Rattle.fancy_regex_meaning.specs.Sizes.{target, calls_in}
 use Rattle.fancy_regex_meaning.specs.Ends.{can_end_with, can_end}

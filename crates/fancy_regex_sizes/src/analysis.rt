@@ -3,7 +3,7 @@
 ghost use Rattle.std.specs.Prelude.{◌≡◌, ◌⊎◌, true, false, ◌||◌, ◌&&◌, map, IfOk, IfErr};
 ghost use Rattle.fancy_regex_tree.specs.Tree.{Tree, tree_of};
 ghost use Rattle.fancy_regex_sizes.specs.Analysis.{analysis};
-ghost use Rattle.fancy_regex_sizes.specs.Causes.{Holds, is_of_parts, is_root_refused, root_shows};
+ghost use Rattle.fancy_regex_sizes.specs.Causes.{Holds, is_root_refused, root_shows, has_faulty_node, HasStoppedPart};
 ghost use Rattle.fancy_regex_sizes.specs.Endings.{never_ends, is_never_ending};
 ghost use Rattle.fancy_regex_sizes.specs.Infos.{info_of, facts_in};
 ghost use Rattle.fancy_regex_sizes.specs.NodeCauses.{is_memory};
@@ -18,11 +18,11 @@ use crate::error::CompileError;
 use crate::info::Info;
 use crate::nodes::check_nodes;
 use crate::options::AnalyzeContext;
+use crate::parts::check_written;
 use crate::references::read_groups;
 use crate::size::Size;
 use crate::starts::check_starts;
 use crate::tables::{call_sizes, calls_by_group, ending_groups, recursive_groups};
-use crate::written::check_written;
 use fancy_regex_tree::{Expr, ExprTree};
 use std::alloc::{AllocError, Global};
 
@@ -37,8 +37,10 @@ pub fn analyze<'a>(
     context: AnalyzeContext,
 ) -> Result<Info<'a>, CompileError>
     ensures answer { IfOk result (λ info. info_of info ≡ analysis context.explicit_capture_group_0 (tree_of tree.now.expr)) }
-    ensures refused { IfErr result (λ e. ((is_memory e || is_of_parts e) ≡ true) ⊎ Holds context tree.now.named_backref_only (tree_of tree.now.expr) e) }
+    ensures refused { IfErr result (λ e. (is_memory e ≡ true) ⊎ Holds context tree.now.named_backref_only (tree_of tree.now.expr) e) }
     ensures complete { IfOk result (λ _. (e : CompileError) → Holds context tree.now.named_backref_only (tree_of tree.now.expr) e → ⊥) }
+    ensures nodes { IfOk result (λ _. has_faulty_node context.explicit_capture_group_0 (tree_of tree.now.expr) ≡ false) }
+    ensures parts { IfOk result (λ _. HasStoppedPart context.explicit_capture_group_0 (tree_of tree.now.expr) → ⊥) }
 {
     if tree.named_backref_only {
         return Err(CompileError::NamedBackrefOnly);

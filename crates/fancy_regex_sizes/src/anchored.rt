@@ -1,27 +1,62 @@
 //! Patterns that match at one place only.
 
+ghost use Rattle.std.specs.Prelude.{◌≡◌, true, map};
+ghost use Rattle.fancy_regex_tree.specs.Tree.{Tree, tree_of, trees};
+ghost use Rattle.fancy_regex_sizes.specs.Anchored.{begins_anchored, all_begin_anchored, IsAnchored};
+
 use fancy_regex_tree::{Assertion, Expr, LookAround};
 
 /// Whether each way of the tree begins at the start of the text, or where the search continues. Takes no memory; the
 /// recursion goes as deep as the tree.
-pub fn can_compile_as_anchored(expr: &Expr) -> bool {
+pub fn can_compile_as_anchored(expr: &Expr) -> bool
+    ensures answer { result ≡ begins_anchored (tree_of expr.now) }
+    ensures law { result ≡ true → IsAnchored (tree_of expr.now) }
+{
+    is_anchored(expr)
+}
+
+#[tactic(auto, unfolding(crate::specs::Anchored::begins_anchored))]
+#[cycle(anchored)]
+fn is_anchored(expr: &Expr) -> bool
+    ensures { result ≡ begins_anchored (tree_of expr.now) }
+{
     match expr {
         Expr::Assertion(Assertion::StartText) | Expr::ContinueFromPreviousMatchEnd => true,
-        Expr::Concat(parts) => match parts.first() {
-            Some(first) => can_compile_as_anchored(first),
-            None => false,
-        },
-        Expr::Alt(branches) => {
-            for branch in branches {
-                if !can_compile_as_anchored(branch) {
-                    return false;
-                }
-            }
-            !branches.is_empty()
-        }
-        Expr::Group(child) | Expr::AtomicGroup(child) => can_compile_as_anchored(child),
-        Expr::LookAround(child, LookAround::LookAhead) => can_compile_as_anchored(child),
-        Expr::Repeat { child, lo, .. } => *lo > 0 && can_compile_as_anchored(child),
+        Expr::Concat(parts) => first_is_anchored(parts),
+        Expr::Alt(branches) => branches_are_anchored(branches),
+        Expr::Group(child) | Expr::AtomicGroup(child) => is_anchored(child),
+        Expr::LookAround(child, LookAround::LookAhead) => is_anchored(child),
+        Expr::Repeat { child, lo, .. } => *lo > 0 && is_anchored(child),
         _ => false,
     }
+}
+
+#[tactic(auto, unfolding(crate::specs::Anchored::begins_anchored))]
+#[cycle(anchored)]
+fn first_is_anchored(parts: &[Expr]) -> bool
+    ensures { result ≡ begins_anchored (Tree.concat (trees (map tree_of parts.now))) }
+{
+    match parts.first() {
+        Some(first) => is_anchored(first),
+        None => false,
+    }
+}
+
+#[cycle(anchored)]
+fn branches_are_anchored(branches: &[Expr]) -> bool
+    ensures { result ≡ begins_anchored (Tree.alt (trees (map tree_of branches.now))) }
+{
+    !branches.is_empty() && are_anchored(branches)
+}
+
+#[cycle(anchored)]
+fn are_anchored(branches: &[Expr]) -> bool
+    ensures { result ≡ all_begin_anchored (trees (map tree_of branches.now)) }
+{
+    for branch in branches {
+        if !is_anchored(branch) {
+            return false;
+        }
+    }
+    true
 }

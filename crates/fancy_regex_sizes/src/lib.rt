@@ -12,6 +12,7 @@ mod facts;
 mod info;
 mod nodes;
 mod options;
+mod parts;
 mod references;
 mod size;
 mod starts;

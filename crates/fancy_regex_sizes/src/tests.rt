@@ -1,6 +1,6 @@
 //! Worked patterns, as trees made by hand.
 
-use crate::{AnalyzeContext, CompileError, Info, analyze};
+use crate::{AnalyzeContext, CompileError, Info, analyze, can_compile_as_anchored, is_well_formed};
 use fancy_regex_tree::{Absent, Assertion, Expr, ExprTree, LookAround};
 use std::alloc::{AllocError, Global};
 use std::collections::{BTreeMap, BTreeSet};
@@ -199,5 +199,44 @@ fn empty_matches_that_are_not_wanted(rt: HostRuntime) -> Result<(), Fail> {
         Err(error) => assert_eq!(rt; error, CompileError::PatternCanNeverMatch),
         Ok(_) => assert!(rt; false),
     }
+    Ok(())
+}
+
+#[test]
+fn trees_as_the_reader_makes_them(rt: HostRuntime) -> Result<(), Fail> {
+    let alloc = rt.alloc();
+    let reference = Expr::Backref {
+        group: 1,
+        casei: false,
+    };
+    let mut tree = whole(
+        alloc,
+        both(alloc, group(alloc, letter(alloc)?)?, reference)?,
+    );
+    assert!(rt; !is_well_formed(&tree));
+    tree.total_groups = 1;
+    assert!(rt; !is_well_formed(&tree));
+    tree.backrefs.insert(1)?;
+    assert!(rt; is_well_formed(&tree));
+    tree.contains_subroutines = true;
+    assert!(rt; !is_well_formed(&tree));
+    assert!(rt; is_well_formed(&whole(alloc, row(alloc, 2)?)));
+    let reversed = whole(alloc, repeat(alloc, letter(alloc)?, 3, 0)?);
+    assert!(rt; !is_well_formed(&reversed));
+    let branchless = whole(alloc, Expr::Alt(Vec::new(alloc)));
+    assert!(rt; !is_well_formed(&branchless));
+    Ok(())
+}
+
+#[test]
+fn trees_that_match_at_one_place(rt: HostRuntime) -> Result<(), Fail> {
+    let alloc = rt.alloc();
+    let start = Expr::Assertion(Assertion::StartText);
+    let anchored = both(alloc, start, letter(alloc)?)?;
+    assert!(rt; can_compile_as_anchored(&anchored));
+    assert!(rt; !can_compile_as_anchored(&letter(alloc)?));
+    let start = Expr::Assertion(Assertion::StartText);
+    let optional = repeat(alloc, start, 0, 1)?;
+    assert!(rt; !can_compile_as_anchored(&optional));
     Ok(())
 }

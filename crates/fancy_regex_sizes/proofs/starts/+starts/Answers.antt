@@ -1,4 +1,4 @@
-use Rattle.std.proofs.Common.{◌++◌, ◌==◌, map, true, false, ap, sym, ◌∙◌, arith}
+use Rattle.std.proofs.Common.{◌++◌, ◌==◌, map, ap, sym, ◌∙◌, arith}
 use Rattle.fancy_regex_tree.specs.Tree.{tree_of, trees}
 use Rattle.fancy_regex_meaning.specs.Sizes.{size_with}
 use Rattle.fancy_regex_sizes.specs.Starts.{first_calls_in_row}

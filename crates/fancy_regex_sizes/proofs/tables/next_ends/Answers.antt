@@ -1,4 +1,4 @@
-use Rattle.std.proofs.Common.{rules, arith}
+use Rattle.std.proofs.Common.{rules}
 use Rattle.fancy_regex_sizes.specs.Survey.{ends_in}
 use Rattle.fancy_regex_sizes.proofs.EndRoundLemmas.{ends_more, ends_all}
 use Rattle.fancy_regex_sizes.proofs.tables.next_ends.Goals as goal
