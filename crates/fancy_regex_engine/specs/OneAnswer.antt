@@ -12,7 +12,8 @@ use Rattle.fancy_regex_runner.specs.Plain.{places_of}
 use Rattle.fancy_regex_runner.specs.Runner.{IsEasyOf}
 use Rattle.fancy_regex_runner.specs.declared.easy.Easy.{Easy}
 use Rattle.fancy_regex_runner.specs.declared.input.RunInput.{RunInput}
-use Rattle.fancy_regex_machine.specs.Answered.{IsProgramOf, Answered}
+use Rattle.fancy_regex_program.specs.Programs.{IsProgramOf}
+use Rattle.fancy_regex_machine.specs.Answered.{Answered}
 use Rattle.fancy_regex_machine.specs.Asked.{rules_for}
 use Rattle.fancy_regex_machine.specs.declared.error.RuntimeError.{RuntimeError}
 use Rattle.fancy_regex_machine.specs.declared.search.RunOptions.{RunOptions}

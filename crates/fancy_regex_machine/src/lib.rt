@@ -6,6 +6,8 @@ mod again;
 mod assertion;
 mod error;
 mod lawful;
+#[cfg(test)]
+mod memory_tests;
 mod newline;
 mod plan;
 mod scene;

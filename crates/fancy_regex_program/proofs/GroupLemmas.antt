@@ -58,7 +58,7 @@ no_group e h =
     let back = roll-out-Expr e in
     subst (λ b. is_group (tree_of b) ≡ false) back (other_rolled (out-Expr e) (subst IsOther (sym back) h))
 
-listed_infos : (xs : List InfoTree) → listed (infos xs) ≡ xs
+pub listed_infos : (xs : List InfoTree) → listed (infos xs) ≡ xs
 listed_infos [] = refl
 listed_infos (x ∷ xs) = ap (λ ys. x ∷ ys) (listed_infos xs)
 

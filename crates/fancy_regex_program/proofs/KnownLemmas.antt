@@ -65,7 +65,7 @@ module _ (groups : List Tree) (reads : ℕ → Bool) where
       let same : n + 1 + length xs ≡ n + suc (length xs) = omega arith in
       ap (λ l. D (n + 1) x ∷ l) (from_append (n + 1) xs ys ∙ ap (λ k. bodies_from (n + 1) xs ++ bodies_from k ys) same)
 
-  get_from : (n : ℕ) (ts : List Tree) (k : ℕ) → slice_get (bodies_from n ts) k ≡ option_map (D (n + k + 1)) (slice_get ts k)
+  pub get_from : (n : ℕ) (ts : List Tree) (k : ℕ) → slice_get (bodies_from n ts) k ≡ option_map (D (n + k + 1)) (slice_get ts k)
   get_from n [] k = refl
   get_from n (t ∷ ts) zero = let same : n + 1 ≡ n + 0 + 1 = omega arith in ap (λ j. Some (D j t)) same
   get_from n (t ∷ ts) (suc k) =
@@ -160,7 +160,7 @@ start_is explicit t =
     let pattern = pattern_in explicit t in
     ap (λ f. f.start) (own pattern.groups (is_read (length pattern.groups) t) pattern.first_group t)
 
-groups_are : (explicit : Bool) (t : Tree) → groups_in (not explicit) (analysis explicit t)
+pub groups_are : (explicit : Bool) (t : Tree) → groups_in (not explicit) (analysis explicit t)
     ≡ bodies_from (pattern_in explicit t).groups (is_read (length (pattern_in explicit t).groups) t) 0 (pattern_in explicit t).groups
 groups_are true t = bodies_are (bodies t) (is_read (length (bodies t)) t) 0 t
 groups_are false t =

@@ -9,9 +9,8 @@ use Rattle.fancy_regex_tree.specs.declared.expr.Absent.TheVariants as absents
 use Rattle.fancy_regex_tree.specs.declared.expr.Absent.{Absent}
 use Rattle.fancy_regex_tree.specs.Tree as tree
 use Rattle.fancy_regex_tree.specs.Tree.{Tree, tree_of, trees}
-use Rattle.fancy_regex_meaning.specs.Sizes.{bound_of}
-use Rattle.fancy_regex_pattern.specs.Pats.{Pat, nothing, cat, group, back, atomic, repeat, conditional, absent}
-use Rattle.fancy_regex_pattern.specs.Unfolded.{Written, cat_all, alt_all, look, fronts, behinds}
+use Rattle.fancy_regex_pattern.specs.Pats.{Pat, nothing, cat, group, back, atomic, conditional, absent}
+use Rattle.fancy_regex_pattern.specs.Unfolded.{Written, cat_all, alt_all, repeated, look, fronts, behinds}
 use Rattle.fancy_regex_sizes.specs.Infos.{Facts, InfoTree, InfoTrees, known, infos, info_of, info_layer, facts_in}
 use Rattle.fancy_regex_sizes.specs.declared.info.Info.{Info}
 use Rattle.fancy_regex_sizes.specs.declared.info.Info.TheFolds.{fold_out-Info}
@@ -98,11 +97,11 @@ module _ (call : ℕ → Pat) where
       front_is i (tree.look_around (tree_of t.value) how) (ap tree_of is ∙ tree_look_around t how) ∙ ap (look how) (child_is (out-Info i).children.items 0 x at)
 
   pub front_repeat : (i : Info) (t : Box Expr Global) (lo hi : ℕ) (greedy : Bool) (x : Info) → (out-Info i).expr.now ≡ view.Repeat t lo hi greedy →
-      slice_get (out-Info i).children.items 0 ≡ Some x → (W i).front ≡ repeat (W x).front lo (bound_of hi) greedy
+      slice_get (out-Info i).children.items 0 ≡ Some x → (W i).front ≡ repeated (W x).front lo hi greedy
   unfolding front_of
   front_repeat i t lo hi greedy x is at =
       front_is i (tree.repeat (tree_of t.value) lo hi greedy) (ap tree_of is ∙ tree_repeat t lo hi greedy)
-      ∙ ap (λ v. repeat v.front lo (bound_of hi) greedy) (child_is (out-Info i).children.items 0 x at)
+      ∙ ap (λ v. repeated v.front lo hi greedy) (child_is (out-Info i).children.items 0 x at)
 
   pub front_atomic : (i : Info) (t : Box Expr Global) (x : Info) → (out-Info i).expr.now ≡ view.AtomicGroup t → slice_get (out-Info i).children.items 0 ≡ Some x →
       (W i).front ≡ atomic (W x).front

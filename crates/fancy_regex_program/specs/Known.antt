@@ -2,10 +2,9 @@
 use Rattle.std.specs.Prelude.{ℕ, zero, suc, ◌*◌, length, Bool, true, false, List, [], ◌∷◌, ◌++◌, slice_index, slice_get, Option, Some, None, map, if◌then◌else◌}
 use Rattle.fancy_regex_tree.specs.Tree as tree
 use Rattle.fancy_regex_tree.specs.Tree.{Tree}
-use Rattle.fancy_regex_meaning.specs.Sizes.{bound_of}
 use Rattle.fancy_regex_meaning.specs.Ways.{is_full, open_calls_of_one}
-use Rattle.fancy_regex_pattern.specs.Pats.{any, literal, class, Pat, nothing, read, general_newline, check, continue, keep_out, fail, cat, alt, group, ahead, never, back, atomic, repeat, backref, exists, conditional, absent}
-use Rattle.fancy_regex_pattern.specs.Unfolded.{Written, cat_all, alt_all, fronts, behinds, look, pat_for}
+use Rattle.fancy_regex_pattern.specs.Pats.{any, literal, class, Pat, nothing, read, general_newline, check, continue, keep_out, fail, cat, alt, group, ahead, never, back, atomic, backref, exists, conditional, absent}
+use Rattle.fancy_regex_pattern.specs.Unfolded.{Written, cat_all, alt_all, fronts, behinds, repeated, look, pat_for}
 use Rattle.fancy_regex_sizes.specs.Infos.{Facts, InfoTree, InfoTrees, known, no_infos, more_infos}
 
 -- what fails, from here and from as far back as it is long
@@ -33,7 +32,7 @@ front_of call n (tree.literal val casei) us = read (literal (slice_index val 0) 
 front_of call n (tree.delegate text casei) us = read (class text casei)
 front_of call n (tree.group t) us = group n (child us 0).front
 front_of call n (tree.look_around t how) us = look how (child us 0)
-front_of call n (tree.repeat t lo hi greedy) us = repeat (child us 0).front lo (bound_of hi) greedy
+front_of call n (tree.repeat t lo hi greedy) us = repeated (child us 0).front lo hi greedy
 front_of call n (tree.atomic_group t) us = atomic (child us 0).front
 front_of call n (tree.backref k casei) us = backref k casei
 front_of call n (tree.backref_exists k None) us = exists k
@@ -99,8 +98,10 @@ groups_in whole x = if whole then x ∷ bodies_in x else bodies_in x
 abbrev pub most_calls_in : List InfoTree → ℕ
 most_calls_in groups = open_calls_of_one * length groups
 
+-- the whole pattern, where these are its groups
+abbrev pub pat_with : List InfoTree → InfoTree → Pat
+pat_with groups x = (info_written (info_call groups (most_calls_in groups) []) x).front
+
 -- the whole pattern
 unfoldable pub pat_in : Bool → InfoTree → Pat
-pat_in whole x =
-    let groups = groups_in whole x in
-    (info_written (info_call groups (most_calls_in groups) []) x).front
+pat_in whole x = pat_with (groups_in whole x) x

@@ -8,3 +8,5 @@ pub mod Known
 pub mod Writing
 pub mod Groups
 pub mod Programs
+pub mod Extents
+pub mod Refusals

@@ -1,5 +1,5 @@
 -- The shape of a pattern that programs are made of.
-use Rattle.std.specs.Prelude.{ℕ, ◌<◌, ◌≤◌, false, Option, Some, None}
+use Rattle.std.specs.Prelude.{◌≡◌, ℕ, ◌<◌, ◌≤◌, Bool, true, false, Option, Some, None}
 use Rattle.fancy_regex_pattern.specs.Pats.{Pat, keep_out, cat, alt, group, ahead, never, atomic, repeat, backref, exists, conditional, absent}
 use Rattle.fancy_regex_pattern.specs.Shapes.{IsPlaced}
 use Rattle.fancy_regex_program.specs.Machine.{unset}
@@ -35,3 +35,18 @@ IsWritable first end (exists k) = (first ≤ k) × (k < end)
 IsWritable first end (conditional c a b) = IsWritable first end c × IsWritable first end a × IsWritable first end b
 IsWritable first end (absent a) = IsPlaced false a × IsWritable first end a
 IsWritable first end _ = Unit {0}
+
+-- What the compiler lets through, where the kept start may be set or not: an endless repeat's least count can be counted
+-- past, and neither a look-around nor an absent repeater sets the kept start.
+abbrev pub IsAllowed : Bool → Pat → Type 0
+IsAllowed keeps keep_out = keeps ≡ true
+IsAllowed keeps (cat a b) = IsAllowed keeps a × IsAllowed keeps b
+IsAllowed keeps (alt a b) = IsAllowed keeps a × IsAllowed keeps b
+IsAllowed keeps (group k a) = IsAllowed keeps a
+IsAllowed keeps (ahead a) = IsAllowed false a
+IsAllowed keeps (never a) = IsAllowed false a
+IsAllowed keeps (atomic a) = IsAllowed keeps a
+IsAllowed keeps (repeat a lo hi greedy) = IsCounted lo hi × IsAllowed keeps a
+IsAllowed keeps (conditional c a b) = IsAllowed keeps c × IsAllowed keeps a × IsAllowed keeps b
+IsAllowed keeps (absent a) = IsAllowed false a
+IsAllowed keeps _ = Unit {0}

@@ -1,5 +1,5 @@
 -- A program that is being written.
-use Rattle.std.specs.Prelude.{◌≡◌, ℕ, ◌+◌, Bool, List, [], ◌∷◌, ◌++◌, length, map, slice_set, chars, string_bytes, if◌then◌else◌, true, false}
+use Rattle.std.specs.Prelude.{◌≡◌, ℕ, ◌+◌, Bool, List, [], ◌∷◌, ◌++◌, length, map, slice_set, chars, string_bytes, if◌then◌else◌}
 use Rattle.std.specs.Borrow.{Bor}
 use Rattle.fancy_regex_tree.specs.Tree.{Text, Tree}
 use Rattle.fancy_regex_class.specs.Classes.{in_class, folded}
@@ -10,6 +10,7 @@ use Rattle.fancy_regex_sizes.specs.declared.info.Info.{Info}
 use Rattle.fancy_regex_program.specs.Ops.{Op, op_of, ops_of, split, jump}
 use Rattle.fancy_regex_program.specs.Code.{flushed, waits, slots_in, code_of}
 use Rattle.fancy_regex_program.specs.Known.{front_of, info_written, info_call}
+use Rattle.fancy_regex_program.specs.Shapes.{IsAllowed}
 use Rattle.fancy_regex_program.specs.declared.insn.Insn.{Insn}
 use Rattle.fancy_regex_program.specs.declared.body.Body.{Body}
 use Rattle.fancy_regex_program.specs.declared.emitter.Emitter.{Emitter}
@@ -81,6 +82,7 @@ pub record IsInsn (unicode : Bool) (insn : Insn) (t : Tree) : Type 0 where
   pub draft : (whole : Bool) (call : ℕ → Pat) (n slot : ℕ) (us : List Written) (d : Draft) →
       with_pat unicode whole (front_of call n t us) slot d ≡ added (op_of insn) d
   pub slots : (call : ℕ → Pat) (n : ℕ) (us : List Written) → slots_in (front_of call n t us) ≡ 0
+  pub allowed : (keeps : Bool) (call : ℕ → Pat) (n : ℕ) (us : List Written) → IsAllowed keeps (front_of call n t us)
 
 -- what the analysis says of the groups, by their numbers
 abbrev pub info_at : Bor Info → InfoTree
@@ -89,9 +91,9 @@ info_at i = info_of i.now
 abbrev pub infos_of : Task → List InfoTree
 infos_of task = map info_at task.groups.now.items
 
--- what the node is at this place
-abbrev pub part : Task → Scope → Emitter → Info → Written
-part task scope emitter info = info_written (info_call (infos_of task) scope.calls_left emitter.opened.items) (info_of info)
+-- what the node is at this place, where those targets are open
+abbrev pub part : Task → Scope → List ℕ → Info → Written
+part task scope opened info = info_written (info_call (infos_of task) scope.calls_left opened) (info_of info)
 
 -- what it is from here, or from as far back as it is long
 abbrev pub side : Bool → Written → Pat

@@ -1,10 +1,20 @@
 // From what is known of a tree to instructions.
 
-ghost use Rattle.std.specs.Prelude.{◌≡◌, ◌≤◌, length, slice_get, IfOk, Some};
+ghost use Rattle.std.specs.Prelude.{◌≡◌, ◌≤◌, ◌+◌, false, length, slice_get, map, IfOk, IfErr, Some, None, true};
 ghost use Rattle.fancy_regex_meaning.specs.Ways.{is_full as is_full_of};
+ghost use Rattle.fancy_regex_pattern.specs.Pats as pat;
+ghost use Rattle.fancy_regex_pattern.specs.Rooms.{room};
+ghost use Rattle.fancy_regex_pattern.specs.Unfolded.{cat_all, alt_all, repeated, look};
+ghost use Rattle.fancy_regex_sizes.specs.Causes.{is_too_complex};
+ghost use Rattle.fancy_regex_sizes.specs.Infos.{info_of};
 ghost use Rattle.fancy_regex_sizes.specs.declared.info.Info.TheViews.{out-Info};
+ghost use Rattle.fancy_regex_program.specs.Extents.{IsFull};
+ghost use Rattle.fancy_regex_program.specs.Known.{info_call};
 ghost use Rattle.fancy_regex_program.specs.Ops as op;
 ghost use Rattle.fancy_regex_program.specs.Ops.{op_of};
+ghost use Rattle.fancy_regex_program.specs.Refusals.{IsTold, Stands, EachStands, RepeatStands, AbsentStands, PartsStand, TargetStands, looks_behind};
+ghost use Rattle.fancy_regex_program.specs.Shapes.{IsAllowed};
+ghost use Rattle.fancy_regex_program.specs.Writing.{Wrote, WroteClosed, WroteChoice, infos_of, part, side};
 
 use crate::emitter::{Emitter, Scope, Task, deeper, first_slot, past_slots};
 use crate::insn::{AbsentRepeater, Insn, Repeat, RepeatEpsilon};
@@ -24,7 +34,13 @@ pub(crate) fn emit(
     scope: Scope,
     slot: usize,
 ) -> Result<usize, CompileError>
-    ensures { emitter.new.body.cap ≡ emitter.old.body.cap }
+    ensures cap { emitter.new.body.cap ≡ emitter.old.body.cap }
+    ensures full { IfErr result (IsFull emitter.old.body (room (part task.now scope emitter.old.opened.items info.now).front)) }
+    ensures wrote { IfOk result (λ after. Wrote task.now.unicode task.now.whole emitter.old emitter.new slot after
+        (part task.now scope emitter.old.opened.items info.now).front) }
+    ensures allowed { IfOk result (λ after. IsAllowed scope.may_keep
+        (part task.now scope emitter.old.opened.items info.now).front) }
+    ensures refused { IfErr result (IsTold task.now.unicode (infos_of task.now) (λ plan. Stands plan scope.may_keep scope.may_be_absent false (info_of info.now))) }
 {
     let depth_left = deeper(scope.depth_left)?;
     let inside = Scope {
@@ -57,10 +73,13 @@ pub(crate) fn emit(
             emit_conditional(task, emitter, condition, branches, inside, slot)
         }
         Expr::SubroutineCall(target) => emit_call(task, emitter, *target, inside, slot),
-        Expr::Absent(Absent::Repeater(_)) => {
-            let child = child_at(info, 0)?;
-            emit_absent(task, emitter, child, inside, slot)
-        }
+        Expr::Absent(absent) => match absent {
+            Absent::Repeater(_) => {
+                let child = child_at(info, 0)?;
+                emit_absent(task, emitter, child, inside, slot)
+            }
+            _ => Err(not_supported(task.alloc, "absent operator")),
+        },
         Expr::DefineGroup { .. } => Ok(slot),
         leaf => {
             emit_leaf(task, emitter, leaf, inside)?;
@@ -71,7 +90,9 @@ pub(crate) fn emit(
 
 /// The child at that place. A node that the reader made has it.
 fn child_at<'i, 'e>(info: &'i Info<'e>, place: usize) -> Result<&'i Info<'e>, CompileError>
-    ensures { IfOk result (λ child. slice_get (out-Info info.now).children.items place ≡ Some child.now) }
+    ensures value { IfOk result (λ child. slice_get (out-Info info.now).children.items place ≡ Some child.now) }
+    ensures full { IfErr result (λ e. is_too_complex e ≡ false) }
+    ensures refused { IfErr result (λ e. slice_get (out-Info info.now).children.items place ≡ None) }
 {
     match info.children.get(place) {
         Some(child) => Ok(child),
@@ -88,7 +109,13 @@ fn emit_row(
     scope: Scope,
     slot: usize,
 ) -> Result<usize, CompileError>
-    ensures { emitter.new.body.cap ≡ emitter.old.body.cap }
+    ensures cap { emitter.new.body.cap ≡ emitter.old.body.cap }
+    ensures full { IfErr result (IsFull emitter.old.body (room (cat_all (map (part task.now scope emitter.old.opened.items) parts.now)))) }
+    ensures wrote { IfOk result (λ after. Wrote task.now.unicode task.now.whole emitter.old emitter.new slot after
+        (cat_all (map (part task.now scope emitter.old.opened.items) parts.now))) }
+    ensures allowed { IfOk result (λ after. IsAllowed scope.may_keep
+        (cat_all (map (part task.now scope emitter.old.opened.items) parts.now))) }
+    ensures refused { IfErr result (IsTold task.now.unicode (infos_of task.now) (λ plan. EachStands plan scope.may_keep scope.may_be_absent false parts.now)) }
 {
     let mut next = slot;
     for info in parts {
@@ -107,7 +134,13 @@ fn emit_branches(
     scope: Scope,
     slot: usize,
 ) -> Result<usize, CompileError>
-    ensures { emitter.new.body.cap ≡ emitter.old.body.cap }
+    ensures cap { emitter.new.body.cap ≡ emitter.old.body.cap }
+    ensures full { IfErr result (IsFull emitter.old.body (room (alt_all (map (λ x. side behind (part task.now scope emitter.old.opened.items x)) branches.now)))) }
+    ensures wrote { IfOk result (λ after. Wrote task.now.unicode task.now.whole emitter.old emitter.new slot after
+        (alt_all (map (λ x. side behind (part task.now scope emitter.old.opened.items x)) branches.now))) }
+    ensures allowed { IfOk result (λ after. IsAllowed scope.may_keep
+        (alt_all (map (λ x. side behind (part task.now scope emitter.old.opened.items x)) branches.now))) }
+    ensures refused { IfErr result (IsTold task.now.unicode (infos_of task.now) (λ plan. EachStands plan scope.may_keep scope.may_be_absent behind branches.now)) }
 {
     if branches.is_empty() {
         emitter.body.add(Insn::Fail)?;
@@ -130,7 +163,13 @@ fn emit_choices(
     slot: usize,
 ) -> Result<usize, CompileError>
     requires { 2 ≤ length branches.now }
-    ensures { emitter.new.body.cap ≡ emitter.old.body.cap }
+    ensures cap { emitter.new.body.cap ≡ emitter.old.body.cap }
+    ensures full { IfErr result (IsFull emitter.old.body (room (alt_all (map (λ x. side behind (part task.now scope emitter.old.opened.items x)) branches.now)))) }
+    ensures wrote { IfOk result (λ after. Wrote task.now.unicode task.now.whole emitter.old emitter.new slot after
+        (alt_all (map (λ x. side behind (part task.now scope emitter.old.opened.items x)) branches.now))) }
+    ensures allowed { IfOk result (λ after. IsAllowed scope.may_keep
+        (alt_all (map (λ x. side behind (part task.now scope emitter.old.opened.items x)) branches.now))) }
+    ensures refused { IfErr result (IsTold task.now.unicode (infos_of task.now) (λ plan. EachStands plan scope.may_keep scope.may_be_absent behind branches.now)) }
 {
     emitter.body.flush()?;
     let last = branches.len() - 1;
@@ -158,7 +197,13 @@ fn emit_side(
     scope: Scope,
     slot: usize,
 ) -> Result<usize, CompileError>
-    ensures { emitter.new.body.cap ≡ emitter.old.body.cap }
+    ensures cap { emitter.new.body.cap ≡ emitter.old.body.cap }
+    ensures full { IfErr result (IsFull emitter.old.body (room (side behind (part task.now scope emitter.old.opened.items info.now)))) }
+    ensures wrote { IfOk result (λ after. Wrote task.now.unicode task.now.whole emitter.old emitter.new slot after
+        (side behind (part task.now scope emitter.old.opened.items info.now))) }
+    ensures allowed { IfOk result (λ after. IsAllowed scope.may_keep
+        (side behind (part task.now scope emitter.old.opened.items info.now))) }
+    ensures refused { IfErr result (IsTold task.now.unicode (infos_of task.now) (λ plan. Stands plan scope.may_keep scope.may_be_absent behind (info_of info.now))) }
 {
     if behind {
         emit_behind(task, emitter, info, scope, slot)
@@ -177,7 +222,13 @@ fn emit_closed(
     scope: Scope,
     slot: usize,
 ) -> Result<usize, CompileError>
-    ensures { emitter.new.body.cap ≡ emitter.old.body.cap }
+    ensures cap { emitter.new.body.cap ≡ emitter.old.body.cap }
+    ensures full { IfErr result (IsFull emitter.old.body (room (side behind (part task.now scope emitter.old.opened.items info.now)))) }
+    ensures wrote { IfOk result (λ after. WroteClosed task.now.unicode task.now.whole emitter.old emitter.new slot after
+        (side behind (part task.now scope emitter.old.opened.items info.now))) }
+    ensures allowed { IfOk result (λ after. IsAllowed scope.may_keep
+        (side behind (part task.now scope emitter.old.opened.items info.now))) }
+    ensures refused { IfErr result (IsTold task.now.unicode (infos_of task.now) (λ plan. Stands plan scope.may_keep scope.may_be_absent behind (info_of info.now))) }
 {
     let after = emit_side(task, emitter, info, behind, scope, slot)?;
     emitter.body.flush()?;
@@ -193,7 +244,13 @@ fn emit_behind(
     scope: Scope,
     slot: usize,
 ) -> Result<usize, CompileError>
-    ensures { emitter.new.body.cap ≡ emitter.old.body.cap }
+    ensures cap { emitter.new.body.cap ≡ emitter.old.body.cap }
+    ensures full { IfErr result (IsFull emitter.old.body (room (part task.now scope emitter.old.opened.items info.now).behind)) }
+    ensures wrote { IfOk result (λ after. Wrote task.now.unicode task.now.whole emitter.old emitter.new slot after
+        (part task.now scope emitter.old.opened.items info.now).behind) }
+    ensures allowed { IfOk result (λ after. IsAllowed scope.may_keep
+        (part task.now scope emitter.old.opened.items info.now).behind) }
+    ensures refused { IfErr result (IsTold task.now.unicode (infos_of task.now) (λ plan. Stands plan scope.may_keep scope.may_be_absent true (info_of info.now))) }
 {
     if info.const_size {
         emitter.body.add(Insn::GoBack(info.min_size))?;
@@ -220,7 +277,13 @@ fn emit_group(
     scope: Scope,
     slot: usize,
 ) -> Result<usize, CompileError>
-    ensures { emitter.new.body.cap ≡ emitter.old.body.cap }
+    ensures cap { emitter.new.body.cap ≡ emitter.old.body.cap }
+    ensures full { IfErr result (IsFull emitter.old.body (room (pat.group number (part task.now scope emitter.old.opened.items child.now).front))) }
+    ensures wrote { IfOk result (λ after. Wrote task.now.unicode task.now.whole emitter.old emitter.new slot after
+        (pat.group number (part task.now scope emitter.old.opened.items child.now).front)) }
+    ensures allowed { IfOk result (λ after. IsAllowed scope.may_keep
+        (pat.group number (part task.now scope emitter.old.opened.items child.now).front)) }
+    ensures refused { IfErr result (IsTold task.now.unicode (infos_of task.now) (λ plan. Stands plan scope.may_keep scope.may_be_absent false (info_of child.now))) }
 {
     let inside = past_slots(slot, 1)?;
     let start = first_slot(number)?;
@@ -244,7 +307,13 @@ fn emit_atomic(
     scope: Scope,
     slot: usize,
 ) -> Result<usize, CompileError>
-    ensures { emitter.new.body.cap ≡ emitter.old.body.cap }
+    ensures cap { emitter.new.body.cap ≡ emitter.old.body.cap }
+    ensures full { IfErr result (IsFull emitter.old.body (room (pat.atomic (part task.now scope emitter.old.opened.items child.now).front))) }
+    ensures wrote { IfOk result (λ after. Wrote task.now.unicode task.now.whole emitter.old emitter.new slot after
+        (pat.atomic (part task.now scope emitter.old.opened.items child.now).front)) }
+    ensures allowed { IfOk result (λ after. IsAllowed scope.may_keep
+        (pat.atomic (part task.now scope emitter.old.opened.items child.now).front)) }
+    ensures refused { IfErr result (IsTold task.now.unicode (infos_of task.now) (λ plan. Stands plan scope.may_keep scope.may_be_absent false (info_of child.now))) }
 {
     let inside = past_slots(slot, 1)?;
     emitter.body.add(Insn::BeginAtomic(slot))?;
@@ -263,7 +332,13 @@ fn emit_look_around(
     scope: Scope,
     slot: usize,
 ) -> Result<usize, CompileError>
-    ensures { emitter.new.body.cap ≡ emitter.old.body.cap }
+    ensures cap { emitter.new.body.cap ≡ emitter.old.body.cap }
+    ensures full { IfErr result (IsFull emitter.old.body (room (look how (part task.now scope emitter.old.opened.items child.now)))) }
+    ensures wrote { IfOk result (λ after. Wrote task.now.unicode task.now.whole emitter.old emitter.new slot after
+        (look how (part task.now scope emitter.old.opened.items child.now))) }
+    ensures allowed { IfOk result (λ after. IsAllowed scope.may_keep
+        (look how (part task.now scope emitter.old.opened.items child.now))) }
+    ensures refused { IfErr result (IsTold task.now.unicode (infos_of task.now) (λ plan. Stands plan false scope.may_be_absent (looks_behind how) (info_of child.now))) }
 {
     let looking = Scope {
         may_keep: false,
@@ -287,7 +362,13 @@ fn emit_found(
     scope: Scope,
     slot: usize,
 ) -> Result<usize, CompileError>
-    ensures { emitter.new.body.cap ≡ emitter.old.body.cap }
+    ensures cap { emitter.new.body.cap ≡ emitter.old.body.cap }
+    ensures full { IfErr result (IsFull emitter.old.body (room (pat.ahead (side behind (part task.now scope emitter.old.opened.items child.now))))) }
+    ensures wrote { IfOk result (λ after. Wrote task.now.unicode task.now.whole emitter.old emitter.new slot after
+        (pat.ahead (side behind (part task.now scope emitter.old.opened.items child.now)))) }
+    ensures allowed { IfOk result (λ after. IsAllowed scope.may_keep
+        (side behind (part task.now scope emitter.old.opened.items child.now))) }
+    ensures refused { IfErr result (IsTold task.now.unicode (infos_of task.now) (λ plan. Stands plan scope.may_keep scope.may_be_absent behind (info_of child.now))) }
 {
     let inside = past_slots(slot, 1)?;
     emitter.body.add(Insn::Save(slot))?;
@@ -306,7 +387,13 @@ fn emit_not_found(
     scope: Scope,
     slot: usize,
 ) -> Result<usize, CompileError>
-    ensures { emitter.new.body.cap ≡ emitter.old.body.cap }
+    ensures cap { emitter.new.body.cap ≡ emitter.old.body.cap }
+    ensures full { IfErr result (IsFull emitter.old.body (room (pat.never (side behind (part task.now scope emitter.old.opened.items child.now))))) }
+    ensures wrote { IfOk result (λ after. Wrote task.now.unicode task.now.whole emitter.old emitter.new slot after
+        (pat.never (side behind (part task.now scope emitter.old.opened.items child.now)))) }
+    ensures allowed { IfOk result (λ after. IsAllowed scope.may_keep
+        (side behind (part task.now scope emitter.old.opened.items child.now))) }
+    ensures refused { IfErr result (IsTold task.now.unicode (infos_of task.now) (λ plan. Stands plan scope.may_keep scope.may_be_absent behind (info_of child.now))) }
 {
     let inside = past_slots(slot, 1)?;
     emitter.body.add(Insn::BeginAtomic(slot))?;
@@ -330,7 +417,13 @@ fn emit_choice(
     scope: Scope,
     slot: usize,
 ) -> Result<usize, CompileError>
-    ensures { emitter.new.body.cap ≡ emitter.old.body.cap }
+    ensures cap { emitter.new.body.cap ≡ emitter.old.body.cap }
+    ensures full { IfErr result (IsFull emitter.old.body (room (side behind (part task.now scope emitter.old.opened.items info.now)) + 2)) }
+    ensures wrote { IfOk result (λ after. WroteChoice task.now.unicode task.now.whole emitter.old emitter.new slot after
+        (side behind (part task.now scope emitter.old.opened.items info.now))) }
+    ensures allowed { IfOk result (λ after. IsAllowed scope.may_keep
+        (side behind (part task.now scope emitter.old.opened.items info.now))) }
+    ensures refused { IfErr result (IsTold task.now.unicode (infos_of task.now) (λ plan. Stands plan scope.may_keep scope.may_be_absent behind (info_of info.now))) }
 {
     let split = emitter.body.len();
     emitter.body.put(Insn::Split(0, 0))?;
@@ -342,7 +435,8 @@ fn emit_choice(
     Ok(after)
 }
 
-/// Adds a repeat; the greatest count `usize::MAX` stands for none.
+/// Adds a repeat; the greatest count `usize::MAX` stands for none. What is repeated no times is not written out. There is
+/// no memory for more rounds than can be numbered.
 #[cycle(emit)]
 fn emit_repeat(
     task: &Task<'_, '_, '_>,
@@ -353,14 +447,23 @@ fn emit_repeat(
     scope: Scope,
     slot: usize,
 ) -> Result<usize, CompileError>
-    ensures { emitter.new.body.cap ≡ emitter.old.body.cap }
+    ensures cap { emitter.new.body.cap ≡ emitter.old.body.cap }
+    ensures full { IfErr result (IsFull emitter.old.body (room (repeated (part task.now scope emitter.old.opened.items child.now).front bounds.0 bounds.1 greedy))) }
+    ensures wrote { IfOk result (λ after. Wrote task.now.unicode task.now.whole emitter.old emitter.new slot after
+        (repeated (part task.now scope emitter.old.opened.items child.now).front bounds.0 bounds.1 greedy)) }
+    ensures allowed { IfOk result (λ after. IsAllowed scope.may_keep
+        (repeated (part task.now scope emitter.old.opened.items child.now).front bounds.0 bounds.1 greedy)) }
+    ensures refused { IfErr result (IsTold task.now.unicode (infos_of task.now) (λ plan. RepeatStands plan scope.may_keep scope.may_be_absent bounds.0 bounds.1 (info_of child.now))) }
 {
     let (lo, hi) = bounds;
     if lo > hi {
         return Err(CompileError::RepeatBoundsReversed);
     }
+    if hi == 0 {
+        return Ok(slot);
+    }
     if lo == usize::MAX {
-        return Err(CompileError::PatternTooComplex);
+        return Err(CompileError::Memory);
     }
     if hi == usize::MAX {
         emit_loop(task, emitter, child, lo, greedy, scope, slot)
@@ -380,7 +483,13 @@ fn emit_counted(
     scope: Scope,
     slot: usize,
 ) -> Result<usize, CompileError>
-    ensures { emitter.new.body.cap ≡ emitter.old.body.cap }
+    ensures cap { emitter.new.body.cap ≡ emitter.old.body.cap }
+    ensures full { IfErr result (IsFull emitter.old.body (room (pat.repeat (part task.now scope emitter.old.opened.items child.now).front bounds.0 (Some bounds.1) greedy))) }
+    ensures wrote { IfOk result (λ after. Wrote task.now.unicode task.now.whole emitter.old emitter.new slot after
+        (pat.repeat (part task.now scope emitter.old.opened.items child.now).front bounds.0 (Some bounds.1) greedy)) }
+    ensures allowed { IfOk result (λ after. IsAllowed scope.may_keep
+        (pat.repeat (part task.now scope emitter.old.opened.items child.now).front bounds.0 (Some bounds.1) greedy)) }
+    ensures refused { IfErr result (IsTold task.now.unicode (infos_of task.now) (λ plan. Stands plan scope.may_keep scope.may_be_absent false (info_of child.now))) }
 {
     let inside = past_slots(slot, 1)?;
     emitter.body.add(Insn::BeginRepeat(slot))?;
@@ -421,7 +530,12 @@ fn emit_loop(
     scope: Scope,
     slot: usize,
 ) -> Result<usize, CompileError>
-    ensures { emitter.new.body.cap ≡ emitter.old.body.cap }
+    ensures cap { emitter.new.body.cap ≡ emitter.old.body.cap }
+    ensures full { IfErr result (IsFull emitter.old.body (room (pat.repeat (part task.now scope emitter.old.opened.items child.now).front lo None greedy))) }
+    ensures wrote { IfOk result (λ after. Wrote task.now.unicode task.now.whole emitter.old emitter.new slot after
+        (pat.repeat (part task.now scope emitter.old.opened.items child.now).front lo None greedy)) }
+    ensures allowed { IfOk result (λ after. IsAllowed scope.may_keep (part task.now scope emitter.old.opened.items child.now).front) }
+    ensures refused { IfErr result (IsTold task.now.unicode (infos_of task.now) (λ plan. Stands plan scope.may_keep scope.may_be_absent false (info_of child.now))) }
 {
     let check = past_slots(slot, 1)?;
     let inside = past_slots(slot, 2)?;
@@ -461,7 +575,13 @@ fn emit_conditional(
     scope: Scope,
     slot: usize,
 ) -> Result<usize, CompileError>
-    ensures { emitter.new.body.cap ≡ emitter.old.body.cap }
+    ensures cap { emitter.new.body.cap ≡ emitter.old.body.cap }
+    ensures full { IfErr result (IsFull emitter.old.body (room (pat.conditional (part task.now scope emitter.old.opened.items condition.now).front (part task.now scope emitter.old.opened.items branches.entry.0.now).front (part task.now scope emitter.old.opened.items branches.entry.1.now).front))) }
+    ensures wrote { IfOk result (λ after. Wrote task.now.unicode task.now.whole emitter.old emitter.new slot after
+        (pat.conditional (part task.now scope emitter.old.opened.items condition.now).front (part task.now scope emitter.old.opened.items branches.entry.0.now).front (part task.now scope emitter.old.opened.items branches.entry.1.now).front)) }
+    ensures allowed { IfOk result (λ after. IsAllowed scope.may_keep
+        (pat.conditional (part task.now scope emitter.old.opened.items condition.now).front (part task.now scope emitter.old.opened.items branches.entry.0.now).front (part task.now scope emitter.old.opened.items branches.entry.1.now).front)) }
+    ensures refused { IfErr result (IsTold task.now.unicode (infos_of task.now) (λ plan. PartsStand plan scope.may_keep scope.may_be_absent (info_of condition.now) (info_of branches.entry.0.now) (info_of branches.entry.1.now))) }
 {
     let (yes, no) = branches;
     let inside = past_slots(slot, 1)?;
@@ -492,7 +612,13 @@ fn emit_call(
     scope: Scope,
     slot: usize,
 ) -> Result<usize, CompileError>
-    ensures { emitter.new.body.cap ≡ emitter.old.body.cap }
+    ensures cap { emitter.new.body.cap ≡ emitter.old.body.cap }
+    ensures full { IfErr result (IsFull emitter.old.body (room (info_call (infos_of task.now) scope.calls_left emitter.old.opened.items target))) }
+    ensures wrote { IfOk result (λ after. Wrote task.now.unicode task.now.whole emitter.old emitter.new slot after
+        (info_call (infos_of task.now) scope.calls_left emitter.old.opened.items target)) }
+    ensures allowed { IfOk result (λ after. IsAllowed scope.may_keep
+        (info_call (infos_of task.now) scope.calls_left emitter.old.opened.items target)) }
+    ensures refused { IfErr result (IsTold task.now.unicode (infos_of task.now) (λ plan. TargetStands plan scope.may_keep scope.may_be_absent (infos_of task.now) target)) }
 {
     if target >= task.groups.len() {
         return Err(CompileError::SubroutineCallTargetNotFound(format!(in task.alloc; "{target}")?));
@@ -528,7 +654,13 @@ fn emit_absent(
     scope: Scope,
     slot: usize,
 ) -> Result<usize, CompileError>
-    ensures { emitter.new.body.cap ≡ emitter.old.body.cap }
+    ensures cap { emitter.new.body.cap ≡ emitter.old.body.cap }
+    ensures full { IfErr result (IsFull emitter.old.body (room (pat.absent (part task.now scope emitter.old.opened.items child.now).front))) }
+    ensures wrote { IfOk result (λ after. Wrote task.now.unicode task.now.whole emitter.old emitter.new slot after
+        (pat.absent (part task.now scope emitter.old.opened.items child.now).front)) }
+    ensures allowed { IfOk result (λ after. IsAllowed scope.may_keep
+        (pat.absent (part task.now scope emitter.old.opened.items child.now).front)) }
+    ensures refused { IfErr result (IsTold task.now.unicode (infos_of task.now) (λ plan. AbsentStands plan scope.may_be_absent (info_of child.now))) }
 {
     if !scope.may_be_absent {
         return Err(not_supported(task.alloc, "absent operator"));

@@ -1,6 +1,8 @@
 // What the compiler knows while it writes a program.
 
-ghost use Rattle.std.specs.Prelude.{◌≡◌, ◌+◌, ◌*◌, IfOk};
+ghost use Rattle.std.specs.Prelude.{◌≡◌, ◌+◌, ◌*◌, false, IfOk, IfErr};
+ghost use Rattle.fancy_regex_sizes.specs.Causes.{is_too_complex};
+ghost use Rattle.fancy_regex_program.specs.Refusals.{IsPlain};
 
 use crate::body::Body;
 use fancy_regex_sizes::{CompileError, Info};
@@ -37,19 +39,23 @@ pub(crate) struct Scope {
     pub may_be_absent: bool,
 }
 
-/// One part further inside, or a refusal where that is too deep.
+/// One part further inside. There is no memory on the stack for more than so many.
 pub(crate) fn deeper(depth_left: usize) -> Result<usize, CompileError>
-    ensures { IfOk result (λ left. left + 1 ≡ depth_left) }
+    ensures left { IfOk result (λ left. left + 1 ≡ depth_left) }
+    ensures full { IfErr result (λ e. is_too_complex e ≡ false) }
+    ensures refused { IfErr result IsPlain }
 {
     match depth_left.checked_sub(1) {
         Some(left) => Ok(left),
-        None => Err(CompileError::PatternTooComplex),
+        None => Err(CompileError::Memory),
     }
 }
 
 /// The slot so many slots further on. There is no memory for more than can be numbered.
 pub(crate) fn past_slots(slot: usize, count: usize) -> Result<usize, CompileError>
-    ensures { IfOk result (λ after. after ≡ slot + count) }
+    ensures value { IfOk result (λ after. after ≡ slot + count) }
+    ensures full { IfErr result (λ e. is_too_complex e ≡ false) }
+    ensures refused { IfErr result IsPlain }
 {
     match slot.checked_add(count) {
         Some(after) => Ok(after),
@@ -59,7 +65,9 @@ pub(crate) fn past_slots(slot: usize, count: usize) -> Result<usize, CompileErro
 
 /// The first of the two slots of a group. There is no memory for more than can be numbered.
 pub(crate) fn first_slot(group: usize) -> Result<usize, CompileError>
-    ensures { IfOk result (λ slot. slot ≡ 2 * group) }
+    ensures value { IfOk result (λ slot. slot ≡ 2 * group) }
+    ensures full { IfErr result (λ e. is_too_complex e ≡ false) }
+    ensures refused { IfErr result IsPlain }
 {
     match group.checked_mul(2) {
         Some(slot) => Ok(slot),

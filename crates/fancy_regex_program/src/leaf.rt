@@ -1,24 +1,29 @@
 // Nodes without children.
 
-ghost use Rattle.std.specs.Prelude.{◌≡◌, ◌*◌, ℕ, List, slice_index, chars, ◌&&◌, not, IfOk, None};
+ghost use Rattle.std.specs.Prelude.{◌≡◌, ◌*◌, ℕ, List, slice_index, chars, ◌&&◌, not, true, false, IfOk, IfErr, None, length};
+ghost use Rattle.fancy_regex_tree.specs.Tree as tree;
 ghost use Rattle.fancy_regex_tree.specs.Tree.{tree_of};
 ghost use Rattle.fancy_regex_class.specs.Matchers.{IsMatcherOf};
-ghost use Rattle.fancy_regex_pattern.specs.Pats.{Pat, keep_out};
+ghost use Rattle.fancy_regex_sizes.specs.Causes.{is_too_complex};
+ghost use Rattle.fancy_regex_pattern.specs.Pats.{Pat, keep_out, read, literal};
+ghost use Rattle.fancy_regex_pattern.specs.Rooms.{room};
 ghost use Rattle.fancy_regex_pattern.specs.Unfolded.{Written};
+ghost use Rattle.fancy_regex_program.specs.Extents.{IsFull};
 ghost use Rattle.fancy_regex_program.specs.Known.{front_of};
 ghost use Rattle.fancy_regex_program.specs.Ops as op;
 ghost use Rattle.fancy_regex_program.specs.Ops.{op_of};
+ghost use Rattle.fancy_regex_program.specs.Refusals.{IsMissing, IsPlain, IsNoVerb, IsNoGroup, IsNoClass, IsNoSingle, IsNoLeaf};
+ghost use Rattle.fancy_regex_program.specs.Shapes.{IsAllowed};
 ghost use Rattle.fancy_regex_program.specs.Writing.{Wrote, IsInsn};
 
 use crate::emitter::{Emitter, Scope, Task, first_slot};
 use crate::insn::Insn;
 use fancy_regex_class::{CaseiLiteral, CharClassMatcher, ClassError};
 use fancy_regex_sizes::CompileError;
-use fancy_regex_tree::{AstNode, BacktrackingControlVerb, Expr};
+use fancy_regex_tree::{BacktrackingControlVerb, Expr};
 use std::alloc::Global;
 
-/// Adds the instruction of a node without children, or answers why there is none. A character waits for others behind it
-/// unless its case is disregarded.
+/// Adds the instruction of a node without children, or answers why there is none.
 pub(crate) fn emit_leaf(
     task: &Task<'_, '_, '_>,
     emitter: &mut Emitter,
@@ -26,12 +31,16 @@ pub(crate) fn emit_leaf(
     scope: Scope,
 ) -> Result<(), CompileError>
     ensures cap { emitter.new.body.cap ≡ emitter.old.body.cap }
+    ensures full { IfErr result (λ e. (call : ℕ → Pat) (n : ℕ) (us : List Written) →
+        IsFull emitter.old.body (room (front_of call n (tree_of leaf.now) us)) e) }
     ensures wrote { IfOk result (λ _. (call : ℕ → Pat) (n slot : ℕ) (us : List Written) →
         Wrote task.now.unicode task.now.whole emitter.old emitter.new slot slot (front_of call n (tree_of leaf.now) us)) }
+    ensures allowed { IfOk result (λ _. (call : ℕ → Pat) (n : ℕ) (us : List Written) → IsAllowed scope.may_keep (front_of call n (tree_of leaf.now) us)) }
+    ensures refused { IfErr result (IsNoLeaf task.now.unicode (length task.now.groups.now.items) scope.may_keep (tree_of leaf.now)) }
 {
     match leaf {
-        Expr::Literal { val, casei: false } => {
-            emitter.body.wait(first_character(val))?;
+        Expr::Literal { val, casei } => {
+            emit_literal(task, emitter, first_character(val), *casei)?;
             Ok(())
         }
         Expr::KeepOut => {
@@ -53,6 +62,27 @@ fn first_character(text: &str) -> char
     text.chars().next().unwrap_or('\0')
 }
 
+/// A character waits for others behind it unless its case is disregarded.
+fn emit_literal(
+    task: &Task<'_, '_, '_>,
+    emitter: &mut Emitter,
+    first: char,
+    casei: bool,
+) -> Result<(), CompileError>
+    ensures cap { emitter.new.body.cap ≡ emitter.old.body.cap }
+    ensures full { IfErr result (IsFull emitter.old.body (room (read (literal first casei)))) }
+    ensures wrote { IfOk result (λ _. (slot : ℕ) → Wrote task.now.unicode task.now.whole emitter.old emitter.new slot slot (read (literal first casei))) }
+    ensures refused { IfErr result IsPlain }
+{
+    if casei {
+        let literal = CaseiLiteral::new(first, task.unicode);
+        emitter.body.add(Insn::LitCasei(literal))?;
+    } else {
+        emitter.body.wait(first)?;
+    }
+    Ok(())
+}
+
 /// The match is said to start here; where no group is the whole, nothing is said of its start.
 fn emit_keep_out(
     task: &Task<'_, '_, '_>,
@@ -60,7 +90,10 @@ fn emit_keep_out(
     scope: Scope,
 ) -> Result<(), CompileError>
     ensures cap { emitter.new.body.cap ≡ emitter.old.body.cap }
+    ensures full { IfErr result (IsFull emitter.old.body (room keep_out)) }
     ensures wrote { IfOk result (λ _. (slot : ℕ) → Wrote task.now.unicode task.now.whole emitter.old emitter.new slot slot keep_out) }
+    ensures allowed { IfOk result (λ _. scope.may_keep ≡ true) }
+    ensures refused { IfErr result (IsNoLeaf task.now.unicode (length task.now.groups.now.items) scope.may_keep tree.keep_out) }
 {
     if !scope.may_keep {
         return Err(not_supported(task.alloc, "keep out"));
@@ -73,18 +106,16 @@ fn emit_keep_out(
     Ok(())
 }
 
-/// The instruction that is all of a node without children, or why there is none.
+/// The instruction that is all of a node, or why there is none.
 fn insn_of(task: &Task<'_, '_, '_>, leaf: &Expr) -> Result<Insn, CompileError>
-    ensures { IfOk result (λ insn. IsInsn task.now.unicode insn (tree_of leaf.now)) }
+    ensures insn { IfOk result (λ insn. IsInsn task.now.unicode insn (tree_of leaf.now)) }
+    ensures full { IfErr result (λ e. is_too_complex e ≡ false) }
+    ensures refused { IfErr result (IsNoSingle task.now.unicode (length task.now.groups.now.items) (tree_of leaf.now)) }
 {
     match leaf {
         Expr::Any { newline, crlf } => Ok(any(*newline, *crlf)),
         Expr::Assertion(assertion) => Ok(Insn::Assertion(*assertion)),
         Expr::GeneralNewline { unicode } => Ok(Insn::GeneralNewline { unicode: *unicode }),
-        Expr::Literal { val, casei: true } => {
-            let literal = CaseiLiteral::new(first_character(val), task.unicode);
-            Ok(Insn::LitCasei(literal))
-        }
         Expr::Delegate { inner, casei } => {
             let matcher = matcher_of(task, inner, *casei)?;
             Ok(Insn::CharClass(matcher))
@@ -102,8 +133,15 @@ fn insn_of(task: &Task<'_, '_, '_>, leaf: &Expr) -> Result<Insn, CompileError>
             Ok(insn)
         }
         Expr::ContinueFromPreviousMatchEnd => Ok(Insn::ContinueFromPreviousMatchEnd),
-        Expr::BacktrackingControlVerb(BacktrackingControlVerb::Fail) => Ok(Insn::Fail),
-        other => Err(cause_of(task.alloc, other)),
+        Expr::BacktrackingControlVerb(verb) => {
+            let insn = insn_of_verb(task.alloc, verb)?;
+            Ok(insn)
+        }
+        Expr::LiteralBytes { .. } => Err(not_supported(task.alloc, "raw bytes")),
+        Expr::BackrefWithRelativeRecursionLevel { .. } => {
+            Err(not_supported(task.alloc, "recursion level"))
+        }
+        _ => Err(CompileError::UnresolvedAstNode),
     }
 }
 
@@ -120,6 +158,18 @@ fn any(newline: bool, crlf: bool) -> Insn
     }
 }
 
+/// The instruction of a control verb: only that which fails has one.
+fn insn_of_verb(alloc: Global, verb: &BacktrackingControlVerb) -> Result<Insn, CompileError>
+    ensures op { IfOk result (λ insn. op_of insn ≡ op.fail) }
+    ensures full { IfErr result (λ e. is_too_complex e ≡ false) }
+    ensures refused { IfErr result (IsNoVerb verb.now) }
+{
+    match verb {
+        BacktrackingControlVerb::Fail => Ok(Insn::Fail),
+        _ => Err(not_supported(alloc, "control verb")),
+    }
+}
+
 /// Whether the group is set; a level of recursion is not supported.
 fn exists_of(
     task: &Task<'_, '_, '_>,
@@ -128,6 +178,8 @@ fn exists_of(
 ) -> Result<Insn, CompileError>
     ensures level { IfOk result (λ insn. level ≡ None) }
     ensures op { IfOk result (λ insn. op_of insn ≡ op.exists (2 * group)) }
+    ensures full { IfErr result (λ e. is_too_complex e ≡ false) }
+    ensures refused { IfErr result (IsNoSingle task.now.unicode (length task.now.groups.now.items) (tree.backref_exists group level)) }
 {
     match level {
         None => {
@@ -144,7 +196,9 @@ fn matcher_of(
     text: &str,
     casei: bool,
 ) -> Result<CharClassMatcher, CompileError>
-    ensures { IfOk result (λ m. IsMatcherOf m task.now.unicode (chars text.now) casei) }
+    ensures members { IfOk result (λ m. IsMatcherOf m task.now.unicode (chars text.now) casei) }
+    ensures full { IfErr result (λ e. is_too_complex e ≡ false) }
+    ensures refused { IfErr result (IsNoClass task.now.unicode (chars text.now) casei) }
 {
     match CharClassMatcher::new(task.alloc, text, casei, task.unicode) {
         Ok(matcher) => Ok(matcher),
@@ -155,7 +209,9 @@ fn matcher_of(
 
 /// The first slot of a group that may be referred to.
 fn slot_of_group(task: &Task<'_, '_, '_>, group: usize) -> Result<usize, CompileError>
-    ensures { IfOk result (λ slot. slot ≡ 2 * group) }
+    ensures value { IfOk result (λ slot. slot ≡ 2 * group) }
+    ensures full { IfErr result (λ e. is_too_complex e ≡ false) }
+    ensures refused { IfErr result (IsNoGroup (length task.now.groups.now.items) group) }
 {
     let is_there = group < task.groups.len() && !(task.whole && group == 0);
     if is_there {
@@ -165,20 +221,11 @@ fn slot_of_group(task: &Task<'_, '_, '_>, group: usize) -> Result<usize, Compile
     }
 }
 
-/// Why there is no program of the node.
-fn cause_of(alloc: Global, node: &Expr) -> CompileError {
-    match node {
-        Expr::LiteralBytes { .. } => not_supported(alloc, "raw bytes"),
-        Expr::BacktrackingControlVerb(_) => not_supported(alloc, "control verb"),
-        Expr::Absent(_) => not_supported(alloc, "absent operator"),
-        Expr::BackrefWithRelativeRecursionLevel { .. } => not_supported(alloc, "recursion level"),
-        Expr::AstNode(AstNode::SubroutineCall(_), _) => CompileError::UnresolvedAstNode,
-        _ => CompileError::UnresolvedAstNode,
-    }
-}
-
 /// The feature is not supported, or there is no memory to say so.
-pub(crate) fn not_supported(alloc: Global, feature: &str) -> CompileError {
+pub(crate) fn not_supported(alloc: Global, feature: &str) -> CompileError
+    ensures full { is_too_complex result ≡ false }
+    ensures refused { IsMissing result }
+{
     match String::from_str(alloc, feature) {
         Ok(shown) => CompileError::FeatureNotYetSupported(shown),
         Err(_) => CompileError::Memory,

@@ -1,8 +1,11 @@
 // How a program is written.
 
-ghost use Rattle.std.specs.Prelude.{◌≡◌, ◌≤◌, length, [], OnOk};
+ghost use Rattle.std.specs.Prelude.{◌≡◌, ◌≤◌, ◌+◌, false, length, [], OnOk, IfErr};
+ghost use Rattle.fancy_regex_sizes.specs.Causes.{is_too_complex};
 ghost use Rattle.fancy_regex_program.specs.Caps.{cap_of};
+ghost use Rattle.fancy_regex_program.specs.Extents.{extent, IsFull};
 ghost use Rattle.fancy_regex_program.specs.Ops.{op_of, ops_of};
+ghost use Rattle.fancy_regex_program.specs.Refusals.{IsPlain};
 ghost use Rattle.fancy_regex_program.specs.Writing.{draft_of, with_op, with_char, closed_draft, added, patched};
 
 use crate::body::Body;
@@ -32,10 +35,13 @@ impl Body {
         self.insns.len()
     }
 
-    /// Adds an instruction.
+    /// Adds an instruction, unless there are as many as the cap already.
     pub fn put(&mut self, insn: Insn) -> Result<(), CompileError>
         ensures draft { OnOk result (draft_of self.new ≡ with_op (op_of insn) (draft_of self.old)) }
         ensures cap { self.new.cap ≡ self.old.cap }
+        ensures long { OnOk result (extent (draft_of self.new) ≡ extent (draft_of self.old) + 1) }
+        ensures full { IfErr result (IsFull self.old 1) }
+        ensures refused { IfErr result IsPlain }
     {
         if self.insns.len() >= self.cap {
             return Err(CompileError::PatternTooComplex);
@@ -48,6 +54,8 @@ impl Body {
     pub fn wait(&mut self, c: char) -> Result<(), CompileError>
         ensures draft { OnOk result (draft_of self.new ≡ with_char c (draft_of self.old)) }
         ensures cap { self.new.cap ≡ self.old.cap }
+        ensures full { IfErr result (λ e. is_too_complex e ≡ false) }
+        ensures refused { IfErr result IsPlain }
     {
         self.waiting.push(c)?;
         Ok(())
@@ -57,6 +65,9 @@ impl Body {
     pub fn flush(&mut self) -> Result<(), CompileError>
         ensures draft { OnOk result (draft_of self.new ≡ closed_draft (draft_of self.old)) }
         ensures cap { self.new.cap ≡ self.old.cap }
+        ensures long { OnOk result (extent (draft_of self.new) ≡ extent (draft_of self.old)) }
+        ensures full { IfErr result (IsFull self.old 0) }
+        ensures refused { IfErr result IsPlain }
     {
         if self.waiting.is_empty() {
             return Ok(());
@@ -70,6 +81,9 @@ impl Body {
     pub fn add(&mut self, insn: Insn) -> Result<(), CompileError>
         ensures draft { OnOk result (draft_of self.new ≡ added (op_of insn) (draft_of self.old)) }
         ensures cap { self.new.cap ≡ self.old.cap }
+        ensures long { OnOk result (extent (draft_of self.new) ≡ extent (draft_of self.old) + 1) }
+        ensures full { IfErr result (IsFull self.old 1) }
+        ensures refused { IfErr result IsPlain }
     {
         self.flush()?;
         self.put(insn)?;
@@ -80,6 +94,7 @@ impl Body {
     pub fn patch(&mut self, at: usize, insn: Insn)
         ensures draft { draft_of self.new ≡ patched at (op_of insn) (draft_of self.old) }
         ensures cap { self.new.cap ≡ self.old.cap }
+        ensures long { extent (draft_of self.new) ≡ extent (draft_of self.old) }
     {
         if at < self.insns.len() {
             self.insns[at] = insn;

@@ -1,9 +1,10 @@
-use Rattle.std.proofs.Common.{◌≡◌, ◌+◌, ℕ, Bool, refl, sym, ap, ◌∙◌, cond, arith}
+use Rattle.std.proofs.Common.{◌≡◌, ℕ, Bool, sym, ap, ◌∙◌, cond, arith}
 use Rattle.fancy_regex_pattern.specs.Pats.{keep_out}
 use Rattle.fancy_regex_program.specs.Ops as op
 use Rattle.fancy_regex_program.specs.Writing.{Wrote, draft_of, added, closed_draft}
 use Rattle.fancy_regex_program.specs.declared.emitter.Emitter.{Emitter}
 use Rattle.fancy_regex_program.proofs.Drafts.{pat_keep}
+use Rattle.fancy_regex_program.proofs.RoomLemmas.{late, room_keep}
 use Rattle.fancy_regex_program.proofs.leaf.emit_keep_out.Goals as goal
 use Rattle.fancy_regex_program.proofs.leaf.emit_keep_out.Goals.{then-task+in_ok-add, else-task+in_ok-flush}
 
@@ -30,3 +31,8 @@ returns-clause-wrote c slot =
           (ap (λ e. draft_of e.body) z.emitter-is ∙ z.in_ok-flush.ensures.draft ∙ ap (λ b. cond b (added (op.save 0) d) (closed_draft d)) (sym z.if-task.false))
           (ap (λ e. e.opened.items) z.emitter-is)
     ]
+
+pub returns-in_err-add-clause-full : goal.returns-in_err-add-clause-full
+returns-in_err-add-clause-full c =
+    late c.from_residual.result c.in_err-add.field-0.0 _ _ c.from_residual.ensures.1 c.in_err-add.ensures.full
+    (λ lt. omega (arith, lt, room_keep))

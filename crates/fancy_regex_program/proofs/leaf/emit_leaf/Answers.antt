@@ -1,32 +1,31 @@
-use Rattle.std.proofs.Common.{◌≡◌, ◌+◌, ℕ, List, refl, sym, ap, ap₂, ◌∙◌, subst, cond, true, false, arith, chars, string_bytes}
+use Rattle.std.proofs.Common.{ℕ, List, length, sym, ap, ◌∙◌, subst, arith, chars}
 use Rattle.std.specs.Prelude.{slice_index}
-use Rattle.fancy_regex_tree.specs.declared.expr.Expr.TheVariants as view
 use Rattle.fancy_regex_tree.specs.Tree.{tree_of}
-use Rattle.fancy_regex_tree.specs.Tree as tree
-use Rattle.fancy_regex_pattern.specs.Pats.{Pat, read, literal, keep_out}
-use Rattle.fancy_regex_program.specs.Code.{slots_in}
+use Rattle.fancy_regex_pattern.specs.Pats.{read, literal}
 use Rattle.fancy_regex_program.specs.Known.{front_of}
-use Rattle.fancy_regex_program.specs.Writing.{Wrote, draft_of, with_char}
-use Rattle.fancy_regex_program.proofs.Drafts.{pat_wait}
+use Rattle.fancy_regex_program.specs.Refusals.{IsNoLeaf}
+use Rattle.fancy_regex_program.specs.Shapes.{IsAllowed}
+use Rattle.fancy_regex_program.specs.Writing.{Wrote}
 use Rattle.fancy_regex_program.proofs.TreeLemmas.{tree_literal, tree_keep_out}
+use Rattle.fancy_regex_pattern.specs.Rooms.{room}
+use Rattle.fancy_regex_sizes.proofs.TellLemmas.{gives}
+use Rattle.fancy_regex_pattern.specs.Pats.{Pat}
+use Rattle.fancy_regex_pattern.specs.Unfolded.{Written}
+use Rattle.fancy_regex_program.specs.Extents.{IsFull}
+use Rattle.fancy_regex_program.proofs.KindLemmas.{no_leaf}
+use Rattle.fancy_regex_program.proofs.LeafLemmas.{unkept_leaf}
+use Rattle.fancy_regex_program.proofs.RefusalLemmas.{hands}
+use Rattle.fancy_regex_program.proofs.RoomLemmas.{room_leaf}
 use Rattle.fancy_regex_program.proofs.leaf.emit_leaf.Goals as goal
 
-pub returns-in_ok-wait-in-Literal-default-false-clause-wrote : goal.returns-in_ok-wait-in-Literal-default-false-clause-wrote
+pub returns-in_ok-emit_literal-in-Literal-clause-wrote : goal.returns-in_ok-emit_literal-in-Literal-clause-wrote
 unfolding front_of
-returns-in_ok-wait-in-Literal-default-false-clause-wrote c call n slot us =
-    let val = c.in-Literal-default-false.val in
-    let u = c.args.task.now.unicode in
-    let w = c.args.task.now.whole in
-    let is = ap tree_of c.in-Literal-default-false.is ∙ tree_literal val c.in-Literal-default-false.casei ∙ ap (tree.literal (chars (string_bytes val))) (sym c.in-Literal-default-false.casei-is ∙ c.in-Literal-default-false.casei-test) in
+returns-in_ok-emit_literal-in-Literal-clause-wrote c call n slot us =
+    let is = ap tree_of c.in-Literal.is ∙ tree_literal c.in-Literal.val c.in-Literal.casei in
     let char = c.first_character.ensures ∙ ap (λ t. slice_index (chars t) 0) c.deref.ensures in
-    let first = slice_index (chars (string_bytes val)) 0 in
-    let wrote : Wrote u w c.args.emitter.now (record { body = c.wait.new.self; opened = c.args.emitter.now.opened }) slot slot (read (literal first false)) = record {
-      draft = c.in_ok-wait-in-Literal-default-false.ensures.draft ∙ ap (λ k. with_char k (draft_of c.args.emitter.now.body)) char
-          ∙ sym (pat_wait u w first slot (draft_of c.args.emitter.now.body));
-      slots = omega arith;
-      opened = refl;
-    } in
-    subst (λ t. Wrote u w c.args.emitter.now (record { body = c.wait.new.self; opened = c.args.emitter.now.opened }) slot slot (front_of call n t us)) (sym is) wrote
+    subst (λ t. Wrote c.args.task.now.unicode c.args.task.now.whole c.args.emitter.now c.emit_literal.new.emitter slot slot (front_of call n t us)) (sym is)
+    (subst (λ k. Wrote c.args.task.now.unicode c.args.task.now.whole c.args.emitter.now c.emit_literal.new.emitter slot slot (read (literal k c.in-Literal.casei))) char
+    (c.in_ok-emit_literal-in-Literal.ensures.wrote slot))
 
 pub returns-in_ok-emit_keep_out-in-KeepOut-clause-wrote : goal.returns-in_ok-emit_keep_out-in-KeepOut-clause-wrote
 unfolding front_of
@@ -34,3 +33,71 @@ returns-in_ok-emit_keep_out-in-KeepOut-clause-wrote c call n slot us =
     let is = ap tree_of c.in-KeepOut.is ∙ tree_keep_out in
     subst (λ t. Wrote c.args.task.now.unicode c.args.task.now.whole c.args.emitter.now c.emit_keep_out.new.emitter slot slot (front_of call n t us)) (sym is)
     (c.in_ok-emit_keep_out-in-KeepOut.ensures.wrote slot)
+
+pub returns-in_ok-emit_literal-in-Literal-clause-allowed : goal.returns-in_ok-emit_literal-in-Literal-clause-allowed
+unfolding front_of
+returns-in_ok-emit_literal-in-Literal-clause-allowed c call n us =
+    let is = ap tree_of c.in-Literal.is ∙ tree_literal c.in-Literal.val c.in-Literal.casei in
+    subst (λ t. IsAllowed c.args.scope.may_keep (front_of call n t us)) (sym is) tt
+
+pub returns-in_err-emit_literal-in-Literal-clause-full : goal.returns-in_err-emit_literal-in-Literal-clause-full
+unfolding front_of
+returns-in_err-emit_literal-in-Literal-clause-full c =
+    let is = ap tree_of c.in-Literal.is ∙ tree_literal c.in-Literal.val c.in-Literal.casei in
+    let char = c.first_character.ensures ∙ ap (λ t. slice_index (chars t) 0) c.deref.ensures in
+    let r = c.from_residual in
+    let e = c.in_err-emit_literal-in-Literal in
+    gives r.result e.field-0.0
+    (λ f. (call : ℕ → Pat) (n : ℕ) (us : List Written) → IsFull c.args.emitter.now.body (room (front_of call n (tree_of c.args.leaf.now) us)) f)
+    r.ensures.1
+    (λ call n us. subst (λ t. IsFull c.args.emitter.now.body (room (front_of call n t us)) e.field-0.0) (sym is)
+    (subst (λ k. IsFull c.args.emitter.now.body (room (read (literal k c.in-Literal.casei))) e.field-0.0) char e.ensures.full))
+
+pub returns-in_ok-emit_keep_out-in-KeepOut-clause-allowed : goal.returns-in_ok-emit_keep_out-in-KeepOut-clause-allowed
+unfolding front_of
+returns-in_ok-emit_keep_out-in-KeepOut-clause-allowed c call n us =
+    let is = ap tree_of c.in-KeepOut.is ∙ tree_keep_out in
+    subst (λ t. IsAllowed c.args.scope.may_keep (front_of call n t us)) (sym is) c.in_ok-emit_keep_out-in-KeepOut.ensures.allowed
+
+pub returns-in_err-emit_keep_out-in-KeepOut-clause-full : goal.returns-in_err-emit_keep_out-in-KeepOut-clause-full
+unfolding front_of
+returns-in_err-emit_keep_out-in-KeepOut-clause-full c =
+    let is = ap tree_of c.in-KeepOut.is ∙ tree_keep_out in
+    let r = c.from_residual-in_err-emit_keep_out-in-KeepOut in
+    let e = c.in_err-emit_keep_out-in-KeepOut in
+    gives r.result e.field-0.0
+    (λ f. (call : ℕ → Pat) (n : ℕ) (us : List Written) → IsFull c.args.emitter.now.body (room (front_of call n (tree_of c.args.leaf.now) us)) f)
+    r.ensures.1
+    (λ call n us. subst (λ t. IsFull c.args.emitter.now.body (room (front_of call n t us)) e.field-0.0) (sym is) e.ensures.full)
+
+pub returns-in_err-add-in_default-clause-full : goal.returns-in_err-add-in_default-clause-full
+returns-in_err-add-in_default-clause-full c =
+    let r = c.from_residual-in_err-add-in_default in
+    let e = c.in_err-add-in_default in
+    let t = tree_of c.args.leaf.now in
+    gives r.result e.field-0.0
+    (λ f. (call : ℕ → Pat) (n : ℕ) (us : List Written) → IsFull c.args.emitter.now.body (room (front_of call n t us)) f)
+    r.ensures.1
+    (λ call n us too.
+    let lt = e.ensures.full too in
+    omega (arith, lt, room_leaf c.args.task.now.unicode c.in_ok-insn-in_default.insn t c.in_ok-insn-in_default.ensures.insn call n us))
+
+pub returns-in_err-insn-in_default-clause-refused : goal.returns-in_err-insn-in_default-clause-refused
+returns-in_err-insn-in_default-clause-refused c =
+    let u = c.args.task.now.unicode in
+    let count = length c.args.task.now.groups.now.items in
+    let t = tree_of c.args.leaf.now in
+    let r = c.from_residual-in_err-insn-in_default in
+    let e = c.in_err-insn-in_default in
+    hands r.result e.field-0.0 (IsNoLeaf u count c.args.scope.may_keep t) r.ensures.1
+    (unkept_leaf u count c.args.scope.may_keep t e.field-0.0
+    (no_leaf c.args.leaf.now (record { literal = c.in_default.not-Literal; keep = c.in_default.not-KeepOut })) e.ensures.refused)
+
+pub returns-in_err-emit_keep_out-in-KeepOut-clause-refused : goal.returns-in_err-emit_keep_out-in-KeepOut-clause-refused
+returns-in_err-emit_keep_out-in-KeepOut-clause-refused c =
+    let u = c.args.task.now.unicode in
+    let count = length c.args.task.now.groups.now.items in
+    let r = c.from_residual-in_err-emit_keep_out-in-KeepOut in
+    let e = c.in_err-emit_keep_out-in-KeepOut in
+    hands r.result e.field-0.0 (IsNoLeaf u count c.args.scope.may_keep (tree_of c.args.leaf.now)) r.ensures.1
+    (subst (λ x. IsNoLeaf u count c.args.scope.may_keep x e.field-0.0) (sym (ap tree_of c.in-KeepOut.is ∙ tree_keep_out)) e.ensures.refused)

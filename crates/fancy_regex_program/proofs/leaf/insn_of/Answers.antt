@@ -1,70 +1,90 @@
-use Rattle.std.proofs.Common.{◌≡◌, ◌*◌, refl, sym, ap, ap₂, ◌∙◌, true, None, chars, string_bytes}
-use Rattle.std.specs.Prelude.{slice_index}
-use Rattle.fancy_regex_tree.specs.declared.expr.Expr.TheVariants as view
+use Rattle.std.proofs.Common.{length, refl, sym, subst, ap, ◌∙◌, chars, string_bytes}
 use Rattle.fancy_regex_tree.specs.Tree as tree
 use Rattle.fancy_regex_tree.specs.Tree.{tree_of}
 use Rattle.fancy_regex_class.specs.Matchers.{IsMatcherOf}
 use Rattle.fancy_regex_program.specs.Ops as op
+use Rattle.fancy_regex_program.specs.Refusals.{IsUnfit, IsNoSingle}
 use Rattle.fancy_regex_program.specs.declared.insn.Insn.TheVariants as insn
-use Rattle.fancy_regex_program.proofs.TreeLemmas.{tree_any, tree_assertion, tree_newline, tree_literal, tree_delegate, tree_backref, tree_continue, tree_exists, tree_verb}
-use Rattle.fancy_regex_program.proofs.LeafLemmas.{leaf_any, leaf_assertion, leaf_newline, leaf_continue, leaf_verb, leaf_backref, leaf_exists, leaf_caseless, leaf_class}
+use Rattle.fancy_regex_program.proofs.TreeLemmas.{tree_any, tree_assertion, tree_newline, tree_delegate, tree_backref, tree_continue, tree_exists, tree_verb}
+use Rattle.fancy_regex_program.proofs.LeafLemmas.{unfit_leaf, leaf_any, leaf_assertion, leaf_newline, leaf_continue, leaf_verb, leaf_backref, leaf_exists, leaf_class}
+use Rattle.fancy_regex_program.proofs.KindLemmas.{no_single}
+use Rattle.fancy_regex_program.proofs.RefusalLemmas.{hands}
 use Rattle.fancy_regex_program.proofs.leaf.insn_of.Goals as goal
 
-pub returns-in-Any : goal.returns-in-Any
-returns-in-Any c =
+pub returns-in-Any-clause-insn : goal.returns-in-Any-clause-insn
+returns-in-Any-clause-insn c =
     leaf_any c.args.task.now.unicode c.any.result (tree_of c.args.leaf.now) c.in-Any.newline c.in-Any.crlf
     (ap tree_of c.in-Any.is ∙ tree_any c.in-Any.newline c.in-Any.crlf) c.any.ensures
 
-pub returns-in-Assertion : goal.returns-in-Assertion
-returns-in-Assertion c =
+pub returns-in-Assertion-clause-insn : goal.returns-in-Assertion-clause-insn
+returns-in-Assertion-clause-insn c =
     leaf_assertion c.args.task.now.unicode (insn.Assertion c.in-Assertion.assertion) (tree_of c.args.leaf.now) c.in-Assertion.assertion
     (ap tree_of c.in-Assertion.is ∙ tree_assertion c.in-Assertion.assertion) refl
 
-pub returns-in-GeneralNewline : goal.returns-in-GeneralNewline
-returns-in-GeneralNewline c =
+pub returns-in-GeneralNewline-clause-insn : goal.returns-in-GeneralNewline-clause-insn
+returns-in-GeneralNewline-clause-insn c =
     leaf_newline c.args.task.now.unicode (insn.GeneralNewline c.in-GeneralNewline.unicode) (tree_of c.args.leaf.now) c.in-GeneralNewline.unicode
     (ap tree_of c.in-GeneralNewline.is ∙ tree_newline c.in-GeneralNewline.unicode) refl
 
-pub returns-in-Literal-default-true : goal.returns-in-Literal-default-true
-returns-in-Literal-default-true c =
-    let val = c.in-Literal-default-true.val in
-    leaf_caseless c.args.task.now.unicode c.new-literal.result (tree_of c.args.leaf.now) (chars (string_bytes val)) c.first_character.result
-    (ap tree_of c.in-Literal-default-true.is ∙ tree_literal val c.in-Literal-default-true.casei ∙ ap (tree.literal (chars (string_bytes val))) (sym c.in-Literal-default-true.casei-is ∙ c.in-Literal-default-true.casei-test))
-    (c.first_character.ensures ∙ ap (λ t. slice_index (chars t) 0) c.deref.ensures)
-    c.new-literal.ensures
-
-pub returns-in_ok-matcher-in-Delegate : goal.returns-in_ok-matcher-in-Delegate
-returns-in_ok-matcher-in-Delegate c =
+pub returns-in_ok-matcher-in-Delegate-clause-insn : goal.returns-in_ok-matcher-in-Delegate-clause-insn
+returns-in_ok-matcher-in-Delegate-clause-insn c =
     let inner = c.in-Delegate.inner in
     let casei = c.in-Delegate.casei in
     let m = c.in_ok-matcher-in-Delegate.matcher in
     let is : IsMatcherOf m c.args.task.now.unicode (chars (string_bytes inner)) casei =
-    rw c.deref-in-Delegate.ensures at c.in_ok-matcher-in-Delegate.ensures in
+    rw c.deref.ensures at c.in_ok-matcher-in-Delegate.ensures.members in
     leaf_class c.args.task.now.unicode m (tree_of c.args.leaf.now) (chars (string_bytes inner)) casei
     (ap tree_of c.in-Delegate.is ∙ tree_delegate inner casei) is
 
-pub returns-in_ok-slot-in-Backref : goal.returns-in_ok-slot-in-Backref
-returns-in_ok-slot-in-Backref c =
+pub returns-in_ok-slot-in-Backref-clause-insn : goal.returns-in_ok-slot-in-Backref-clause-insn
+returns-in_ok-slot-in-Backref-clause-insn c =
     let k = c.in-Backref.group in
     let casei = c.in-Backref.casei in
     leaf_backref c.args.task.now.unicode (insn.Backref c.in_ok-slot-in-Backref.slot casei) (tree_of c.args.leaf.now) k casei
-    (ap tree_of c.in-Backref.is ∙ tree_backref k casei) (ap (λ s. op.backref s casei) c.in_ok-slot-in-Backref.ensures)
+    (ap tree_of c.in-Backref.is ∙ tree_backref k casei) (ap (λ s. op.backref s casei) c.in_ok-slot-in-Backref.ensures.value)
 
-pub returns-in_ok-insn-in-BackrefExistsCondition : goal.returns-in_ok-insn-in-BackrefExistsCondition
-returns-in_ok-insn-in-BackrefExistsCondition c =
+pub returns-in_ok-insn-in-BackrefExistsCondition-clause-insn : goal.returns-in_ok-insn-in-BackrefExistsCondition-clause-insn
+returns-in_ok-insn-in-BackrefExistsCondition-clause-insn c =
     let v = c.in-BackrefExistsCondition in
     let s = c.in_ok-insn-in-BackrefExistsCondition in
     leaf_exists c.args.task.now.unicode s.insn (tree_of c.args.leaf.now) v.group
     (ap tree_of v.is ∙ tree_exists v.group v.relative_recursion_level ∙ ap (tree.backref_exists v.group) s.ensures.level)
     s.ensures.op
 
-pub returns-in-ContinueFromPreviousMatchEnd : goal.returns-in-ContinueFromPreviousMatchEnd
-returns-in-ContinueFromPreviousMatchEnd c =
+pub returns-in-ContinueFromPreviousMatchEnd-clause-insn : goal.returns-in-ContinueFromPreviousMatchEnd-clause-insn
+returns-in-ContinueFromPreviousMatchEnd-clause-insn c =
     leaf_continue c.args.task.now.unicode insn.ContinueFromPreviousMatchEnd (tree_of c.args.leaf.now)
     (ap tree_of c.in-ContinueFromPreviousMatchEnd.is ∙ tree_continue) refl
 
-pub returns-in-BacktrackingControlVerb-Fail : goal.returns-in-BacktrackingControlVerb-Fail
-returns-in-BacktrackingControlVerb-Fail c =
-    let v = c.in-BacktrackingControlVerb-Fail.field-0 in
-    leaf_verb c.args.task.now.unicode insn.Fail (tree_of c.args.leaf.now) v
-    (ap tree_of c.in-BacktrackingControlVerb-Fail.is ∙ tree_verb v) refl
+pub returns-in_ok-insn-in-BacktrackingControlVerb-clause-insn : goal.returns-in_ok-insn-in-BacktrackingControlVerb-clause-insn
+returns-in_ok-insn-in-BacktrackingControlVerb-clause-insn c =
+    let v = c.in-BacktrackingControlVerb.verb in
+    let made = c.in_ok-insn-in-BacktrackingControlVerb in
+    leaf_verb c.args.task.now.unicode made.insn (tree_of c.args.leaf.now) v (ap tree_of c.in-BacktrackingControlVerb.is ∙ tree_verb v) made.ensures.op
+
+pub returns-in_err-insn-in-BacktrackingControlVerb-clause-refused : goal.returns-in_err-insn-in-BacktrackingControlVerb-clause-refused
+returns-in_err-insn-in-BacktrackingControlVerb-clause-refused c =
+    let u = c.args.task.now.unicode in
+    let count = length c.args.task.now.groups.now.items in
+    let t = tree_of c.args.leaf.now in
+    let v = c.in-BacktrackingControlVerb.verb in
+    let r = c.from_residual-in_err-insn-in-BacktrackingControlVerb in
+    let e = c.in_err-insn-in-BacktrackingControlVerb in
+    hands r.result e.field-0.0 (IsNoSingle u count t) r.ensures.1
+    (unfit_leaf u count t e.field-0.0
+    (subst (λ x. IsUnfit x e.field-0.0) (sym (ap tree_of c.in-BacktrackingControlVerb.is ∙ tree_verb v)) e.ensures.refused))
+
+pub returns-in_default-clause-refused : goal.returns-in_default-clause-refused
+returns-in_default-clause-refused c =
+    no_single c.args.leaf.now (record {
+      any = c.in_default.not-Any;
+      assertion = c.in_default.not-Assertion;
+      newline = c.in_default.not-GeneralNewline;
+      bytes = c.in_default.not-LiteralBytes;
+      delegate = c.in_default.not-Delegate;
+      backref = c.in_default.not-Backref;
+      level = c.in_default.not-BackrefWithRelativeRecursionLevel;
+      continue = c.in_default.not-ContinueFromPreviousMatchEnd;
+      exists = c.in_default.not-BackrefExistsCondition;
+      verb = c.in_default.not-BacktrackingControlVerb;
+    })

@@ -1,4 +1,4 @@
-use Rattle.std.proofs.Common.{refl, sym, ap, map, ◌∙◌, [], ◌∷◌, ◌++◌, append-nil, chars, string_bytes, string_len, length, ◌≡◌, rules}
+use Rattle.std.proofs.Common.{arith, sym, ap, ◌∙◌, [], ◌∷◌, ◌++◌, append-nil, chars, string_bytes, string_len, length, ◌≡◌, rules}
 use Rattle.std.proofs.lemmas.Str.{IsUtf8-string_bytes, chars-nil}
 use Rattle.fancy_regex_program.specs.Ops.{op_of, ops_of}
 use Rattle.fancy_regex_program.specs.Ops as op
@@ -6,6 +6,9 @@ use Rattle.fancy_regex_program.specs.Code.{flushed}
 use Rattle.fancy_regex_program.specs.Writing.{closed_draft, with_op}
 use Rattle.fancy_regex_program.proofs.Drafts.{same_draft}
 use Rattle.fancy_regex_program.proofs.TextLemmas.{no_text, some_text}
+use Rattle.fancy_regex_program.specs.Extents.{extent}
+use Rattle.fancy_regex_program.specs.Writing.{draft_of}
+use Rattle.fancy_regex_program.proofs.RoomLemmas.{extent_closed, flushed_full, late}
 use Rattle.fancy_regex_program.proofs.body.Body.flush.Goals as goal
 
 pub returns-then-is_empty-clause-draft : goal.returns-then-is_empty-clause-draft
@@ -27,3 +30,15 @@ returns-clause-draft c =
     (ap (λ s. ops_of b.insns.items ++ op.lit (chars (string_bytes s)) ∷ []) c.replace-text.ensures.value
     ∙ ap (λ l. ops_of b.insns.items ++ l) (sym (some_text bytes (string_len b.waiting) long (IsUtf8-string_bytes b.waiting) (sym c.if-is_empty.ensures))))
     (ap (λ s. chars (string_bytes s)) c.replace-text.ensures.after ∙ ap chars c.new.ensures.bytes ∙ chars-nil)
+
+pub returns-clause-long : goal.returns-clause-long
+returns-clause-long c = ap extent (returns-clause-draft c) ∙ extent_closed (draft_of c.args.self.now)
+
+pub returns-in_err-put-clause-full : goal.returns-in_err-put-clause-full
+returns-in_err-put-clause-full c =
+    let b = c.args.self.now in
+    let long : string_len b.waiting ≡ length (string_bytes b.waiting) = search rules in
+    let some = some_text (string_bytes b.waiting) (string_len b.waiting) long (IsUtf8-string_bytes b.waiting) (sym c.if-is_empty.ensures) in
+    let none = ap (λ s. chars (string_bytes s)) c.replace-text.ensures.after ∙ ap chars c.new.ensures.bytes ∙ chars-nil in
+    let full = flushed_full (ops_of b.insns.items) (chars (string_bytes b.waiting)) _ none some in
+    late c.from_residual.result c.in_err-put.field-0.0 _ _ c.from_residual.ensures.1 c.in_err-put.ensures.full (λ lt. omega (arith, lt, full))
