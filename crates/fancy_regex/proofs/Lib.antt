@@ -1,2 +1,4 @@
 pub mod PlaceLemmas
 pub mod ItemsLemmas
+pub mod NameLemmas
+pub mod LookLemmas

@@ -1,3 +1,6 @@
 pub mod Left
 pub mod Steps
 pub mod Shown
+pub mod Naming
+pub mod Looks
+pub mod Fails

@@ -1,7 +1,8 @@
 //! A pattern and options, and the regex that is built of them.
 
-ghost use Rattle.std.specs.Prelude.{◌≡◌, Some, string_bytes, IfOk};
+ghost use Rattle.std.specs.Prelude.{◌≡◌, Some, string_bytes, IfOk, IfErr};
 ghost use Rattle.fancy_regex_search.specs.Defaults.{default_options};
+ghost use Rattle.fancy_regex_search.specs.Refusals.{Accepts, Refuses};
 
 use crate::options_builder::RegexOptionsBuilder;
 use crate::regex::Regex;
@@ -34,6 +35,8 @@ impl RegexBuilder {
     pub fn build(&self, alloc: Global) -> Result<Regex>
         ensures pattern { IfOk result (λ regex. string_bytes regex.searcher.pattern ≡ string_bytes self.now.pattern) }
         ensures options { IfOk result (λ regex. regex.searcher.options ≡ self.now.options.options) }
+        ensures accepted { IfOk result (λ _. Accepts self.now.options.options (string_bytes self.now.pattern)) }
+        ensures refused { IfErr result (λ e. Refuses self.now.options.options (string_bytes self.now.pattern) e) }
     {
         let pattern = String::from_str(alloc, self.pattern.as_str())?;
         self.options.build(alloc, pattern)
@@ -85,8 +88,7 @@ impl RegexBuilder {
         ensures pattern { result.now.pattern ≡ self.old.pattern }
         ensures same { result.ghost_name ≡ self.entry.ghost_name }
     {
-        self.options.options.ignore_whitespace = yes;
-        self
+        self.ignore_whitespace(yes)
     }
 
     /// A dot matches a newline too, as behind `(?s)`.

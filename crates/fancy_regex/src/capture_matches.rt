@@ -1,9 +1,10 @@
 //! The matches of a text with their groups, in order.
 
-ghost use Rattle.std.specs.Prelude.{◌≡◌, ◌≤◌, IfSome, IfOk};
+ghost use Rattle.std.specs.Prelude.{◌≡◌, ◌≤◌, IfSome, IfOk, IfErr};
 ghost use Rattle.std.specs.Iterator.{at_most};
 ghost use Rattle.fancy_regex_runner.specs.Plain.{places_of};
-ghost use Rattle.fancy_regex_search.specs.Owned.{IsOwnReady, own_pattern};
+ghost use Rattle.fancy_regex_search.specs.Owned.{own_pattern};
+ghost use Rattle.fancy_regex.specs.Fails.{IsItemError};
 ghost use Rattle.fancy_regex.specs.Left.{items_left, all_left, searches_left, Yields};
 
 use crate::captures::Captures;
@@ -54,13 +55,14 @@ impl<'r, S: Input> CaptureMatches<'r, S> {
 impl<'r, S: Input> Iterator for CaptureMatches<'r, S> {
     type Item = Result<Captures<'r, S>>;
 
-    ghost next_gives = { λ s r t. (IsOwnReady s.walk.regex.now.searcher → Yields (λ c m. c.places.items ≡ places_of (own_pattern s.walk.regex.now.searcher) m)
+    ghost next_gives = { λ s r t. (Yields (λ c m. c.places.items ≡ places_of (own_pattern s.walk.regex.now.searcher) m)
         (items_left s.walk.regex.now.searcher (S.text s.walk.input.haystack) s.walk.input.asked s.walk.standing) r
         (items_left t.walk.regex.now.searcher (S.text t.walk.input.haystack) t.walk.input.asked t.walk.standing))
         × IfSome r (λ item. IfOk item (λ c. (c.haystack ≡ s.walk.input.haystack) × (c.regex ≡ s.walk.regex)))
         × (s.walk.input.asked.start ≤ t.walk.input.asked.start)
         × (t.walk.input.haystack ≡ s.walk.input.haystack) × (t.walk.regex ≡ s.walk.regex)
-        × (t.walk.input.asked ≡ record (s.walk.input.asked) { start = t.walk.input.asked.start }) };
+        × (t.walk.input.asked ≡ record (s.walk.input.asked) { start = t.walk.input.asked.start })
+        × IfSome r (λ item. IfErr item (λ e. IsItemError s.walk.regex.now.searcher (S.text s.walk.input.haystack) s.walk.input.asked e)) };
 
     ghost remaining = { λ s. at_most (searches_left (S.text s.walk.input.haystack) s.walk.input.asked s.walk.standing) };
 

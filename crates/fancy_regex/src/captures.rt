@@ -2,9 +2,11 @@
 
 ghost use Rattle.std.specs.Prelude.{◌≡◌, ◌+◌, ◌-◌, ◌*◌, ◌/◌, ◌<◌, ◌≤◌, option_map, vec_len, slice_index, slice_range, MatchOption};
 ghost use Rattle.std.specs.Iterator.{at_most};
+ghost use Rattle.fancy_regex.specs.Naming.{own_last, IsSpanOf, IsThere, IsTextOf};
 ghost use Rattle.fancy_regex.specs.Shown.{IsSpanAt, TookPart};
 
 use crate::found::match_of;
+use crate::names::last_group;
 use crate::regex::Regex;
 use fancy_regex_input::Input;
 
@@ -39,9 +41,17 @@ impl<'r, S: Input> Captures<'r, S> {
     }
 
     /// What the last group of this name matched. `None` where it took no part, or there is none.
-    pub fn name(&self, name: &str) -> Option<S::Match> {
-        let numbers = self.regex.searcher.named_groups().get(name)?;
-        self.get(*numbers.last()?)
+    pub fn name(&self, name: &str) -> Option<S::Match>
+        ensures { IsSpanOf (S.text self.now.haystack) self.now.places.items (own_last self.now.regex.now.searcher name.now) (option_map S.span result) }
+    {
+        self.get(self.group_named(name)?)
+    }
+
+    /// The last group of this name.
+    fn group_named(&self, name: &str) -> Option<usize>
+        ensures { result ≡ own_last self.now.regex.now.searcher name.now }
+    {
+        last_group(self.regex.searcher.named_groups(), name)
     }
 
     /// The groups in order, from the whole match on.
@@ -77,6 +87,14 @@ impl<'r, 't> Captures<'r, &'t str> {
         ensures { result.now ≡ slice_range self.now.haystack.now (slice_index self.now.places.items (2 * i)) (slice_index self.now.places.items (2 * i + 1)) }
     {
         &self.haystack[self.places[2 * i]..self.places[2 * i + 1]]
+    }
+
+    /// The text that the last group of this name matched. It has to have taken part, as `name` tells.
+    pub fn group_text_by_name(&self, name: &str) -> &'t str
+        requires { IsThere self.now.haystack.now self.now.places.items (own_last self.now.regex.now.searcher name.now) }
+        ensures { IsTextOf self.now.haystack.now self.now.places.items (own_last self.now.regex.now.searcher name.now) result.now }
+    {
+        self.group_text(self.group_named(name).unwrap())
     }
 }
 

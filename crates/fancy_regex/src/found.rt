@@ -1,9 +1,10 @@
 //! What a search finds, in the caller's text.
 
-ghost use Rattle.std.specs.Prelude.{◌≡◌, IfOk, IfSome, IsUtf8, option_map, max, slice_index};
+ghost use Rattle.std.specs.Prelude.{◌≡◌, ◌≤◌, ◌+◌, ◌-◌, ◌^◌, true, false, IfOk, IfErr, IfSome, IsUtf8, option_map, min, max, slice_index};
 ghost use Rattle.fancy_regex_runner.specs.Plain.{places_of};
 ghost use Rattle.fancy_regex_input.specs.Inputs.{FitsText};
-ghost use Rattle.fancy_regex_search.specs.Owned.{IsOwnReady, own_pattern, own_found_from};
+ghost use Rattle.fancy_regex_search.specs.Limits.{IsOwnError, own_served, own_tried, most_looks};
+ghost use Rattle.fancy_regex_search.specs.Owned.{own_pattern, own_found_from};
 ghost use Rattle.fancy_regex_search.specs.Places.{IsWithin};
 ghost use Rattle.fancy_regex.specs.Shown.{IsSpanAt};
 
@@ -31,9 +32,13 @@ pub fn places_in<S: Input>(
     steps: &mut Steps,
 ) -> Result<Option<Vec<usize>>>
     requires { FitsText (S.text haystack) asked }
-    ensures answer { IfOk result (λ found. IsOwnReady regex.now.searcher → option_map (λ v. v.items) found
+    ensures answer { IfOk result (λ found. option_map (λ v. v.items) found
         ≡ option_map (places_of (own_pattern regex.now.searcher)) (own_found_from regex.now.searcher (S.text haystack) asked (max asked.start asked.range_start) off)) }
     ensures within { IfOk result (λ found. IfSome found (λ v. IsWithin (S.text haystack) asked v.items)) }
+    ensures limits { IfErr result (λ e. IsOwnError regex.now.searcher (S.text haystack) asked off e) }
+    ensures looks_most { own_served regex.now.searcher ≡ true → steps.new ≤ steps.old + most_looks regex.now.searcher asked }
+    ensures looks_least { IfOk result (λ _. own_served regex.now.searcher ≡ true → min (steps.old + own_tried regex.now.searcher (S.text haystack) asked off) (2 ^ 64 - 1) ≤ steps.new) }
+    ensures looks_none { own_served regex.now.searcher ≡ false → steps.new ≡ steps.old }
 {
     regex
         .searcher

@@ -12,6 +12,7 @@ mod regex;
 mod search;
 mod walk;
 
+pub use crate::regex::Regex;
 pub use builder::RegexBuilder;
 pub use capture_matches::CaptureMatches;
 pub use captures::{Captures, SubCaptureMatches};
@@ -27,7 +28,6 @@ pub use fancy_regex_tree::{
 pub use matches::Matches;
 pub use names::CaptureNames;
 pub use options_builder::RegexOptionsBuilder;
-pub use regex::Regex;
 
 #[cfg(test)]
 mod row_tests;

@@ -1,8 +1,8 @@
 //! The matches of a text, in order.
 
-ghost use Rattle.std.specs.Prelude.{◌≡◌, ◌≤◌};
+ghost use Rattle.std.specs.Prelude.{◌≡◌, ◌≤◌, IfSome, IfErr};
 ghost use Rattle.std.specs.Iterator.{at_most};
-ghost use Rattle.fancy_regex_search.specs.Owned.{IsOwnReady};
+ghost use Rattle.fancy_regex.specs.Fails.{IsItemError};
 ghost use Rattle.fancy_regex.specs.Left.{items_left, all_left, searches_left, Yields};
 ghost use Rattle.fancy_regex.specs.Shown.{span_in};
 ghost use Rattle.fancy_regex.specs.Steps.{TurnMoves};
@@ -58,13 +58,14 @@ impl<'r, S: Input> Matches<'r, S> {
 impl<'r, S: Input> Iterator for Matches<'r, S> {
     type Item = Result<S::Match>;
 
-    ghost next_gives = { λ s r t. (IsOwnReady s.walk.regex.now.searcher → Yields (λ x m. S.span x ≡ span_in m)
+    ghost next_gives = { λ s r t. (Yields (λ x m. S.span x ≡ span_in m)
         (items_left s.walk.regex.now.searcher (S.text s.walk.input.haystack) s.walk.input.asked s.walk.standing) r
         (items_left t.walk.regex.now.searcher (S.text t.walk.input.haystack) t.walk.input.asked t.walk.standing))
         × TurnMoves S.span (S.text s.walk.input.haystack) s.walk.input.asked r t.walk.input.asked
         × (s.walk.input.asked.start ≤ t.walk.input.asked.start)
         × (t.walk.input.haystack ≡ s.walk.input.haystack) × (t.walk.regex ≡ s.walk.regex)
-        × (t.walk.input.asked ≡ record (s.walk.input.asked) { start = t.walk.input.asked.start }) };
+        × (t.walk.input.asked ≡ record (s.walk.input.asked) { start = t.walk.input.asked.start })
+        × IfSome r (λ item. IfErr item (λ e. IsItemError s.walk.regex.now.searcher (S.text s.walk.input.haystack) s.walk.input.asked e)) };
 
     ghost remaining = { λ s. at_most (searches_left (S.text s.walk.input.haystack) s.walk.input.asked s.walk.standing) };
 

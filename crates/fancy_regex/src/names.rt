@@ -1,8 +1,11 @@
 //! The names of groups.
 
-ghost use Rattle.std.specs.Prelude.{◌≡◌, ◌+◌, ◌-◌, ◌≤◌, ◌<◌, MatchOption, length};
+ghost use Rattle.std.specs.Prelude.{◌≡◌, ◌+◌, ◌-◌, ◌≤◌, ◌<◌, MatchOption, length, chars, codes, option_map, Some};
 ghost use Rattle.std.specs.Iterator.{at_most};
+ghost use Rattle.fancy_regex_tree.specs.Numbering.{Names, last_named};
+ghost use Rattle.fancy_regex_search.specs.Named.{AreNumbersOf, name_at};
 ghost use Rattle.fancy_regex_search.specs.Owned.{own_pattern};
+ghost use Rattle.fancy_regex.specs.Naming.{own_names};
 
 use crate::regex::Regex;
 use fancy_regex_tree::NamedGroups;
@@ -17,13 +20,23 @@ pub struct CaptureNames<'r> {
 }
 
 /// The name that has the group among its numbers.
-fn name_of(named: &NamedGroups, group: usize) -> Option<&str> {
-    for (name, numbers) in named.iter() {
+fn name_of(named: &NamedGroups, group: usize) -> Option<&str>
+    ensures { (names : Names) → AreNumbersOf named.now names → option_map (λ s. chars s.now) result ≡ name_at names group }
+{
+    for (name, numbers) in named {
         if numbers.contains(&group) {
             return Some(name.as_str());
         }
     }
     None
+}
+
+/// The last group of a name.
+pub fn last_group(named: &NamedGroups, name: &str) -> Option<usize>
+    ensures { (names : Names) → AreNumbersOf named.now names → result ≡ last_named names (chars name.now) }
+{
+    let numbers = named.get(name)?;
+    numbers.last().copied()
 }
 
 impl<'r> CaptureNames<'r> {
@@ -39,7 +52,8 @@ impl<'r> Iterator for CaptureNames<'r> {
     type Item = Option<&'r str>;
 
     ghost next_gives = { λ s r t. MatchOption r ((length (own_pattern s.regex.now.searcher).groups ≤ s.next) × (t ≡ s))
-        (λ item. (s.next < length (own_pattern s.regex.now.searcher).groups) × (t.next ≡ s.next + 1) × (t.regex ≡ s.regex)) };
+        (λ item. (s.next < length (own_pattern s.regex.now.searcher).groups) × (t.next ≡ s.next + 1) × (t.regex ≡ s.regex)
+        × (option_map (λ name. chars name.now) item ≡ name_at (own_names s.regex.now.searcher) s.next)) };
 
     ghost remaining = { λ s. at_most (length (own_pattern s.regex.now.searcher).groups - s.next) };
 
@@ -54,6 +68,8 @@ impl<'r> Iterator for CaptureNames<'r> {
 }
 
 impl fmt::Debug for CaptureNames<'_> {
+    ghost debug_output = { λ _. Some (codes "<CaptureNames>") };
+
     fn fmt<W: fmt::Write>(&self, f: &mut fmt::Formatter<W>) -> fmt::Result {
         f.write_str("<CaptureNames>")
     }

@@ -1,7 +1,8 @@
 //! Options, and regexes that are built under them.
 
-ghost use Rattle.std.specs.Prelude.{◌≡◌, Some, IfOk};
+ghost use Rattle.std.specs.Prelude.{◌≡◌, Some, string_bytes, IfOk, IfErr};
 ghost use Rattle.fancy_regex_search.specs.Defaults.{default_options};
+ghost use Rattle.fancy_regex_search.specs.Refusals.{Accepts, Refuses};
 
 use crate::regex::Regex;
 use fancy_regex_search::{RegexOptions, Result};
@@ -39,6 +40,8 @@ impl RegexOptionsBuilder {
     pub fn build(&self, alloc: Global, pattern: String) -> Result<Regex>
         ensures pattern { IfOk result (λ regex. regex.searcher.pattern ≡ pattern) }
         ensures options { IfOk result (λ regex. regex.searcher.options ≡ self.now.options) }
+        ensures accepted { IfOk result (λ _. Accepts self.now.options (string_bytes pattern)) }
+        ensures refused { IfErr result (λ e. Refuses self.now.options (string_bytes pattern) e) }
     {
         Regex::with_options(alloc, pattern, &self.options)
     }
@@ -75,8 +78,7 @@ impl RegexOptionsBuilder {
         ensures value { result.now.options ≡ record (self.old.options) { ignore_whitespace = yes } }
         ensures same { result.ghost_name ≡ self.entry.ghost_name }
     {
-        self.options.ignore_whitespace = yes;
-        self
+        self.ignore_whitespace(yes)
     }
 
     /// A dot matches a newline too, as behind `(?s)`.

@@ -1,8 +1,9 @@
 //! Regexes.
 
-ghost use Rattle.std.specs.Prelude.{◌≡◌, IfOk, Some, length, string_bytes};
+ghost use Rattle.std.specs.Prelude.{◌≡◌, IfOk, IfErr, MatchResult, Some, length, string_bytes};
 ghost use Rattle.fancy_regex_search.specs.Owned.{own_pattern};
 ghost use Rattle.fancy_regex_search.specs.Defaults.{default_options};
+ghost use Rattle.fancy_regex_search.specs.Refusals.{Accepts, Refuses};
 
 use crate::names::CaptureNames;
 use fancy_regex_search::{Error, RegexOptions, Result, Searcher};
@@ -22,6 +23,8 @@ impl Regex {
     pub fn new(alloc: Global, re: &str) -> Result<Regex>
         ensures pattern { IfOk result (λ regex. string_bytes regex.searcher.pattern ≡ re.now) }
         ensures options { IfOk result (λ regex. regex.searcher.options ≡ default_options) }
+        ensures accepted { IfOk result (λ _. Accepts default_options re.now) }
+        ensures refused { IfErr result (λ e. Refuses default_options re.now e) }
     {
         let pattern = String::from_str(alloc, re)?;
         Regex::with_options(alloc, pattern, &RegexOptions::default())
@@ -35,6 +38,8 @@ impl Regex {
     ) -> Result<Regex>
         ensures pattern { IfOk result (λ regex. regex.searcher.pattern ≡ pattern) }
         ensures options { IfOk result (λ regex. regex.searcher.options ≡ options.now) }
+        ensures accepted { IfOk result (λ _. Accepts options.now (string_bytes pattern)) }
+        ensures refused { IfErr result (λ e. Refuses options.now (string_bytes pattern) e) }
     {
         Ok(Regex {
             searcher: Searcher::new(alloc, pattern, options)?,
@@ -67,7 +72,9 @@ impl Regex {
 impl TryFrom<(&str, Global)> for Regex {
     type Error = Error;
 
-    ghost try_from_gives = { λ source result. IfOk result (λ regex. (string_bytes regex.searcher.pattern ≡ source.0.now) × (regex.searcher.options ≡ default_options)) };
+    ghost try_from_gives = { λ source result. MatchResult result
+        (λ regex. (string_bytes regex.searcher.pattern ≡ source.0.now) × (regex.searcher.options ≡ default_options) × Accepts default_options source.0.now)
+        (λ e. Refuses default_options source.0.now e) };
 
     fn try_from(source: (&str, Global)) -> Result<Regex> {
         let (re, alloc) = source;
@@ -78,7 +85,9 @@ impl TryFrom<(&str, Global)> for Regex {
 impl TryFrom<(String, Global)> for Regex {
     type Error = Error;
 
-    ghost try_from_gives = { λ source result. IfOk result (λ regex. (regex.searcher.pattern ≡ source.0) × (regex.searcher.options ≡ default_options)) };
+    ghost try_from_gives = { λ source result. MatchResult result
+        (λ regex. (regex.searcher.pattern ≡ source.0) × (regex.searcher.options ≡ default_options) × Accepts default_options (string_bytes source.0))
+        (λ e. Refuses default_options (string_bytes source.0) e) };
 
     fn try_from(source: (String, Global)) -> Result<Regex> {
         let (pattern, alloc) = source;
@@ -98,6 +107,6 @@ impl fmt::Debug for Regex {
     ghost debug_output = { λ regex. Some (string_bytes regex.searcher.pattern) };
 
     fn fmt<W: fmt::Write>(&self, f: &mut fmt::Formatter<W>) -> fmt::Result {
-        f.write_str(self.as_str())
+        fmt::Display::fmt(self, f)
     }
 }

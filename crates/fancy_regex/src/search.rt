@@ -1,9 +1,11 @@
 //! The searches of a regex.
 
-ghost use Rattle.std.specs.Prelude.{◌≡◌, ◌≤◌, IfOk, IfSome, is_some, option_map, length, false, None, IsCharBoundary};
+ghost use Rattle.std.specs.Prelude.{◌≡◌, ◌≤◌, ◌+◌, ◌-◌, ◌^◌, IfOk, IfErr, IfSome, is_some, option_map, length, true, false, min, None, IsCharBoundary};
 ghost use Rattle.fancy_regex_input.specs.Inputs.{whole};
-ghost use Rattle.fancy_regex_search.specs.Owned.{IsOwnReady, own_pattern, own_found};
+ghost use Rattle.fancy_regex_search.specs.Limits.{IsOwnError, own_served, own_tried, most_looks};
+ghost use Rattle.fancy_regex_search.specs.Owned.{own_pattern, own_found};
 ghost use Rattle.fancy_regex.specs.Left.{items_left, all_left};
+ghost use Rattle.fancy_regex.specs.Looks.{IsOwnUncounted, plain_looks};
 ghost use Rattle.fancy_regex.specs.Shown.{span_in, AreGroupsOf, ShowsGroups};
 
 use crate::capture_matches::CaptureMatches;
@@ -14,19 +16,22 @@ use crate::regex::Regex;
 use fancy_regex_class::Steps;
 use fancy_regex_input::{Input, RegexInput};
 use fancy_regex_search::Result;
+use fancy_regex_weights::law_of_weights;
 use std::alloc::Global;
 
 impl Regex {
     /// Whether the text has a match. `RuntimeError` where the search passes a limit; or `Memory`.
     pub fn is_match<S: Input>(&self, alloc: Global, haystack: S) -> Result<bool>
-        ensures { IfOk result (λ yes. IsOwnReady self.now.searcher → yes ≡ is_some (own_found self.now.searcher (S.text haystack) (whole (S.text haystack)))) }
+        ensures answer { IfOk result (λ yes. yes ≡ is_some (own_found self.now.searcher (S.text haystack) (whole (S.text haystack)))) }
+        ensures limits { IfErr result (λ e. IsOwnError self.now.searcher (S.text haystack) (whole (S.text haystack)) false e) }
     {
         self.is_match_input(alloc, RegexInput::new(haystack))
     }
 
     /// Whether `find_input` finds a match of this input, with its errors.
     pub fn is_match_input<S: Input>(&self, alloc: Global, input: RegexInput<S>) -> Result<bool>
-        ensures { IfOk result (λ yes. IsOwnReady self.now.searcher → yes ≡ is_some (own_found self.now.searcher (S.text input.haystack) (input.asked))) }
+        ensures answer { IfOk result (λ yes. yes ≡ is_some (own_found self.now.searcher (S.text input.haystack) (input.asked))) }
+        ensures limits { IfErr result (λ e. IsOwnError self.now.searcher (S.text input.haystack) input.asked false e) }
     {
         let found = places_in(
             alloc,
@@ -41,7 +46,8 @@ impl Regex {
 
     /// The first match of the text, if it has one. `RuntimeError` where the search passes a limit; or `Memory`.
     pub fn find<S: Input>(&self, alloc: Global, haystack: S) -> Result<Option<S::Match>>
-        ensures { IfOk result (λ found. IsOwnReady self.now.searcher → option_map S.span found ≡ option_map span_in (own_found self.now.searcher (S.text haystack) (whole (S.text haystack)))) }
+        ensures answer { IfOk result (λ found. option_map S.span found ≡ option_map span_in (own_found self.now.searcher (S.text haystack) (whole (S.text haystack)))) }
+        ensures limits { IfErr result (λ e. IsOwnError self.now.searcher (S.text haystack) (whole (S.text haystack)) false e) }
     {
         self.find_input(alloc, RegexInput::new(haystack))
     }
@@ -54,7 +60,8 @@ impl Regex {
         position: usize,
     ) -> Result<Option<S::Match>>
         requires { position ≤ length (S.text haystack) → IsCharBoundary (S.text haystack) position }
-        ensures { IfOk result (λ found. IsOwnReady self.now.searcher → option_map S.span found ≡ option_map span_in (own_found self.now.searcher (S.text haystack) (record (whole (S.text haystack)) { start = position }))) }
+        ensures answer { IfOk result (λ found. option_map S.span found ≡ option_map span_in (own_found self.now.searcher (S.text haystack) (record (whole (S.text haystack)) { start = position }))) }
+        ensures limits { IfErr result (λ e. IsOwnError self.now.searcher (S.text haystack) (record (whole (S.text haystack)) { start = position }) false e) }
     {
         self.find_input(alloc, RegexInput::new(haystack).from_pos(position))
     }
@@ -65,7 +72,8 @@ impl Regex {
         alloc: Global,
         input: RegexInput<S>,
     ) -> Result<Option<S::Match>>
-        ensures { IfOk result (λ found. IsOwnReady self.now.searcher → option_map S.span found ≡ option_map span_in (own_found self.now.searcher (S.text input.haystack) (input.asked))) }
+        ensures answer { IfOk result (λ found. option_map S.span found ≡ option_map span_in (own_found self.now.searcher (S.text input.haystack) (input.asked))) }
+        ensures limits { IfErr result (λ e. IsOwnError self.now.searcher (S.text input.haystack) input.asked false e) }
     {
         self.find_input_counted(alloc, input, &mut Steps::new())
     }
@@ -78,8 +86,14 @@ impl Regex {
         input: RegexInput<S>,
         steps: &mut Steps,
     ) -> Result<Option<S::Match>>
-        ensures { IfOk result (λ found. IsOwnReady self.now.searcher → option_map S.span found ≡ option_map span_in (own_found self.now.searcher (S.text input.haystack) (input.asked))) }
+        ensures answer { IfOk result (λ found. option_map S.span found ≡ option_map span_in (own_found self.now.searcher (S.text input.haystack) (input.asked))) }
+        ensures limits { IfErr result (λ e. IsOwnError self.now.searcher (S.text input.haystack) input.asked false e) }
+        ensures looks_most { own_served self.now.searcher ≡ true → steps.new ≤ steps.old + most_looks self.now.searcher input.asked }
+        ensures looks_least { IfOk result (λ _. own_served self.now.searcher ≡ true → min (steps.old + own_tried self.now.searcher (S.text input.haystack) input.asked false) (2 ^ 64 - 1) ≤ steps.new) }
+        ensures looks_plain { IsOwnUncounted self.now.searcher → own_served self.now.searcher ≡ true → steps.new ≤ steps.old + plain_looks self.now.searcher input.asked }
+        ensures looks_none { own_served self.now.searcher ≡ false → steps.new ≡ steps.old }
     {
+        law_of_weights();
         let haystack = input.haystack();
         let asked = input.asked();
         match places_in(alloc, self, haystack, asked, false, steps)? {
@@ -91,9 +105,9 @@ impl Regex {
     /// The groups of the first match of the text, if it has one. `RuntimeError` where the search passes a limit; or
     /// `Memory`.
     pub fn captures<S: Input>(&self, alloc: Global, haystack: S) -> Result<Option<Captures<'_, S>>>
-        ensures answer { IfOk result (λ found. IsOwnReady self.now.searcher
-            → ShowsGroups (λ c. AreGroupsOf (own_pattern self.now.searcher) c.places.items) found (own_found self.now.searcher (S.text haystack) (whole (S.text haystack)))) }
+        ensures answer { IfOk result (λ found. ShowsGroups (λ c. AreGroupsOf (own_pattern self.now.searcher) c.places.items) found (own_found self.now.searcher (S.text haystack) (whole (S.text haystack)))) }
         ensures of { IfOk result (λ found. IfSome found (λ c. (c.haystack ≡ haystack) × (c.regex.now ≡ self.now))) }
+        ensures limits { IfErr result (λ e. IsOwnError self.now.searcher (S.text haystack) (whole (S.text haystack)) false e) }
     {
         self.captures_input(alloc, RegexInput::new(haystack))
     }
@@ -106,9 +120,9 @@ impl Regex {
         position: usize,
     ) -> Result<Option<Captures<'_, S>>>
         requires { position ≤ length (S.text haystack) → IsCharBoundary (S.text haystack) position }
-        ensures answer { IfOk result (λ found. IsOwnReady self.now.searcher
-            → ShowsGroups (λ c. AreGroupsOf (own_pattern self.now.searcher) c.places.items) found (own_found self.now.searcher (S.text haystack) (record (whole (S.text haystack)) { start = position }))) }
+        ensures answer { IfOk result (λ found. ShowsGroups (λ c. AreGroupsOf (own_pattern self.now.searcher) c.places.items) found (own_found self.now.searcher (S.text haystack) (record (whole (S.text haystack)) { start = position }))) }
         ensures of { IfOk result (λ found. IfSome found (λ c. (c.haystack ≡ haystack) × (c.regex.now ≡ self.now))) }
+        ensures limits { IfErr result (λ e. IsOwnError self.now.searcher (S.text haystack) (record (whole (S.text haystack)) { start = position }) false e) }
     {
         self.captures_input(alloc, RegexInput::new(haystack).from_pos(position))
     }
@@ -120,9 +134,9 @@ impl Regex {
         alloc: Global,
         input: RegexInput<S>,
     ) -> Result<Option<Captures<'_, S>>>
-        ensures answer { IfOk result (λ found. IsOwnReady self.now.searcher
-            → ShowsGroups (λ c. AreGroupsOf (own_pattern self.now.searcher) c.places.items) found (own_found self.now.searcher (S.text input.haystack) (input.asked))) }
+        ensures answer { IfOk result (λ found. ShowsGroups (λ c. AreGroupsOf (own_pattern self.now.searcher) c.places.items) found (own_found self.now.searcher (S.text input.haystack) (input.asked))) }
         ensures of { IfOk result (λ found. IfSome found (λ c. (c.haystack ≡ input.haystack) × (c.regex.now ≡ self.now))) }
+        ensures limits { IfErr result (λ e. IsOwnError self.now.searcher (S.text input.haystack) input.asked false e) }
     {
         let haystack = input.haystack();
         let found = places_in(

@@ -20,6 +20,10 @@ fn finds_from_both_ends(rt: HostRuntime) -> Result<(), Fail> {
         panic!(rt; "name");
     };
     assert!(rt; month.as_str() == "04");
+    assert!(rt; groups.group_text_by_name("month") == "04");
+    let mut names = regex.capture_names();
+    assert!(rt; names.next() == Some(None) && names.next() == Some(Some("year")));
+    assert!(rt; names.next() == Some(Some("month")) && names.next() == None);
     let mut matches = regex.find_iter(alloc, text);
     let mut count = 0usize;
     while let Some(item) = matches.next() {

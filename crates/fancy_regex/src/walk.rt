@@ -1,8 +1,8 @@
 //! The searches of an iteration.
 
-ghost use Rattle.std.specs.Prelude.{◌≡◌, ◌≤◌, ◌<◌, max, option_map, None, Some, true, false, slice_index, MatchOption, MatchResult, IfSome, IfOk};
+ghost use Rattle.std.specs.Prelude.{◌≡◌, ◌≤◌, ◌<◌, max, option_map, None, Some, true, false, slice_index, MatchOption, MatchResult, IfSome, IfOk, IfErr};
 ghost use Rattle.fancy_regex_runner.specs.Plain.{places_of};
-ghost use Rattle.fancy_regex_search.specs.Owned.{IsOwnReady, own_pattern, own_found_from};
+ghost use Rattle.fancy_regex_search.specs.Owned.{own_pattern, own_found_from};
 ghost use Rattle.fancy_regex_search.specs.Places.{IsWithin};
 
 use crate::found::places_in;
@@ -43,6 +43,7 @@ enum Step {
 }
 
 impl<'r, S: Input> Walk<'r, S> {
+    ghost use Rattle.fancy_regex.specs.Fails.{IsItemError, StepFails};
     ghost use Rattle.fancy_regex.specs.Left.{items_left, all_left, searches_left, Yields};
     ghost use Rattle.fancy_regex.specs.Shown.{AreGroupsOf};
     ghost use Rattle.fancy_regex.specs.Steps.{StepGives, StepMoves, StepNears, TurnMoves};
@@ -67,7 +68,7 @@ impl<'r, S: Input> Walk<'r, S> {
 
     /// Makes one search.
     fn step(&mut self) -> Step
-        ensures gives { IsOwnReady self.old.regex.now.searcher → StepGives (own_pattern self.old.regex.now.searcher)
+        ensures gives { StepGives (own_pattern self.old.regex.now.searcher)
             (items_left self.old.regex.now.searcher (S.text self.old.input.haystack) self.old.input.asked self.old.standing) result
             (items_left self.new.regex.now.searcher (S.text self.new.input.haystack) self.new.input.asked self.new.standing) }
         ensures moves { StepMoves (S.text self.old.input.haystack) self.old.input.asked result self.new.input.asked }
@@ -77,6 +78,7 @@ impl<'r, S: Input> Walk<'r, S> {
         ensures haystack { self.new.input.haystack ≡ self.old.input.haystack }
         ensures regex { self.new.regex ≡ self.old.regex }
         ensures asked { self.new.input.asked ≡ record (self.old.input.asked) { start = self.new.input.asked.start } }
+        ensures fails { StepFails self.old.regex.now.searcher (S.text self.old.input.haystack) self.old.input.asked result }
     {
         if self.standing.is_done {
             return Step::End;
@@ -112,10 +114,10 @@ impl<'r, S: Input> Walk<'r, S> {
     fn finish(&mut self) -> Step
         requires going { self.old.standing.is_done ≡ false }
         requires inside { max self.old.input.asked.start self.old.input.asked.range_start ≤ self.old.input.asked.range_end }
-        requires found { IsOwnReady self.old.regex.now.searcher → None
+        requires found { None
             ≡ option_map (places_of (own_pattern self.old.regex.now.searcher)) (own_found_from self.old.regex.now.searcher (S.text self.old.input.haystack) self.old.input.asked
             (max self.old.input.asked.start self.old.input.asked.range_start) self.old.standing.off) }
-        ensures gives { IsOwnReady self.old.regex.now.searcher → StepGives (own_pattern self.old.regex.now.searcher)
+        ensures gives { StepGives (own_pattern self.old.regex.now.searcher)
             (items_left self.old.regex.now.searcher (S.text self.old.input.haystack) self.old.input.asked self.old.standing) result
             (items_left self.new.regex.now.searcher (S.text self.new.input.haystack) self.new.input.asked self.new.standing) }
         ensures moves { StepMoves (S.text self.old.input.haystack) self.old.input.asked result self.new.input.asked }
@@ -125,6 +127,7 @@ impl<'r, S: Input> Walk<'r, S> {
         ensures haystack { self.new.input.haystack ≡ self.old.input.haystack }
         ensures regex { self.new.regex ≡ self.old.regex }
         ensures asked { self.new.input.asked ≡ record (self.old.input.asked) { start = self.new.input.asked.start } }
+        ensures fails { StepFails self.old.regex.now.searcher (S.text self.old.input.haystack) self.old.input.asked result }
     {
         self.standing.is_done = true;
         Step::End
@@ -133,11 +136,11 @@ impl<'r, S: Input> Walk<'r, S> {
     /// Goes past a match.
     fn land(&mut self, places: Vec<usize>) -> Step
         requires going { self.old.standing.is_done ≡ false }
-        requires found { IsOwnReady self.old.regex.now.searcher → Some places.items
+        requires found { Some places.items
             ≡ option_map (places_of (own_pattern self.old.regex.now.searcher)) (own_found_from self.old.regex.now.searcher (S.text self.old.input.haystack) self.old.input.asked
             (max self.old.input.asked.start self.old.input.asked.range_start) self.old.standing.off) }
         requires within { IsWithin (S.text self.old.input.haystack) self.old.input.asked places.items }
-        ensures gives { IsOwnReady self.old.regex.now.searcher → StepGives (own_pattern self.old.regex.now.searcher)
+        ensures gives { StepGives (own_pattern self.old.regex.now.searcher)
             (items_left self.old.regex.now.searcher (S.text self.old.input.haystack) self.old.input.asked self.old.standing) result
             (items_left self.new.regex.now.searcher (S.text self.new.input.haystack) self.new.input.asked self.new.standing) }
         ensures moves { StepMoves (S.text self.old.input.haystack) self.old.input.asked result self.new.input.asked }
@@ -147,6 +150,7 @@ impl<'r, S: Input> Walk<'r, S> {
         ensures haystack { self.new.input.haystack ≡ self.old.input.haystack }
         ensures regex { self.new.regex ≡ self.old.regex }
         ensures asked { self.new.input.asked ≡ record (self.old.input.asked) { start = self.new.input.asked.start } }
+        ensures fails { StepFails self.old.regex.now.searcher (S.text self.old.input.haystack) self.old.input.asked result }
     {
         laws_of_items();
         let start = places[0];
@@ -169,7 +173,7 @@ impl<'r, S: Input> Walk<'r, S> {
 
     /// The places of the next match. After an error there is none.
     pub fn advance(&mut self) -> Option<Result<Vec<usize>>>
-        ensures gives { IsOwnReady self.old.regex.now.searcher → Yields (λ v m. v.items ≡ places_of (own_pattern self.old.regex.now.searcher) m)
+        ensures gives { Yields (λ v m. v.items ≡ places_of (own_pattern self.old.regex.now.searcher) m)
             (items_left self.old.regex.now.searcher (S.text self.old.input.haystack) self.old.input.asked self.old.standing) result
             (items_left self.new.regex.now.searcher (S.text self.new.input.haystack) self.new.input.asked self.new.standing) }
         ensures within { IfSome result (λ item. IfOk item (λ v. IsWithin (S.text self.old.input.haystack) self.old.input.asked v.items)) }
@@ -180,6 +184,7 @@ impl<'r, S: Input> Walk<'r, S> {
         ensures haystack { self.new.input.haystack ≡ self.old.input.haystack }
         ensures regex { self.new.regex ≡ self.old.regex }
         ensures asked { self.new.input.asked ≡ record (self.old.input.asked) { start = self.new.input.asked.start } }
+        ensures fails { IfSome result (λ item. IfErr item (λ e. IsItemError self.old.regex.now.searcher (S.text self.old.input.haystack) self.old.input.asked e)) }
     {
         loop {
             match self.step() {

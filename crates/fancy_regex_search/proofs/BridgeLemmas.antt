@@ -14,6 +14,8 @@ use Rattle.fancy_regex_sizes.specs.declared.info.Info.TheFolds.{fold_out-Info}
 use Rattle.fancy_regex_sizes.specs.References.{is_read}
 use Rattle.fancy_regex_sizes.specs.Views.{pattern_in}
 use Rattle.fancy_regex_runner.specs.Plain.{IsPlain, ArePlain, IsServed, test_of}
+use Rattle.fancy_regex_search.specs.Served.{is_easy_tree, is_served}
+use Rattle.fancy_regex_search.specs.declared.options.RegexOptions.{RegexOptions}
 
 served : (a : Assertion) → is_easy_assertion a ≡ true → IsServed (test_of a)
 served A.StartText e = tt
@@ -132,3 +134,27 @@ pub analyzed_end : (i : Info) (t : Tree) → info_of i ≡ analysis false t → 
 analyzed_end i t is law =
     let e : (facts_in (info_of i)).end ≡ 1 + group_count t = ap (λ f. f.end) (root_is (info_of i) false t is).facts_are in
     omega (arith, e, law t)
+
+none : (b : Bool) → (b && false) ≡ false
+none true = refl
+none false = refl
+
+back : (b : Bool) → not (not b) ≡ b
+back true = refl
+back false = refl
+
+-- whether the runner serves it
+pub analyzed_served : (o : RegexOptions) (i : Info) (t : Tree) → info_of i ≡ analysis false t → is_served o t ≡ (not o.find_not_empty && not (out-Info i).hard)
+analyzed_served o i t is =
+    let hard : (out-Info i).hard ≡ not (is_easy_tree t) = sym (hard_is i) ∙ ap (λ f. f.hard) (root_is (info_of i) false t is).facts_are in
+    ap (λ b. not o.find_not_empty && b) (sym (ap not hard ∙ back (is_easy_tree t)))
+
+-- it does not where it is hard, or empty matches are passed over
+pub hard_off : (o : RegexOptions) (i : Info) (t : Tree) → info_of i ≡ analysis false t → (out-Info i).hard ≡ true → is_served o t ≡ false
+hard_off o i t is e = analyzed_served o i t is ∙ ap (λ b. not o.find_not_empty && not b) e ∙ none (not o.find_not_empty)
+
+pub not_empty_off : (o : RegexOptions) (t : Tree) → o.find_not_empty ≡ true → is_served o t ≡ false
+not_empty_off o t e = rw e refl
+
+pub easy_on : (o : RegexOptions) (i : Info) (t : Tree) → info_of i ≡ analysis false t → (out-Info i).hard ≡ false → o.find_not_empty ≡ false → is_served o t ≡ true
+easy_on o i t is e f = analyzed_served o i t is ∙ (rw (e, f) refl)

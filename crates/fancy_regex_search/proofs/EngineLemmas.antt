@@ -1,5 +1,5 @@
 -- A program and a runner answer the same.
-use Rattle.std.proofs.Common.{◌≡◌, ℕ, Bool, true, false, List, [], ◌∷◌, Option, Some, None, refl, ap, sym, ◌∙◌, if◌then◌else◌}
+use Rattle.std.proofs.Common.{◌≡◌, ◌<◌, ◌≤◌, length, subst, arith, IsUtf8, IsCharBoundary, ℕ, Bool, true, false, List, [], ◌∷◌, Option, Some, None, refl, ap, sym, ◌∙◌, if◌then◌else◌}
 use Rattle.std.specs.Prelude.{option_map, slice_set, nat_lt, Result, Ok, Err, Vec}
 use Rattle.std.specs.List.{filter}
 use Rattle.std.specs.declared.alloc.Global.{Global}
@@ -10,11 +10,21 @@ use Rattle.fancy_regex_meaning.specs.Searches.{Match, first_match, first_some, m
 use Rattle.fancy_regex_runner.specs.Plain as plain
 use Rattle.fancy_regex_runner.specs.Easy.{setting_for}
 use Rattle.fancy_regex_runner.specs.declared.input.RunInput.{RunInput}
+use Rattle.fancy_regex_meaning.specs.Choices.{choices, choices_through}
+use Rattle.fancy_regex_pattern.specs.Unfolded.{pat_of}
+use Rattle.fancy_regex_program.specs.Machine.{unset, Rules}
+use Rattle.fancy_regex_program.specs.Shapes.{IsWritable}
 use Rattle.fancy_regex_program.specs.Places as program
+use Rattle.fancy_regex_program.specs.declared.prog.Prog.{Prog}
+use Rattle.fancy_regex_runs.specs.Laws.{first_of, IsAsked}
 use Rattle.fancy_regex_machine.specs.Asked.{rules_for}
-use Rattle.fancy_regex_machine.specs.Answered.{match_places, found_match}
+use Rattle.fancy_regex_machine.specs.Answered.{match_places, found_match, found_choices, Answered}
+use Rattle.fancy_regex_machine.specs.declared.error.RuntimeError.{RuntimeError}
+use Rattle.fancy_regex_machine.specs.declared.error.RuntimeError.TheVariants.{StackOverflow, BacktrackLimitExceeded, Memory}
 use Rattle.fancy_regex_machine.specs.declared.search.RunOptions.{RunOptions}
-use Rattle.fancy_regex_search.specs.Engines.{search_of}
+use Rattle.fancy_regex_search.specs.Causes.{of_run}
+use Rattle.fancy_regex_search.specs.Engines.{search_of, IsCompiled}
+use Rattle.fancy_regex_search.specs.Limits.{IsSearchError, run_choices}
 use Rattle.fancy_regex_search.specs.declared.options.RegexOptions.{RegexOptions}
 
 flat-same : (ps : Pairs) → program.flat ps ≡ plain.flat ps
@@ -53,3 +63,44 @@ pub program-answers : (o : RegexOptions) (t : Tree) (text : List ℕ) (input : R
     places ≡ option_map (plain.places_of (pattern_of t)) (first_match (setting_for o.unicode_mode text input) (pattern_of t) (search_of o input))
 program-answers o t text input limit unicode longest whole u l w places e =
     (rw (u, l, w) at e) ∙ ap (option_map (match_places true)) (found-same o t text input limit) ∙ map-same t _
+
+-- what the run of a compiled program asks
+pub asked-of : (prog : Prog) (t : Tree) (r : Rules) → IsCompiled prog t → IsUtf8 r.setting.text → length r.setting.text < unset →
+    IsCharBoundary r.setting.text r.find.first → r.find.stop ≤ length r.setting.text → IsAsked r (pat_of (pattern_of t)) prog.whole prog.groups
+asked-of prog t r made utf8 small first stop =
+    let pat = pat_of (pattern_of t) in
+    record {
+      utf8 = utf8;
+      small = small;
+      first = first;
+      stop = stop;
+      groups = λ _. subst (λ (n : ℕ). 1 ≤ n) (sym made.program.groups) (omega arith);
+      spans = λ _. made.whole;
+      writable = subst (λ (w : Bool). IsWritable (first_of w) prog.groups pat) (sym made.whole)
+          (subst (λ (n : ℕ). IsWritable 1 n pat) (sym made.program.groups) made.writable);
+      placed = made.placed;
+    }
+
+-- the machine's choices are those of the search
+choices-same : (o : RegexOptions) (t : Tree) (text : List ℕ) (input : RunInput) (limit : ℕ) →
+    found_choices (rules_for o.unicode_mode o.leftmost_longest text input (record { backtrack_limit = limit; find_not_empty = o.find_not_empty; seek = None })) (pattern_of t) false
+    ≡ run_choices o text input t
+unfolding choices
+choices-same o t text input limit =
+    ap (choices_through (setting_for o.unicode_mode text input) (pattern_of t) (match_at (setting_for o.unicode_mode text input) (pattern_of t) (search_of o input)))
+    (unless-kept (nat_lt input.range.end input.first) (λ p. true) (λ p. refl) _)
+
+above : (o : RegexOptions) (t : Tree) (text : List ℕ) (input : RunInput) (limit most : ℕ) (unicode longest : Bool) →
+    unicode ≡ o.unicode_mode → longest ≡ o.leftmost_longest →
+    most < found_choices (rules_for unicode longest text input (record { backtrack_limit = limit; find_not_empty = o.find_not_empty; seek = None })) (pattern_of t) false →
+    most < run_choices o text input t
+above o t text input limit most unicode longest u l h = subst (λ n. most < n) (choices-same o t text input limit) (rw (u, l) at h)
+
+-- a program's search meets a limit only where its choices are above it
+pub program-limits : (o : RegexOptions) (t : Tree) (text : List ℕ) (input : RunInput) (limit : ℕ) (unicode longest whole : Bool) (e : RuntimeError) →
+    unicode ≡ o.unicode_mode → longest ≡ o.leftmost_longest →
+    Answered (rules_for unicode longest text input (record { backtrack_limit = limit; find_not_empty = o.find_not_empty; seek = None })) (pattern_of t) whole false (Err e) limit →
+    IsSearchError false limit (run_choices o text input t) (of_run e)
+program-limits o t text input limit unicode longest whole BacktrackLimitExceeded u l h = (refl, above o t text input limit limit unicode longest u l h)
+program-limits o t text input limit unicode longest whole StackOverflow u l h = (refl, above o t text input limit 1000000 unicode longest u l h)
+program-limits o t text input limit unicode longest whole Memory u l h = tt

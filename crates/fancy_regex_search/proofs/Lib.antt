@@ -1,3 +1,5 @@
 pub mod EngineLemmas
 pub mod BridgeLemmas
 pub mod SearchLemmas
+pub mod WithinLemmas
+pub mod RefusalLemmas

@@ -5,3 +5,7 @@ pub mod Places
 pub mod Searched
 pub mod Owned
 pub mod Defaults
+pub mod Served
+pub mod Refusals
+pub mod Named
+pub mod Limits

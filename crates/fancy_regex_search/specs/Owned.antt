@@ -4,14 +4,9 @@ use Rattle.fancy_regex_meaning.specs.Groups.{Pattern}
 use Rattle.fancy_regex_meaning.specs.Searches.{Match, find_input}
 use Rattle.fancy_regex_input.specs.Inputs.{input_of}
 use Rattle.fancy_regex_input.specs.declared.asked.Asked.{Asked}
-use Rattle.fancy_regex_search.specs.Patterns.{tree_in, pattern_in, options_in, setting_in}
-use Rattle.fancy_regex_search.specs.Engines.{IsReady}
+use Rattle.fancy_regex_search.specs.Patterns.{pattern_in, options_in, setting_in}
 use Rattle.fancy_regex_search.specs.Searched.{found_from}
 use Rattle.fancy_regex_search.specs.declared.searcher.Searcher.{Searcher}
-
--- What the compiler does not promise yet: its program, if it has one, is that of its tree.
-abbrev pub IsOwnReady : Searcher → Type 0
-IsOwnReady s = IsReady s.engine (tree_in s.options (string_bytes s.pattern))
 
 -- the pattern that was read
 abbrev pub own_pattern : Searcher → Pattern

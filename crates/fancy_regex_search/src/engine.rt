@@ -1,15 +1,22 @@
 //! What runs a pattern.
 
-ghost use Rattle.std.specs.Prelude.{◌≡◌, ◌≤◌, true, false, not, length, IfOk, option_map, IsCharBoundary};
+ghost use Rattle.std.specs.Prelude.{◌≡◌, ◌≤◌, ◌+◌, ◌-◌, ◌*◌, ◌^◌, ◌<◌, min, true, false, not, length, IfOk, IfErr, option_map, IsCharBoundary};
 ghost use Rattle.fancy_regex_tree.specs.Tree.{Tree, tree_of};
+ghost use Rattle.fancy_regex_meaning.specs.Choices.{program_nodes};
 ghost use Rattle.fancy_regex_meaning.specs.Groups.{pattern_of};
 ghost use Rattle.fancy_regex_meaning.specs.Searches.{first_match};
+ghost use Rattle.fancy_regex_program.specs.Caps.{cap_of};
+ghost use Rattle.fancy_regex_program.specs.Refusals.{IsClear};
 ghost use Rattle.fancy_regex_sizes.specs.Analysis.{analysis};
+ghost use Rattle.fancy_regex_sizes.specs.Causes.{is_too_complex};
 ghost use Rattle.fancy_regex_sizes.specs.Infos.{info_of};
+ghost use Rattle.fancy_regex_sizes.specs.declared.options.BytesMode.TheVariants.{Unicode};
 ghost use Rattle.fancy_regex_sizes.specs.declared.info.Info.{out-Info};
 ghost use Rattle.fancy_regex_runner.specs.Easy.{setting_for};
 ghost use Rattle.fancy_regex_runner.specs.Plain.{places_of};
+ghost use Rattle.fancy_regex_runner.specs.Refused.{IsTaken, IsCause};
 ghost use Rattle.fancy_regex_runner.specs.Runner.{IsEasyOf};
+ghost use Rattle.fancy_regex_search.specs.Refusals.{compiled_as, IsNoProgram};
 
 use crate::error::Result;
 use crate::options::RegexOptions;
@@ -35,6 +42,7 @@ fn compile_options(options: &RegexOptions, calls: bool) -> CompileOptions
     ensures longest { result.leftmost_longest ≡ options.now.leftmost_longest }
     ensures cap { result.max_prog_size ≡ options.now.max_prog_size }
     ensures anchored { result.anchored ≡ false }
+    ensures all { result ≡ compiled_as options.now calls }
 {
     CompileOptions {
         anchored: false,
@@ -47,16 +55,31 @@ fn compile_options(options: &RegexOptions, calls: bool) -> CompileOptions
 }
 
 impl Engine {
-    ghost use Rattle.fancy_regex_search.specs.Engines.{Runs, IsReady, search_of};
+    ghost use Rattle.fancy_regex_program.specs.Programs.{RefersToGroups};
+    ghost use Rattle.fancy_regex_search.specs.Engines.{Runs, search_of};
+    ghost use Rattle.fancy_regex_search.specs.Served.{is_served, is_runner};
+    ghost use Rattle.fancy_regex_search.specs.Limits.{IsSearchError, weight_of, run_choices, run_tried};
 
-    /// What runs a tree that was looked at: the runner where it is easy and empty matches are admitted, else its program.
+    /// What runs a tree that was looked at, and that refers to groups alone: the runner where it is easy and empty matches
+    /// are admitted, else its program.
     pub fn new(
         alloc: Global,
         info: &Info<'_>,
         options: &RegexOptions,
         calls: bool,
     ) -> std::result::Result<Engine, CompileError>
-        ensures { IfOk result (λ engine. (t : Tree) → info_of info.now ≡ analysis false t → Runs engine options.now t) }
+        ensures runs { IfOk result (λ engine. (t : Tree) → info_of info.now ≡ analysis false t → RefersToGroups false t
+            → Runs engine options.now t) }
+        ensures served { IfOk result (λ engine. (t : Tree) → info_of info.now ≡ analysis false t → is_runner engine ≡ is_served options.now t) }
+        ensures taken { IfOk result (λ _. (t : Tree) → info_of info.now ≡ analysis false t → is_served options.now t ≡ true
+            → IsTaken (compiled_as options.now calls) (pattern_of t)) }
+        ensures refused { IfErr result (λ cause. (t : Tree) → info_of info.now ≡ analysis false t → is_served options.now t ≡ true
+            → IsCause (compiled_as options.now calls) (pattern_of t) cause) }
+        ensures long { IfErr result (λ cause. (t : Tree) → info_of info.now ≡ analysis false t → is_served options.now t ≡ false
+            → is_too_complex cause ≡ true → cap_of options.now.max_prog_size < 16 * (program_nodes (pattern_of t) + 1)) }
+        ensures mode { IfOk result (λ _. (t : Tree) → info_of info.now ≡ analysis false t → options.now.bytes_mode ≡ Unicode) }
+        ensures reason { IfErr result (λ cause. (t : Tree) → info_of info.now ≡ analysis false t → is_served options.now t ≡ false
+            → IsClear (pattern_of t).groups t → IsNoProgram (compiled_as options.now calls) t cause) }
     {
         if info.hard || options.find_not_empty {
             let prog = compile(alloc, info, &compile_options(options, calls))?;
@@ -76,9 +99,16 @@ impl Engine {
     ) -> Result<Option<Vec<usize>>>
         requires first { IsCharBoundary text.now input.now.first }
         requires range { input.now.range.end ≤ length text.now }
-        ensures answer { IfOk result (λ found. (t : Tree) → Runs self.now options.now t → IsReady self.now t
+        ensures answer { IfOk result (λ found. (t : Tree) → Runs self.now options.now t
             → option_map (λ v. v.items) found ≡ option_map (places_of (pattern_of t))
             (first_match (setting_for options.now.unicode_mode text.now input.now) (pattern_of t) (search_of options.now input.now))) }
+        ensures limits { IfErr result (λ e. (t : Tree) → Runs self.now options.now t
+            → IsSearchError (is_runner self.now) options.now.backtrack_limit (run_choices options.now text.now input.now t) e) }
+        ensures looks_most { (t : Tree) → Runs self.now options.now t → is_runner self.now ≡ true
+            → steps.new ≤ steps.old + weight_of t * (input.now.range.end - input.now.first + 1) }
+        ensures looks_least { IfOk result (λ _. (t : Tree) → Runs self.now options.now t → is_runner self.now ≡ true
+            → min (steps.old + run_tried options.now text.now input.now t) (2 ^ 64 - 1) ≤ steps.new) }
+        ensures looks_none { is_runner self.now ≡ false → steps.new ≡ steps.old }
     {
         match self {
             Engine::Easy(easy) => Ok(easy.search(alloc, text, input, steps)?),

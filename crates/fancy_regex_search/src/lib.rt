@@ -5,7 +5,6 @@ mod engine;
 mod error;
 mod flags;
 mod options;
-mod placed;
 mod searcher;
 
 pub use error::{Error, Result};

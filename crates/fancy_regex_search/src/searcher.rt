@@ -1,18 +1,20 @@
 //! A pattern made ready for searches.
 
-ghost use Rattle.std.specs.Prelude.{◌≡◌, ◌≤◌, max, not, ◌&&◌, Some, None, length, IfOk, IfSome, option_map, string_bytes, if◌then◌else◌, IsCharBoundary};
+ghost use Rattle.std.specs.Prelude.{◌≡◌, ◌≤◌, ◌+◌, ◌-◌, ◌^◌, true, false, min, max, not, ◌&&◌, Some, None, length, IfOk, IfErr, IfSome, option_map, string_bytes, if◌then◌else◌, IsCharBoundary};
 ghost use Rattle.fancy_regex_tree.specs.Tree.{tree_of};
 ghost use Rattle.fancy_regex_meaning.specs.Groups.{pattern_of};
 ghost use Rattle.fancy_regex_runner.specs.Plain.{places_of};
 ghost use Rattle.fancy_regex_input.specs.Inputs.{FitsText};
 ghost use Rattle.fancy_regex_search.specs.Engines.{Runs};
-ghost use Rattle.fancy_regex_search.specs.Searched.{IsMadeOf};
+ghost use Rattle.fancy_regex_search.specs.Named.{AreNumbersOf};
+ghost use Rattle.fancy_regex_search.specs.Refusals.{IsAccepted, RefusesTree, Refuses, Accepts};
+ghost use Rattle.fancy_regex_search.specs.Searched.{IsMadeOf, names_in};
+ghost use Rattle.fancy_regex_search.specs.Served.{is_served, is_served_text, is_runner};
 
 use crate::engine::Engine;
-use crate::error::{Error, Result};
+use crate::error::Result;
 use crate::flags::flags_of;
 use crate::options::RegexOptions;
-use crate::placed::lies_within;
 use fancy_regex_class::Steps;
 use fancy_regex_input::Asked;
 use fancy_regex_meaning::laws_of_groups;
@@ -31,12 +33,17 @@ pub struct Searcher {
     groups: usize,
     engine: Engine,
     pub ghost made: { ∥ IsMadeOf (string_bytes pattern) options groups engine ∥₁ },
+    pub ghost served: { is_runner engine ≡ is_served_text options (string_bytes pattern) },
+    pub ghost named: { AreNumbersOf named_groups (names_in options (string_bytes pattern)) },
 }
 
 /// How many groups a tree has, the whole among them, and what runs it.
 fn engine_of(alloc: Global, tree: &ExprTree, options: &RegexOptions) -> Result<(usize, Engine)>
     ensures groups { IfOk result (λ r. r.0 ≡ length (pattern_of (tree_of tree.now.expr)).groups) }
     ensures runs { IfOk result (λ r. Runs r.1 options.now (tree_of tree.now.expr)) }
+    ensures served { IfOk result (λ r. is_runner r.1 ≡ is_served options.now (tree_of tree.now.expr)) }
+    ensures accepted { IfOk result (λ _. IsAccepted options.now tree.now.named_backref_only tree.now.contains_subroutines (tree_of tree.now.expr)) }
+    ensures refused { IfErr result (λ e. RefusesTree options.now tree.now.named_backref_only tree.now.contains_subroutines (tree_of tree.now.expr) e) }
 {
     laws_of_groups();
     let context = AnalyzeContext {
@@ -70,13 +77,16 @@ fn run_input(asked: Asked, first: usize, off: bool) -> RunInput
 
 impl Searcher {
     ghost use Rattle.fancy_regex_search.specs.Places.{IsWithin};
-    ghost use Rattle.fancy_regex_search.specs.Owned.{IsOwnReady, own_pattern, own_found_from};
+    ghost use Rattle.fancy_regex_search.specs.Limits.{IsOwnError, own_served, own_tried, most_looks};
+    ghost use Rattle.fancy_regex_search.specs.Owned.{own_pattern, own_found_from};
 
     /// Reads a pattern and makes it ready. Answers the first fault where the text is no pattern, else one of the causes for
     /// which it is refused where there is one; or want of memory.
     pub fn new(alloc: Global, pattern: String, options: &RegexOptions) -> Result<Searcher>
         ensures pattern { IfOk result (λ s. s.pattern ≡ pattern) }
         ensures options { IfOk result (λ s. s.options ≡ options.now) }
+        ensures accepted { IfOk result (λ _. Accepts options.now (string_bytes pattern)) }
+        ensures refused { IfErr result (λ e. Refuses options.now (string_bytes pattern) e) }
     {
         let tree = Expr::parse_tree_with_flags(alloc, pattern.as_str(), flags_of(options))?;
         let (groups, engine) = engine_of(alloc, &tree, options)?;
@@ -129,23 +139,20 @@ impl Searcher {
         steps: &mut Steps,
     ) -> Result<Option<Vec<usize>>>
         requires { FitsText text.now asked }
-        ensures answer { IfOk result (λ found. IsOwnReady self.now → option_map (λ v. v.items) found
+        ensures answer { IfOk result (λ found. option_map (λ v. v.items) found
             ≡ option_map (places_of (own_pattern self.now)) (own_found_from self.now text.now asked (max asked.start asked.range_start) off)) }
         ensures within { IfOk result (λ found. IfSome found (λ v. IsWithin text.now asked v.items)) }
+        ensures limits { IfErr result (λ e. IsOwnError self.now text.now asked off e) }
+        ensures looks_most { own_served self.now ≡ true → steps.new ≤ steps.old + most_looks self.now asked }
+        ensures looks_least { IfOk result (λ _. own_served self.now ≡ true → min (steps.old + own_tried self.now text.now asked off) (2 ^ 64 - 1) ≤ steps.new) }
+        ensures looks_none { own_served self.now ≡ false → steps.new ≡ steps.old }
     {
         let first = asked.start.max(asked.range_start);
         if asked.range_end < first {
             return Ok(None);
         }
         let input = run_input(asked, first, off);
-        match self
-            .engine
-            .search(alloc, text, &input, &self.options, steps)?
-        {
-            Some(places) if lies_within(text, asked, &places) => Ok(Some(places)),
-            // No search comes to such places.
-            Some(_) => Err(Error::Memory),
-            None => Ok(None),
-        }
+        self.engine
+            .search(alloc, text, &input, &self.options, steps)
     }
 }

@@ -5,11 +5,11 @@ use Rattle.fancy_regex_search.specs.Owned.{own_pattern, own_found_from}
 use Rattle.fancy_regex.proofs.PlaceLemmas.{some-same, found-is}
 use Rattle.fancy_regex.proofs.regex.Regex.is_match_input.Goals as goal
 
-pub returns : goal.returns
-returns g c ready =
+pub returns-clause-answer : goal.returns-clause-answer
+returns-clause-answer g c =
     let s = c.args.self.now.searcher in
     let text = g.S.Input.text c.args.input.haystack in
     let a = c.args.input.asked in
-    let told = rw (c.haystack.ensures, c.asked.ensures) at (c.in_ok-found.ensures.answer ready) in
+    let told = rw (c.haystack.ensures, c.asked.ensures) at (c.in_ok-found.ensures.answer) in
     c.is_some.ensures ∙ some-same (λ w. w.items) (places_of (own_pattern s)) c.in_ok-found.found (own_found_from s text a (max a.start a.range_start) false) told
     ∙ ap is_some (sym (found-is s text a))

@@ -1,5 +1,4 @@
 use Rattle.std.proofs.Common.{◌≡◌, ◌≤◌}
-use Rattle.fancy_regex_search.specs.Owned.{IsOwnReady}
 use Rattle.fancy_regex.specs.Left.{items_left, searches_left}
 use Rattle.fancy_regex.proofs.walk.Walk.advance.Given as goal
 
@@ -8,7 +7,7 @@ invariant-loop-places g l =
     let text = g.S.Input.text l.fn.self.input.haystack in
     let s = l.self in
     let o = l.fn.self in
-    (IsOwnReady o.regex.now.searcher → items_left o.regex.now.searcher text o.input.asked o.standing ≡ items_left s.regex.now.searcher text s.input.asked s.standing)
+    (items_left o.regex.now.searcher text o.input.asked o.standing ≡ items_left s.regex.now.searcher text s.input.asked s.standing)
     × (o.input.asked.start ≤ s.input.asked.start)
     × (s.input.haystack ≡ o.input.haystack) × (s.regex ≡ o.regex)
     × (s.input.asked ≡ record (o.input.asked) { start = s.input.asked.start })

@@ -5,19 +5,19 @@ use Rattle.std.proofs.lemmas.List.{get_or_default}
 use Rattle.fancy_regex_meaning.specs.Places.{place_after}
 use Rattle.fancy_regex_meaning.specs.Searches.{Match}
 use Rattle.fancy_regex_runner.specs.Plain.{places_of}
-use Rattle.fancy_regex_search.specs.Owned.{IsOwnReady, own_pattern, own_found_from}
+use Rattle.fancy_regex_search.specs.Owned.{own_pattern, own_found_from}
 use Rattle.fancy_regex_search.specs.Patterns.{tree_in}
 use Rattle.fancy_regex.proofs.PlaceLemmas.{some-of, span-is}
 use Rattle.fancy_regex.proofs.ItemsLemmas.{left-item, left-skip, left-empty, moved}
 use Rattle.fancy_regex.proofs.walk.Walk.land.Goals as goal
 
 pub returns-then-start-end-clause-gives : goal.returns-then-start-end-clause-gives
-returns-then-start-end-clause-gives g c ready =
+returns-then-start-end-clause-gives g c =
     let self = c.args.self.now in
     let s = self.regex.now.searcher in
     let text = g.S.Input.text self.input.haystack in
     let a = self.input.asked in
-    let f = some-of (places_of (own_pattern s)) (own_found_from s text a (max a.start a.range_start) self.standing.off) c.args.places.items (c.requires.found ready) in
+    let f = some-of (places_of (own_pattern s)) (own_found_from s text a (max a.start a.range_start) self.standing.off) c.args.places.items c.requires.found in
     let m : Match = f.0 in
     let k = span-is (tree_in s.options (string_bytes s.pattern)) m c.args.places.items f.2 c.requires.within.whole in
     let start : c.index-start.result.now ≡ m.start = c.index-start.ensures ∙ sym (get_or_default c.args.places.items 0 0 c.index-start.result.now (omega (arith, c.requires.within.whole))) ∙ k.0 in
@@ -32,12 +32,12 @@ returns-then-start-end-clause-gives g c ready =
     )
 
 pub returns-then-is_repeated-clause-gives : goal.returns-then-is_repeated-clause-gives
-returns-then-is_repeated-clause-gives g c ready =
+returns-then-is_repeated-clause-gives g c =
     let self = c.args.self.now in
     let s = self.regex.now.searcher in
     let text = g.S.Input.text self.input.haystack in
     let a = self.input.asked in
-    let f = some-of (places_of (own_pattern s)) (own_found_from s text a (max a.start a.range_start) self.standing.off) c.args.places.items (c.requires.found ready) in
+    let f = some-of (places_of (own_pattern s)) (own_found_from s text a (max a.start a.range_start) self.standing.off) c.args.places.items c.requires.found in
     let m : Match = f.0 in
     let k = span-is (tree_in s.options (string_bytes s.pattern)) m c.args.places.items f.2 c.requires.within.whole in
     let start : c.index-start.result.now ≡ m.start = c.index-start.ensures ∙ sym (get_or_default c.args.places.items 0 0 c.index-start.result.now (omega (arith, c.requires.within.whole))) ∙ k.0 in
@@ -53,12 +53,12 @@ returns-then-is_repeated-clause-gives g c ready =
     (ap g.S.Input.text c.set_start-2.ensures.haystack) c.set_start-2.ensures.asked next off c.requires.going end
 
 pub returns-clause-gives : goal.returns-clause-gives
-returns-clause-gives g c ready =
+returns-clause-gives g c =
     let self = c.args.self.now in
     let s = self.regex.now.searcher in
     let text = g.S.Input.text self.input.haystack in
     let a = self.input.asked in
-    let f = some-of (places_of (own_pattern s)) (own_found_from s text a (max a.start a.range_start) self.standing.off) c.args.places.items (c.requires.found ready) in
+    let f = some-of (places_of (own_pattern s)) (own_found_from s text a (max a.start a.range_start) self.standing.off) c.args.places.items c.requires.found in
     let m : Match = f.0 in
     let k = span-is (tree_in s.options (string_bytes s.pattern)) m c.args.places.items f.2 c.requires.within.whole in
     let start : c.index-start.result.now ≡ m.start = c.index-start.ensures ∙ sym (get_or_default c.args.places.items 0 0 c.index-start.result.now (omega (arith, c.requires.within.whole))) ∙ k.0 in
