@@ -1,17 +1,25 @@
 -- What a call of the program writes and how it ends.
-use Rattle.std.specs.Prelude.{◌≡◌, ℕ, ◌<◌, List, [], ◌∷◌, length, take, Option, Result, Ok, Err, IsUtf8}
+use Rattle.std.specs.Prelude.{◌≡◌, ◌⊎◌, ℕ, ◌<◌, List, [], ◌∷◌, length, take, Option, Result, Ok, Err, IsUtf8}
 use Rattle.std.specs.Io.KnownBytes.{Appends}
+use Rattle.fancy_regex_meaning.specs.Searches.{Match}
+use Rattle.fancy_regex_search.specs.Refusals as building
+use Rattle.fancy_search.specs.Requests.{regex_options, matches_of, lines_in}
 use Rattle.fancy_search.specs.declared.fault.Fault.{Fault}
 use Rattle.fancy_search.specs.declared.fault.Fault.TheVariants as faults
 use Rattle.fancy_search.specs.declared.run.Status.{Status}
 use Rattle.fancy_search.specs.declared.run.Status.TheVariants.{Done, Nothing}
-use Rattle.fancy_search_words.specs.Words.{Refuses}
+use Rattle.fancy_search_words.specs.Words.{Request, Refuses}
 use Rattle.fancy_search_words.specs.declared.refusal.Refusal.TheVariants as refusals
 
 -- how a call ends that writes these lines
-abbrev pub status_of : List ℕ → Status
+abbrev pub status_by : List ℕ → Status
+status_by [] = Nothing
+status_by (x ∷ xs) = Done
+
+-- how a call ends that found these matches
+abbrev pub status_of : List Match → Status
 status_of [] = Nothing
-status_of (x ∷ xs) = Done
+status_of (m ∷ ms) = Done
 
 -- a beginning of the bytes was written, and not all of them
 abbrev pub AppendsPart : Option (List ℕ) → Option (List ℕ) → List ℕ → Type 0
@@ -23,23 +31,34 @@ IsOfReading faults.Input = Unit {0}
 IsOfReading faults.Memory = Unit {0}
 IsOfReading _ = ⊥
 
--- a fault of the pattern or of a search, or want of memory
-abbrev pub IsOfRegex : Fault → Type 0
-IsOfRegex (faults.Regex error) = Unit {0}
-IsOfRegex faults.Memory = Unit {0}
-IsOfRegex _ = ⊥
+-- a fault of a search, or want of memory
+abbrev pub IsOfSearch : Fault → Type 0
+IsOfSearch (faults.Regex error) = Unit {0}
+IsOfSearch faults.Memory = Unit {0}
+IsOfSearch _ = ⊥
 
--- What a call that read this input did to what the writer holds, and what it returned: all lines are out, or on a write
--- fault a beginning of them; the other faults come in order.
-abbrev pub Outcome : Option (List ℕ) → Option (List ℕ) → List ℕ → Result Status Fault → Type 0
-Outcome old new text (Ok status) = IsUtf8 text × (lines : List ℕ) × (status ≡ status_of lines) × Appends old new lines
-Outcome old new text (Err faults.Output) = IsUtf8 text × (lines : List ℕ) × AppendsPart old new lines
-Outcome old new text (Err (faults.Regex error)) = IsUtf8 text
-Outcome old new text (Err faults.NotUtf8) = IsUtf8 text → ⊥
-Outcome old new text (Err faults.Input) = Unit {0}
-Outcome old new text (Err faults.Memory) = Unit {0}
-Outcome old new text (Err (faults.Words t)) = ⊥
-Outcome old new text (Err (faults.Help t)) = ⊥
+-- the request's pattern is one under its options, and is not refused
+abbrev pub IsAccepted : Request → Type 0
+IsAccepted request = building.Accepts (regex_options request.options) request.pattern
+
+-- The fault of a pattern: why it is none or is refused; or, where it is accepted, that of a search; or want of memory.
+abbrev pub IsOfRegex : Request → Fault → Type 0
+IsOfRegex request (faults.Regex error) = building.Refuses (regex_options request.options) request.pattern error ⊎ IsAccepted request
+IsOfRegex request faults.Memory = Unit {0}
+IsOfRegex request _ = ⊥
+
+-- What a call that read this input did to what the writer holds, and what it returned: all lines that are asked for are
+-- out, or on a write fault a beginning of them; the other faults come in order.
+abbrev pub Outcome : Request → Option (List ℕ) → Option (List ℕ) → List ℕ → Result Status Fault → Type 0
+Outcome request old new text (Ok status) =
+    IsUtf8 text × IsAccepted request × (status ≡ status_of (matches_of request text)) × Appends old new (lines_in request text)
+Outcome request old new text (Err faults.Output) = IsUtf8 text × IsAccepted request × AppendsPart old new (lines_in request text)
+Outcome request old new text (Err (faults.Regex error)) = IsUtf8 text × IsOfRegex request (faults.Regex error)
+Outcome request old new text (Err faults.NotUtf8) = IsUtf8 text → ⊥
+Outcome request old new text (Err faults.Input) = Unit {0}
+Outcome request old new text (Err faults.Memory) = Unit {0}
+Outcome request old new text (Err (faults.Words t)) = ⊥
+Outcome request old new text (Err (faults.Help t)) = ⊥
 
 -- What a call returned whose words ask nothing.
 abbrev pub RefusesWords : List (List ℕ) → Result Status Fault → Type 0

@@ -1,2 +1,5 @@
 pub mod Causes
+pub mod Lines
+pub mod Spans
+pub mod Requests
 pub mod Due

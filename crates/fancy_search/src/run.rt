@@ -2,9 +2,10 @@
 
 ghost use Rattle.std.specs.Prelude.{◌≡◌, ◌≢◌, ℕ, List, map, string_bytes, None, Some, IfOk, IfErr, IfSome, OnOk};
 ghost use Rattle.std.specs.Io.KnownBytes.{IsAtEnd};
-ghost use Rattle.fancy_search.specs.Due.{Outcome, RefusesWords, IsOfRegex, status_of};
+ghost use Rattle.fancy_search.specs.Due.{Outcome, RefusesWords, IsAccepted, IsOfRegex, status_by};
+ghost use Rattle.fancy_search.specs.Requests.{lines_in};
 ghost use Rattle.fancy_search.specs.declared.fault.Fault.TheVariants.{Output};
-ghost use Rattle.fancy_search_words.specs.Words.{asked};
+ghost use Rattle.fancy_search_words.specs.Words.{Request, asked, request_seen};
 
 use crate::fault::Fault;
 use crate::{input, output, pattern, search};
@@ -42,8 +43,8 @@ pub fn run<S: AsStr, R: Read, W: Write>(
     writer: &mut W,
 ) -> Result<Status, Fault>
     ensures words { asked (map S.text words.now) ≡ None → RefusesWords (map S.text words.now) result × (reader.new ≡ reader.old) }
-    ensures outcome { asked (map S.text words.now) ≢ None → (input : List ℕ) × IfSome (R.remaining reader.old) (λ xs. input ≡ xs)
-        × Outcome (W.contents writer.old) (W.contents writer.new) input result }
+    ensures outcome { (request : Request) → asked (map S.text words.now) ≡ Some request → (input : List ℕ) × IfSome (R.remaining reader.old) (λ xs. input ≡ xs)
+        × Outcome request (W.contents writer.old) (W.contents writer.new) input result }
     ensures end { OnOk result (IsAtEnd (R.remaining reader.new)) }
     ensures untouched { IfErr result (λ f. f ≢ Output → writer.new ≡ writer.old) }
 {
@@ -59,7 +60,7 @@ fn respond<W: Write>(
     input: &[u8],
     writer: &mut W,
 ) -> Result<Status, Fault>
-    ensures outcome { Outcome (W.contents writer.old) (W.contents writer.new) input.now result }
+    ensures outcome { Outcome (request_seen asked.entry) (W.contents writer.old) (W.contents writer.new) input.now result }
     ensures untouched { IfErr result (λ f. f ≢ Output → writer.new ≡ writer.old) }
 {
     let Ok(text) = str::from_utf8(input) else {
@@ -72,8 +73,10 @@ fn respond<W: Write>(
 
 /// What is found in the text.
 fn find(alloc: Global, asked: Asked<'_>, text: &str) -> Result<Found, Fault>
-    ensures status { IfOk result (λ found. found.status ≡ status_of (string_bytes found.lines)) }
-    ensures fault { IfErr result IsOfRegex }
+    ensures lines { IfOk result (λ found. string_bytes found.lines ≡ lines_in (request_seen asked.entry) text.now) }
+    ensures status { IfOk result (λ found. found.status ≡ status_by (string_bytes found.lines)) }
+    ensures accepted { IfOk result (λ _. IsAccepted (request_seen asked.entry)) }
+    ensures fault { IfErr result (IsOfRegex (request_seen asked.entry)) }
 {
     let regex = pattern::regex(alloc, asked)?;
     let lines = match asked.subcommand {

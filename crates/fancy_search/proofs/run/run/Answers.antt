@@ -1,5 +1,8 @@
-use Rattle.std.proofs.Common.{map, refl}
+use Rattle.std.proofs.Common.{◌≡◌, ◌∙◌, map, refl, sym, subst}
+use Rattle.std.proofs.lemmas.Option.{same_Some}
 use Rattle.std.proofs.lemmas.Result.{err_from_is_err_and}
+use Rattle.fancy_search_words.specs.Words.{Request, request_seen}
+use Rattle.fancy_search.specs.Due.{Outcome}
 use Rattle.fancy_search.proofs.Outcomes.{some_input, outcome_reading, outcome_words, refuses_words, is_asked}
 use Rattle.fancy_search.proofs.run.run.Goals as goal
 
@@ -12,7 +15,7 @@ pub returns-in_err-asked-clause-outcome : goal.returns-in_err-asked-clause-outco
 returns-in_err-asked-clause-outcome g c =
     let p = err_from_is_err_and c.from_residual.result c.from_residual.ensures.1 in
     let known = some_input (g.R.Read.remaining c.args.reader.now) in
-    λ some. (known.0, known.1, rw (p.1, p.2) (outcome_words _ _ known.0 (map g.S.AsStr.text c.args.words.now) _ c.in_err-asked.ensures.err some))
+    λ request asks. (known.0, known.1, rw (p.1, p.2) (outcome_words request _ _ known.0 (map g.S.AsStr.text c.args.words.now) _ c.in_err-asked.ensures.err asks))
 
 pub returns-in_err-input-clause-words : goal.returns-in_err-input-clause-words
 returns-in_err-input-clause-words g c = λ none. absurd (is_asked _ _ c.in_ok-asked.ensures.ok none)
@@ -21,10 +24,17 @@ pub returns-in_err-input-clause-outcome : goal.returns-in_err-input-clause-outco
 returns-in_err-input-clause-outcome g c =
     let p = err_from_is_err_and c.from_residual-in_err-input.result c.from_residual-in_err-input.ensures.1 in
     let known = some_input (g.R.Read.remaining c.args.reader.now) in
-    λ some. (known.0, known.1, rw (p.1, p.2) (outcome_reading _ _ known.0 _ c.in_err-input.ensures.fault))
+    λ request asks. (known.0, known.1, rw (p.1, p.2) (outcome_reading request _ _ known.0 _ c.in_err-input.ensures.fault))
 
 pub returns-clause-words : goal.returns-clause-words
 returns-clause-words g c = λ none. absurd (is_asked _ _ c.in_ok-asked.ensures.ok none)
 
 pub returns-clause-outcome : goal.returns-clause-outcome
-returns-clause-outcome g c = λ some. (c.in_ok-input.input.items, c.in_ok-input.ensures.value, rw (← c.deref.ensures.value) c.respond.ensures.outcome)
+returns-clause-outcome g c =
+    λ request asks.
+    let same : request_seen c.in_ok-asked.asked ≡ request = same_Some _ _ (sym c.in_ok-asked.ensures.ok ∙ asks) in
+    let C = g.W.Write.contents in (
+      c.in_ok-input.input.items,
+      c.in_ok-input.ensures.value,
+      subst (λ (r : Request). Outcome r (C c.args.writer.now) (C c.respond.new.writer) c.in_ok-input.input.items c.respond.result) same (rw (← c.deref.ensures.value) c.respond.ensures.outcome),
+    )

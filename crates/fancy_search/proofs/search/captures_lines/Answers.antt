@@ -1,0 +1,64 @@
+use Rattle.std.proofs.Common.{◌≡◌, ◌++◌, ◌∷◌, ◌<◌, ◌≤◌, length, arith, ap, refl, ◌∙◌}
+use Rattle.std.specs.Prelude.{codes, string_bytes, slice_set}
+use Rattle.std.proofs.lemmas.Str.{IsCharBoundary-start}
+use Rattle.fancy_regex_input.specs.Inputs.{whole, input_of}
+use Rattle.fancy_regex_meaning.specs.Laws.{Each}
+use Rattle.fancy_regex_meaning.specs.Searches.{Match}
+use Rattle.fancy_regex_runner.specs.Plain.{flat}
+use Rattle.fancy_regex_search.specs.Owned.{own_pattern}
+use Rattle.fancy_regex_search.specs.Patterns.{options_in, setting_in}
+use Rattle.fancy_regex.specs.Left.{items_left, all_left}
+use Rattle.fancy_search.proofs.SpanLemmas.{HasSpans, all_have_spans, first_spans, each_later}
+use Rattle.fancy_search.proofs.LineLemmas.{line_more}
+use Rattle.fancy_search.specs.Lines.{lines_of, groups_text, spans_of}
+use Rattle.fancy_search_words.specs.declared.asked.Subcommand.TheVariants.{Captures}
+use Rattle.fancy_search.proofs.search.captures_lines.Goals as goal
+
+pub loop-found-init : goal.loop-found-init
+loop-found-init c =
+    let text = c.args.text.now in
+    let s = c.args.regex.now.searcher in
+    let left = c.captures_iter-matches.ensures.left in
+    let same : c.captures_iter-matches.result.walk.input.haystack.now ≡ text = λ i. (c.captures_iter-matches.ensures.input.0 i).now in
+    let fits : length text < 18446744073709551615 = omega arith in
+    let end : length text ≤ length text = omega arith in
+    let start = IsCharBoundary-start text c.utf8.text in
+    let laws = c.laws_of_items.ensures in
+    let setting = setting_in s.options text (whole text) in
+    let all : Each (HasSpans text) (all_left s text (whole text)) =
+    all_have_spans text (length text) (all_left s text (whole text)) fits (laws.ascend setting (own_pattern s) (options_in s.options) (input_of (whole text)))
+    (laws.cuts setting (own_pattern s) (options_in s.options) (input_of (whole text)) c.utf8.text (start, start, end)) in
+    record {
+      lines = rw c.new-lines.ensures.bytes (ap (λ ms. lines_of Captures ms) left);
+      cut = rw (left, same) all;
+      regex = c.captures_iter-matches.ensures.regex;
+    }
+
+pub loop-found-preserved : goal.loop-found-preserved
+loop-found-preserved c =
+    let steps = c.in-Some.ensures.steps in
+    let old = c.loop-found.matches.walk in
+    let new = c.next.new.self.walk in
+    let text = old.input.haystack.now in
+    let seen : new.input.haystack.now ≡ text = λ i. (steps.3 i).now in
+    let searches : new.regex.now ≡ old.regex.now = λ i. (steps.4 i).now in
+    let before = items_left old.regex.now.searcher text old.input.asked old.standing in
+    let after = items_left new.regex.now.searcher new.input.haystack.now new.input.asked new.standing in
+    let gave : (m : Match) × (before ≡ m ∷ after) × (c.in_ok-found.field-0.places.items ≡ slice_set (slice_set (flat m.pairs) 0 m.start) 1 m.end) =
+    rw c.in_ok-found.was at steps.0 in
+    let of = rw c.in_ok-found.was at steps.1 in
+    let shown : c.in_ok-found.field-0.haystack.now ≡ text = λ i. (of.0 i).now in
+    record {
+      lines =
+          let out = string_bytes c.loop-found.lines in
+          let told = groups_text (spans_of gave.0) in
+          let spans = first_spans text c.in_ok-found.field-0.haystack.now c.in_ok-found.field-0.places.items gave.0 before after c.loop-found.invariant.cut gave.1 shown gave.2 in
+          ap (λ xs. xs ++ lines_of Captures after) (
+          c.in_ok-push.ensures.bytes ∙ ap (λ xs. string_bytes c.show_groups.new.line ++ xs) (c.in_ok-push.ensures.ascii (omega arith))
+          ∙ ap (λ xs. xs ++ codes "\n") (c.in_ok-show_groups.ensures (spans_of gave.0) spans)
+          )
+          ∙ line_more Captures out told gave.0 before after gave.1 refl
+          ∙ c.loop-found.invariant.lines;
+      cut = each_later text new.input.haystack.now gave.0 before after c.loop-found.invariant.cut gave.1 seen;
+      regex = searches ∙ c.loop-found.invariant.regex;
+    }
