@@ -30,44 +30,44 @@ allowed_last P xs i x some least most is h this =
     let at : length xs - 1 ≡ i = omega (arith, long) in
     subst (All P) (take_all (i + 1) xs (omega (arith, long))) (allowed_more P xs i x (omega (arith, long)) (is ∙ ap (λ k. get_or xs k x) at) h this)
 
-module _ (keeps : Bool) where
+module _ (unicode keeps : Bool) where
   -- another name of the same pattern
-  pub allowed_same : {X Y : Type 0} (r : Result X Y) {p q : Pat} → q ≡ p → IfOk r (λ _. IsAllowed keeps p) → IfOk r (λ _. IsAllowed keeps q)
-  allowed_same r is h = subst (λ x. IfOk r (λ _. IsAllowed keeps x)) (sym is) h
+  pub allowed_same : {X Y : Type 0} (r : Result X Y) {p q : Pat} → q ≡ p → IfOk r (λ _. IsAllowed unicode keeps p) → IfOk r (λ _. IsAllowed unicode keeps q)
+  allowed_same r is h = subst (λ x. IfOk r (λ _. IsAllowed unicode keeps x)) (sym is) h
 
   -- from as far back
-  pub allowed_behind : {X Y : Type 0} (r : Result X Y) {p q : Pat} (n : ℕ) → q ≡ cat (back n) p → IfOk r (λ _. IsAllowed keeps p) → IfOk r (λ _. IsAllowed keeps q)
-  allowed_behind (Ok x) n is h = subst (IsAllowed keeps) (sym is) (tt, h)
+  pub allowed_behind : {X Y : Type 0} (r : Result X Y) {p q : Pat} (n : ℕ) → q ≡ cat (back n) p → IfOk r (λ _. IsAllowed unicode keeps p) → IfOk r (λ _. IsAllowed unicode keeps q)
+  allowed_behind (Ok x) n is h = subst (IsAllowed unicode keeps) (sym is) (tt, h)
   allowed_behind (Err e) n is h = tt
 
   -- parts in a row
-  pub allowed_row : (f : Info → Written) (xs : List Info) → All (λ x. IsAllowed keeps (f x).front) xs → IsAllowed keeps (cat_all (map f xs))
+  pub allowed_row : (f : Info → Written) (xs : List Info) → All (λ x. IsAllowed unicode keeps (f x).front) xs → IsAllowed unicode keeps (cat_all (map f xs))
   allowed_row f [] h = tt
   allowed_row f (x ∷ xs) h = (h 0 x (omega arith), allowed_row f xs (λ k d below. h (suc k) d (omega arith)))
 
   -- branches
-  pub allowed_branches : (f : Info → Pat) (xs : List Info) → All (λ x. IsAllowed keeps (f x)) xs → IsAllowed keeps (alt_all (map f xs))
+  pub allowed_branches : (f : Info → Pat) (xs : List Info) → All (λ x. IsAllowed unicode keeps (f x)) xs → IsAllowed unicode keeps (alt_all (map f xs))
   allowed_branches f [] h = tt
   allowed_branches f (x ∷ []) h = h 0 x (omega arith)
   allowed_branches f (x ∷ y ∷ xs) h = (h 0 x (omega arith), allowed_branches f (y ∷ xs) (λ k d below. h (suc k) d (omega arith)))
 
   -- a call where no more may open
-  pub allowed_full : (groups : List InfoTree) (calls : ℕ) (opened : List ℕ) (k : ℕ) → is_full opened k ≡ true → IsAllowed keeps (info_call groups calls opened k)
+  pub allowed_full : (groups : List InfoTree) (calls : ℕ) (opened : List ℕ) (k : ℕ) → is_full opened k ≡ true → IsAllowed unicode keeps (info_call groups calls opened k)
   unfolding info_call
   allowed_full groups zero opened k full = tt
   allowed_full groups (suc m) opened k full =
       let inside = pat_for (λ (t : InfoTree). (info_written (info_call groups m (opened ++ k ∷ [])) t).front) (slice_get groups k) in
-      subst (λ b. IsAllowed keeps (cond b fail inside)) (sym full) tt
+      subst (λ b. IsAllowed unicode keeps (cond b fail inside)) (sym full) tt
 
-  pub allowed_none : (groups : List InfoTree) (calls : ℕ) (opened : List ℕ) (k : ℕ) → calls ≡ 0 → IsAllowed keeps (info_call groups calls opened k)
+  pub allowed_none : (groups : List InfoTree) (calls : ℕ) (opened : List ℕ) (k : ℕ) → calls ≡ 0 → IsAllowed unicode keeps (info_call groups calls opened k)
   unfolding info_call
-  allowed_none groups calls opened k none = subst (λ n. IsAllowed keeps (info_call groups n opened k)) (sym none) tt
+  allowed_none groups calls opened k none = subst (λ n. IsAllowed unicode keeps (info_call groups n opened k)) (sym none) tt
 
   -- A call is its target's body, with one call more open.
   pub allowed_call : (groups : List InfoTree) (calls m : ℕ) (opened : List ℕ) (k : ℕ) (x : InfoTree) → calls ≡ suc m → slice_get groups k ≡ Some x →
-      is_full opened k ≡ false → IsAllowed keeps (info_written (info_call groups m (opened ++ k ∷ [])) x).front → IsAllowed keeps (info_call groups calls opened k)
+      is_full opened k ≡ false → IsAllowed unicode keeps (info_written (info_call groups m (opened ++ k ∷ [])) x).front → IsAllowed unicode keeps (info_call groups calls opened k)
   unfolding info_call
   allowed_call groups calls m opened k x more at free h =
       let body = λ (t : InfoTree). (info_written (info_call groups m (opened ++ k ∷ [])) t).front in
       let is = ap (λ n. info_call groups n opened k) more ∙ ap (λ b. cond b fail (pat_for body (slice_get groups k))) free ∙ ap (pat_for body) at in
-      subst (IsAllowed keeps) (sym is) h
+      subst (IsAllowed unicode keeps) (sym is) h

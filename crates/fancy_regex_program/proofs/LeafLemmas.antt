@@ -1,5 +1,5 @@
 -- The instruction of a node without children is all that it is.
-use Rattle.std.proofs.Common.{◌≡◌, ℕ, ◌*◌, Bool, true, false, not, ◌&&◌, List, None, refl, sym, ap, subst, ◌∙◌, arith}
+use Rattle.std.proofs.Common.{◌≡◌, ℕ, ◌*◌, Bool, true, false, not, ◌&&◌, List, None, IsTrue, refl, sym, ap, subst, ◌∙◌, arith}
 use Rattle.std.specs.Prelude.{slice_index, ◌==◌}
 use Rattle.std.specs.Char.{IsScalar}
 use Rattle.std.proofs.Math.Path.{fun_ext}
@@ -9,7 +9,7 @@ use Rattle.fancy_regex_tree.specs.declared.expr.Assertion.{Assertion}
 use Rattle.fancy_regex_tree.specs.declared.expr.BacktrackingControlVerb.{BacktrackingControlVerb}
 use Rattle.fancy_regex_tree.specs.Tree as tree
 use Rattle.fancy_regex_tree.specs.Tree.{Tree, Text}
-use Rattle.fancy_regex_class.specs.Classes.{in_class, folded}
+use Rattle.fancy_regex_class.specs.Classes.{is_class, in_class, folded}
 use Rattle.fancy_regex_class.specs.Matchers.{has, is_alike, IsMatcherOf}
 use Rattle.fancy_regex_class.specs.declared.class.CharClassMatcher.{CharClassMatcher}
 use Rattle.fancy_regex_class.specs.declared.folding.CaseiLiteral.{CaseiLiteral}
@@ -30,11 +30,11 @@ use Rattle.fancy_regex_program.proofs.Drafts.{alone}
 
 module _ (u : Bool) where
   is_insn : (i : Insn) (t : Tree) (o : Op) (p : Pat) → op_of i ≡ o → ((call : ℕ → Pat) (n : ℕ) (us : List Written) → front_of call n t us ≡ p) →
-      ((w : Bool) (slot : ℕ) (d : Draft) → with_pat u w p slot d ≡ added o d) → slots_in p ≡ 0 → ((keeps : Bool) → IsAllowed keeps p) → IsInsn u i t
+      ((w : Bool) (slot : ℕ) (d : Draft) → with_pat u w p slot d ≡ added o d) → slots_in p ≡ 0 → ((keeps : Bool) → IsAllowed u keeps p) → IsInsn u i t
   is_insn i t o p same is one none allowed = record {
     draft = λ w call n slot us d. ap (λ q. with_pat u w q slot d) (is call n us) ∙ one w slot d ∙ ap (λ x. added x d) (sym same);
     slots = λ call n us. ap slots_in (is call n us) ∙ none;
-    allowed = λ keeps call n us. subst (IsAllowed keeps) (sym (is call n us)) (allowed keeps);
+    allowed = λ keeps call n us. subst (IsAllowed u keeps) (sym (is call n us)) (allowed keeps);
   }
 
   pub leaf_any : (i : Insn) (t : Tree) (newline crlf : Bool) → t ≡ tree.any newline crlf → op_of i ≡ op.any newline (crlf && not newline) → IsInsn u i t
@@ -98,12 +98,12 @@ module _ (u : Bool) where
       at c false e = refl
 
   pub leaf_class : (m : CharClassMatcher) (t : Tree) (name : Text) (casei : Bool) → t ≡ tree.delegate name casei → IsMatcherOf m u name casei →
-      IsInsn u (insn.CharClass m) t
+      IsTrue (is_class u name casei) → IsInsn u (insn.CharClass m) t
   unfolding front_of with_pat code_of
-  leaf_class m t name casei is members =
+  leaf_class m t name casei is members readable =
       let o = op.test (among_scalars (in_class u name casei)) in
       is_insn (insn.CharClass m) t o (read (class name casei)) (ap op.test (among_same (has m) (in_class u name casei) members))
-      (λ call n us. ap (λ x. front_of call n x us) is) (λ w slot d. alone u w o d) refl (λ _. tt)
+      (λ call n us. ap (λ x. front_of call n x us) is) (λ w slot d. alone u w o d) refl (λ _. readable)
 
 -- a node that is made nowhere, said of a node without children
 pub unfit_leaf : (u : Bool) (count : ℕ) (t : Tree) (e : CompileError) → IsUnfit t e → IsNoSingle u count t e

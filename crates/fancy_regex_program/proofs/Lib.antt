@@ -16,5 +16,6 @@ mod RowLemmas
 mod AllowedLemmas
 mod WritableLemmas
 mod WholeLemmas
+mod ClassLemmas
 mod RoomLemmas
 mod LengthLemmas

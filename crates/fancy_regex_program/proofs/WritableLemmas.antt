@@ -22,26 +22,26 @@ use Rattle.fancy_regex_program.specs.Programs.{RefersToGroups, CanBeWritten}
 use Rattle.fancy_regex_program.specs.Shapes.{KeepsNothing, IsAllowed, IsWritable}
 
 -- where the kept start may not be set, it stays as it is
-keeps_nothing : (p : Pat) → IsAllowed false p → KeepsNothing p
-keeps_nothing nothing h = tt
-keeps_nothing (read leaf) h = tt
-keeps_nothing (general_newline unicode) h = tt
-keeps_nothing (check a) h = tt
-keeps_nothing continue h = tt
-keeps_nothing keep_out h = absurd (true≢false (sym h))
-keeps_nothing fail h = tt
-keeps_nothing (cat a b) h = (keeps_nothing a h.0, keeps_nothing b h.1)
-keeps_nothing (alt a b) h = (keeps_nothing a h.0, keeps_nothing b h.1)
-keeps_nothing (group k a) h = keeps_nothing a h
-keeps_nothing (ahead a) h = tt
-keeps_nothing (never a) h = tt
-keeps_nothing (back n) h = tt
-keeps_nothing (atomic a) h = keeps_nothing a h
-keeps_nothing (repeat a lo hi greedy) h = keeps_nothing a h.1
-keeps_nothing (backref k casei) h = tt
-keeps_nothing (exists k) h = tt
-keeps_nothing (conditional c a b) h = (keeps_nothing c h.0, keeps_nothing a h.1, keeps_nothing b h.2)
-keeps_nothing (absent a) h = tt
+keeps_nothing : (unicode : Bool) (p : Pat) → IsAllowed unicode false p → KeepsNothing p
+keeps_nothing unicode nothing h = tt
+keeps_nothing unicode (read leaf) h = tt
+keeps_nothing unicode (general_newline crlf) h = tt
+keeps_nothing unicode (check a) h = tt
+keeps_nothing unicode continue h = tt
+keeps_nothing unicode keep_out h = absurd (true≢false (sym h))
+keeps_nothing unicode fail h = tt
+keeps_nothing unicode (cat a b) h = (keeps_nothing unicode a h.0, keeps_nothing unicode b h.1)
+keeps_nothing unicode (alt a b) h = (keeps_nothing unicode a h.0, keeps_nothing unicode b h.1)
+keeps_nothing unicode (group k a) h = keeps_nothing unicode a h
+keeps_nothing unicode (ahead a) h = tt
+keeps_nothing unicode (never a) h = tt
+keeps_nothing unicode (back n) h = tt
+keeps_nothing unicode (atomic a) h = keeps_nothing unicode a h
+keeps_nothing unicode (repeat a lo hi greedy) h = keeps_nothing unicode a h.1
+keeps_nothing unicode (backref k casei) h = tt
+keeps_nothing unicode (exists k) h = tt
+keeps_nothing unicode (conditional c a b) h = (keeps_nothing unicode c h.0, keeps_nothing unicode a h.1, keeps_nothing unicode b h.2)
+keeps_nothing unicode (absent a) h = tt
 
 module _ (first end : ℕ) where
   -- Each group that it reads has a number from `first` on, below `end`.
@@ -59,30 +59,30 @@ module _ (first end : ℕ) where
   ReadsGroups (absent a) = ReadsGroups a
   ReadsGroups _ = Unit {0}
 
-  can_write : (keeps free : Bool) (p : Pat) → HasGroups first end p → ReadsGroups p → IsAllowed keeps p → IsPlaced free p → IsWritable first end p
-  can_write keeps free nothing g r a l = tt
-  can_write keeps free (read leaf) g r a l = tt
-  can_write keeps free (general_newline unicode) g r a l = tt
-  can_write keeps free (check x) g r a l = tt
-  can_write keeps free continue g r a l = tt
-  can_write keeps free keep_out g r a l = tt
-  can_write keeps free fail g r a l = tt
-  can_write keeps free (cat p q) g r a l = (can_write keeps free p g.0 r.0 a.0 l.0, can_write keeps false q g.1 r.1 a.1 l.1)
-  can_write keeps free (alt p q) g r a l = (can_write keeps free p g.0 r.0 a.0 l.0, can_write keeps free q g.1 r.1 a.1 l.1)
-  can_write keeps free (group k p) g r a l = (g.0, g.1, can_write keeps false p g.2 r a l)
-  can_write keeps free (ahead p) g r a l = (keeps_nothing p a, can_write false true p g r a l)
-  can_write keeps free (never p) g r a l = can_write false true p g r a l
-  can_write keeps free (back n) g r a l = tt
-  can_write keeps free (atomic p) g r a l = can_write keeps false p g r a l
-  can_write keeps free (repeat p lo hi greedy) g r a l = (a.0, can_write keeps false p g r a.1 l)
-  can_write keeps free (backref k casei) g r a l = r
-  can_write keeps free (exists k) g r a l = r
-  can_write keeps free (conditional c p q) g r a l = (
-    can_write keeps false c g.0 r.0 a.0 l.0,
-    can_write keeps false p g.1 r.1 a.1 l.1,
-    can_write keeps false q g.2 r.2 a.2 l.2,
+  can_write : (unicode keeps free : Bool) (p : Pat) → HasGroups first end p → ReadsGroups p → IsAllowed unicode keeps p → IsPlaced free p → IsWritable first end p
+  can_write unicode keeps free nothing g r a l = tt
+  can_write unicode keeps free (read leaf) g r a l = tt
+  can_write unicode keeps free (general_newline crlf) g r a l = tt
+  can_write unicode keeps free (check x) g r a l = tt
+  can_write unicode keeps free continue g r a l = tt
+  can_write unicode keeps free keep_out g r a l = tt
+  can_write unicode keeps free fail g r a l = tt
+  can_write unicode keeps free (cat p q) g r a l = (can_write unicode keeps free p g.0 r.0 a.0 l.0, can_write unicode keeps false q g.1 r.1 a.1 l.1)
+  can_write unicode keeps free (alt p q) g r a l = (can_write unicode keeps free p g.0 r.0 a.0 l.0, can_write unicode keeps free q g.1 r.1 a.1 l.1)
+  can_write unicode keeps free (group k p) g r a l = (g.0, g.1, can_write unicode keeps false p g.2 r a l)
+  can_write unicode keeps free (ahead p) g r a l = (keeps_nothing unicode p a, can_write unicode false true p g r a l)
+  can_write unicode keeps free (never p) g r a l = can_write unicode false true p g r a l
+  can_write unicode keeps free (back n) g r a l = tt
+  can_write unicode keeps free (atomic p) g r a l = can_write unicode keeps false p g r a l
+  can_write unicode keeps free (repeat p lo hi greedy) g r a l = (a.0, can_write unicode keeps false p g r a.1 l)
+  can_write unicode keeps free (backref k casei) g r a l = r
+  can_write unicode keeps free (exists k) g r a l = r
+  can_write unicode keeps free (conditional c p q) g r a l = (
+    can_write unicode keeps false c g.0 r.0 a.0 l.0,
+    can_write unicode keeps false p g.1 r.1 a.1 l.1,
+    can_write unicode keeps false q g.2 r.2 a.2 l.2,
   )
-  can_write keeps free (absent p) g r a l = (l, can_write false false p g r a l)
+  can_write unicode keeps free (absent p) g r a l = (l, can_write unicode false false p g r a l)
 
   record Read (p : Pat) : Type 0 where
     is : ReadsGroups p
@@ -292,11 +292,11 @@ pattern_has_groups : (explicit : Bool) (t : Tree) →
 pattern_has_groups true t = (pattern_has_its_groups t).1
 pattern_has_groups false t = (pattern_has_its_groups t).0
 
-pub can_be_written : (explicit : Bool) (t : Tree) → IsAllowed true (pat_of (pattern_in explicit t)) → CanBeWritten explicit t
-can_be_written explicit t allowed =
+pub can_be_written : (unicode explicit : Bool) (t : Tree) → IsAllowed unicode true (pat_of (pattern_in explicit t)) → CanBeWritten explicit t
+can_be_written unicode explicit t allowed =
     let p = pattern_in explicit t in
     record {
       placed = pattern_is_placed p;
-      writable = λ refers. can_write p.first_group (length p.groups) true false (pat_of p) (pattern_has_groups explicit t)
+      writable = λ refers. can_write p.first_group (length p.groups) unicode true false (pat_of p) (pattern_has_groups explicit t)
           (pattern_reads explicit t refers) allowed (pattern_is_placed p);
     }

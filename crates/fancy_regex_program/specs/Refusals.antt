@@ -1,11 +1,11 @@
 -- Which causes the compiler answers.
-use Rattle.std.specs.Prelude.{◌≡◌, ℕ, ◌<◌, ◌≤◌, Bool, true, false, not, ◌&&◌, if◌then◌else◌, List, chars, string_bytes, bytes_eq, length, slice_get, Some, is_some}
+use Rattle.std.specs.Prelude.{◌≡◌, ℕ, ◌<◌, ◌≤◌, Bool, true, false, not, ◌&&◌, if◌then◌else◌, List, chars, string_bytes, bytes_eq, length, slice_get, Some, is_some, IsTrue}
 use Rattle.std.specs.List.{Contains}
 use Rattle.fancy_regex_tree.specs.Tree.{Text, Tree, any, assertion, general_newline, literal, literal_bytes, delegate, backref, backref_with_level, keep_out, continue, backref_exists, verb, absent_repeater}
 use Rattle.fancy_regex_tree.specs.declared.expr.LookAround.{LookAround}
 use Rattle.fancy_regex_tree.specs.declared.expr.LookAround.TheVariants.{LookAhead, LookAheadNeg, LookBehind, LookBehindNeg}
 use Rattle.fancy_regex_tree.specs.declared.expr.BacktrackingControlVerb.{BacktrackingControlVerb}
-use Rattle.fancy_regex_class.specs.Classes.{class_text}
+use Rattle.fancy_regex_class.specs.Classes.{class_text, is_read}
 use Rattle.fancy_regex_class.specs.Matchers.{RefusesText}
 use Rattle.fancy_regex_meaning.specs.Sizes.{size, target}
 use Rattle.fancy_regex_sizes.specs.Infos.{InfoTree, known, info_of, described}
@@ -133,6 +133,11 @@ pub record ShowsClass (unicode : Bool) (groups : List Tree) (root : Tree) (shown
   pub casei : Bool
   pub is_there : SomePart groups root (λ _. is_class shown casei)
   pub refused : RefusesText (class_text unicode casei shown)
+
+-- The grammar of `regex` reads each class that is written out.
+abbrev pub ReadsClasses : Bool → List Tree → Tree → Type 0
+ReadsClasses unicode groups root = (casei : Bool) (text : Text) → SomePart groups root (λ _. is_class text casei) →
+    IsTrue (is_read (class_text unicode casei text))
 
 -- why there is no program of a tree that is clear
 abbrev pub IsReason : Bool → List Tree → Tree → CompileError → Type 0

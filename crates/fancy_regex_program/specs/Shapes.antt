@@ -1,6 +1,7 @@
 -- The shape of a pattern that programs are made of.
-use Rattle.std.specs.Prelude.{◌≡◌, ℕ, ◌<◌, ◌≤◌, Bool, true, false, Option, Some, None}
-use Rattle.fancy_regex_pattern.specs.Pats.{Pat, keep_out, cat, alt, group, ahead, never, atomic, repeat, backref, exists, conditional, absent}
+use Rattle.std.specs.Prelude.{◌≡◌, ℕ, ◌<◌, ◌≤◌, Bool, true, false, IsTrue, Option, Some, None}
+use Rattle.fancy_regex_class.specs.Classes.{is_class}
+use Rattle.fancy_regex_pattern.specs.Pats.{Leaf, class, Pat, read, keep_out, cat, alt, group, ahead, never, atomic, repeat, backref, exists, conditional, absent}
 use Rattle.fancy_regex_pattern.specs.Shapes.{IsPlaced}
 use Rattle.fancy_regex_program.specs.Machine.{unset}
 
@@ -36,17 +37,24 @@ IsWritable first end (conditional c a b) = IsWritable first end c × IsWritable 
 IsWritable first end (absent a) = IsPlaced false a × IsWritable first end a
 IsWritable first end _ = Unit {0}
 
--- What the compiler lets through, where the kept start may be set or not: an endless repeat's least count can be counted
--- past, and neither a look-around nor an absent repeater sets the kept start.
-abbrev pub IsAllowed : Bool → Pat → Type 0
-IsAllowed keeps keep_out = keeps ≡ true
-IsAllowed keeps (cat a b) = IsAllowed keeps a × IsAllowed keeps b
-IsAllowed keeps (alt a b) = IsAllowed keeps a × IsAllowed keeps b
-IsAllowed keeps (group k a) = IsAllowed keeps a
-IsAllowed keeps (ahead a) = IsAllowed false a
-IsAllowed keeps (never a) = IsAllowed false a
-IsAllowed keeps (atomic a) = IsAllowed keeps a
-IsAllowed keeps (repeat a lo hi greedy) = IsCounted lo hi × IsAllowed keeps a
-IsAllowed keeps (conditional c a b) = IsAllowed keeps c × IsAllowed keeps a × IsAllowed keeps b
-IsAllowed keeps (absent a) = IsAllowed false a
-IsAllowed keeps _ = Unit {0}
+-- the grammar of `regex` reads it, if it is a class
+abbrev pub IsReadable : Bool → Leaf → Type 0
+IsReadable unicode (class text casei) = IsTrue (is_class unicode text casei)
+IsReadable unicode _ = Unit {0}
+
+-- What the compiler lets through, in Unicode mode or outside it, where the kept start may be set or not: an endless repeat's
+-- least count can be counted past; neither a look-around nor an absent repeater sets the kept start; and the grammar of `regex`
+-- reads each class.
+abbrev pub IsAllowed : Bool → Bool → Pat → Type 0
+IsAllowed unicode keeps (read c) = IsReadable unicode c
+IsAllowed unicode keeps keep_out = keeps ≡ true
+IsAllowed unicode keeps (cat a b) = IsAllowed unicode keeps a × IsAllowed unicode keeps b
+IsAllowed unicode keeps (alt a b) = IsAllowed unicode keeps a × IsAllowed unicode keeps b
+IsAllowed unicode keeps (group k a) = IsAllowed unicode keeps a
+IsAllowed unicode keeps (ahead a) = IsAllowed unicode false a
+IsAllowed unicode keeps (never a) = IsAllowed unicode false a
+IsAllowed unicode keeps (atomic a) = IsAllowed unicode keeps a
+IsAllowed unicode keeps (repeat a lo hi greedy) = IsCounted lo hi × IsAllowed unicode keeps a
+IsAllowed unicode keeps (conditional c a b) = IsAllowed unicode keeps c × IsAllowed unicode keeps a × IsAllowed unicode keeps b
+IsAllowed unicode keeps (absent a) = IsAllowed unicode false a
+IsAllowed unicode keeps _ = Unit {0}

@@ -82,7 +82,7 @@ pub record IsInsn (unicode : Bool) (insn : Insn) (t : Tree) : Type 0 where
   pub draft : (whole : Bool) (call : ℕ → Pat) (n slot : ℕ) (us : List Written) (d : Draft) →
       with_pat unicode whole (front_of call n t us) slot d ≡ added (op_of insn) d
   pub slots : (call : ℕ → Pat) (n : ℕ) (us : List Written) → slots_in (front_of call n t us) ≡ 0
-  pub allowed : (keeps : Bool) (call : ℕ → Pat) (n : ℕ) (us : List Written) → IsAllowed keeps (front_of call n t us)
+  pub allowed : (keeps : Bool) (call : ℕ → Pat) (n : ℕ) (us : List Written) → IsAllowed unicode keeps (front_of call n t us)
 
 -- what the analysis says of the groups, by their numbers
 abbrev pub info_at : Bor Info → InfoTree

@@ -38,7 +38,7 @@ pub(crate) fn emit(
     ensures full { IfErr result (IsFull emitter.old.body (room (part task.now scope emitter.old.opened.items info.now).front)) }
     ensures wrote { IfOk result (λ after. Wrote task.now.unicode task.now.whole emitter.old emitter.new slot after
         (part task.now scope emitter.old.opened.items info.now).front) }
-    ensures allowed { IfOk result (λ after. IsAllowed scope.may_keep
+    ensures allowed { IfOk result (λ after. IsAllowed task.now.unicode scope.may_keep
         (part task.now scope emitter.old.opened.items info.now).front) }
     ensures refused { IfErr result (IsTold task.now.unicode (infos_of task.now) (λ plan. Stands plan scope.may_keep scope.may_be_absent false (info_of info.now))) }
 {
@@ -113,7 +113,7 @@ fn emit_row(
     ensures full { IfErr result (IsFull emitter.old.body (room (cat_all (map (part task.now scope emitter.old.opened.items) parts.now)))) }
     ensures wrote { IfOk result (λ after. Wrote task.now.unicode task.now.whole emitter.old emitter.new slot after
         (cat_all (map (part task.now scope emitter.old.opened.items) parts.now))) }
-    ensures allowed { IfOk result (λ after. IsAllowed scope.may_keep
+    ensures allowed { IfOk result (λ after. IsAllowed task.now.unicode scope.may_keep
         (cat_all (map (part task.now scope emitter.old.opened.items) parts.now))) }
     ensures refused { IfErr result (IsTold task.now.unicode (infos_of task.now) (λ plan. EachStands plan scope.may_keep scope.may_be_absent false parts.now)) }
 {
@@ -138,7 +138,7 @@ fn emit_branches(
     ensures full { IfErr result (IsFull emitter.old.body (room (alt_all (map (λ x. side behind (part task.now scope emitter.old.opened.items x)) branches.now)))) }
     ensures wrote { IfOk result (λ after. Wrote task.now.unicode task.now.whole emitter.old emitter.new slot after
         (alt_all (map (λ x. side behind (part task.now scope emitter.old.opened.items x)) branches.now))) }
-    ensures allowed { IfOk result (λ after. IsAllowed scope.may_keep
+    ensures allowed { IfOk result (λ after. IsAllowed task.now.unicode scope.may_keep
         (alt_all (map (λ x. side behind (part task.now scope emitter.old.opened.items x)) branches.now))) }
     ensures refused { IfErr result (IsTold task.now.unicode (infos_of task.now) (λ plan. EachStands plan scope.may_keep scope.may_be_absent behind branches.now)) }
 {
@@ -167,7 +167,7 @@ fn emit_choices(
     ensures full { IfErr result (IsFull emitter.old.body (room (alt_all (map (λ x. side behind (part task.now scope emitter.old.opened.items x)) branches.now)))) }
     ensures wrote { IfOk result (λ after. Wrote task.now.unicode task.now.whole emitter.old emitter.new slot after
         (alt_all (map (λ x. side behind (part task.now scope emitter.old.opened.items x)) branches.now))) }
-    ensures allowed { IfOk result (λ after. IsAllowed scope.may_keep
+    ensures allowed { IfOk result (λ after. IsAllowed task.now.unicode scope.may_keep
         (alt_all (map (λ x. side behind (part task.now scope emitter.old.opened.items x)) branches.now))) }
     ensures refused { IfErr result (IsTold task.now.unicode (infos_of task.now) (λ plan. EachStands plan scope.may_keep scope.may_be_absent behind branches.now)) }
 {
@@ -201,7 +201,7 @@ fn emit_side(
     ensures full { IfErr result (IsFull emitter.old.body (room (side behind (part task.now scope emitter.old.opened.items info.now)))) }
     ensures wrote { IfOk result (λ after. Wrote task.now.unicode task.now.whole emitter.old emitter.new slot after
         (side behind (part task.now scope emitter.old.opened.items info.now))) }
-    ensures allowed { IfOk result (λ after. IsAllowed scope.may_keep
+    ensures allowed { IfOk result (λ after. IsAllowed task.now.unicode scope.may_keep
         (side behind (part task.now scope emitter.old.opened.items info.now))) }
     ensures refused { IfErr result (IsTold task.now.unicode (infos_of task.now) (λ plan. Stands plan scope.may_keep scope.may_be_absent behind (info_of info.now))) }
 {
@@ -226,7 +226,7 @@ fn emit_closed(
     ensures full { IfErr result (IsFull emitter.old.body (room (side behind (part task.now scope emitter.old.opened.items info.now)))) }
     ensures wrote { IfOk result (λ after. WroteClosed task.now.unicode task.now.whole emitter.old emitter.new slot after
         (side behind (part task.now scope emitter.old.opened.items info.now))) }
-    ensures allowed { IfOk result (λ after. IsAllowed scope.may_keep
+    ensures allowed { IfOk result (λ after. IsAllowed task.now.unicode scope.may_keep
         (side behind (part task.now scope emitter.old.opened.items info.now))) }
     ensures refused { IfErr result (IsTold task.now.unicode (infos_of task.now) (λ plan. Stands plan scope.may_keep scope.may_be_absent behind (info_of info.now))) }
 {
@@ -248,7 +248,7 @@ fn emit_behind(
     ensures full { IfErr result (IsFull emitter.old.body (room (part task.now scope emitter.old.opened.items info.now).behind)) }
     ensures wrote { IfOk result (λ after. Wrote task.now.unicode task.now.whole emitter.old emitter.new slot after
         (part task.now scope emitter.old.opened.items info.now).behind) }
-    ensures allowed { IfOk result (λ after. IsAllowed scope.may_keep
+    ensures allowed { IfOk result (λ after. IsAllowed task.now.unicode scope.may_keep
         (part task.now scope emitter.old.opened.items info.now).behind) }
     ensures refused { IfErr result (IsTold task.now.unicode (infos_of task.now) (λ plan. Stands plan scope.may_keep scope.may_be_absent true (info_of info.now))) }
 {
@@ -281,7 +281,7 @@ fn emit_group(
     ensures full { IfErr result (IsFull emitter.old.body (room (pat.group number (part task.now scope emitter.old.opened.items child.now).front))) }
     ensures wrote { IfOk result (λ after. Wrote task.now.unicode task.now.whole emitter.old emitter.new slot after
         (pat.group number (part task.now scope emitter.old.opened.items child.now).front)) }
-    ensures allowed { IfOk result (λ after. IsAllowed scope.may_keep
+    ensures allowed { IfOk result (λ after. IsAllowed task.now.unicode scope.may_keep
         (pat.group number (part task.now scope emitter.old.opened.items child.now).front)) }
     ensures refused { IfErr result (IsTold task.now.unicode (infos_of task.now) (λ plan. Stands plan scope.may_keep scope.may_be_absent false (info_of child.now))) }
 {
@@ -311,7 +311,7 @@ fn emit_atomic(
     ensures full { IfErr result (IsFull emitter.old.body (room (pat.atomic (part task.now scope emitter.old.opened.items child.now).front))) }
     ensures wrote { IfOk result (λ after. Wrote task.now.unicode task.now.whole emitter.old emitter.new slot after
         (pat.atomic (part task.now scope emitter.old.opened.items child.now).front)) }
-    ensures allowed { IfOk result (λ after. IsAllowed scope.may_keep
+    ensures allowed { IfOk result (λ after. IsAllowed task.now.unicode scope.may_keep
         (pat.atomic (part task.now scope emitter.old.opened.items child.now).front)) }
     ensures refused { IfErr result (IsTold task.now.unicode (infos_of task.now) (λ plan. Stands plan scope.may_keep scope.may_be_absent false (info_of child.now))) }
 {
@@ -336,7 +336,7 @@ fn emit_look_around(
     ensures full { IfErr result (IsFull emitter.old.body (room (look how (part task.now scope emitter.old.opened.items child.now)))) }
     ensures wrote { IfOk result (λ after. Wrote task.now.unicode task.now.whole emitter.old emitter.new slot after
         (look how (part task.now scope emitter.old.opened.items child.now))) }
-    ensures allowed { IfOk result (λ after. IsAllowed scope.may_keep
+    ensures allowed { IfOk result (λ after. IsAllowed task.now.unicode scope.may_keep
         (look how (part task.now scope emitter.old.opened.items child.now))) }
     ensures refused { IfErr result (IsTold task.now.unicode (infos_of task.now) (λ plan. Stands plan false scope.may_be_absent (looks_behind how) (info_of child.now))) }
 {
@@ -366,7 +366,7 @@ fn emit_found(
     ensures full { IfErr result (IsFull emitter.old.body (room (pat.ahead (side behind (part task.now scope emitter.old.opened.items child.now))))) }
     ensures wrote { IfOk result (λ after. Wrote task.now.unicode task.now.whole emitter.old emitter.new slot after
         (pat.ahead (side behind (part task.now scope emitter.old.opened.items child.now)))) }
-    ensures allowed { IfOk result (λ after. IsAllowed scope.may_keep
+    ensures allowed { IfOk result (λ after. IsAllowed task.now.unicode scope.may_keep
         (side behind (part task.now scope emitter.old.opened.items child.now))) }
     ensures refused { IfErr result (IsTold task.now.unicode (infos_of task.now) (λ plan. Stands plan scope.may_keep scope.may_be_absent behind (info_of child.now))) }
 {
@@ -391,7 +391,7 @@ fn emit_not_found(
     ensures full { IfErr result (IsFull emitter.old.body (room (pat.never (side behind (part task.now scope emitter.old.opened.items child.now))))) }
     ensures wrote { IfOk result (λ after. Wrote task.now.unicode task.now.whole emitter.old emitter.new slot after
         (pat.never (side behind (part task.now scope emitter.old.opened.items child.now)))) }
-    ensures allowed { IfOk result (λ after. IsAllowed scope.may_keep
+    ensures allowed { IfOk result (λ after. IsAllowed task.now.unicode scope.may_keep
         (side behind (part task.now scope emitter.old.opened.items child.now))) }
     ensures refused { IfErr result (IsTold task.now.unicode (infos_of task.now) (λ plan. Stands plan scope.may_keep scope.may_be_absent behind (info_of child.now))) }
 {
@@ -421,7 +421,7 @@ fn emit_choice(
     ensures full { IfErr result (IsFull emitter.old.body (room (side behind (part task.now scope emitter.old.opened.items info.now)) + 2)) }
     ensures wrote { IfOk result (λ after. WroteChoice task.now.unicode task.now.whole emitter.old emitter.new slot after
         (side behind (part task.now scope emitter.old.opened.items info.now))) }
-    ensures allowed { IfOk result (λ after. IsAllowed scope.may_keep
+    ensures allowed { IfOk result (λ after. IsAllowed task.now.unicode scope.may_keep
         (side behind (part task.now scope emitter.old.opened.items info.now))) }
     ensures refused { IfErr result (IsTold task.now.unicode (infos_of task.now) (λ plan. Stands plan scope.may_keep scope.may_be_absent behind (info_of info.now))) }
 {
@@ -451,7 +451,7 @@ fn emit_repeat(
     ensures full { IfErr result (IsFull emitter.old.body (room (repeated (part task.now scope emitter.old.opened.items child.now).front bounds.0 bounds.1 greedy))) }
     ensures wrote { IfOk result (λ after. Wrote task.now.unicode task.now.whole emitter.old emitter.new slot after
         (repeated (part task.now scope emitter.old.opened.items child.now).front bounds.0 bounds.1 greedy)) }
-    ensures allowed { IfOk result (λ after. IsAllowed scope.may_keep
+    ensures allowed { IfOk result (λ after. IsAllowed task.now.unicode scope.may_keep
         (repeated (part task.now scope emitter.old.opened.items child.now).front bounds.0 bounds.1 greedy)) }
     ensures refused { IfErr result (IsTold task.now.unicode (infos_of task.now) (λ plan. RepeatStands plan scope.may_keep scope.may_be_absent bounds.0 bounds.1 (info_of child.now))) }
 {
@@ -487,7 +487,7 @@ fn emit_counted(
     ensures full { IfErr result (IsFull emitter.old.body (room (pat.repeat (part task.now scope emitter.old.opened.items child.now).front bounds.0 (Some bounds.1) greedy))) }
     ensures wrote { IfOk result (λ after. Wrote task.now.unicode task.now.whole emitter.old emitter.new slot after
         (pat.repeat (part task.now scope emitter.old.opened.items child.now).front bounds.0 (Some bounds.1) greedy)) }
-    ensures allowed { IfOk result (λ after. IsAllowed scope.may_keep
+    ensures allowed { IfOk result (λ after. IsAllowed task.now.unicode scope.may_keep
         (pat.repeat (part task.now scope emitter.old.opened.items child.now).front bounds.0 (Some bounds.1) greedy)) }
     ensures refused { IfErr result (IsTold task.now.unicode (infos_of task.now) (λ plan. Stands plan scope.may_keep scope.may_be_absent false (info_of child.now))) }
 {
@@ -534,7 +534,7 @@ fn emit_loop(
     ensures full { IfErr result (IsFull emitter.old.body (room (pat.repeat (part task.now scope emitter.old.opened.items child.now).front lo None greedy))) }
     ensures wrote { IfOk result (λ after. Wrote task.now.unicode task.now.whole emitter.old emitter.new slot after
         (pat.repeat (part task.now scope emitter.old.opened.items child.now).front lo None greedy)) }
-    ensures allowed { IfOk result (λ after. IsAllowed scope.may_keep (part task.now scope emitter.old.opened.items child.now).front) }
+    ensures allowed { IfOk result (λ after. IsAllowed task.now.unicode scope.may_keep (part task.now scope emitter.old.opened.items child.now).front) }
     ensures refused { IfErr result (IsTold task.now.unicode (infos_of task.now) (λ plan. Stands plan scope.may_keep scope.may_be_absent false (info_of child.now))) }
 {
     let check = past_slots(slot, 1)?;
@@ -579,7 +579,7 @@ fn emit_conditional(
     ensures full { IfErr result (IsFull emitter.old.body (room (pat.conditional (part task.now scope emitter.old.opened.items condition.now).front (part task.now scope emitter.old.opened.items branches.entry.0.now).front (part task.now scope emitter.old.opened.items branches.entry.1.now).front))) }
     ensures wrote { IfOk result (λ after. Wrote task.now.unicode task.now.whole emitter.old emitter.new slot after
         (pat.conditional (part task.now scope emitter.old.opened.items condition.now).front (part task.now scope emitter.old.opened.items branches.entry.0.now).front (part task.now scope emitter.old.opened.items branches.entry.1.now).front)) }
-    ensures allowed { IfOk result (λ after. IsAllowed scope.may_keep
+    ensures allowed { IfOk result (λ after. IsAllowed task.now.unicode scope.may_keep
         (pat.conditional (part task.now scope emitter.old.opened.items condition.now).front (part task.now scope emitter.old.opened.items branches.entry.0.now).front (part task.now scope emitter.old.opened.items branches.entry.1.now).front)) }
     ensures refused { IfErr result (IsTold task.now.unicode (infos_of task.now) (λ plan. PartsStand plan scope.may_keep scope.may_be_absent (info_of condition.now) (info_of branches.entry.0.now) (info_of branches.entry.1.now))) }
 {
@@ -616,7 +616,7 @@ fn emit_call(
     ensures full { IfErr result (IsFull emitter.old.body (room (info_call (infos_of task.now) scope.calls_left emitter.old.opened.items target))) }
     ensures wrote { IfOk result (λ after. Wrote task.now.unicode task.now.whole emitter.old emitter.new slot after
         (info_call (infos_of task.now) scope.calls_left emitter.old.opened.items target)) }
-    ensures allowed { IfOk result (λ after. IsAllowed scope.may_keep
+    ensures allowed { IfOk result (λ after. IsAllowed task.now.unicode scope.may_keep
         (info_call (infos_of task.now) scope.calls_left emitter.old.opened.items target)) }
     ensures refused { IfErr result (IsTold task.now.unicode (infos_of task.now) (λ plan. TargetStands plan scope.may_keep scope.may_be_absent (infos_of task.now) target)) }
 {
@@ -658,7 +658,7 @@ fn emit_absent(
     ensures full { IfErr result (IsFull emitter.old.body (room (pat.absent (part task.now scope emitter.old.opened.items child.now).front))) }
     ensures wrote { IfOk result (λ after. Wrote task.now.unicode task.now.whole emitter.old emitter.new slot after
         (pat.absent (part task.now scope emitter.old.opened.items child.now).front)) }
-    ensures allowed { IfOk result (λ after. IsAllowed scope.may_keep
+    ensures allowed { IfOk result (λ after. IsAllowed task.now.unicode scope.may_keep
         (pat.absent (part task.now scope emitter.old.opened.items child.now).front)) }
     ensures refused { IfErr result (IsTold task.now.unicode (infos_of task.now) (λ plan. AbsentStands plan scope.may_be_absent (info_of child.now))) }
 {

@@ -1,8 +1,9 @@
 // Nodes without children.
 
-ghost use Rattle.std.specs.Prelude.{◌≡◌, ◌*◌, ℕ, List, slice_index, chars, ◌&&◌, not, true, false, IfOk, IfErr, None, length};
+ghost use Rattle.std.specs.Prelude.{◌≡◌, ◌*◌, ℕ, List, slice_index, chars, ◌&&◌, not, true, false, IfOk, IfErr, IsTrue, None, length};
 ghost use Rattle.fancy_regex_tree.specs.Tree as tree;
 ghost use Rattle.fancy_regex_tree.specs.Tree.{tree_of};
+ghost use Rattle.fancy_regex_class.specs.Classes.{is_class};
 ghost use Rattle.fancy_regex_class.specs.Matchers.{IsMatcherOf};
 ghost use Rattle.fancy_regex_sizes.specs.Causes.{is_too_complex};
 ghost use Rattle.fancy_regex_pattern.specs.Pats.{Pat, keep_out, read, literal};
@@ -35,7 +36,7 @@ pub(crate) fn emit_leaf(
         IsFull emitter.old.body (room (front_of call n (tree_of leaf.now) us)) e) }
     ensures wrote { IfOk result (λ _. (call : ℕ → Pat) (n slot : ℕ) (us : List Written) →
         Wrote task.now.unicode task.now.whole emitter.old emitter.new slot slot (front_of call n (tree_of leaf.now) us)) }
-    ensures allowed { IfOk result (λ _. (call : ℕ → Pat) (n : ℕ) (us : List Written) → IsAllowed scope.may_keep (front_of call n (tree_of leaf.now) us)) }
+    ensures allowed { IfOk result (λ _. (call : ℕ → Pat) (n : ℕ) (us : List Written) → IsAllowed task.now.unicode scope.may_keep (front_of call n (tree_of leaf.now) us)) }
     ensures refused { IfErr result (IsNoLeaf task.now.unicode (length task.now.groups.now.items) scope.may_keep (tree_of leaf.now)) }
 {
     match leaf {
@@ -197,6 +198,7 @@ fn matcher_of(
     casei: bool,
 ) -> Result<CharClassMatcher, CompileError>
     ensures members { IfOk result (λ m. IsMatcherOf m task.now.unicode (chars text.now) casei) }
+    ensures read { IfOk result (λ _. IsTrue (is_class task.now.unicode (chars text.now) casei)) }
     ensures full { IfErr result (λ e. is_too_complex e ≡ false) }
     ensures refused { IfErr result (IsNoClass task.now.unicode (chars text.now) casei) }
 {

@@ -12,7 +12,7 @@ use Rattle.fancy_regex_sizes.specs.declared.options.AnalyzeContext.{AnalyzeConte
 use Rattle.fancy_regex_sizes.specs.declared.options.BytesMode.TheVariants.{Unicode}
 use Rattle.fancy_regex_sizes.specs.declared.options.CompileOptions.{CompileOptions}
 use Rattle.fancy_regex_program.specs.Caps.{cap_of}
-use Rattle.fancy_regex_program.specs.Refusals.{IsRefusal}
+use Rattle.fancy_regex_program.specs.Refusals.{IsRefusal, ReadsClasses}
 use Rattle.fancy_regex_runner.specs.Refused.{IsTaken, IsCause}
 use Rattle.fancy_regex_search.specs.Patterns.{read_as}
 use Rattle.fancy_regex_search.specs.Served.{is_served}
@@ -63,11 +63,13 @@ module _ (o : RegexOptions) (marked calls : Bool) (t : Tree) where
   RefusesTree told.Memory = Unit {0}
   RefusesTree _ = ⊥
 
-  -- A tree that is made ready has no such cause, and bytes are seen as Unicode; where the runner serves it, the runner takes it.
+  -- A tree that is made ready has no such cause, and bytes are seen as Unicode; where the runner serves it, the runner takes it,
+  -- and else the grammar of `regex` reads each class that is written out.
   pub record IsAccepted : Type 0 where
     pub no_cause : HasNoCause
     pub bytes_mode : o.bytes_mode ≡ Unicode
     pub taken : is_served o t ≡ true → IsTaken (compiled_as o calls) (pattern_of t)
+    pub readable : is_served o t ≡ false → ReadsClasses o.unicode_mode (pattern_of t).groups t
 
 -- An error for a text: the first fault with its place where it is no pattern; else a cause, where it is refused as a pattern; or want
 -- of memory.

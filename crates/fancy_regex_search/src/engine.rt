@@ -6,7 +6,7 @@ ghost use Rattle.fancy_regex_meaning.specs.Choices.{program_nodes};
 ghost use Rattle.fancy_regex_meaning.specs.Groups.{pattern_of};
 ghost use Rattle.fancy_regex_meaning.specs.Searches.{first_match};
 ghost use Rattle.fancy_regex_program.specs.Caps.{cap_of};
-ghost use Rattle.fancy_regex_program.specs.Refusals.{IsClear};
+ghost use Rattle.fancy_regex_program.specs.Refusals.{IsClear, ReadsClasses};
 ghost use Rattle.fancy_regex_sizes.specs.Analysis.{analysis};
 ghost use Rattle.fancy_regex_sizes.specs.Causes.{is_too_complex};
 ghost use Rattle.fancy_regex_sizes.specs.Infos.{info_of};
@@ -78,6 +78,8 @@ impl Engine {
         ensures long { IfErr result (λ cause. (t : Tree) → info_of info.now ≡ analysis false t → is_served options.now t ≡ false
             → is_too_complex cause ≡ true → cap_of options.now.max_prog_size < 16 * (program_nodes (pattern_of t) + 1)) }
         ensures mode { IfOk result (λ _. (t : Tree) → info_of info.now ≡ analysis false t → options.now.bytes_mode ≡ Unicode) }
+        ensures classes { IfOk result (λ _. (t : Tree) → info_of info.now ≡ analysis false t → is_served options.now t ≡ false
+            → IsClear (pattern_of t).groups t → ReadsClasses options.now.unicode_mode (pattern_of t).groups t) }
         ensures reason { IfErr result (λ cause. (t : Tree) → info_of info.now ≡ analysis false t → is_served options.now t ≡ false
             → IsClear (pattern_of t).groups t → IsNoProgram (compiled_as options.now calls) t cause) }
     {

@@ -1,11 +1,12 @@
-use Rattle.std.proofs.Common.{arith, ◌≡◌, ◌++◌, ℕ, Bool, true, false, not, map, length, sym, ap, ap₂, ◌∙◌}
+use Rattle.std.proofs.Common.{arith, ◌≡◌, ◌++◌, ℕ, Bool, true, false, not, map, length, sym, ap, ap₂, subst, ◌∙◌}
 use Rattle.std.specs.Prelude.{◌==◌}
 use Rattle.std.proofs.lemmas.List.{length-map}
 use Rattle.fancy_regex_tree.specs.Tree.{Tree}
 use Rattle.fancy_regex_sizes.specs.Infos.{info_of, facts_in}
 use Rattle.fancy_regex_sizes.specs.Views.{pattern_in}
-use Rattle.fancy_regex_program.specs.Known.{groups_in}
+use Rattle.fancy_regex_program.specs.Known.{groups_in, pat_with}
 use Rattle.fancy_regex_program.specs.Writing.{info_at}
+use Rattle.fancy_regex_program.proofs.ClassLemmas.{classes_are_read}
 use Rattle.fancy_regex_program.proofs.KnownLemmas.{count_is, start_is}
 use Rattle.fancy_regex_program.proofs.LengthLemmas.{made_short}
 use Rattle.fancy_regex_program.proofs.WholeLemmas.{made_from, pat_gathered}
@@ -13,6 +14,7 @@ use Rattle.fancy_regex_pattern.specs.Rooms.{room}
 use Rattle.fancy_regex_pattern.proofs.RoomProofs.{pattern_has_room}
 use Rattle.fancy_regex_sizes.proofs.TellLemmas.{gives}
 use Rattle.fancy_regex_program.specs.Programs.{IsTooLong}
+use Rattle.fancy_regex_program.specs.Shapes.{IsAllowed}
 use Rattle.fancy_regex_program.specs.Refusals.{IsClear, IsRefusal}
 use Rattle.fancy_regex_sizes.specs.Analysis.{analysis}
 use Rattle.fancy_regex_sizes.specs.declared.error.CompileError.{CompileError}
@@ -36,7 +38,20 @@ returns-clause-tree c explicit t is =
     let count = sym (length-map gs info_at) ∙ ap length gathered ∙ ap₂ (λ b y. length (groups_in b y)) whole is ∙ count_is explicit t in
     let pat = pat_gathered (map info_at gs) x (not (n == 0)) explicit t gathered whole is in
     made_from c.in_ok-prog.prog c.args.options.now.anchored explicit t _ c.in_ok-prog.ensures.wrote pat
-    (c.in_ok-prog.ensures.groups ∙ count) (c.in_ok-prog.ensures.whole ∙ whole) c.in_ok-prog.ensures.allowed
+    (c.in_ok-prog.ensures.groups ∙ count) (c.in_ok-prog.ensures.whole ∙ whole)
+    (subst (λ u. IsAllowed u true (pat_with (map info_at gs) x)) (sym c.in_ok-prog.ensures.unicode) c.in_ok-prog.ensures.allowed)
+
+pub returns-clause-classes : goal.returns-clause-classes
+returns-clause-classes c explicit t is clear =
+    let n = c.start_group-whole.result in
+    let gs = c.add_groups.new.groups.items in
+    let x = info_of c.args.info.now in
+    let starts : n ≡ (pattern_in explicit t).first_group = c.start_group-whole.ensures ∙ ap (λ y. (facts_in y).start) is ∙ start_is explicit t in
+    let gathered : map info_at gs ≡ groups_in (not (n == 0)) x =
+    c.in_ok-add_groups.ensures ∙ ap (λ xs. map info_at xs ++ groups_in (not (n == 0)) x) c.new-groups.ensures.items in
+    let pat = pat_gathered (map info_at gs) x (not (n == 0)) explicit t gathered (whole_is n explicit t starts) is in
+    let u = c.args.options.now.unicode in
+    classes_are_read u explicit t clear (subst (IsAllowed u true) pat c.in_ok-prog.ensures.allowed)
 
 pub returns-in_err-prog-clause-full : goal.returns-in_err-prog-clause-full
 returns-in_err-prog-clause-full c =

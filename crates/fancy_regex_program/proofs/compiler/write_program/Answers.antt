@@ -40,7 +40,7 @@ returns-clause-allowed c =
     let calls : c.in_ok-most_calls.field-0 ≡ most_calls_in (infos_of task) =
     c.in_ok-most_calls.ensures.value ∙ ap (λ n. 19 * n) (long ∙ sym (length-map task.groups.now.items info_at)) in
     let p = body_is (infos_of task) (info_of c.args.info.now) c.in_ok-most_calls.field-0 c.new-2.result.items calls c.new-2.ensures.items in
-    subst (IsAllowed true) p c.in_ok-slots.ensures.allowed
+    subst (IsAllowed task.unicode true) p c.in_ok-slots.ensures.allowed
 
 pub returns-in_err-open-clause-full : goal.returns-in_err-open-clause-full
 returns-in_err-open-clause-full c =

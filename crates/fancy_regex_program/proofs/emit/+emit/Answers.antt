@@ -179,9 +179,9 @@ emit_row-loop-info-preserved t c = record {
   opened = c.in_ok-next.ensures.wrote.opened ∙ c.loop-info.invariant.opened;
   allowed =
       let opened = c.args.emitter.now.opened.items in
-      let P = λ (x : Info). IsAllowed c.args.scope.may_keep (part c.args.task.now c.args.scope opened x).front in
+      let P = λ (x : Info). IsAllowed c.args.task.now.unicode c.args.scope.may_keep (part c.args.task.now c.args.scope opened x).front in
       let x = c.info-item.result in
-      let this : P x = subst (λ ks. IsAllowed c.args.scope.may_keep (part c.args.task.now c.args.scope ks x).front) c.loop-info.invariant.opened c.in_ok-next.ensures.allowed in
+      let this : P x = subst (λ ks. IsAllowed c.args.task.now.unicode c.args.scope.may_keep (part c.args.task.now c.args.scope ks x).front) c.loop-info.invariant.opened c.in_ok-next.ensures.allowed in
       allowed_more P c.args.parts.now c.loop-info.info-index x c.loop-info-test.true c.info-item.is c.loop-info.invariant.allowed this;
 }
 
@@ -212,7 +212,7 @@ emit_choices-loop-info-preserved t c = record {
       c.in_ok-next.ensures.wrote c.len.ensures c.saturating_sub.ensures c.in_ok-push.ensures.items;
   opened = c.in_ok-next.ensures.wrote.opened ∙ c.loop-info.invariant.opened;
   allowed =
-      let is_allowed = λ (ks : List ℕ) (x : Info). IsAllowed c.args.scope.may_keep (side c.args.behind (part c.args.task.now c.args.scope ks x)) in
+      let is_allowed = λ (ks : List ℕ) (x : Info). IsAllowed c.args.task.now.unicode c.args.scope.may_keep (side c.args.behind (part c.args.task.now c.args.scope ks x)) in
       let xs = c.args.branches.now in
       let x = c.info-item.result in
       let this = subst (λ ks. is_allowed ks x) c.loop-info.invariant.opened c.in_ok-next.ensures.allowed in
@@ -405,14 +405,14 @@ emit-returns-in-Alt-clause-wrote t c =
 pub emit-returns-in-Empty-clause-allowed : goal.emit-returns-in-Empty-clause-allowed
 emit-returns-in-Empty-clause-allowed t c =
     let call = calls_of c.args.task.now c.args.scope c.args.emitter.now.opened.items in
-    subst (IsAllowed c.args.scope.may_keep) (sym (front_empty call c.args.info.now (ap tree_of c.in-Empty.is ∙ tree_empty))) tt
+    subst (IsAllowed c.args.task.now.unicode c.args.scope.may_keep) (sym (front_empty call c.args.info.now (ap tree_of c.in-Empty.is ∙ tree_empty))) tt
 
 pub emit-returns-in-Concat-clause-allowed : goal.emit-returns-in-Concat-clause-allowed
 emit-returns-in-Concat-clause-allowed t c =
     let opened = c.args.emitter.now.opened.items in
     let call = calls_of c.args.task.now c.args.scope opened in
     let row = λ (xs : List Info). cat_all (map (part c.args.task.now c.args.scope opened) xs) in
-    allowed_same c.args.scope.may_keep c.emit_row.result
+    allowed_same c.args.task.now.unicode c.args.scope.may_keep c.emit_row.result
     (front_concat call c.args.info.now c.in-Concat.field-0 c.in-Concat.is ∙ ap row (sym c.deref.ensures.value)) c.emit_row.ensures.allowed
 
 pub emit-returns-in-Alt-clause-allowed : goal.emit-returns-in-Alt-clause-allowed
@@ -420,21 +420,21 @@ emit-returns-in-Alt-clause-allowed t c =
     let opened = c.args.emitter.now.opened.items in
     let call = calls_of c.args.task.now c.args.scope opened in
     let all = λ (xs : List Info). alt_all (map (λ x. (part c.args.task.now c.args.scope opened x).front) xs) in
-    allowed_same c.args.scope.may_keep c.emit_branches.result
+    allowed_same c.args.task.now.unicode c.args.scope.may_keep c.emit_branches.result
     (front_alt call c.args.info.now c.in-Alt.field-0 c.in-Alt.is ∙ ap all (sym c.deref-in-Alt.ensures.value)) c.emit_branches.ensures.allowed
 
 pub emit-returns-in_ok-child-in-Group-clause-allowed : goal.emit-returns-in_ok-child-in-Group-clause-allowed
 emit-returns-in_ok-child-in-Group-clause-allowed t c =
     let call = calls_of c.args.task.now c.args.scope c.args.emitter.now.opened.items in
     let x = c.in_ok-child-in-Group.child.now in
-    allowed_same c.args.scope.may_keep c.emit_group.result
+    allowed_same c.args.task.now.unicode c.args.scope.may_keep c.emit_group.result
     (front_group call c.args.info.now c.in-Group.field-0 x c.in-Group.is c.in_ok-child-in-Group.ensures.value) c.emit_group.ensures.allowed
 
 pub emit-returns-in_ok-child-in-LookAround-clause-allowed : goal.emit-returns-in_ok-child-in-LookAround-clause-allowed
 emit-returns-in_ok-child-in-LookAround-clause-allowed t c =
     let call = calls_of c.args.task.now c.args.scope c.args.emitter.now.opened.items in
     let x = c.in_ok-child-in-LookAround.child.now in
-    allowed_same c.args.scope.may_keep c.emit_look_around.result
+    allowed_same c.args.task.now.unicode c.args.scope.may_keep c.emit_look_around.result
     (front_look call c.args.info.now c.in-LookAround.field-0 c.in-LookAround.how x c.in-LookAround.is c.in_ok-child-in-LookAround.ensures.value)
     c.emit_look_around.ensures.allowed
 
@@ -443,14 +443,14 @@ emit-returns-in_ok-child-in-Repeat-clause-allowed t c =
     let call = calls_of c.args.task.now c.args.scope c.args.emitter.now.opened.items in
     let v = c.in-Repeat in
     let x = c.in_ok-child-in-Repeat.child.now in
-    allowed_same c.args.scope.may_keep c.emit_repeat.result
+    allowed_same c.args.task.now.unicode c.args.scope.may_keep c.emit_repeat.result
     (front_repeat call c.args.info.now v.child v.lo v.hi v.greedy x v.is c.in_ok-child-in-Repeat.ensures.value) c.emit_repeat.ensures.allowed
 
 pub emit-returns-in_ok-child-in-AtomicGroup-clause-allowed : goal.emit-returns-in_ok-child-in-AtomicGroup-clause-allowed
 emit-returns-in_ok-child-in-AtomicGroup-clause-allowed t c =
     let call = calls_of c.args.task.now c.args.scope c.args.emitter.now.opened.items in
     let x = c.in_ok-child-in-AtomicGroup.child.now in
-    allowed_same c.args.scope.may_keep c.emit_atomic.result
+    allowed_same c.args.task.now.unicode c.args.scope.may_keep c.emit_atomic.result
     (front_atomic call c.args.info.now c.in-AtomicGroup.field-0 x c.in-AtomicGroup.is c.in_ok-child-in-AtomicGroup.ensures.value) c.emit_atomic.ensures.allowed
 
 pub emit-returns-in_ok-child_at-in-Conditional-2-clause-allowed : goal.emit-returns-in_ok-child_at-in-Conditional-2-clause-allowed
@@ -460,7 +460,7 @@ emit-returns-in_ok-child_at-in-Conditional-2-clause-allowed t c =
     let x = c.in_ok-condition-in-Conditional in
     let y = c.in_ok-child_at-in-Conditional in
     let z = c.in_ok-child_at-in-Conditional-2 in
-    allowed_same c.args.scope.may_keep c.emit_conditional.result
+    allowed_same c.args.task.now.unicode c.args.scope.may_keep c.emit_conditional.result
     (front_conditional call c.args.info.now v.condition v.true_branch v.false_branch x.condition.now y.field-0.now z.field-0.now v.is x.ensures.value y.ensures.value z.ensures.value)
     c.emit_conditional.ensures.allowed
 
@@ -468,7 +468,7 @@ pub emit-returns-in-SubroutineCall-clause-allowed : goal.emit-returns-in-Subrout
 emit-returns-in-SubroutineCall-clause-allowed t c =
     let call = calls_of c.args.task.now c.args.scope c.args.emitter.now.opened.items in
     let k = c.in-SubroutineCall.target in
-    allowed_same c.args.scope.may_keep c.emit_call.result
+    allowed_same c.args.task.now.unicode c.args.scope.may_keep c.emit_call.result
     (front_call call c.args.info.now k (ap tree_of c.in-SubroutineCall.is ∙ tree_call k)) c.emit_call.ensures.allowed
 
 pub emit-returns-in_ok-child-in-Repeater-clause-allowed : goal.emit-returns-in_ok-child-in-Repeater-clause-allowed
@@ -477,35 +477,35 @@ emit-returns-in_ok-child-in-Repeater-clause-allowed t c =
     let x = c.in_ok-child-in-Repeater.child.now in
     let repeats : c.in-Absent.absent ≡ absents.Repeater c.in-Repeater.field-0 =
     c.in-Repeater.is in
-    allowed_same c.args.scope.may_keep c.emit_absent.result
+    allowed_same c.args.task.now.unicode c.args.scope.may_keep c.emit_absent.result
     (front_absent call c.args.info.now c.in-Absent.absent c.in-Repeater.field-0 x c.in-Absent.is repeats c.in_ok-child-in-Repeater.ensures.value)
     c.emit_absent.ensures.allowed
 
 pub emit-returns-in-DefineGroup-clause-allowed : goal.emit-returns-in-DefineGroup-clause-allowed
 emit-returns-in-DefineGroup-clause-allowed t c =
     let call = calls_of c.args.task.now c.args.scope c.args.emitter.now.opened.items in
-    subst (IsAllowed c.args.scope.may_keep) (sym (front_define call c.args.info.now c.in-DefineGroup.definitions c.in-DefineGroup.is)) tt
+    subst (IsAllowed c.args.task.now.unicode c.args.scope.may_keep) (sym (front_define call c.args.info.now c.in-DefineGroup.definitions c.in-DefineGroup.is)) tt
 
 pub emit-returns-in_ok-emit_leaf-in_default-clause-allowed : goal.emit-returns-in_ok-emit_leaf-in_default-clause-allowed
 emit-returns-in_ok-emit_leaf-in_default-clause-allowed t c =
     let i = c.args.info.now in
     let opened = c.args.emitter.now.opened.items in
     let call = calls_of c.args.task.now c.args.scope opened in
-    subst (IsAllowed c.args.scope.may_keep) (sym (front_leaf call i))
+    subst (IsAllowed c.args.task.now.unicode c.args.scope.may_keep) (sym (front_leaf call i))
     (c.in_ok-emit_leaf-in_default.ensures.allowed call (out-Info i).start_group (map (part c.args.task.now c.args.scope opened) (out-Info i).children.items))
 
 pub emit_behind-returns-then-info-clause-allowed : goal.emit_behind-returns-then-info-clause-allowed
 emit_behind-returns-then-info-clause-allowed t c =
     let call = calls_of c.args.task.now c.args.scope c.args.emitter.now.opened.items in
     let i = c.args.info.now in
-    allowed_behind c.args.scope.may_keep c.emit.result (out-Info i).min_size (behind_always call i c.if-info.true) c.emit.ensures.allowed
+    allowed_behind c.args.task.now.unicode c.args.scope.may_keep c.emit.result (out-Info i).min_size (behind_always call i c.if-info.true) c.emit.ensures.allowed
 
 pub emit_behind-returns-in-Alt-clause-allowed : goal.emit_behind-returns-in-Alt-clause-allowed
 emit_behind-returns-in-Alt-clause-allowed t c =
     let opened = c.args.emitter.now.opened.items in
     let call = calls_of c.args.task.now c.args.scope opened in
     let all = λ (xs : List Info). alt_all (map (λ x. (part c.args.task.now c.args.scope opened x).behind) xs) in
-    allowed_same c.args.scope.may_keep c.emit_branches.result
+    allowed_same c.args.task.now.unicode c.args.scope.may_keep c.emit_branches.result
     (behind_alt call c.args.info.now c.in-Alt.field-0 c.if-info.false c.in-Alt.is ∙ ap all (sym c.deref.ensures.value)) c.emit_branches.ensures.allowed
 
 pub emit_call-returns-then-is_full-clause-allowed : goal.emit_call-returns-then-is_full-clause-allowed
@@ -515,10 +515,10 @@ emit_call-returns-then-is_full-clause-allowed t c =
     let opened = c.args.emitter.now.opened.items in
     elim c.then-is_full.branch [
       | emit_call-then-is_full-via-then-is_full w ↦
-          allowed_full c.args.scope.may_keep groups calls opened c.args.target
+          allowed_full c.args.task.now.unicode c.args.scope.may_keep groups calls opened c.args.target
           (ap (λ xs. is_full xs c.args.target) (sym c.deref.ensures.value) ∙ sym c.is_full.ensures ∙ w.if-is_full.true)
       | emit_call-then-is_full-via-else-is_full+then-scope-eq0 w ↦
-          allowed_none c.args.scope.may_keep groups calls opened c.args.target w.if-scope-eq0.true
+          allowed_none c.args.task.now.unicode c.args.scope.may_keep groups calls opened c.args.target w.if-scope-eq0.true
     ]
 
 pub emit_call-returns-clause-allowed : goal.emit_call-returns-clause-allowed
@@ -532,9 +532,9 @@ emit_call-returns-clause-allowed t c =
     let more : calls ≡ suc (calls - 1) = omega (arith, some) in
     let at = slice_get-map info_at groups k ∙ ap (option_map info_at) (slice_get_read groups c.len.result k x (omega (arith, c.len.ensures, c.args.task.now.groups.now.ok.0)) c.if-target-len.false c.index-body.ensures) in
     let free = ap (λ xs. is_full xs k) (sym c.deref.ensures.value) ∙ sym c.is_full.ensures ∙ c.if-is_full.false in
-    let body = λ (ks : List ℕ). IsAllowed c.args.scope.may_keep (info_written (info_call infos (calls - 1) ks) (info_of x.now)).front in
+    let body = λ (ks : List ℕ). IsAllowed c.args.task.now.unicode c.args.scope.may_keep (info_written (info_call infos (calls - 1) ks) (info_of x.now)).front in
     let this = subst body c.in_ok-push.ensures.items c.in_ok-after.ensures.allowed in
-    allowed_call c.args.scope.may_keep infos calls (calls - 1) c.args.emitter.now.opened.items k (info_of x.now) more at free this
+    allowed_call c.args.task.now.unicode c.args.scope.may_keep infos calls (calls - 1) c.args.emitter.now.opened.items k (info_of x.now) more at free this
 
 pub emit_choices-returns-clause-allowed : goal.emit_choices-returns-clause-allowed
 emit_choices-returns-clause-allowed t c =
@@ -543,18 +543,18 @@ emit_choices-returns-clause-allowed t c =
     let xs = c.args.branches.now in
     let x = c.index-branches-last.result in
     let opened = c.args.emitter.now.opened.items in
-    let this = subst (λ ks. IsAllowed keeps (branch ks x)) c.loop-info.invariant.opened c.in_ok-next-2.ensures.allowed in
+    let this = subst (λ ks. IsAllowed c.args.task.now.unicode keeps (branch ks x)) c.loop-info.invariant.opened c.in_ok-next-2.ensures.allowed in
     let some : 0 < length xs = omega arith in
-    allowed_branches keeps (branch opened) xs
-    (allowed_last (λ y. IsAllowed keeps (branch opened y)) xs c.loop-info.info-index x some c.loop-info-test.false c.loop-info.auto.info-index-end
+    allowed_branches c.args.task.now.unicode keeps (branch opened) xs
+    (allowed_last (λ y. IsAllowed c.args.task.now.unicode keeps (branch opened y)) xs c.loop-info.info-index x some c.loop-info-test.false c.loop-info.auto.info-index-end
     c.index-branches-last.is c.loop-info.invariant.allowed this)
 
 pub emit_row-returns-clause-allowed : goal.emit_row-returns-clause-allowed
 emit_row-returns-clause-allowed t c =
     let xs = c.args.parts.now in
     let f = part c.args.task.now c.args.scope c.args.emitter.now.opened.items in
-    let all = subst (All (λ x. IsAllowed c.args.scope.may_keep (f x).front)) (take_all c.loop-info.info-index xs c.loop-info-test.false) c.loop-info.invariant.allowed in
-    allowed_row c.args.scope.may_keep f xs all
+    let all = subst (All (λ x. IsAllowed c.args.task.now.unicode c.args.scope.may_keep (f x).front)) (take_all c.loop-info.info-index xs c.loop-info-test.false) c.loop-info.invariant.allowed in
+    allowed_row c.args.task.now.unicode c.args.scope.may_keep f xs all
 
 pub emit_repeat-returns-then-hi-eq0-clause-wrote : goal.emit_repeat-returns-then-hi-eq0-clause-wrote
 emit_repeat-returns-then-hi-eq0-clause-wrote t c =

@@ -71,7 +71,7 @@ invariant-emit_row-loop-info l = record {
   wrote : Wrote l.task.unicode l.task.whole l.fn.emitter l.emitter l.slot l.next
       (cat_all (map (part l.task l.scope l.fn.emitter.opened.items) (take l.info-index l.parts)));
   opened : l.emitter.opened.items ≡ l.fn.emitter.opened.items;
-  allowed : All (λ x. IsAllowed l.scope.may_keep (part l.task l.scope l.fn.emitter.opened.items x).front) (take l.info-index l.parts);
+  allowed : All (λ x. IsAllowed l.task.unicode l.scope.may_keep (part l.task l.scope l.fn.emitter.opened.items x).front) (take l.info-index l.parts);
 }
 
 abbrev pub invariant-emit_choices-loop-info : goal.invariant-emit_choices-loop-info
@@ -80,7 +80,7 @@ invariant-emit_choices-loop-info l = record {
   chosen : Chosen l.task.unicode l.task.whole l.fn.emitter l.emitter l.jumps.items l.slot l.next
       (map (λ x. side l.behind (part l.task l.scope l.fn.emitter.opened.items x)) (take l.info-index l.branches));
   opened : l.emitter.opened.items ≡ l.fn.emitter.opened.items;
-  allowed : All (λ x. IsAllowed l.scope.may_keep (side l.behind (part l.task l.scope l.fn.emitter.opened.items x))) (take l.info-index l.branches);
+  allowed : All (λ x. IsAllowed l.task.unicode l.scope.may_keep (side l.behind (part l.task l.scope l.fn.emitter.opened.items x))) (take l.info-index l.branches);
 }
 
 abbrev pub invariant-emit_choices-loop-jump : goal.invariant-emit_choices-loop-jump

@@ -38,7 +38,7 @@ pub returns-in_ok-emit_literal-in-Literal-clause-allowed : goal.returns-in_ok-em
 unfolding front_of
 returns-in_ok-emit_literal-in-Literal-clause-allowed c call n us =
     let is = ap tree_of c.in-Literal.is ∙ tree_literal c.in-Literal.val c.in-Literal.casei in
-    subst (λ t. IsAllowed c.args.scope.may_keep (front_of call n t us)) (sym is) tt
+    subst (λ t. IsAllowed c.args.task.now.unicode c.args.scope.may_keep (front_of call n t us)) (sym is) tt
 
 pub returns-in_err-emit_literal-in-Literal-clause-full : goal.returns-in_err-emit_literal-in-Literal-clause-full
 unfolding front_of
@@ -57,7 +57,7 @@ pub returns-in_ok-emit_keep_out-in-KeepOut-clause-allowed : goal.returns-in_ok-e
 unfolding front_of
 returns-in_ok-emit_keep_out-in-KeepOut-clause-allowed c call n us =
     let is = ap tree_of c.in-KeepOut.is ∙ tree_keep_out in
-    subst (λ t. IsAllowed c.args.scope.may_keep (front_of call n t us)) (sym is) c.in_ok-emit_keep_out-in-KeepOut.ensures.allowed
+    subst (λ t. IsAllowed c.args.task.now.unicode c.args.scope.may_keep (front_of call n t us)) (sym is) c.in_ok-emit_keep_out-in-KeepOut.ensures.allowed
 
 pub returns-in_err-emit_keep_out-in-KeepOut-clause-full : goal.returns-in_err-emit_keep_out-in-KeepOut-clause-full
 unfolding front_of

@@ -1,6 +1,7 @@
-use Rattle.std.proofs.Common.{length, refl, sym, subst, ap, ◌∙◌, chars, string_bytes}
+use Rattle.std.proofs.Common.{IsTrue, length, refl, sym, subst, ap, ◌∙◌, chars, string_bytes}
 use Rattle.fancy_regex_tree.specs.Tree as tree
 use Rattle.fancy_regex_tree.specs.Tree.{tree_of}
+use Rattle.fancy_regex_class.specs.Classes.{is_class}
 use Rattle.fancy_regex_class.specs.Matchers.{IsMatcherOf}
 use Rattle.fancy_regex_program.specs.Ops as op
 use Rattle.fancy_regex_program.specs.Refusals.{IsUnfit, IsNoSingle}
@@ -33,8 +34,10 @@ returns-in_ok-matcher-in-Delegate-clause-insn c =
     let m = c.in_ok-matcher-in-Delegate.matcher in
     let is : IsMatcherOf m c.args.task.now.unicode (chars (string_bytes inner)) casei =
     rw c.deref.ensures at c.in_ok-matcher-in-Delegate.ensures.members in
+    let readable : IsTrue (is_class c.args.task.now.unicode (chars (string_bytes inner)) casei) =
+    rw c.deref.ensures at c.in_ok-matcher-in-Delegate.ensures.read in
     leaf_class c.args.task.now.unicode m (tree_of c.args.leaf.now) (chars (string_bytes inner)) casei
-    (ap tree_of c.in-Delegate.is ∙ tree_delegate inner casei) is
+    (ap tree_of c.in-Delegate.is ∙ tree_delegate inner casei) is readable
 
 pub returns-in_ok-slot-in-Backref-clause-insn : goal.returns-in_ok-slot-in-Backref-clause-insn
 returns-in_ok-slot-in-Backref-clause-insn c =

@@ -37,4 +37,6 @@ returns-clause-accepted c = record {
   no_cause = c.in_ok-info.ensures.complete;
   bytes_mode = c.in_ok-engine.ensures.mode (tree_of c.args.tree.now.expr) c.in_ok-info.ensures.answer;
   taken = c.in_ok-engine.ensures.taken (tree_of c.args.tree.now.expr) c.in_ok-info.ensures.answer;
+  readable = λ e. c.in_ok-engine.ensures.classes (tree_of c.args.tree.now.expr) c.in_ok-info.ensures.answer e
+      (record { nodes = c.in_ok-info.ensures.nodes; parts = c.in_ok-info.ensures.parts });
 }

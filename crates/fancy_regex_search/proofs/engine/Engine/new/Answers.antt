@@ -4,7 +4,7 @@ use Rattle.fancy_regex_tree.specs.Tree.{Tree}
 use Rattle.fancy_regex_meaning.specs.Choices.{program_nodes}
 use Rattle.fancy_regex_meaning.specs.Groups.{pattern_of}
 use Rattle.fancy_regex_program.specs.Caps.{cap_of}
-use Rattle.fancy_regex_program.specs.Refusals.{IsClear}
+use Rattle.fancy_regex_program.specs.Refusals.{IsClear, ReadsClasses}
 use Rattle.fancy_regex_sizes.specs.Causes.{is_too_complex}
 use Rattle.fancy_regex_sizes.specs.Analysis.{analysis}
 use Rattle.fancy_regex_sizes.specs.Infos.{info_of}
@@ -112,3 +112,11 @@ pub returns-in_err-new-clause-reason : goal.returns-in_err-new-clause-reason
 returns-in_err-new-clause-reason c =
     MatchResult-from_err c.from_residual-in_err-new.result _ _ c.from_residual-in_err-new.ensures.0
     (λ cause t is e. absurd (true≢false (sym (easy_on c.args.options.now c.args.info.now t is c.if-info.false c.if-options.false) ∙ e)))
+
+pub returns-then-info-clause-classes : goal.returns-then-info-clause-classes
+returns-then-info-clause-classes c t is e clear =
+    subst (λ u. ReadsClasses u (pattern_of t).groups t) c.compile_options.ensures.unicode (c.in_ok-prog.ensures.classes false t is clear)
+
+pub returns-clause-classes : goal.returns-clause-classes
+returns-clause-classes c t is e =
+    absurd (true≢false (sym (easy_on c.args.options.now c.args.info.now t is c.if-info.false c.if-options.false) ∙ e))

@@ -1,0 +1,342 @@
+-- Each class that is written out stands in the pattern, so the grammar of `regex` reads it.
+use Rattle.std.proofs.Common.{◌≡◌, ℕ, zero, suc, ◌+◌, ◌<◌, ◌≤◌, ◌⊎◌, ⊎_elim, inl, inr, Bool, true, false, not, cond, true≢false, List, [], ◌∷◌, length, Some, refl, sym, ap, subst, ◌∙◌, arith}
+use Rattle.std.specs.Prelude.{IsTrue, count_by, bytes_eq, ◌==◌, ◌&&◌, nat_lt, nat_le}
+use Rattle.std.specs.List.{Contains}
+use Rattle.std.proofs.lemmas.Bool.{cases_eq}
+use Rattle.std.proofs.lemmas.Bool.Decides.{nat_tests}
+use Rattle.std.proofs.lemmas.List.Sums.{sum_by-cons}
+use Rattle.std.proofs.lemmas.Option.{same_Some, slice_get_within}
+use Rattle.std.proofs.lemmas.Slice.Eq.{bytes_eq-Decides}
+use Rattle.fancy_regex_tree.specs.declared.expr.LookAround.{LookAround}
+use Rattle.fancy_regex_tree.specs.declared.expr.LookAround.TheVariants.{LookAhead, LookAheadNeg, LookBehind, LookBehindNeg}
+use Rattle.fancy_regex_tree.specs.Tree as tree
+use Rattle.fancy_regex_tree.specs.Tree.{Text, Tree, Trees, no_trees, more_trees}
+use Rattle.fancy_regex_tree.specs.Walks.{children, listed}
+use Rattle.fancy_regex_meaning.specs.Groups.{group_count}
+use Rattle.fancy_regex_meaning.specs.Sizes.{size, target}
+use Rattle.fancy_regex_meaning.specs.Ways.{is_full, most_calls}
+use Rattle.fancy_regex_class.specs.Classes.{class_text, is_read}
+use Rattle.fancy_regex_pattern.specs.Pats.{class, Pat, nothing, read, general_newline, check, continue, keep_out, fail, cat, alt, group, ahead, never, back, atomic, repeat, backref, exists, conditional, absent}
+use Rattle.fancy_regex_pattern.specs.Unfolded.{Written, pat_for, cat_all, alt_all, fronts, behinds, repeated, look, node, branches, written, written_all, written_call, pat_of}
+use Rattle.fancy_regex_sizes.specs.NodeCauses.{is_faulty}
+use Rattle.fancy_regex_sizes.specs.PartCauses.{is_stopped}
+use Rattle.fancy_regex_sizes.specs.Views.{pattern_in}
+use Rattle.fancy_regex_sizes.specs.Written.{hides_children, IsWritten, the_root, child, body, SomePart}
+use Rattle.fancy_regex_program.specs.Refusals.{Inside, is_class, IsClear, ReadsClasses}
+use Rattle.fancy_regex_program.specs.Shapes.{IsReadable, IsAllowed}
+use Rattle.fancy_regex_program.proofs.ClearLemmas.{part_node}
+
+none_there : {X : Type 0} (x : X) → Contains [] x → ⊥
+none_there x c = let low : c.0 < 0 = c.1 in omega arith
+
+first_or_later : {X : Type 0} (y : X) (xs : List X) (x : X) → Contains (y ∷ xs) x → (y ≡ x) ⊎ Contains xs x
+first_or_later y xs x (zero, low, is) = inl is
+first_or_later y xs x (suc n, low, is) = inr (n, omega arith, is)
+
+only_child : (t u : Tree) → Contains (t ∷ []) u → t ≡ u
+only_child t u m = ⊎_elim (λ e. e) (λ e. absurd (none_there u e)) (first_or_later t [] u m)
+
+same_case : (c casei : Bool) → cond casei c (not c) ≡ true → c ≡ casei
+same_case true true h = refl
+same_case true false h = absurd (true≢false (sym h))
+same_case false true h = absurd (true≢false (sym h))
+same_case false false h = refl
+
+both_true : (a b : Bool) → (a && b) ≡ true → (a ≡ true) × (b ≡ true)
+both_true true b h = (refl, h)
+both_true false b h = absurd (true≢false (sym h))
+
+-- a node that a program may be made of, whose children are written out with it
+abbrev is_built : Tree → Bool
+is_built (tree.absent_expression a t) = false
+is_built (tree.absent_stopper t) = false
+is_built (tree.ast_group name t position) = false
+is_built t = true
+
+module _ (unicode : Bool) where
+  -- The grammar of `regex` reads each class in it.
+  abbrev Reads : Pat → Type 0
+  Reads (read leaf) = IsReadable unicode leaf
+  Reads (cat a b) = Reads a × Reads b
+  Reads (alt a b) = Reads a × Reads b
+  Reads (group k a) = Reads a
+  Reads (ahead a) = Reads a
+  Reads (never a) = Reads a
+  Reads (atomic a) = Reads a
+  Reads (repeat a lo hi greedy) = Reads a
+  Reads (conditional c a b) = Reads c × Reads a × Reads b
+  Reads (absent a) = Reads a
+  Reads _ = Unit {0}
+
+  allowed_reads : (keeps : Bool) (p : Pat) → IsAllowed unicode keeps p → Reads p
+  allowed_reads keeps nothing h = tt
+  allowed_reads keeps (read leaf) h = h
+  allowed_reads keeps (general_newline crlf) h = tt
+  allowed_reads keeps (check a) h = tt
+  allowed_reads keeps continue h = tt
+  allowed_reads keeps keep_out h = tt
+  allowed_reads keeps fail h = tt
+  allowed_reads keeps (cat a b) h = (allowed_reads keeps a h.0, allowed_reads keeps b h.1)
+  allowed_reads keeps (alt a b) h = (allowed_reads keeps a h.0, allowed_reads keeps b h.1)
+  allowed_reads keeps (group k a) h = allowed_reads keeps a h
+  allowed_reads keeps (ahead a) h = allowed_reads false a h
+  allowed_reads keeps (never a) h = allowed_reads false a h
+  allowed_reads keeps (back n) h = tt
+  allowed_reads keeps (atomic a) h = allowed_reads keeps a h
+  allowed_reads keeps (repeat a lo hi greedy) h = allowed_reads keeps a h.1
+  allowed_reads keeps (backref k casei) h = tt
+  allowed_reads keeps (exists k) h = tt
+  allowed_reads keeps (conditional c a b) h = (allowed_reads keeps c h.0, allowed_reads keeps a h.1, allowed_reads keeps b h.2)
+  allowed_reads keeps (absent a) h = allowed_reads false a h
+
+  -- the same of one side of what a tree is written out to
+  abbrev HasSide : Written → Type 0
+  HasSide u = Reads u.front ⊎ Reads u.behind
+
+  alt_first : (p : Pat) (ps : List Pat) → Reads (alt_all (p ∷ ps)) → Reads p
+  alt_first p [] h = h
+  alt_first p (q ∷ ps) h = h.0
+
+  alt_later : (p : Pat) (ps : List Pat) → Reads (alt_all (p ∷ ps)) → Reads (alt_all ps)
+  alt_later p [] h = tt
+  alt_later p (q ∷ ps) h = h.1
+
+  either_reads : (b : Bool) (n : ℕ) (p q : Pat) → Reads (cond b (cat (back n) p) q) → Reads p ⊎ Reads q
+  either_reads true n p q h = inl h.1
+  either_reads false n p q h = inr h
+
+  look_reads : (how : LookAround) (u : Written) → Reads (look how u) → HasSide u
+  look_reads LookAhead u h = inl h
+  look_reads LookAheadNeg u h = inl h
+  look_reads LookBehind u h = inr h
+  look_reads LookBehindNeg u h = inr h
+
+  repeated_reads : (p : Pat) (lo hi : ℕ) (greedy : Bool) → (hi == 0) ≡ false → Reads (repeated p lo hi greedy) → Reads p
+  repeated_reads p zero zero greedy seen h = absurd (true≢false seen)
+  repeated_reads p zero (suc hi) greedy seen h = h
+  repeated_reads p (suc lo) hi greedy seen h = h
+
+  module _ (groups : List Tree) where
+    node_reads : (t : Tree) (p : Pat) → HasSide (node groups t p) → Reads p
+    node_reads t p h = ⊎_elim (λ (e : Reads p). e) (λ (e : Unit {0} × Reads p). e.1) h
+
+    -- over the patterns of all calls
+    module _ (call : ℕ → Pat) where
+      -- The grammar reads each class in one side of what the tree is written out to.
+      record At (t : Tree) : Type 0 where
+        first : ℕ
+        side : HasSide (written groups call first t)
+
+      from_front : (n : ℕ) (t u : Tree) → t ≡ u → Reads (written groups call n t).front → At u
+      from_front n t u is h = subst At is (record { first = n; side = inl h })
+
+      from_behind : (n : ℕ) (t u : Tree) → t ≡ u → Reads (written groups call n t).behind → At u
+      from_behind n t u is h = subst At is (record { first = n; side = inr h })
+
+      in_row : (n : ℕ) (ts : Trees) (u : Tree) → Reads (cat_all (written_all groups call n ts)) → Contains (listed ts) u → At u
+      unfolding written
+      in_row n no_trees u h m = absurd (none_there u m)
+      in_row n (more_trees t ts) u h m =
+          ⊎_elim (λ e. from_front n t u e h.0) (λ e. in_row (n + group_count t) ts u h.1 e) (first_or_later t (listed ts) u m)
+
+      in_fronts : (n : ℕ) (ts : Trees) (u : Tree) → Reads (alt_all (fronts (written_all groups call n ts))) → Contains (listed ts) u → At u
+      unfolding written
+      in_fronts n no_trees u h m = absurd (none_there u m)
+      in_fronts n (more_trees t ts) u h m =
+          let later = fronts (written_all groups call (n + group_count t) ts) in
+          ⊎_elim (λ e. from_front n t u e (alt_first (written groups call n t).front later h))
+          (λ e. in_fronts (n + group_count t) ts u (alt_later (written groups call n t).front later h) e) (first_or_later t (listed ts) u m)
+
+      in_behinds : (n : ℕ) (ts : Trees) (u : Tree) → Reads (alt_all (behinds (written_all groups call n ts))) → Contains (listed ts) u → At u
+      unfolding written
+      in_behinds n no_trees u h m = absurd (none_there u m)
+      in_behinds n (more_trees t ts) u h m =
+          let later = behinds (written_all groups call (n + group_count t) ts) in
+          ⊎_elim (λ e. from_behind n t u e (alt_first (written groups call n t).behind later h))
+          (λ e. in_behinds (n + group_count t) ts u (alt_later (written groups call n t).behind later h) e) (first_or_later t (listed ts) u m)
+
+      in_branches : (n : ℕ) (ts : Trees) (u : Tree) → HasSide (branches groups (tree.alt ts) (written_all groups call n ts)) →
+          Contains (listed ts) u → At u
+      in_branches n ts u h m =
+          let us = written_all groups call n ts in
+          ⊎_elim (λ e. in_fronts n ts u e m)
+          (λ e. ⊎_elim (λ f. in_fronts n ts u f m) (λ f. in_behinds n ts u f m)
+          (either_reads (size groups (tree.alt ts)).always (size groups (tree.alt ts)).least (alt_all (fronts us)) (alt_all (behinds us)) e)) h
+
+      from_side : (n : ℕ) (t u : Tree) → t ≡ u → HasSide (written groups call n t) → At u
+      from_side n t u is h = subst At is (record { first = n; side = h })
+
+      -- What is so of a node is so of each of its children.
+      child_at : (n : ℕ) (t u : Tree) → HasSide (written groups call n t) → hides_children t ≡ false → is_built t ≡ true →
+          Contains (children t) u → At u
+      unfolding written
+      child_at n (tree.alt ts) u h seen built m = in_branches n ts u h m
+      child_at n (tree.concat ts) u h seen built m = in_row n ts u (node_reads (tree.concat ts) (cat_all (written_all groups call n ts)) h) m
+      child_at n (tree.group t) u h seen built m =
+          from_front (n + 1) t u (only_child t u m) (node_reads (tree.group t) (group n (written groups call (n + 1) t).front) h)
+      child_at n (tree.look_around t how) u h seen built m =
+          let w = written groups call n t in
+          from_side n t u (only_child t u m) (look_reads how w (node_reads (tree.look_around t how) (look how w) h))
+      child_at n (tree.repeat t lo hi greedy) u h seen built m =
+          let p = (written groups call n t).front in
+          from_front n t u (only_child t u m)
+          (repeated_reads p lo hi greedy seen (node_reads (tree.repeat t lo hi greedy) (repeated p lo hi greedy) h))
+      child_at n (tree.atomic_group t) u h seen built m =
+          from_front n t u (only_child t u m) (node_reads (tree.atomic_group t) (atomic (written groups call n t).front) h)
+      child_at n (tree.conditional c a b) u h seen built m =
+          let parts = node_reads (tree.conditional c a b) (conditional (written groups call n c).front (written groups call (n + group_count c) a).front
+          (written groups call (n + group_count c + group_count a) b).front) h in
+          ⊎_elim (λ e. from_front n c u e parts.0)
+          (λ e. ⊎_elim (λ f. from_front (n + group_count c) a u f parts.1)
+          (λ f. from_front (n + group_count c + group_count a) b u (only_child b u f) parts.2)
+          (first_or_later a (b ∷ []) u e))
+          (first_or_later c (a ∷ b ∷ []) u m)
+      child_at n (tree.absent_repeater t) u h seen built m =
+          from_front n t u (only_child t u m) (node_reads (tree.absent_repeater t) (absent (written groups call n t).front) h)
+      child_at n (tree.absent_expression a t) u h seen built m = absurd (true≢false (sym built))
+      child_at n (tree.absent_stopper t) u h seen built m = absurd (true≢false (sym built))
+      child_at n (tree.ast_group name t position) u h seen built m = absurd (true≢false (sym built))
+      child_at n (tree.define_group t) u h seen built m = absurd (true≢false seen)
+      child_at n t u h seen built m = absurd (none_there u m)
+
+      -- a class where it is written out
+      class_at : (t : Tree) (text : Text) (casei : Bool) → At t → is_class text casei t ≡ true → IsTrue (is_read (class_text unicode casei text))
+      unfolding written
+      class_at (tree.delegate inner c) text casei h e =
+          let both = both_true (bytes_eq inner text) (cond casei c (not c)) e in
+          let same : inner ≡ text = (bytes_eq-Decides inner text).0 both.0 in
+          subst (λ x. IsTrue (is_read (class_text unicode casei x))) same
+          (subst (λ b. IsTrue (is_read (class_text unicode b inner))) (same_case c casei both.1)
+          (node_reads (tree.delegate inner c) (read (class inner c)) h.side))
+      class_at t text casei h e = absurd (true≢false (sym e))
+
+    -- A call is its target's body, with one call more open.
+    call_at : (m : ℕ) (opened : List ℕ) (n k : ℕ) (u : Tree) → target groups k ≡ Some u → is_full opened k ≡ false →
+        HasSide (written groups (written_call groups (suc m) opened) n (tree.subroutine_call k)) → At (written_call groups m (k ∷ opened)) u
+    unfolding written written_call
+    call_at m opened n k u found free h =
+        let inside = λ (b : Tree). (written groups (written_call groups m (k ∷ opened)) (k + 1) b).front in
+        let is = ap (λ b. cond b fail (pat_for inside (target groups k))) free ∙ ap (pat_for inside) found in
+        record { first = k + 1; side = inl (subst Reads is (node_reads (tree.subroutine_call k) (written_call groups (suc m) opened k) h)) }
+
+-- how often the target is open
+abbrev opens : ℕ → List ℕ → ℕ
+opens k opened = count_by (λ j. j == k) opened
+
+opens-cons : (k j : ℕ) (opened : List ℕ) → opens k (j ∷ opened) ≡ cond (j == k) 1 0 + opens k opened
+opens-cons k j opened = sum_by-cons (λ i. cond (i == k) 1 0) j opened
+
+same_one : (j k : ℕ) → j ≡ k → ◌≡◌ {A = ℕ} (cond (j == k) 1 0) 1
+same_one j k e = grind (arith, nat_tests)
+
+other_one : (j k : ℕ) → (j ≡ k → ⊥) → ◌≡◌ {A = ℕ} (cond (j == k) 1 0) 0
+other_one j k e = grind (arith, nat_tests)
+
+-- how many targets below n are not open
+left : ℕ → List ℕ → ℕ
+left zero opened = 0
+left (suc n) opened = left n opened + cond (opens n opened == 0) 1 0
+
+left_one_less : (n k : ℕ) (opened : List ℕ) → opens k opened ≡ 0 → left n (k ∷ opened) + cond (nat_lt k n) 1 0 ≡ left n opened
+unfolding left
+left_one_less zero k opened none = grind (arith, nat_tests)
+left_one_less (suc n) k opened none =
+    ⊎_elim
+    (λ (e : k ≡ n). grind (arith, nat_tests, left_one_less n k opened none, opens-cons n k opened, same_one k n e))
+    (λ (ne : k ≡ n → ⊥). grind (arith, nat_tests, left_one_less n k opened none, opens-cons n k opened, other_one k n ne))
+    (cases_eq k n)
+
+left_fewer : (n k : ℕ) (opened : List ℕ) → k < n → opens k opened ≡ 0 → left n (k ∷ opened) < left n opened
+left_fewer n k opened below none = grind (arith, nat_tests, left_one_less n k opened none)
+
+left_most : (n : ℕ) (opened : List ℕ) → left n opened ≤ n
+unfolding left
+left_most zero opened = omega arith
+left_most (suc n) opened = grind (arith, nat_tests, left_most n opened)
+
+not_full : (opened : List ℕ) (k : ℕ) → opens k opened ≡ 0 → is_full opened k ≡ false
+not_full opened k none = ap (nat_le 19) none
+
+module _ (groups : List Tree) (root : Tree) where
+  -- A part that is written out, and the targets of the calls that are open round it, each of them once.
+  data Reached : List ℕ → Tree → Type 0 where
+    at_root : Reached [] root
+    at_child : (opened : List ℕ) (t u : Tree) → Reached opened t → hides_children t ≡ false → is_built t ≡ true → Contains (children t) u →
+        Reached opened u
+    at_body : (opened : List ℕ) (k : ℕ) (u : Tree) → Reached opened (tree.subroutine_call k) → target groups k ≡ Some u →
+        opens k opened ≡ 0 → Reached (k ∷ opened) u
+
+  abbrev IsReached : Tree → Type 0
+  IsReached t = (opened : List ℕ) × Reached opened t
+
+  -- the body of a target that is open was reached when it was opened
+  earlier : (opened : List ℕ) (t : Tree) → Reached opened t → (k : ℕ) (u : Tree) → target groups k ≡ Some u → (opens k opened ≡ 0 → ⊥) → IsReached u
+  earlier opened t at_root k u found again = absurd (again refl)
+  earlier opened t (at_child _ s _ r seen built m) k u found again = earlier opened s r k u found again
+  earlier opened t (at_body others j _ r is none) k u found again =
+      ⊎_elim
+      (λ (e : j ≡ k). subst IsReached (same_Some t u (sym is ∙ ap (target groups) e ∙ found)) (opened, at_body others j t r is none))
+      (λ (ne : j ≡ k → ⊥). earlier others (tree.subroutine_call j) r k u found
+      (λ z. again (omega (arith, opens-cons k j others, other_one j k ne, z))))
+      (cases_eq j k)
+
+  body_reached : (opened : List ℕ) (k : ℕ) (u : Tree) → Reached opened (tree.subroutine_call k) → target groups k ≡ Some u → IsReached u
+  body_reached opened k u r found =
+      ⊎_elim (λ (e : opens k opened ≡ 0). (k ∷ opened, at_body opened k u r found e))
+      (λ (ne : opens k opened ≡ 0 → ⊥). earlier opened (tree.subroutine_call k) r k u found ne)
+      (cases_eq (opens k opened) 0)
+
+  -- where the tree is clear
+  module _ (parts : SomePart groups root (is_stopped (size groups)) → ⊥) (nodes : SomePart groups root (λ _. is_faulty (length groups)) → ⊥) where
+    built : (i : Inside) (t : Tree) → IsWritten groups root i t → is_built t ≡ true
+    built i (tree.absent_expression a t) w = absurd (parts (i, tree.absent_expression a t, w, refl))
+    built i (tree.absent_stopper t) w = absurd (parts (i, tree.absent_stopper t, w, refl))
+    built i (tree.ast_group name t position) w = absurd (nodes (i, tree.ast_group name t position, w, refl))
+    built i t w = refl
+
+    reached : (i : Inside) (t : Tree) → IsWritten groups root i t → IsReached t
+    reached i t the_root = ([], at_root)
+    reached i u (child j t _ w seen m) = let r = reached j t w in (r.0, at_child r.0 t u r.1 seen (built j t w) m)
+    reached i u (body _ k _ w found) = let r = reached i (tree.subroutine_call k) w in body_reached r.0 k u r.1 found
+
+  module _ (unicode : Bool) where
+    -- with enough calls that may open for all the targets that are not open
+    record Walked (opened : List ℕ) (t : Tree) : Type 0 where
+      calls : ℕ
+      enough : left (length groups) opened ≤ calls
+      place : At unicode groups (written_call groups calls opened) t
+
+    walk_body : (opened : List ℕ) (k : ℕ) (u : Tree) (m : ℕ) → left (length groups) opened ≤ m → target groups k ≡ Some u → opens k opened ≡ 0 →
+        At unicode groups (written_call groups m opened) (tree.subroutine_call k) → Walked (k ∷ opened) u
+    walk_body opened k u zero enough found none a =
+        absurd (omega (arith, left_fewer (length groups) k opened (slice_get_within groups k u found) none))
+    walk_body opened k u (suc m) enough found none a = record {
+      calls = m;
+      enough = omega (arith, left_fewer (length groups) k opened (slice_get_within groups k u found) none);
+      place = call_at unicode groups m opened a.first k u found (not_full opened k none) a.side;
+    }
+
+    walked : (At unicode groups (written_call groups (most_calls groups) []) root) → (opened : List ℕ) (t : Tree) → Reached opened t → Walked opened t
+    walked whole opened t at_root = record { calls = most_calls groups; enough = omega (arith, left_most (length groups) []); place = whole }
+    walked whole opened u (at_child _ t _ r seen built m) =
+        let w = walked whole opened t r in
+        record { calls = w.calls; enough = w.enough; place = child_at unicode groups _ w.place.first t u w.place.side seen built m }
+    walked whole _ u (at_body opened k _ r found none) =
+        let w = walked whole opened (tree.subroutine_call k) r in
+        walk_body opened k u w.calls w.enough found none w.place
+
+whole_at : (unicode explicit : Bool) (t : Tree) → IsAllowed unicode true (pat_of (pattern_in explicit t)) →
+    At unicode (pattern_in explicit t).groups (written_call (pattern_in explicit t).groups (most_calls (pattern_in explicit t).groups) []) t
+unfolding pat_of
+whole_at unicode true t h = record { first = 0; side = inl (allowed_reads unicode true (pat_of (pattern_in true t)) h) }
+whole_at unicode false t h = record { first = 1; side = inl (allowed_reads unicode true (pat_of (pattern_in false t)) h) }
+
+pub classes_are_read : (unicode explicit : Bool) (t : Tree) → IsClear (pattern_in explicit t).groups t →
+    IsAllowed unicode true (pat_of (pattern_in explicit t)) → ReadsClasses unicode (pattern_in explicit t).groups t
+classes_are_read unicode explicit t clear allowed casei text part =
+    let groups = (pattern_in explicit t).groups in
+    let nodes : SomePart groups t (λ _. is_faulty (length groups)) → ⊥ =
+    λ p. absurd (let never : true ≡ false = sym (part_node (is_faulty (length groups)) explicit t p) ∙ clear.nodes in cc) in
+    let r = reached groups t clear.parts nodes part.0 part.1 part.2 in
+    let w = walked groups t unicode (whole_at unicode explicit t allowed) r.0 part.1 r.1 in
+    class_at unicode groups _ part.1 text casei w.place part.3
