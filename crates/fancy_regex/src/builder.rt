@@ -6,8 +6,8 @@ ghost use Rattle.fancy_regex_search.specs.Refusals.{Accepts, Refuses};
 
 use crate::options_builder::RegexOptionsBuilder;
 use crate::regex::Regex;
+use fancy_regex_info::BytesMode;
 use fancy_regex_search::Result;
-use fancy_regex_sizes::BytesMode;
 use std::alloc::Global;
 
 /// A pattern and options under which a regex is built. Each setter changes the one thing that it names.

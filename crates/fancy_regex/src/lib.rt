@@ -17,10 +17,10 @@ pub use builder::RegexBuilder;
 pub use capture_matches::CaptureMatches;
 pub use captures::{Captures, SubCaptureMatches};
 pub use fancy_regex_class::Steps;
+pub use fancy_regex_info::{BytesMode, CompileError};
 pub use fancy_regex_input::{Input, Match, RegexInput};
 pub use fancy_regex_machine::RuntimeError;
 pub use fancy_regex_search::{Error, Result};
-pub use fancy_regex_sizes::{BytesMode, CompileError};
 pub use fancy_regex_tree::{
     Absent, Assertion, AstNode, BacktrackingControlVerb, CaptureGroupTarget, Expr,
     ExprChildrenIter, ExprTree, LookAround, NamedGroups, ParseError, ParseErrorPosition,

@@ -5,8 +5,8 @@ ghost use Rattle.fancy_regex_search.specs.Defaults.{default_options};
 ghost use Rattle.fancy_regex_search.specs.Refusals.{Accepts, Refuses};
 
 use crate::regex::Regex;
+use fancy_regex_info::BytesMode;
 use fancy_regex_search::{RegexOptions, Result};
-use fancy_regex_sizes::BytesMode;
 use std::alloc::Global;
 
 /// Options under which regexes are built. Each setter changes the one option that it names.

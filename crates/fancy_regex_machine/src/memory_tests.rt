@@ -1,9 +1,10 @@
 //! Worked patterns where memory may run out: the call that wanted it is made once more, and gives the answer.
 
 use crate::{RunOptions, RuntimeError, run};
+use fancy_regex_info::{AnalyzeContext, CompileError, CompileOptions, Info};
 use fancy_regex_program::{Prog, compile};
 use fancy_regex_runner::RunInput;
-use fancy_regex_sizes::{AnalyzeContext, CompileError, CompileOptions, Info, analyze};
+use fancy_regex_sizes::analyze;
 use fancy_regex_tree::{Error, Expr, ExprTree};
 use std::alloc::Global;
 

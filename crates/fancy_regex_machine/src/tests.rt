@@ -1,9 +1,10 @@
 //! Searches of worked patterns, from their texts on.
 
 use crate::{RunOptions, RuntimeError, run, run_default, run_spans};
+use fancy_regex_info::{AnalyzeContext, CompileOptions};
 use fancy_regex_program::{Prog, compile};
 use fancy_regex_runner::RunInput;
-use fancy_regex_sizes::{AnalyzeContext, CompileOptions, analyze};
+use fancy_regex_sizes::analyze;
 use fancy_regex_tree::{Expr, FLAG_UNICODE};
 use std::alloc::Global;
 

@@ -7,8 +7,8 @@ use Rattle.std.proofs.lemmas.List.Elements.{All-more}
 use Rattle.fancy_regex_meaning.specs.Ways.{is_full}
 use Rattle.fancy_regex_pattern.specs.Pats.{Pat, fail, cat, back}
 use Rattle.fancy_regex_pattern.specs.Unfolded.{Written, cat_all, alt_all, pat_for}
-use Rattle.fancy_regex_sizes.specs.Infos.{InfoTree}
-use Rattle.fancy_regex_sizes.specs.declared.info.Info.{Info}
+use Rattle.fancy_regex_info.specs.Infos.{InfoTree}
+use Rattle.fancy_regex_info.specs.declared.info.Info.{Info}
 use Rattle.fancy_regex_program.specs.Known.{info_written, info_call}
 use Rattle.fancy_regex_program.specs.Shapes.{IsAllowed}
 

@@ -20,7 +20,7 @@ use Rattle.fancy_regex_pattern.specs.Pats.{class, Pat, nothing, read, general_ne
 use Rattle.fancy_regex_pattern.specs.Unfolded.{Written, pat_for, cat_all, alt_all, fronts, behinds, repeated, look, node, branches, written, written_all, written_call, pat_of}
 use Rattle.fancy_regex_sizes.specs.NodeCauses.{is_faulty}
 use Rattle.fancy_regex_sizes.specs.PartCauses.{is_stopped}
-use Rattle.fancy_regex_sizes.specs.Views.{pattern_in}
+use Rattle.fancy_regex_info.specs.Views.{pattern_in}
 use Rattle.fancy_regex_sizes.specs.Written.{hides_children, IsWritten, the_root, child, body, SomePart}
 use Rattle.fancy_regex_program.specs.Refusals.{Inside, is_class, IsClear, ReadsClasses}
 use Rattle.fancy_regex_program.specs.Shapes.{IsReadable, IsAllowed}

@@ -6,7 +6,7 @@ use Rattle.fancy_regex_tree.specs.Tree as tree
 use Rattle.fancy_regex_tree.specs.Tree.{Tree, Trees, no_trees, more_trees}
 use Rattle.fancy_regex_meaning.specs.Groups.{bodies, row_bodies}
 use Rattle.fancy_regex_sizes.specs.NodeCauses.{some_node, some_node_of}
-use Rattle.fancy_regex_sizes.specs.Views.{pattern_in}
+use Rattle.fancy_regex_info.specs.Views.{pattern_in}
 use Rattle.fancy_regex_sizes.specs.Written.{some_below, some_of_row, some_written, IsWhole, itself, called, SomePart}
 use Rattle.fancy_regex_sizes.proofs.PlaceLemmas.{whole_found}
 use Rattle.fancy_regex_program.specs.Refusals.{Inside}

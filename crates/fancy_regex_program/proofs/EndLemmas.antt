@@ -3,9 +3,9 @@ use Rattle.std.proofs.Common.{◌≡◌, ℕ, zero, suc, ◌+◌, ◌*◌, ◌-�
 use Rattle.std.specs.Prelude.{slice_get, unwrap_or}
 use Rattle.std.proofs.lemmas.List.{length-take, get_or-take}
 use Rattle.std.proofs.lemmas.Option.{slice_get_read, none-some}
-use Rattle.fancy_regex_sizes.specs.Infos.{InfoTree, InfoTrees, known, no_infos, more_infos, infos, info_of}
-use Rattle.fancy_regex_sizes.specs.declared.info.Info.{Info}
-use Rattle.fancy_regex_sizes.specs.declared.info.Info.TheViews.{out-Info}
+use Rattle.fancy_regex_info.specs.Infos.{InfoTree, InfoTrees, known, no_infos, more_infos, infos, info_of}
+use Rattle.fancy_regex_info.specs.declared.info.Info.{Info}
+use Rattle.fancy_regex_info.specs.declared.info.Info.TheViews.{out-Info}
 use Rattle.fancy_regex_program.proofs.NodeLemmas.{info_known}
 
 -- how many nodes a tree has, and a row of them

@@ -9,9 +9,9 @@ use Rattle.fancy_regex_tree.specs.declared.expr.Absent.TheViews.{roll-Expr, roll
 use Rattle.fancy_regex_tree.specs.declared.expr.Absent.TheOpen.{Expr-F, Absent-F, AstNode-F}
 use Rattle.fancy_regex_tree.specs.declared.expr.Absent.TheFolds.{fold-roll-Expr, fold-roll-Absent, fold-roll-AstNode}
 use Rattle.fancy_regex_tree.specs.Tree.{Tree, absent_tree, ast_tree, node_tree, tree_of, absent_tree_of, ast_tree_of}
-use Rattle.fancy_regex_sizes.specs.Infos.{InfoTree, InfoTrees, infos, info_of}
-use Rattle.fancy_regex_sizes.specs.declared.info.Info.{Info}
-use Rattle.fancy_regex_sizes.specs.declared.info.Info.TheViews.{out-Info}
+use Rattle.fancy_regex_info.specs.Infos.{InfoTree, InfoTrees, infos, info_of}
+use Rattle.fancy_regex_info.specs.declared.info.Info.{Info}
+use Rattle.fancy_regex_info.specs.declared.info.Info.TheViews.{out-Info}
 use Rattle.fancy_regex_program.specs.Known.{is_group, listed, bodies_in, row_bodies_in, groups_in}
 use Rattle.fancy_regex_program.specs.Groups.{own_bodies, bodies_in_row}
 use Rattle.fancy_regex_program.proofs.TreeLemmas.{tree_group}

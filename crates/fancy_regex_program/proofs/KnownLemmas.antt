@@ -10,10 +10,10 @@ use Rattle.fancy_regex_meaning.specs.Sizes.{size, target}
 use Rattle.fancy_regex_meaning.specs.Ways.{is_full, open_calls_of_one, most_calls}
 use Rattle.fancy_regex_pattern.specs.Pats.{Pat, any, literal, class, nothing, read, general_newline, check, continue, keep_out, fail, group, atomic, repeat, backref, exists, conditional, absent}
 use Rattle.fancy_regex_pattern.specs.Unfolded.{Written, pat_for, cat_all, alt_all, look, node, branches, written, written_all, written_call, pat_of}
-use Rattle.fancy_regex_sizes.specs.Analysis.{analysis}
-use Rattle.fancy_regex_sizes.specs.References.{is_read}
-use Rattle.fancy_regex_sizes.specs.Infos.{Facts, InfoTree, InfoTrees, known, no_infos, more_infos, facts_in, facts, described, described_row}
-use Rattle.fancy_regex_sizes.specs.Views.{pattern_in}
+use Rattle.fancy_regex_info.specs.Analysis.{analysis}
+use Rattle.fancy_regex_info.specs.References.{is_read}
+use Rattle.fancy_regex_info.specs.Infos.{Facts, InfoTree, InfoTrees, known, no_infos, more_infos, facts_in, facts, described, described_row}
+use Rattle.fancy_regex_info.specs.Views.{pattern_in}
 use Rattle.fancy_regex_program.specs.Known.{front_of, behind_of, layer, info_written, info_written_all, info_call, listed, bodies_in, row_bodies_in, groups_in, most_calls_in, pat_in}
 
 module _ (groups : List Tree) (reads : ℕ → Bool) where

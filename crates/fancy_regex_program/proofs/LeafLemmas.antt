@@ -15,8 +15,8 @@ use Rattle.fancy_regex_class.specs.declared.class.CharClassMatcher.{CharClassMat
 use Rattle.fancy_regex_class.specs.declared.folding.CaseiLiteral.{CaseiLiteral}
 use Rattle.fancy_regex_pattern.specs.Pats.{Pat, any, literal, class, read, general_newline, check, continue, fail, backref, exists}
 use Rattle.fancy_regex_pattern.specs.Unfolded.{Written}
-use Rattle.fancy_regex_sizes.specs.declared.error.CompileError.{CompileError}
-use Rattle.fancy_regex_sizes.specs.declared.error.CompileError.TheVariants.{InnerError, InvalidBackref, FeatureNotYetSupported, UnresolvedAstNode}
+use Rattle.fancy_regex_info.specs.declared.error.CompileError.{CompileError}
+use Rattle.fancy_regex_info.specs.declared.error.CompileError.TheVariants.{InnerError, InvalidBackref, FeatureNotYetSupported, UnresolvedAstNode}
 use Rattle.fancy_regex_program.specs.Ops as op
 use Rattle.fancy_regex_program.specs.Ops.{Op, op_of, among_scalars}
 use Rattle.fancy_regex_program.specs.Code.{slots_in, code_of}

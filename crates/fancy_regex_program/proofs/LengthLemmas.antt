@@ -8,7 +8,7 @@ use Rattle.fancy_regex_pattern.specs.Pats.{Pat}
 use Rattle.fancy_regex_pattern.specs.Rooms.{room}
 use Rattle.fancy_regex_pattern.specs.Unfolded.{pat_of}
 use Rattle.fancy_regex_pattern.proofs.RoomProofs.{pattern_has_room}
-use Rattle.fancy_regex_sizes.specs.Views.{pattern_in}
+use Rattle.fancy_regex_info.specs.Views.{pattern_in}
 use Rattle.fancy_regex_program.specs.Code.{waits, flushed, code_of, opening, closing, program_of}
 use Rattle.fancy_regex_program.specs.Ops.{op_of}
 use Rattle.fancy_regex_program.specs.Programs.{IsMadeFrom}

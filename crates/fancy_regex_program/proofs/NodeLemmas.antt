@@ -11,10 +11,10 @@ use Rattle.fancy_regex_tree.specs.Tree as tree
 use Rattle.fancy_regex_tree.specs.Tree.{Tree, tree_of, trees}
 use Rattle.fancy_regex_pattern.specs.Pats.{Pat, nothing, cat, group, back, atomic, conditional, absent}
 use Rattle.fancy_regex_pattern.specs.Unfolded.{Written, cat_all, alt_all, repeated, look, fronts, behinds}
-use Rattle.fancy_regex_sizes.specs.Infos.{Facts, InfoTree, InfoTrees, known, infos, info_of, info_layer, facts_in}
-use Rattle.fancy_regex_sizes.specs.declared.info.Info.{Info}
-use Rattle.fancy_regex_sizes.specs.declared.info.Info.TheFolds.{fold_out-Info}
-use Rattle.fancy_regex_sizes.specs.declared.info.Info.TheViews.{out-Info}
+use Rattle.fancy_regex_info.specs.Infos.{Facts, InfoTree, InfoTrees, known, infos, info_of, info_layer, facts_in}
+use Rattle.fancy_regex_info.specs.declared.info.Info.{Info}
+use Rattle.fancy_regex_info.specs.declared.info.Info.TheFolds.{fold_out-Info}
+use Rattle.fancy_regex_info.specs.declared.info.Info.TheViews.{out-Info}
 use Rattle.fancy_regex_program.specs.Known.{child, or_fails, front_of, behind_of, layer, info_written, info_written_all}
 use Rattle.fancy_regex_program.proofs.TreeLemmas.{tree_concat, tree_alt, tree_group, tree_look_around, tree_repeat, tree_atomic, tree_conditional, tree_define, tree_absent, tree_repeater}
 

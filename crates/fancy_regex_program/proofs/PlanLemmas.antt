@@ -3,15 +3,15 @@ use Rattle.std.proofs.Common.{◌≡◌, ℕ, ◌+◌, Bool, true, false, not, L
 use Rattle.std.specs.Prelude.{slice_get, unwrap_or}
 use Rattle.std.proofs.lemmas.Option.{none-some}
 use Rattle.fancy_regex_tree.specs.Tree.{Tree}
-use Rattle.fancy_regex_sizes.specs.Analysis.{analysis}
-use Rattle.fancy_regex_sizes.specs.Infos.{InfoTree, described}
+use Rattle.fancy_regex_info.specs.Analysis.{analysis}
+use Rattle.fancy_regex_info.specs.Infos.{InfoTree, described}
 use Rattle.fancy_regex_sizes.specs.NodeCauses.{is_faulty}
-use Rattle.fancy_regex_sizes.specs.References.{is_read}
-use Rattle.fancy_regex_sizes.specs.Views.{pattern_in}
+use Rattle.fancy_regex_info.specs.References.{is_read}
+use Rattle.fancy_regex_info.specs.Views.{pattern_in}
 use Rattle.fancy_regex_sizes.specs.Written.{itself}
-use Rattle.fancy_regex_sizes.specs.declared.error.CompileError.{CompileError}
-use Rattle.fancy_regex_sizes.specs.declared.error.CompileError.TheVariants.{FeatureNotYetSupported}
-use Rattle.fancy_regex_sizes.specs.declared.options.BytesMode.{BytesMode}
+use Rattle.fancy_regex_info.specs.declared.error.CompileError.{CompileError}
+use Rattle.fancy_regex_info.specs.declared.error.CompileError.TheVariants.{FeatureNotYetSupported}
+use Rattle.fancy_regex_info.specs.declared.options.BytesMode.{BytesMode}
 use Rattle.fancy_regex_program.specs.Known.{groups_in}
 use Rattle.fancy_regex_program.specs.Refusals.{Plan, IsBody, IsClear, IsReason, IsRefusal, IsTold, Serves, Stands}
 use Rattle.fancy_regex_program.proofs.KnownLemmas.{groups_are, get_from, count_is}

@@ -21,16 +21,16 @@ use Rattle.fancy_regex_tree.specs.Tree as tree
 use Rattle.fancy_regex_tree.specs.Tree.{Text, Tree, Trees, absent_tree, ast_tree, node_tree, tree_of, absent_tree_of, ast_tree_of, trees, no_trees, more_trees}
 use Rattle.fancy_regex_meaning.specs.Groups.{group_count}
 use Rattle.fancy_regex_meaning.specs.Sizes.{Size, size}
-use Rattle.fancy_regex_sizes.specs.Infos.{InfoTree, InfoTrees, known, info_of, described, described_row, facts_in}
+use Rattle.fancy_regex_info.specs.Infos.{InfoTree, InfoTrees, known, info_of, described, described_row, facts_in}
 use Rattle.fancy_regex_sizes.specs.NodeCauses.{is_faulty}
 use Rattle.fancy_regex_sizes.specs.PartCauses.{is_steady, are_steady, is_unsteady, is_stopped, missing_in}
 use Rattle.fancy_regex_sizes.specs.Written.{in_look_around, some_below, some_of_row, some_written, written_calls, written_calls_in_row, IsWhole, called}
 use Rattle.fancy_regex_sizes.proofs.InsideLemmas.{no_keep_around, no_absent_around}
 use Rattle.fancy_regex_sizes.proofs.PlaceLemmas.{part_found}
-use Rattle.fancy_regex_sizes.specs.declared.error.CompileError.{CompileError}
-use Rattle.fancy_regex_sizes.specs.declared.error.CompileError.TheVariants.{InnerError, InvalidBackref, FeatureNotYetSupported, UnresolvedAstNode, Memory}
-use Rattle.fancy_regex_sizes.specs.declared.info.Info.{Info}
-use Rattle.fancy_regex_sizes.specs.declared.info.Info.TheViews.{out-Info}
+use Rattle.fancy_regex_info.specs.declared.error.CompileError.{CompileError}
+use Rattle.fancy_regex_info.specs.declared.error.CompileError.TheVariants.{InnerError, InvalidBackref, FeatureNotYetSupported, UnresolvedAstNode, Memory}
+use Rattle.fancy_regex_info.specs.declared.info.Info.{Info}
+use Rattle.fancy_regex_info.specs.declared.info.Info.TheViews.{out-Info}
 use Rattle.fancy_regex_program.specs.Known.{listed}
 use Rattle.fancy_regex_program.specs.Refusals.{Inside, Call, is_class, IsMissing, KeepsNone, NoneAbsent, IsNoLeaf, IsReason, Plan, Serves, Seat, tree_in, Stands, EachStands, RepeatStands, AbsentStands, PartsStand, TargetStands, looks_behind, IsTold}
 use Rattle.fancy_regex_program.proofs.KindLemmas.{NoParts, faulty}

@@ -11,9 +11,9 @@ use Rattle.fancy_regex_pattern.specs.Pats.{Pat, any, literal, class, nothing, re
 use Rattle.fancy_regex_pattern.specs.Rooms.{room}
 use Rattle.fancy_regex_pattern.specs.Unfolded.{Written, cat_all, alt_all}
 use Rattle.fancy_regex_sizes.specs.Causes.{is_too_complex}
-use Rattle.fancy_regex_sizes.specs.Infos.{InfoTree}
-use Rattle.fancy_regex_sizes.specs.declared.error.CompileError.{CompileError}
-use Rattle.fancy_regex_sizes.specs.declared.info.Info.{Info}
+use Rattle.fancy_regex_info.specs.Infos.{InfoTree}
+use Rattle.fancy_regex_info.specs.declared.error.CompileError.{CompileError}
+use Rattle.fancy_regex_info.specs.declared.info.Info.{Info}
 use Rattle.fancy_regex_sizes.proofs.TellLemmas.{gives}
 use Rattle.fancy_regex_program.specs.Ops as op
 use Rattle.fancy_regex_program.specs.Ops.{Op, op_of}

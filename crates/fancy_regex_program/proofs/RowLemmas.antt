@@ -12,9 +12,9 @@ use Rattle.fancy_regex_tree.specs.declared.expr.Expr.TheVariants as view
 use Rattle.fancy_regex_meaning.specs.Ways.{is_full}
 use Rattle.fancy_regex_pattern.specs.Pats.{Pat, nothing, fail, cat, back}
 use Rattle.fancy_regex_pattern.specs.Unfolded.{Written, cat_all, alt_all, repeated, pat_for}
-use Rattle.fancy_regex_sizes.specs.Infos.{InfoTree}
-use Rattle.fancy_regex_sizes.specs.declared.info.Info.{Info}
-use Rattle.fancy_regex_sizes.specs.declared.info.Info.TheViews.{out-Info}
+use Rattle.fancy_regex_info.specs.Infos.{InfoTree}
+use Rattle.fancy_regex_info.specs.declared.info.Info.{Info}
+use Rattle.fancy_regex_info.specs.declared.info.Info.TheViews.{out-Info}
 use Rattle.fancy_regex_program.specs.Ops as op
 use Rattle.fancy_regex_program.specs.Known.{info_written, info_call}
 use Rattle.fancy_regex_program.specs.Writing.{Draft, draft_of, added, patched, with_pat, with_choice, Wrote, WroteClosed, WroteChoice}

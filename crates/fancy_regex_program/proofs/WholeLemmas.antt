@@ -4,11 +4,11 @@ use Rattle.fancy_regex_tree.specs.Tree.{Tree}
 use Rattle.fancy_regex_class.specs.Classes.{in_class, folded}
 use Rattle.fancy_regex_pattern.specs.Pats.{Pat}
 use Rattle.fancy_regex_pattern.specs.Unfolded.{pat_of}
-use Rattle.fancy_regex_sizes.specs.Analysis.{analysis}
-use Rattle.fancy_regex_sizes.specs.Infos.{InfoTree}
+use Rattle.fancy_regex_info.specs.Analysis.{analysis}
+use Rattle.fancy_regex_info.specs.Infos.{InfoTree}
 use Rattle.fancy_regex_program.specs.Ops.{Op}
 use Rattle.fancy_regex_program.specs.Code.{flushed, waits, code_of, opening, closing, program_of}
-use Rattle.fancy_regex_sizes.specs.Views.{pattern_in}
+use Rattle.fancy_regex_info.specs.Views.{pattern_in}
 use Rattle.fancy_regex_program.specs.Known.{info_written, info_call, most_calls_in, groups_in, pat_with, pat_in}
 use Rattle.fancy_regex_program.specs.Programs.{IsWhole, IsMadeFrom}
 use Rattle.fancy_regex_program.specs.Shapes.{IsAllowed}

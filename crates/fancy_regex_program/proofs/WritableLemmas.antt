@@ -16,8 +16,8 @@ use Rattle.fancy_regex_pattern.specs.Unfolded.{Written, pat_for, cat_all, alt_al
 use Rattle.fancy_regex_pattern.proofs.GroupProofs.{pattern_has_its_groups}
 use Rattle.fancy_regex_pattern.proofs.PlaceProofs.{unfolded_is_placed}
 use Rattle.fancy_regex_sizes.specs.NodeCauses.{some_node, some_node_of, shows, is_no_group}
-use Rattle.fancy_regex_sizes.specs.Views.{pattern_in}
-use Rattle.fancy_regex_sizes.specs.declared.error.CompileError.TheVariants.{InvalidBackref}
+use Rattle.fancy_regex_info.specs.Views.{pattern_in}
+use Rattle.fancy_regex_info.specs.declared.error.CompileError.TheVariants.{InvalidBackref}
 use Rattle.fancy_regex_program.specs.Programs.{RefersToGroups, CanBeWritten}
 use Rattle.fancy_regex_program.specs.Shapes.{KeepsNothing, IsAllowed, IsWritable}
 

@@ -1,7 +1,7 @@
 -- How much of its cap a program takes.
 use Rattle.std.specs.Prelude.{◌≡◌, ℕ, ◌+◌, ◌<◌, true, length}
 use Rattle.fancy_regex_sizes.specs.Causes.{is_too_complex}
-use Rattle.fancy_regex_sizes.specs.declared.error.CompileError.{CompileError}
+use Rattle.fancy_regex_info.specs.declared.error.CompileError.{CompileError}
 use Rattle.fancy_regex_program.specs.Code.{flushed}
 use Rattle.fancy_regex_program.specs.Writing.{Draft, draft_of}
 use Rattle.fancy_regex_program.specs.declared.body.Body.{Body}

@@ -1,7 +1,7 @@
 -- The groups of a tree, as the code gathers them.
 use Rattle.std.specs.Prelude.{List, [], map, if◌then◌else◌}
-use Rattle.fancy_regex_sizes.specs.Infos.{InfoTree, known, infos, info_of}
-use Rattle.fancy_regex_sizes.specs.declared.info.Info.{Info}
+use Rattle.fancy_regex_info.specs.Infos.{InfoTree, known, infos, info_of}
+use Rattle.fancy_regex_info.specs.declared.info.Info.{Info}
 use Rattle.fancy_regex_program.specs.Known.{is_group, listed, row_bodies_in}
 
 -- the body of the group that the node is

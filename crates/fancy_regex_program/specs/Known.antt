@@ -5,7 +5,7 @@ use Rattle.fancy_regex_tree.specs.Tree.{Tree}
 use Rattle.fancy_regex_meaning.specs.Ways.{is_full, open_calls_of_one}
 use Rattle.fancy_regex_pattern.specs.Pats.{any, literal, class, Pat, nothing, read, general_newline, check, continue, keep_out, fail, cat, alt, group, ahead, never, back, atomic, backref, exists, conditional, absent}
 use Rattle.fancy_regex_pattern.specs.Unfolded.{Written, cat_all, alt_all, fronts, behinds, repeated, look, pat_for}
-use Rattle.fancy_regex_sizes.specs.Infos.{Facts, InfoTree, InfoTrees, known, no_infos, more_infos}
+use Rattle.fancy_regex_info.specs.Infos.{Facts, InfoTree, InfoTrees, known, no_infos, more_infos}
 
 -- what fails, from here and from as far back as it is long
 abbrev pub fails : Written

@@ -7,13 +7,13 @@ use Rattle.fancy_regex_class.specs.Classes.{in_class, folded}
 use Rattle.fancy_regex_pattern.specs.Pats.{Pat}
 use Rattle.fancy_regex_pattern.specs.Shapes.{IsPlaced}
 use Rattle.fancy_regex_pattern.specs.Unfolded.{pat_of}
-use Rattle.fancy_regex_sizes.specs.Analysis.{analysis}
+use Rattle.fancy_regex_info.specs.Analysis.{analysis}
 use Rattle.fancy_regex_sizes.specs.Causes.{is_too_complex}
-use Rattle.fancy_regex_sizes.specs.Infos.{InfoTree}
+use Rattle.fancy_regex_info.specs.Infos.{InfoTree}
 use Rattle.fancy_regex_sizes.specs.NodeCauses.{some_node, shows}
-use Rattle.fancy_regex_sizes.specs.Views.{pattern_in}
-use Rattle.fancy_regex_sizes.specs.declared.error.CompileError.{CompileError}
-use Rattle.fancy_regex_sizes.specs.declared.error.CompileError.TheVariants.{InvalidBackref}
+use Rattle.fancy_regex_info.specs.Views.{pattern_in}
+use Rattle.fancy_regex_info.specs.declared.error.CompileError.{CompileError}
+use Rattle.fancy_regex_info.specs.declared.error.CompileError.TheVariants.{InvalidBackref}
 use Rattle.fancy_regex_program.specs.Caps.{cap_of}
 use Rattle.fancy_regex_program.specs.Code.{slots_in, program_of}
 use Rattle.fancy_regex_program.specs.Ops.{ops_of}

@@ -8,15 +8,15 @@ use Rattle.fancy_regex_tree.specs.declared.expr.BacktrackingControlVerb.{Backtra
 use Rattle.fancy_regex_class.specs.Classes.{class_text, is_read}
 use Rattle.fancy_regex_class.specs.Matchers.{RefusesText}
 use Rattle.fancy_regex_meaning.specs.Sizes.{size, target}
-use Rattle.fancy_regex_sizes.specs.Infos.{InfoTree, known, info_of, described}
+use Rattle.fancy_regex_info.specs.Infos.{InfoTree, known, info_of, described}
 use Rattle.fancy_regex_sizes.specs.NodeCauses.{some_node, is_faulty, is_no_group}
 use Rattle.fancy_regex_sizes.specs.PartCauses.{is_steady, is_stopped, missing_in}
 use Rattle.fancy_regex_sizes.specs.Written.{in_look_around, some_written, written_calls, IsWhole, SomePart}
-use Rattle.fancy_regex_sizes.specs.declared.options.BytesMode.{BytesMode}
-use Rattle.fancy_regex_sizes.specs.declared.options.BytesMode.TheVariants.{Unicode}
-use Rattle.fancy_regex_sizes.specs.declared.error.CompileError.{CompileError}
-use Rattle.fancy_regex_sizes.specs.declared.error.CompileError.TheVariants.{InnerError, InvalidBackref, FeatureNotYetSupported, PatternTooComplex, UnresolvedAstNode, Memory}
-use Rattle.fancy_regex_sizes.specs.declared.info.Info.{Info}
+use Rattle.fancy_regex_info.specs.declared.options.BytesMode.{BytesMode}
+use Rattle.fancy_regex_info.specs.declared.options.BytesMode.TheVariants.{Unicode}
+use Rattle.fancy_regex_info.specs.declared.error.CompileError.{CompileError}
+use Rattle.fancy_regex_info.specs.declared.error.CompileError.TheVariants.{InnerError, InvalidBackref, FeatureNotYetSupported, PatternTooComplex, UnresolvedAstNode, Memory}
+use Rattle.fancy_regex_info.specs.declared.info.Info.{Info}
 
 -- what a function takes, and of what it answers lists
 abbrev pub TakenBy : {A B : Type 0} → (A → B) → Type 0

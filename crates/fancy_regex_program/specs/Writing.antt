@@ -5,8 +5,8 @@ use Rattle.fancy_regex_tree.specs.Tree.{Text, Tree}
 use Rattle.fancy_regex_class.specs.Classes.{in_class, folded}
 use Rattle.fancy_regex_pattern.specs.Pats.{Pat}
 use Rattle.fancy_regex_pattern.specs.Unfolded.{Written}
-use Rattle.fancy_regex_sizes.specs.Infos.{InfoTree, info_of}
-use Rattle.fancy_regex_sizes.specs.declared.info.Info.{Info}
+use Rattle.fancy_regex_info.specs.Infos.{InfoTree, info_of}
+use Rattle.fancy_regex_info.specs.declared.info.Info.{Info}
 use Rattle.fancy_regex_program.specs.Ops.{Op, op_of, ops_of, split, jump}
 use Rattle.fancy_regex_program.specs.Code.{flushed, waits, slots_in, code_of}
 use Rattle.fancy_regex_program.specs.Known.{front_of, info_written, info_call}

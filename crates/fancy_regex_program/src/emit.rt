@@ -6,8 +6,8 @@ ghost use Rattle.fancy_regex_pattern.specs.Pats as pat;
 ghost use Rattle.fancy_regex_pattern.specs.Rooms.{room};
 ghost use Rattle.fancy_regex_pattern.specs.Unfolded.{cat_all, alt_all, repeated, look};
 ghost use Rattle.fancy_regex_sizes.specs.Causes.{is_too_complex};
-ghost use Rattle.fancy_regex_sizes.specs.Infos.{info_of};
-ghost use Rattle.fancy_regex_sizes.specs.declared.info.Info.TheViews.{out-Info};
+ghost use Rattle.fancy_regex_info.specs.Infos.{info_of};
+ghost use Rattle.fancy_regex_info.specs.declared.info.Info.TheViews.{out-Info};
 ghost use Rattle.fancy_regex_program.specs.Extents.{IsFull};
 ghost use Rattle.fancy_regex_program.specs.Known.{info_call};
 ghost use Rattle.fancy_regex_program.specs.Ops as op;
@@ -19,7 +19,7 @@ ghost use Rattle.fancy_regex_program.specs.Writing.{Wrote, WroteClosed, WroteCho
 use crate::emitter::{Emitter, Scope, Task, deeper, first_slot, past_slots};
 use crate::insn::{AbsentRepeater, Insn, Repeat, RepeatEpsilon};
 use crate::leaf::{emit_leaf, not_supported};
-use fancy_regex_sizes::{CompileError, Info};
+use fancy_regex_info::{CompileError, Info};
 use fancy_regex_tree::{Absent, Expr, LookAround};
 
 /// How often a target may be open.

@@ -5,7 +5,7 @@ ghost use Rattle.fancy_regex_sizes.specs.Causes.{is_too_complex};
 ghost use Rattle.fancy_regex_program.specs.Refusals.{IsPlain};
 
 use crate::body::Body;
-use fancy_regex_sizes::{CompileError, Info};
+use fancy_regex_info::{CompileError, Info};
 use std::alloc::Global;
 
 /// The pattern's groups, and what is asked for.

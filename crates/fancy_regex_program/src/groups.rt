@@ -1,12 +1,12 @@
 // The groups of a tree.
 
 ghost use Rattle.std.specs.Prelude.{◌≡◌, ◌++◌, map, IfOk};
-ghost use Rattle.fancy_regex_sizes.specs.Infos.{info_of};
+ghost use Rattle.fancy_regex_info.specs.Infos.{info_of};
 ghost use Rattle.fancy_regex_program.specs.Groups.{own_bodies, bodies_in_row};
 ghost use Rattle.fancy_regex_program.specs.Known.{bodies_in, groups_in};
 ghost use Rattle.fancy_regex_program.specs.Writing.{info_at};
 
-use fancy_regex_sizes::Info;
+use fancy_regex_info::Info;
 use fancy_regex_tree::Expr;
 use std::alloc::AllocError;
 

@@ -20,7 +20,7 @@ ghost use Rattle.fancy_regex_program.specs.Writing.{Wrote, IsInsn};
 use crate::emitter::{Emitter, Scope, Task, first_slot};
 use crate::insn::Insn;
 use fancy_regex_class::{CaseiLiteral, CharClassMatcher, ClassError};
-use fancy_regex_sizes::CompileError;
+use fancy_regex_info::CompileError;
 use fancy_regex_tree::{BacktrackingControlVerb, Expr};
 use std::alloc::Global;
 

@@ -10,7 +10,7 @@ ghost use Rattle.fancy_regex_program.specs.Writing.{draft_of, with_op, with_char
 
 use crate::body::Body;
 use crate::insn::Insn;
-use fancy_regex_sizes::CompileError;
+use fancy_regex_info::CompileError;
 use std::alloc::Global;
 use std::mem;
 

@@ -10,8 +10,8 @@ use Rattle.fancy_regex_tree.specs.declared.expr.Expr.{Expr}
 use Rattle.fancy_regex_meaning.specs.Groups.{group_count, row_group_count}
 use Rattle.fancy_regex_class.specs.declared.class.CharClassMatcher.{CharClassMatcher}
 use Rattle.fancy_regex_class.specs.Matchers.{IsMatcherOf}
-use Rattle.fancy_regex_sizes.specs.declared.error.CompileError.{CompileError}
-use Rattle.fancy_regex_sizes.specs.declared.error.CompileError.TheVariants.{InnerError, Memory}
+use Rattle.fancy_regex_info.specs.declared.error.CompileError.{CompileError}
+use Rattle.fancy_regex_info.specs.declared.error.CompileError.TheVariants.{InnerError, Memory}
 use Rattle.fancy_regex_runner.specs.Re.{Re, cats, alts, cat, alt, shape, shapes}
 use Rattle.fancy_regex_runner.specs.declared.node.Node.{Node}
 use Rattle.fancy_regex_runner.specs.Program.{IsSound, never_empty}

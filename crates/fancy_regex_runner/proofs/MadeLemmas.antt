@@ -7,7 +7,7 @@ use Rattle.fancy_regex_class.specs.declared.class.CharClassMatcher.{CharClassMat
 use Rattle.fancy_regex_runner.specs.Re.{Re, shape}
 use Rattle.fancy_regex_runner.specs.Program.{emitted, IsSound}
 use Rattle.fancy_regex_runner.specs.Plain.{IsPlain, classes, re_of}
-use Rattle.fancy_regex_sizes.specs.Views.{pattern_in}
+use Rattle.fancy_regex_info.specs.Views.{pattern_in}
 use Rattle.fancy_regex_runner.specs.Easy.{IsMade, Serve, Serves}
 use Rattle.fancy_regex_runner.specs.Made.{Extends}
 use Rattle.fancy_regex_runner.specs.declared.build.Walk.{Walk}

@@ -6,10 +6,10 @@ use Rattle.fancy_regex_meaning.specs.Groups.{Pattern}
 use Rattle.fancy_regex_meaning.specs.Sizes.{tree_weight}
 use Rattle.fancy_regex_class.specs.Classes.{is_class, class_text}
 use Rattle.fancy_regex_class.specs.Matchers.{RefusesText}
-use Rattle.fancy_regex_sizes.specs.declared.options.BytesMode.TheVariants.{Unicode}
-use Rattle.fancy_regex_sizes.specs.declared.options.CompileOptions.{CompileOptions}
-use Rattle.fancy_regex_sizes.specs.declared.error.CompileError.{CompileError}
-use Rattle.fancy_regex_sizes.specs.declared.error.CompileError.TheVariants.{InnerError, FeatureNotYetSupported, PatternTooComplex, Memory}
+use Rattle.fancy_regex_info.specs.declared.options.BytesMode.TheVariants.{Unicode}
+use Rattle.fancy_regex_info.specs.declared.options.CompileOptions.{CompileOptions}
+use Rattle.fancy_regex_info.specs.declared.error.CompileError.{CompileError}
+use Rattle.fancy_regex_info.specs.declared.error.CompileError.TheVariants.{InnerError, FeatureNotYetSupported, PatternTooComplex, Memory}
 use Rattle.fancy_regex_runner.specs.Plain.{classes}
 
 -- the greatest weight of a whole pattern

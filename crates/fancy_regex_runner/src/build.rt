@@ -10,12 +10,12 @@ ghost use Rattle.fancy_regex_runner.specs.Program.{IsSound, never_empty};
 ghost use Rattle.fancy_regex_runner.specs.Plain.{test_of as test_of_assertion, IsPlain, ArePlain, is_left_out, unless, classes, row_classes, re_of, row_of, branches_of};
 ghost use Rattle.fancy_regex_runner.specs.Made.{all_trees, Extends};
 ghost use Rattle.fancy_regex_runner.specs.Refused.{IsRead, IsClassCause};
-ghost use Rattle.fancy_regex_sizes.specs.declared.error.CompileError.TheVariants as errors;
+ghost use Rattle.fancy_regex_info.specs.declared.error.CompileError.TheVariants as errors;
 ghost use Rattle.fancy_regex_class.specs.Matchers.{IsMatcherOf};
 
 use crate::node::{Leaf, Node, Test};
 use fancy_regex_class::{CharClassMatcher, ClassError, fold};
-use fancy_regex_sizes::CompileError;
+use fancy_regex_info::CompileError;
 use fancy_regex_tree::{Assertion, Expr};
 use std::alloc::{AllocError, Global};
 

@@ -16,7 +16,7 @@ use crate::state::{State, add};
 use crate::trail::Trail;
 use crate::visited::Visited;
 use fancy_regex_class::{CharClassMatcher, Counted, Steps};
-use fancy_regex_sizes::{BytesMode, CompileError, CompileOptions, Info};
+use fancy_regex_info::{BytesMode, CompileError, CompileOptions, Info};
 use std::alloc::{AllocError, Global};
 
 /// The greatest weight of a whole pattern.
@@ -40,10 +40,10 @@ pub struct Easy {
 impl Easy {
     ghost use Rattle.fancy_regex_runner.specs.Runner.{IsEasyOf};
     ghost use Rattle.fancy_regex_runner.specs.Refused.{IsTaken, IsCause};
-    ghost use Rattle.fancy_regex_sizes.specs.Analysis.{analysis};
-    ghost use Rattle.fancy_regex_sizes.specs.Infos.{info_of};
-    ghost use Rattle.fancy_regex_sizes.specs.declared.info.Info.{out-Info};
-    ghost use Rattle.fancy_regex_sizes.specs.Views.{pattern_in};
+    ghost use Rattle.fancy_regex_info.specs.Analysis.{analysis};
+    ghost use Rattle.fancy_regex_info.specs.Infos.{info_of};
+    ghost use Rattle.fancy_regex_info.specs.declared.info.Info.{out-Info};
+    ghost use Rattle.fancy_regex_info.specs.Views.{pattern_in};
 
     /// Makes the pattern ready that was looked at. The error is `InnerError` with the text of a class that `regex`
     /// refuses, `PatternTooComplex` where the weight of the whole passes 4,294,967,295, `FeatureNotYetSupported` for

@@ -6,13 +6,13 @@ use Rattle.fancy_regex_tree.specs.declared.expr.Assertion.TheVariants as A
 use Rattle.fancy_regex_tree.specs.Tree.{Tree, Trees, tree_of, empty, any, assertion, general_newline, literal, literal_bytes, concat, alt, group, look_around, repeat, delegate, backref, backref_with_level, atomic_group, keep_out, continue, backref_exists, conditional, subroutine_call, verb, absent_repeater, absent_expression, absent_stopper, absent_clear, define_group, ast_group, ast_backref, ast_call, ast_condition, no_trees, more_trees}
 use Rattle.fancy_regex_meaning.specs.Groups.{group_count, bodies}
 use Rattle.fancy_regex_meaning.specs.GroupLaws.{GroupsAreCounted}
-use Rattle.fancy_regex_sizes.specs.Analysis.{analysis}
-use Rattle.fancy_regex_sizes.specs.Easy.{is_easy, all_easy, is_easy_assertion}
-use Rattle.fancy_regex_sizes.specs.Infos.{Facts, InfoTree, known, facts_in, facts, described, described_row, info_layer, info_of}
-use Rattle.fancy_regex_sizes.specs.declared.info.Info.{Info, out-Info}
-use Rattle.fancy_regex_sizes.specs.declared.info.Info.TheFolds.{fold_out-Info}
-use Rattle.fancy_regex_sizes.specs.References.{is_read}
-use Rattle.fancy_regex_sizes.specs.Views.{pattern_in}
+use Rattle.fancy_regex_info.specs.Analysis.{analysis}
+use Rattle.fancy_regex_info.specs.Easy.{is_easy, all_easy, is_easy_assertion}
+use Rattle.fancy_regex_info.specs.Infos.{Facts, InfoTree, known, facts_in, facts, described, described_row, info_layer, info_of}
+use Rattle.fancy_regex_info.specs.declared.info.Info.{Info, out-Info}
+use Rattle.fancy_regex_info.specs.declared.info.Info.TheFolds.{fold_out-Info}
+use Rattle.fancy_regex_info.specs.References.{is_read}
+use Rattle.fancy_regex_info.specs.Views.{pattern_in}
 use Rattle.fancy_regex_runner.specs.Plain.{IsPlain, ArePlain, IsServed, test_of}
 use Rattle.fancy_regex_search.specs.Served.{is_easy_tree, is_served}
 use Rattle.fancy_regex_search.specs.declared.options.RegexOptions.{RegexOptions}

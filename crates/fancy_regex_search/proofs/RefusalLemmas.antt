@@ -13,8 +13,8 @@ use Rattle.fancy_regex_tree.specs.Told.{Tells, IsParsed}
 use Rattle.fancy_regex_meaning.specs.Groups.{pattern_of}
 use Rattle.fancy_regex_sizes.specs.Causes.{Holds}
 use Rattle.fancy_regex_sizes.specs.NodeCauses.{is_memory}
-use Rattle.fancy_regex_sizes.specs.declared.error.CompileError.{CompileError}
-use Rattle.fancy_regex_sizes.specs.declared.error.CompileError.TheVariants as of_building
+use Rattle.fancy_regex_info.specs.declared.error.CompileError.{CompileError}
+use Rattle.fancy_regex_info.specs.declared.error.CompileError.TheVariants as of_building
 use Rattle.fancy_regex_runner.specs.Refused.{IsCause}
 use Rattle.fancy_regex_search.specs.Causes.{of_tree, of_compile}
 use Rattle.fancy_regex_search.specs.Patterns.{read_as, reading_of, tree_in}

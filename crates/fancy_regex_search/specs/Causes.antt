@@ -1,8 +1,8 @@
 -- What each layer's error is told as.
 use Rattle.fancy_regex_tree.specs.declared.error.Error as tree
 use Rattle.fancy_regex_tree.specs.declared.error.Error.TheVariants as of_reading
-use Rattle.fancy_regex_sizes.specs.declared.error.CompileError.{CompileError}
-use Rattle.fancy_regex_sizes.specs.declared.error.CompileError.TheVariants as of_building
+use Rattle.fancy_regex_info.specs.declared.error.CompileError.{CompileError}
+use Rattle.fancy_regex_info.specs.declared.error.CompileError.TheVariants as of_building
 use Rattle.fancy_regex_machine.specs.declared.error.RuntimeError.{RuntimeError}
 use Rattle.fancy_regex_machine.specs.declared.error.RuntimeError.TheVariants as of_running
 use Rattle.fancy_regex_search.specs.declared.error.Error.{Error}

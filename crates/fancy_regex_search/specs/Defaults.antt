@@ -1,6 +1,6 @@
 -- The options that hold where none is set.
 use Rattle.std.specs.Prelude.{true, false, None}
-use Rattle.fancy_regex_sizes.specs.declared.options.BytesMode.TheVariants.{Unicode}
+use Rattle.fancy_regex_info.specs.declared.options.BytesMode.TheVariants.{Unicode}
 use Rattle.fancy_regex_search.specs.declared.options.RegexOptions.{RegexOptions}
 
 -- Unicode, at most a million backtracks, no cap, and all else off

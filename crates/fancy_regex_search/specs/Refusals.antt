@@ -7,10 +7,10 @@ use Rattle.fancy_regex_tree.specs.Marks.{named_backref_only, contains_subroutine
 use Rattle.fancy_regex_meaning.specs.Choices.{program_nodes}
 use Rattle.fancy_regex_meaning.specs.Groups.{pattern_of}
 use Rattle.fancy_regex_sizes.specs.Causes.{Holds, is_too_complex}
-use Rattle.fancy_regex_sizes.specs.declared.error.CompileError.{CompileError}
-use Rattle.fancy_regex_sizes.specs.declared.options.AnalyzeContext.{AnalyzeContext}
-use Rattle.fancy_regex_sizes.specs.declared.options.BytesMode.TheVariants.{Unicode}
-use Rattle.fancy_regex_sizes.specs.declared.options.CompileOptions.{CompileOptions}
+use Rattle.fancy_regex_info.specs.declared.error.CompileError.{CompileError}
+use Rattle.fancy_regex_info.specs.declared.options.AnalyzeContext.{AnalyzeContext}
+use Rattle.fancy_regex_info.specs.declared.options.BytesMode.TheVariants.{Unicode}
+use Rattle.fancy_regex_info.specs.declared.options.CompileOptions.{CompileOptions}
 use Rattle.fancy_regex_program.specs.Caps.{cap_of}
 use Rattle.fancy_regex_program.specs.Refusals.{IsRefusal, ReadsClasses}
 use Rattle.fancy_regex_runner.specs.Refused.{IsTaken, IsCause}

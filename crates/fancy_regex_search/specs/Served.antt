@@ -2,8 +2,8 @@
 use Rattle.std.specs.Prelude.{◌≡◌, ℕ, Bool, true, false, not, ◌&&◌, List, length}
 use Rattle.fancy_regex_tree.specs.Tree.{Tree}
 use Rattle.fancy_regex_meaning.specs.Groups.{pattern_of}
-use Rattle.fancy_regex_sizes.specs.Easy.{is_easy}
-use Rattle.fancy_regex_sizes.specs.References.{is_read}
+use Rattle.fancy_regex_info.specs.Easy.{is_easy}
+use Rattle.fancy_regex_info.specs.References.{is_read}
 use Rattle.fancy_regex_search.specs.Patterns.{tree_in}
 use Rattle.fancy_regex_search.specs.declared.options.RegexOptions.{RegexOptions}
 use Rattle.fancy_regex_search.specs.declared.engine.Engine.{Engine}

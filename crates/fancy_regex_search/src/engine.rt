@@ -7,11 +7,11 @@ ghost use Rattle.fancy_regex_meaning.specs.Groups.{pattern_of};
 ghost use Rattle.fancy_regex_meaning.specs.Searches.{first_match};
 ghost use Rattle.fancy_regex_program.specs.Caps.{cap_of};
 ghost use Rattle.fancy_regex_program.specs.Refusals.{IsClear, ReadsClasses};
-ghost use Rattle.fancy_regex_sizes.specs.Analysis.{analysis};
+ghost use Rattle.fancy_regex_info.specs.Analysis.{analysis};
 ghost use Rattle.fancy_regex_sizes.specs.Causes.{is_too_complex};
-ghost use Rattle.fancy_regex_sizes.specs.Infos.{info_of};
-ghost use Rattle.fancy_regex_sizes.specs.declared.options.BytesMode.TheVariants.{Unicode};
-ghost use Rattle.fancy_regex_sizes.specs.declared.info.Info.{out-Info};
+ghost use Rattle.fancy_regex_info.specs.Infos.{info_of};
+ghost use Rattle.fancy_regex_info.specs.declared.options.BytesMode.TheVariants.{Unicode};
+ghost use Rattle.fancy_regex_info.specs.declared.info.Info.{out-Info};
 ghost use Rattle.fancy_regex_runner.specs.Easy.{setting_for};
 ghost use Rattle.fancy_regex_runner.specs.Plain.{places_of};
 ghost use Rattle.fancy_regex_runner.specs.Refused.{IsTaken, IsCause};
@@ -21,10 +21,10 @@ ghost use Rattle.fancy_regex_search.specs.Refusals.{compiled_as, IsNoProgram};
 use crate::error::Result;
 use crate::options::RegexOptions;
 use fancy_regex_class::Steps;
+use fancy_regex_info::{CompileError, CompileOptions, Info};
 use fancy_regex_machine::{RunOptions, run};
 use fancy_regex_program::{Prog, compile};
 use fancy_regex_runner::{Easy, RunInput};
-use fancy_regex_sizes::{CompileError, CompileOptions, Info};
 use std::alloc::Global;
 
 /// What runs a pattern.

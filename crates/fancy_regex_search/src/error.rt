@@ -4,8 +4,8 @@ ghost use Rattle.std.specs.Prelude.{◌≡◌};
 ghost use Rattle.fancy_regex_search.specs.Causes.{of_tree, of_compile, of_run};
 ghost use Rattle.fancy_regex_search.specs.declared.error.Error.TheVariants.{Memory};
 
+use fancy_regex_info::CompileError;
 use fancy_regex_machine::RuntimeError;
-use fancy_regex_sizes::CompileError;
 use fancy_regex_tree::{Error as TreeError, ParseError};
 use std::alloc::{AllocError, AllocFailed};
 use thiserror::Error;

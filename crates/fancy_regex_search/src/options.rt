@@ -2,7 +2,7 @@
 
 ghost use Rattle.std.specs.Prelude.{◌≡◌};
 
-use fancy_regex_sizes::BytesMode;
+use fancy_regex_info::BytesMode;
 
 /// What is asked of a pattern besides its text. Each option is as its setter says.
 #[derive(Clone, Copy, Debug, PartialEq, Eq)]

@@ -16,10 +16,11 @@ use crate::error::Result;
 use crate::flags::flags_of;
 use crate::options::RegexOptions;
 use fancy_regex_class::Steps;
+use fancy_regex_info::AnalyzeContext;
 use fancy_regex_input::Asked;
 use fancy_regex_meaning::laws_of_groups;
 use fancy_regex_runner::RunInput;
-use fancy_regex_sizes::{AnalyzeContext, analyze};
+use fancy_regex_sizes::analyze;
 use fancy_regex_tree::{Expr, ExprTree, NamedGroups};
 use std::alloc::Global;
 

@@ -1,7 +1,7 @@
 use crate::{Error, RegexOptions, Searcher};
 use fancy_regex_class::Steps;
+use fancy_regex_info::CompileError;
 use fancy_regex_input::RegexInput;
-use fancy_regex_sizes::CompileError;
 use std::test::Fail;
 
 #[test]

@@ -4,26 +4,26 @@ use borrow.Author.Tests.{ltb-true, lt-ltb}
 use Rattle.std.proofs.Math.Path.{fun_ext}
 use Rattle.fancy_regex_tree.specs.Tree.{Tree, Trees, concat, alt, group, look_around, repeat, atomic_group, backref, backref_with_level, backref_exists, conditional, subroutine_call, absent_repeater, absent_expression, absent_stopper, define_group, ast_group, ast_backref, ast_call, ast_condition, no_trees, more_trees}
 use Rattle.fancy_regex_meaning.specs.Sizes.{unbounded, size, size_with, weight}
-use Rattle.fancy_regex_sizes.specs.Analysis.{analysis}
+use Rattle.fancy_regex_info.specs.Analysis.{analysis}
 use Rattle.fancy_regex_sizes.specs.Causes.{WholeShows, is_too_heavy, is_always_empty, is_too_complex, is_never_matching, is_root_refused, root_shows, Holds}
 use Rattle.fancy_regex_sizes.specs.Endings.{never_ends, is_never_ending}
-use Rattle.fancy_regex_sizes.specs.Infos.{InfoTree, facts_in}
+use Rattle.fancy_regex_info.specs.Infos.{InfoTree, facts_in}
 use Rattle.fancy_regex_sizes.specs.NodeCauses.{some_node, some_node_of, is_memory, is_faulty, shows, is_no_group, is_reversed, is_invalid}
 use Rattle.fancy_regex_sizes.specs.PartCauses.{is_stopped, stops}
-use Rattle.fancy_regex_sizes.specs.References.{is_read}
-use Rattle.fancy_regex_sizes.specs.Rounds.{is_reached_again}
+use Rattle.fancy_regex_info.specs.References.{is_read}
+use Rattle.fancy_regex_info.specs.Rounds.{is_reached_again}
 use Rattle.fancy_regex_sizes.specs.Starts.{first_calls}
-use Rattle.fancy_regex_sizes.specs.Survey.{Knows}
-use Rattle.fancy_regex_sizes.specs.Views.{size_at, pattern_in}
+use Rattle.fancy_regex_info.specs.Survey.{Knows}
+use Rattle.fancy_regex_info.specs.Views.{size_at, pattern_in}
 use Rattle.fancy_regex_sizes.specs.Written.{some_written, IsWhole, SomePart}
-use Rattle.fancy_regex_sizes.specs.declared.options.AnalyzeContext.{AnalyzeContext}
-use Rattle.fancy_regex_sizes.specs.declared.error.CompileError.{CompileError}
-use Rattle.fancy_regex_sizes.specs.declared.error.CompileError.TheVariants.{Memory, NamedBackrefOnly, LeftRecursiveSubroutineCall, NeverEndingRecursion, PatternTooComplex, PatternCanNeverMatch}
-use Rattle.fancy_regex_sizes.specs.declared.size.Size as code
+use Rattle.fancy_regex_info.specs.declared.options.AnalyzeContext.{AnalyzeContext}
+use Rattle.fancy_regex_info.specs.declared.error.CompileError.{CompileError}
+use Rattle.fancy_regex_info.specs.declared.error.CompileError.TheVariants.{Memory, NamedBackrefOnly, LeftRecursiveSubroutineCall, NeverEndingRecursion, PatternTooComplex, PatternCanNeverMatch}
+use Rattle.fancy_regex_info.specs.declared.size.Size as code
 use Rattle.fancy_regex_sizes.specs.declared.written.Inside.{Inside}
-use Rattle.fancy_regex_sizes.proofs.DescribeLemmas.{own}
+use Rattle.fancy_regex_info.proofs.DescribeLemmas.{own}
 use Rattle.fancy_regex_sizes.proofs.PlaceLemmas.{whole_found}
-use Rattle.fancy_regex_sizes.proofs.ReachLemmas.{or_left, or_right, or_cases}
+use Rattle.fancy_regex_info.proofs.ReachLemmas.{or_left, or_right, or_cases}
 use Rattle.fancy_regex_sizes.proofs.TellLemmas.{or_keeps}
 use Rattle.fancy_regex_sizes.proofs.PartLemmas.{some_written_keeps, stops_stopped}
 use Rattle.fancy_regex_sizes.proofs.StartLemmas.{left_recursive, reached_again, target_inside}

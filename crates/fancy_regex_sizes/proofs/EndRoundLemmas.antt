@@ -7,9 +7,9 @@ use Rattle.fancy_regex_tree.specs.declared.expr.Expr.{Expr}
 use Rattle.fancy_regex_meaning.specs.Sizes.{target}
 use Rattle.fancy_regex_meaning.specs.Ends.{can_end_with, ends_through, can_end}
 use Rattle.fancy_regex_sizes.specs.Endings.{end_of_target, next_end, end_in_round, is_some_list}
-use Rattle.fancy_regex_sizes.specs.Survey.{ends_in}
-use Rattle.fancy_regex_sizes.specs.Views.{body_tree}
-use Rattle.fancy_regex_sizes.proofs.TableLemmas.{body_at, no_body}
+use Rattle.fancy_regex_sizes.specs.Endings.{ends_in}
+use Rattle.fancy_regex_info.specs.Views.{body_tree}
+use Rattle.fancy_regex_info.proofs.TableLemmas.{body_at, no_body}
 
 at_left : (xs : List Bool) (y : Bool) (k : ℕ) → k < length xs → ends_in (xs ++ y ∷ []) k ≡ ends_in xs k
 at_left [] y k h = absurd (omega arith)

@@ -6,7 +6,7 @@ use Rattle.std.specs.List.{list_any}
 use Rattle.fancy_regex_tree.specs.Tree.{Tree, tree_of, concat, alt, group}
 use Rattle.fancy_regex_tree.specs.Walks.{nodes, descendants, Found, FoundNone, IsFound}
 use Rattle.fancy_regex_tree.specs.declared.expr.Expr.{Expr}
-use Rattle.fancy_regex_sizes.proofs.ReachLemmas.{or_right}
+use Rattle.fancy_regex_info.proofs.ReachLemmas.{or_right}
 
 pub nodes_first : (t : Tree) → nodes t ≡ t ∷ descendants t
 nodes_first (concat ts) = refl

@@ -5,14 +5,14 @@ use Rattle.fancy_regex_tree.specs.declared.expr.Expr.{Expr}
 use Rattle.fancy_regex_meaning.specs.Sizes.{Size}
 use Rattle.fancy_regex_sizes.specs.PartCauses.{missing_in, is_steady, are_steady, is_unsteady, is_stopped, is_not_const, tells_missing, stops}
 use Rattle.fancy_regex_sizes.specs.Written.{in_look_around, some_below, some_of_row, some_written, written_calls, written_calls_in_row}
-use Rattle.fancy_regex_sizes.specs.declared.error.CompileError.{CompileError}
-use Rattle.fancy_regex_sizes.specs.declared.error.CompileError.TheVariants.{FeatureNotYetSupported}
+use Rattle.fancy_regex_info.specs.declared.error.CompileError.{CompileError}
+use Rattle.fancy_regex_info.specs.declared.error.CompileError.TheVariants.{FeatureNotYetSupported}
 use Rattle.fancy_regex_sizes.specs.declared.parts.Missing.{Missing}
 use Rattle.fancy_regex_sizes.specs.declared.written.Inside.{Inside}
 use Rattle.fancy_regex_sizes.specs.declared.written.Inside.TheVariants.{Absent}
 use Rattle.fancy_regex_sizes.specs.declared.written.Call.{Call}
-use Rattle.fancy_regex_sizes.proofs.ReachLemmas.{or_left, or_right}
-use Rattle.fancy_regex_sizes.proofs.RowLemmas.{walk_begins, walk_goes_on}
+use Rattle.fancy_regex_info.proofs.ReachLemmas.{or_left, or_right}
+use Rattle.fancy_regex_info.proofs.RowLemmas.{walk_begins, walk_goes_on}
 use Rattle.fancy_regex_sizes.proofs.TellLemmas.{or_keeps}
 
 -- calls along a row

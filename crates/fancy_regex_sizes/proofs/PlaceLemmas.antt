@@ -8,7 +8,7 @@ use Rattle.fancy_regex_sizes.specs.Written.{in_look_around, some_below, some_of_
 use Rattle.fancy_regex_sizes.specs.declared.written.Inside.{Inside}
 use Rattle.fancy_regex_sizes.specs.declared.written.Inside.TheVariants.{Nothing, Absent}
 use Rattle.fancy_regex_sizes.specs.declared.written.Call.{Call}
-use Rattle.fancy_regex_sizes.proofs.ReachLemmas.{or_left, or_right, or_cases}
+use Rattle.fancy_regex_info.proofs.ReachLemmas.{or_left, or_right, or_cases}
 use Rattle.fancy_regex_sizes.proofs.AnyLemmas.{any_has}
 
 here : {X : Type 0} (x : X) (xs : List X) → Contains (x ∷ xs) x

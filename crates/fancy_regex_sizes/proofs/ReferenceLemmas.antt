@@ -12,7 +12,7 @@ use Rattle.fancy_regex_tree.specs.Walks.{nodes}
 use Rattle.fancy_regex_sizes.specs.WellFormed.{is_left_out, is_named_in}
 use Rattle.fancy_regex_sizes.proofs.AnyLemmas.{any_has, any_finds}
 use Rattle.fancy_regex_sizes.proofs.CauseLemmas.{and_left, and_right, both_true}
-use Rattle.fancy_regex_sizes.proofs.ReachLemmas.{settled}
+use Rattle.fancy_regex_info.proofs.ReachLemmas.{settled}
 use Rattle.fancy_regex_sizes.proofs.TellLemmas.{either_is}
 
 clash : (b : Bool) → b ≡ true → b ≡ false → ⊥

@@ -1,8 +1,8 @@
 -- What is reached over as many edges as there are places is all that is reached.
 use Rattle.std.proofs.Common.{◌≡◌, ℕ, zero, suc, ◌+◌, ◌<◌, ◌≤◌, ◌⊎◌, ⊎_elim, inl, inr, Bool, true, false, cond, List, [], ◌∷◌, ◌++◌, length, get_or, set, replicate, refl, sym, ap, ◌∙◌, arith, length-append}
 use Rattle.std.proofs.lemmas.Bool.{cases_lt}
-use Rattle.fancy_regex_sizes.specs.Reach.{has, following, through}
-use Rattle.fancy_regex_sizes.proofs.ReachLemmas.{Progress, begins, passes_over, marks, finished, rises_to}
+use Rattle.fancy_regex_info.specs.Reach.{has, following, through}
+use Rattle.fancy_regex_info.proofs.ReachLemmas.{Progress, begins, passes_over, marks, finished, rises_to}
 
 -- for each place that is not marked the edges from it, and one
 unfoldable left_over : List Bool → List (List ℕ) → ℕ

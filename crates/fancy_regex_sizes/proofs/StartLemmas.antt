@@ -7,14 +7,14 @@ use Rattle.std.specs.Prelude.{slice_get}
 use Rattle.fancy_regex_tree.specs.Tree.{Tree, tree_of, trees}
 use Rattle.fancy_regex_tree.specs.declared.expr.Expr.{Expr}
 use Rattle.fancy_regex_meaning.specs.Sizes.{Size, size, target}
-use Rattle.fancy_regex_sizes.specs.Reach.{rows, has, following, through}
-use Rattle.fancy_regex_sizes.specs.Rounds.{is_reached_again}
+use Rattle.fancy_regex_info.specs.Reach.{rows, has, following, through}
+use Rattle.fancy_regex_info.specs.Rounds.{is_reached_again}
 use Rattle.fancy_regex_sizes.specs.Starts.{where_so, first_calls, first_calls_in_row, first_calls_in_branches, BeginsWith, at_once, through_call, IsLeftRecursive}
-use Rattle.fancy_regex_sizes.specs.Survey.{reads_in}
-use Rattle.fancy_regex_sizes.proofs.ReachLemmas.{has_either, flat_from, length_rows}
-use Rattle.fancy_regex_sizes.proofs.TableLemmas.{reads_at}
+use Rattle.fancy_regex_info.specs.Survey.{reads_in}
+use Rattle.fancy_regex_info.proofs.ReachLemmas.{has_either, flat_from, length_rows}
+use Rattle.fancy_regex_info.proofs.TableLemmas.{reads_at}
 use Rattle.fancy_regex_sizes.proofs.TellLemmas.{either_is}
-use Rattle.fancy_regex_sizes.proofs.RowLemmas.{walk_begins, walk_goes_on}
+use Rattle.fancy_regex_info.proofs.RowLemmas.{walk_begins, walk_goes_on}
 use Rattle.fancy_regex_sizes.proofs.SettledLemmas.{starts_reached, follows_reached}
 
 -- lists that belong to the bodies of groups

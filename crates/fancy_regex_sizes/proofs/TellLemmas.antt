@@ -6,9 +6,9 @@ use Rattle.std.proofs.Math.ListN.{drop_of_length-le}
 use Rattle.fancy_regex_tree.specs.Tree.{Text, Target, Tree, Trees, trees, tree_of, group, repeat, conditional, absent_repeater, absent_expression, absent_stopper, ast_group, ast_call, ast_condition, no_trees, more_trees}
 use Rattle.fancy_regex_tree.specs.declared.expr.Expr.{Expr}
 use Rattle.fancy_regex_sizes.specs.NodeCauses.{some_node, some_node_of, is_memory, is_faulty, shows, names}
-use Rattle.fancy_regex_sizes.specs.declared.error.CompileError.{CompileError}
-use Rattle.fancy_regex_sizes.specs.declared.error.CompileError.TheVariants.{SubroutineCallTargetNotFound, UnresolvedAstNode}
-use Rattle.fancy_regex_sizes.proofs.ReachLemmas.{or_left, or_right, or_cases}
+use Rattle.fancy_regex_info.specs.declared.error.CompileError.{CompileError}
+use Rattle.fancy_regex_info.specs.declared.error.CompileError.TheVariants.{SubroutineCallTargetNotFound, UnresolvedAstNode}
+use Rattle.fancy_regex_info.proofs.ReachLemmas.{or_left, or_right, or_cases}
 
 pub or_keeps : (a b c d : Bool) → (a ≡ true → c ≡ true) → (b ≡ true → d ≡ true) → (a || b) ≡ true → (c || d) ≡ true
 or_keeps a b c d f g h = ⊎_elim (λ e. or_left c d (f e)) (λ e. or_right c d (g e)) (or_cases a b h)

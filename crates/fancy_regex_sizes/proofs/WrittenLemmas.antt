@@ -9,15 +9,15 @@ use Rattle.fancy_regex_tree.specs.Tree.{Tree}
 use Rattle.fancy_regex_tree.specs.declared.expr.Expr.{Expr}
 use Rattle.fancy_regex_meaning.specs.Sizes.{target}
 use Rattle.fancy_regex_sizes.specs.NodeCauses.{is_memory}
-use Rattle.fancy_regex_sizes.specs.Views.{body_tree}
+use Rattle.fancy_regex_info.specs.Views.{body_tree}
 use Rattle.fancy_regex_sizes.specs.Written.{some_written, written_calls, IsWhole, itself, called, SomePart, is_in, with_inside}
-use Rattle.fancy_regex_sizes.specs.declared.error.CompileError.{CompileError}
+use Rattle.fancy_regex_info.specs.declared.error.CompileError.{CompileError}
 use Rattle.fancy_regex_sizes.specs.declared.written.Inside.{Inside}
 use Rattle.fancy_regex_sizes.specs.declared.written.Inside.TheVariants.{Nothing, LookAround, Absent}
 use Rattle.fancy_regex_sizes.specs.declared.written.Call.{Call}
 use Rattle.fancy_regex_sizes.specs.declared.written.Written.{Written}
 use Rattle.fancy_regex_sizes.proofs.PlaceLemmas.{part_found}
-use Rattle.fancy_regex_sizes.proofs.ReachLemmas.{or_cases}
+use Rattle.fancy_regex_info.proofs.ReachLemmas.{or_cases}
 use Rattle.fancy_regex_sizes.proofs.StartLemmas.{target_inside}
 
 abbrev pub nowhere : Written

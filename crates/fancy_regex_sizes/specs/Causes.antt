@@ -4,15 +4,15 @@ use Rattle.fancy_regex_tree.specs.Tree.{Tree}
 use Rattle.fancy_regex_meaning.specs.Groups.{Pattern}
 use Rattle.fancy_regex_meaning.specs.Sizes.{size, tree_weight}
 use Rattle.fancy_regex_sizes.specs.Endings.{never_ends}
-use Rattle.fancy_regex_sizes.specs.Infos.{Facts}
+use Rattle.fancy_regex_info.specs.Infos.{Facts}
 use Rattle.fancy_regex_sizes.specs.NodeCauses.{some_node, is_faulty, shows}
 use Rattle.fancy_regex_sizes.specs.PartCauses.{is_stopped, stops}
 use Rattle.fancy_regex_sizes.specs.Starts.{IsLeftRecursive}
-use Rattle.fancy_regex_sizes.specs.Views.{pattern_in}
+use Rattle.fancy_regex_info.specs.Views.{pattern_in}
 use Rattle.fancy_regex_sizes.specs.Written.{SomePart}
-use Rattle.fancy_regex_sizes.specs.declared.options.AnalyzeContext.{AnalyzeContext}
-use Rattle.fancy_regex_sizes.specs.declared.error.CompileError.{CompileError}
-use Rattle.fancy_regex_sizes.specs.declared.error.CompileError.TheVariants.{NamedBackrefOnly, LeftRecursiveSubroutineCall, NeverEndingRecursion, PatternTooComplex, PatternCanNeverMatch}
+use Rattle.fancy_regex_info.specs.declared.options.AnalyzeContext.{AnalyzeContext}
+use Rattle.fancy_regex_info.specs.declared.error.CompileError.{CompileError}
+use Rattle.fancy_regex_info.specs.declared.error.CompileError.TheVariants.{NamedBackrefOnly, LeftRecursiveSubroutineCall, NeverEndingRecursion, PatternTooComplex, PatternCanNeverMatch}
 
 -- what the facts of the whole tree show
 abbrev pub is_too_heavy : Facts → Bool

@@ -1,10 +1,18 @@
 -- What can end, found in rounds: in each round one call more is followed inside each call.
-use Rattle.std.specs.Prelude.{ℕ, zero, suc, Bool, true, false, not, ◌&&◌, List, [], ◌∷◌, Option, Some, None}
+use Rattle.std.specs.Prelude.{ℕ, zero, suc, Bool, true, false, not, ◌&&◌, List, [], ◌∷◌, slice_get, Option, Some, None}
 use Rattle.fancy_regex_tree.specs.Tree.{Tree}
 use Rattle.fancy_regex_meaning.specs.Sizes.{target, calls_in}
 use Rattle.fancy_regex_meaning.specs.Ends.{can_end_with, can_end}
-use Rattle.fancy_regex_sizes.specs.declared.error.CompileError.{CompileError}
-use Rattle.fancy_regex_sizes.specs.declared.error.CompileError.TheVariants.{NeverEndingRecursion}
+use Rattle.fancy_regex_info.specs.declared.error.CompileError.{CompileError}
+use Rattle.fancy_regex_info.specs.declared.error.CompileError.TheVariants.{NeverEndingRecursion}
+
+abbrev pub or_true : Option Bool → Bool
+or_true None = true
+or_true (Some b) = b
+
+-- by which groups can end, whether a call can
+abbrev pub ends_in : List Bool → ℕ → Bool
+ends_in ends k = or_true (slice_get ends k)
 
 abbrev pub end_of_target : (Tree → Bool) → Option Tree → Bool
 end_of_target f None = true

@@ -1,12 +1,3 @@
-pub mod Views
-pub mod Easy
-pub mod Infos
-pub mod Combined
-pub mod Survey
-pub mod References
-pub mod Reach
-pub mod Rounds
-pub mod Analysis
 pub mod NodeCauses
 pub mod Endings
 pub mod Starts

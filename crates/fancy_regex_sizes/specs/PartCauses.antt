@@ -4,8 +4,8 @@ use Rattle.fancy_regex_tree.specs.Tree.{Tree, Trees, literal_bytes, alt, look_ar
 use Rattle.fancy_regex_tree.specs.declared.expr.LookAround.TheVariants.{LookBehind, LookBehindNeg}
 use Rattle.fancy_regex_tree.specs.declared.expr.BacktrackingControlVerb.TheVariants.{Fail}
 use Rattle.fancy_regex_meaning.specs.Sizes.{Size}
-use Rattle.fancy_regex_sizes.specs.declared.error.CompileError.{CompileError}
-use Rattle.fancy_regex_sizes.specs.declared.error.CompileError.TheVariants.{LookBehindNotConst, FeatureNotYetSupported}
+use Rattle.fancy_regex_info.specs.declared.error.CompileError.{CompileError}
+use Rattle.fancy_regex_info.specs.declared.error.CompileError.TheVariants.{LookBehindNotConst, FeatureNotYetSupported}
 use Rattle.fancy_regex_sizes.specs.declared.written.Inside.{Inside}
 use Rattle.fancy_regex_sizes.specs.declared.written.Inside.TheVariants.{Nothing, Absent}
 use Rattle.fancy_regex_sizes.specs.declared.parts.Missing.{Missing}

@@ -2,7 +2,7 @@
 use Rattle.std.specs.Prelude.{◌≡◌, ℕ, Bool, true, false, ◌==◌, List, [], ◌∷◌, ◌++◌, Some}
 use Rattle.fancy_regex_tree.specs.Tree.{Tree, Trees, concat, alt, group, look_around, repeat, atomic_group, conditional, subroutine_call, absent_repeater, absent_expression, absent_stopper, define_group, ast_group, no_trees, more_trees}
 use Rattle.fancy_regex_meaning.specs.Sizes.{Size, size, target}
-use Rattle.fancy_regex_sizes.specs.Reach.{has}
+use Rattle.fancy_regex_info.specs.Reach.{has}
 
 abbrev pub where_so : Bool → List ℕ → List ℕ
 where_so true ks = ks

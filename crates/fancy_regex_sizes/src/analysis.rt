@@ -1,30 +1,24 @@
 //! The analysis of a whole pattern.
 
 ghost use Rattle.std.specs.Prelude.{◌≡◌, ◌⊎◌, true, false, ◌||◌, ◌&&◌, map, IfOk, IfErr};
-ghost use Rattle.fancy_regex_tree.specs.Tree.{Tree, tree_of};
-ghost use Rattle.fancy_regex_sizes.specs.Analysis.{analysis};
+ghost use Rattle.fancy_regex_tree.specs.Tree.{tree_of};
+ghost use Rattle.fancy_regex_info.specs.Analysis.{analysis};
 ghost use Rattle.fancy_regex_sizes.specs.Causes.{Holds, is_root_refused, root_shows, has_faulty_node, HasStoppedPart};
 ghost use Rattle.fancy_regex_sizes.specs.Endings.{never_ends, is_never_ending};
-ghost use Rattle.fancy_regex_sizes.specs.Infos.{info_of, facts_in};
+ghost use Rattle.fancy_regex_info.specs.Infos.{info_of, facts_in};
 ghost use Rattle.fancy_regex_sizes.specs.NodeCauses.{is_memory};
-ghost use Rattle.fancy_regex_sizes.specs.Survey.{Knows};
-ghost use Rattle.fancy_regex_sizes.specs.declared.error.CompileError.{CompileError};
-ghost use Rattle.fancy_regex_sizes.specs.Views.{body_tree, pattern_in};
+ghost use Rattle.fancy_regex_info.specs.declared.error.CompileError.{CompileError};
+ghost use Rattle.fancy_regex_info.specs.Views.{body_tree};
 
-use crate::bodies::{add_calls, groups_of};
-use crate::describe::describe;
-use crate::ends::can_end_in;
-use crate::error::CompileError;
-use crate::info::Info;
+use crate::ends::{can_end_in, ending_groups};
 use crate::nodes::check_nodes;
-use crate::options::AnalyzeContext;
 use crate::parts::check_written;
-use crate::references::read_groups;
-use crate::size::Size;
 use crate::starts::check_starts;
-use crate::tables::{call_sizes, calls_by_group, ending_groups, recursive_groups};
+use fancy_regex_info::{
+    AnalyzeContext, CompileError, Info, add_calls, describe_whole, groups_of, known_sizes,
+};
 use fancy_regex_tree::{Expr, ExprTree};
-use std::alloc::{AllocError, Global};
+use std::alloc::Global;
 
 /// The greatest weight of a whole tree.
 const GREATEST_WEIGHT: u64 = 4_294_967_295;
@@ -74,49 +68,15 @@ fn check_end(alloc: Global, expr: &Expr, groups: &[&Expr]) -> Result<(), Compile
     }
 }
 
-/// What calls take, where these are the bodies of the groups by their numbers.
-fn known_sizes(alloc: Global, groups: &[&Expr]) -> Result<Vec<Size>, AllocError>
-    ensures { IfOk result (λ sizes. Knows (map body_tree groups.now) sizes.items) }
-{
-    let calls = calls_by_group(alloc, groups)?;
-    let recursive = recursive_groups(alloc, &calls)?;
-    call_sizes(alloc, groups, &recursive)
-}
-
-/// The whole tree described, where these are the bodies of its groups by their numbers, and what calls of them take.
-fn describe_whole<'a>(
-    alloc: Global,
-    expr: &'a Expr,
-    groups: &[&Expr],
-    sizes: &[Size],
-    context: AnalyzeContext,
-) -> Result<Info<'a>, AllocError>
-    requires bodies { map body_tree groups.now ≡ (pattern_in context.explicit_capture_group_0 (tree_of expr.now)).groups }
-    requires known { Knows (map body_tree groups.now) sizes.now }
-    ensures { IfOk result (λ info. info_of info ≡ analysis context.explicit_capture_group_0 (tree_of expr.now)) }
-{
-    let read = read_groups(alloc, expr, groups.len())?;
-    let first = first_group(context.explicit_capture_group_0);
-    describe(alloc, expr, first, sizes, &read)
-}
-
-/// The number of the group that opens first.
-fn first_group(explicit: bool) -> usize
-    ensures { (t : Tree) → result ≡ (pattern_in explicit t).first_group }
-{
-    if explicit { 0 } else { 1 }
-}
-
 /// Refuses a pattern that is too heavy, or that has only empty matches where none is wanted.
 fn check_root(info: &Info, context: AnalyzeContext) -> Result<(), CompileError>
     ensures refused { IfErr result (λ e. root_shows context.find_not_empty (facts_in (info_of info.now)) e ≡ true) }
     ensures complete { IfOk result (λ _. is_root_refused context.find_not_empty (facts_in (info_of info.now)) ≡ false) }
 {
-    let facts = info.facts();
-    if facts.weight > GREATEST_WEIGHT - 2 {
+    if info.weight > GREATEST_WEIGHT - 2 {
         return Err(CompileError::PatternTooComplex);
     }
-    if context.find_not_empty && facts.size.always && facts.size.least == 0 {
+    if context.find_not_empty && info.const_size && info.min_size == 0 {
         return Err(CompileError::PatternCanNeverMatch);
     }
     Ok(())

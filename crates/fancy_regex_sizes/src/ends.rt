@@ -1,11 +1,13 @@
 //! Which parts of a pattern can end.
 
-ghost use Rattle.std.specs.Prelude.{◌≡◌, ℕ, map};
+ghost use Rattle.std.specs.Prelude.{◌≡◌, ℕ, map, length, IfOk, IsTrue};
 ghost use Rattle.fancy_regex_tree.specs.Tree.{tree_of, trees, absent_tree_of, ast_tree_of};
 ghost use Rattle.fancy_regex_meaning.specs.Ends.{can_end_with, all_can_end, some_can_end};
-ghost use Rattle.fancy_regex_sizes.specs.Survey.{ends_in};
+ghost use Rattle.fancy_regex_sizes.specs.Endings.{ends_in, next_end, end_in_round};
+ghost use Rattle.fancy_regex_info.specs.Views.{body_tree};
 
 use fancy_regex_tree::{Absent, AstNode, Expr};
+use std::alloc::{AllocError, Global};
 
 /// Whether the tree can end, where it is known which groups can; a call of no group can.
 #[tactic(auto, unfolding(fancy_regex_meaning::specs::Ends::can_end_with))]
@@ -94,4 +96,45 @@ fn some_can_end_in(branches: &[Expr], ends: &[bool]) -> bool
         }
     }
     false
+}
+
+/// Which groups have a body that can end.
+pub(crate) fn ending_groups(alloc: Global, groups: &[&Expr]) -> Result<Vec<bool>, AllocError>
+    ensures { IfOk result (λ ends. (k : ℕ) → ends_in ends.items k ≡ end_in_round (map body_tree groups.now) (length groups.now) k) }
+{
+    let mut ends = vec![in alloc; false; groups.len()]?;
+    for _round in 0..groups.len() {
+        let next = next_ends(alloc, groups, &ends)?;
+        if are_same_marks(&next, &ends) {
+            return Ok(ends);
+        }
+        ends = next;
+    }
+    Ok(ends)
+}
+
+/// The same with one call more inside each call.
+fn next_ends(alloc: Global, groups: &[&Expr], ends: &[bool]) -> Result<Vec<bool>, AllocError>
+    ensures { IfOk result (λ next. (k : ℕ) → ends_in next.items k ≡ next_end (map body_tree groups.now) (ends_in ends.now) k) }
+{
+    let mut next = Vec::new(alloc);
+    for group in 0..groups.len() {
+        next.push(can_end_in(groups[group], ends))?;
+    }
+    Ok(next)
+}
+
+/// Whether the marks are the same.
+fn are_same_marks(a: &[bool], b: &[bool]) -> bool
+    ensures { IsTrue result → a.now ≡ b.now }
+{
+    if a.len() != b.len() {
+        return false;
+    }
+    for i in 0..a.len() {
+        if a[i] != b[i] {
+            return false;
+        }
+    }
+    true
 }

@@ -1,22 +1,13 @@
-//! How long and how heavy the parts of a pattern are, which runner serves it, and why it may be refused.
+//! The analysis of whole patterns: their sizes and weights, why one may be refused, whether a tree is as the reader makes it,
+//! and whether a pattern matches at one place only. What is said of each node is shown again here.
 #![tactic(auto)]
 
 mod analysis;
 mod anchored;
-mod bodies;
-mod closure;
-mod describe;
 mod ends;
-mod error;
-mod facts;
-mod info;
 mod nodes;
-mod options;
 mod parts;
-mod references;
-mod size;
 mod starts;
-mod tables;
 #[cfg(test)]
 mod tests;
 mod well_formed;
@@ -24,7 +15,5 @@ mod written;
 
 pub use analysis::analyze;
 pub use anchored::can_compile_as_anchored;
-pub use error::CompileError;
-pub use info::Info;
-pub use options::{AnalyzeContext, BytesMode, CompileOptions};
+pub use fancy_regex_info::{AnalyzeContext, BytesMode, CompileError, CompileOptions, Info};
 pub use well_formed::is_well_formed;

@@ -4,7 +4,7 @@ ghost use Rattle.std.specs.Prelude.{◌≡◌, ℕ, true, false, not, ◌&&◌, 
 ghost use Rattle.fancy_regex_tree.specs.Tree.{tree_of, trees, absent_tree_of, ast_tree_of, by_number, target_of};
 ghost use Rattle.fancy_regex_sizes.specs.NodeCauses.{some_node, some_node_of, is_memory, is_no_group, is_faulty, shows, is_invalid, is_not_found, names, signed};
 
-use crate::error::CompileError;
+use fancy_regex_info::CompileError;
 use fancy_regex_tree::{Absent, AstNode, CaptureGroupTarget, Expr};
 use std::alloc::{AllocError, Global};
 

@@ -5,14 +5,13 @@ ghost use Rattle.fancy_regex_tree.specs.Tree.{Tree, tree_of, trees, absent_tree_
 ghost use Rattle.fancy_regex_meaning.specs.Sizes.{size_with};
 ghost use Rattle.fancy_regex_sizes.specs.NodeCauses.{is_memory};
 ghost use Rattle.fancy_regex_sizes.specs.PartCauses.{words as words_of, missing_in, is_steady as is_steady_tree, are_steady as are_steady_trees, is_unsteady as is_unsteady_tree, is_stopped, stops};
-ghost use Rattle.fancy_regex_sizes.specs.Views.{size_at, body_tree};
+ghost use Rattle.fancy_regex_info.specs.Views.{size_at, body_tree};
 ghost use Rattle.fancy_regex_sizes.specs.Written.{some_below, some_of_row, some_written, written_calls, IsWhole, SomePart};
 ghost use Rattle.fancy_regex_sizes.specs.declared.written.Inside.{Inside as InsideView};
 ghost use Rattle.fancy_regex_sizes.specs.declared.written.Inside.TheVariants as inside_of;
 
-use crate::error::CompileError;
-use crate::size::{Size, size_in};
 use crate::written::{Call, Inside, Written, add_written_calls};
+use fancy_regex_info::{CompileError, Size, size_in};
 use fancy_regex_tree::{Absent, AstNode, BacktrackingControlVerb, Expr, LookAround};
 use std::alloc::Global;
 

@@ -4,15 +4,13 @@ ghost use Rattle.std.specs.Prelude.{◌≡◌, ℕ, ◌<◌, ◌⊎◌, ◌++◌
 ghost use Rattle.fancy_regex_tree.specs.Tree.{tree_of, trees, absent_tree_of, ast_tree_of};
 ghost use Rattle.fancy_regex_meaning.specs.Sizes.{size_with};
 ghost use Rattle.fancy_regex_sizes.specs.NodeCauses.{is_memory};
-ghost use Rattle.fancy_regex_sizes.specs.Reach.{rows};
-ghost use Rattle.fancy_regex_sizes.specs.Rounds.{is_reached_again};
+ghost use Rattle.fancy_regex_info.specs.Reach.{rows};
+ghost use Rattle.fancy_regex_info.specs.Rounds.{is_reached_again};
 ghost use Rattle.fancy_regex_sizes.specs.Starts.{first_calls, first_calls_in_row, first_calls_in_branches};
-ghost use Rattle.fancy_regex_sizes.specs.Survey.{reads_in};
-ghost use Rattle.fancy_regex_sizes.specs.Views.{size_at, body_tree};
+ghost use Rattle.fancy_regex_info.specs.Survey.{reads_in};
+ghost use Rattle.fancy_regex_info.specs.Views.{size_at, body_tree};
 
-use crate::error::CompileError;
-use crate::size::{Size, size_in};
-use crate::tables::recursive_groups;
+use fancy_regex_info::{CompileError, Size, recursive_groups, size_in};
 use fancy_regex_tree::{Absent, AstNode, Expr};
 use std::alloc::{AllocError, Global};
 

@@ -1,6 +1,7 @@
 //! Worked patterns, as trees made by hand.
 
-use crate::{AnalyzeContext, CompileError, Info, analyze, can_compile_as_anchored, is_well_formed};
+use crate::{analyze, can_compile_as_anchored, is_well_formed};
+use fancy_regex_info::{AnalyzeContext, CompileError};
 use fancy_regex_tree::{Absent, Assertion, Expr, ExprTree, LookAround};
 use std::alloc::{AllocError, Global};
 use std::collections::{BTreeMap, BTreeSet};
@@ -30,13 +31,6 @@ fn repeat(alloc: Global, child: Expr, lo: usize, hi: usize) -> Result<Expr, Allo
     })
 }
 
-fn either(alloc: Global, first: Expr, second: Expr) -> Result<Expr, AllocError> {
-    let mut branches = Vec::new(alloc);
-    branches.push(first)?;
-    branches.push(second)?;
-    Ok(Expr::Alt(branches))
-}
-
 fn both(alloc: Global, first: Expr, second: Expr) -> Result<Expr, AllocError> {
     let mut parts = Vec::new(alloc);
     parts.push(first)?;
@@ -61,26 +55,6 @@ fn whole(alloc: Global, expr: Expr) -> ExprTree {
     }
 }
 
-/// Least, greatest, always, weight, hard.
-type Told = (usize, usize, bool, u64, bool);
-
-fn told(info: &Info) -> Told {
-    (
-        info.min_size,
-        info.max_size,
-        info.const_size,
-        info.weight,
-        info.hard,
-    )
-}
-
-fn sizes(alloc: Global, expr: Expr) -> Result<Told, Fail> {
-    let tree = whole(alloc, expr);
-    let context = AnalyzeContext::default();
-    let info = analyze(alloc, &tree, context)?;
-    Ok(told(&info))
-}
-
 fn cause(alloc: Global, expr: Expr) -> Result<Option<CompileError>, Fail> {
     let tree = whole(alloc, expr);
     let context = AnalyzeContext::default();
@@ -88,37 +62,6 @@ fn cause(alloc: Global, expr: Expr) -> Result<Option<CompileError>, Fail> {
         Ok(_) => Ok(None),
         Err(error) => Ok(Some(error)),
     }
-}
-
-#[test]
-fn sizes_and_weights(rt: HostRuntime) -> Result<(), Fail> {
-    let alloc = rt.alloc();
-    let ab_or_c = either(alloc, row(alloc, 2)?, letter(alloc)?)?;
-    assert_eq!(rt; sizes(alloc, ab_or_c)?, (1, 2, false, 6, false));
-    let star = repeat(alloc, letter(alloc)?, 0, usize::MAX)?;
-    assert_eq!(rt; sizes(alloc, star)?, (0, usize::MAX, false, 4, false));
-    let optional = repeat(alloc, letter(alloc)?, 0, 1)?;
-    let star = repeat(alloc, optional, 0, usize::MAX)?;
-    assert_eq!(rt; sizes(alloc, star)?, (0, usize::MAX, false, 12, false));
-    let counted = repeat(alloc, letter(alloc)?, 2, 4)?;
-    assert_eq!(rt; sizes(alloc, counted)?, (2, 4, false, 10, false));
-    Ok(())
-}
-
-#[test]
-fn easy_and_hard(rt: HostRuntime) -> Result<(), Fail> {
-    let alloc = rt.alloc();
-    let easy = both(alloc, group(alloc, letter(alloc)?)?, letter(alloc)?)?;
-    assert!(rt; !sizes(alloc, easy)?.4);
-    let reference = Expr::Backref {
-        group: 1,
-        casei: false,
-    };
-    let hard = both(alloc, group(alloc, letter(alloc)?)?, reference)?;
-    assert!(rt; sizes(alloc, hard)?.4);
-    let end = Expr::Assertion(Assertion::EndTextIgnoreTrailingNewlines { crlf: false });
-    assert!(rt; sizes(alloc, end)?.4);
-    Ok(())
 }
 
 #[test]
@@ -151,19 +94,6 @@ fn causes(rt: HostRuntime) -> Result<(), Fail> {
     assert_eq!(rt; cause(alloc, ahead)?, Some(feature));
     let missing = CompileError::SubroutineCallTargetNotFound(String::from_str(alloc, "3")?);
     assert_eq!(rt; cause(alloc, Expr::SubroutineCall(3))?, Some(missing));
-    Ok(())
-}
-
-#[test]
-fn texts(rt: HostRuntime) -> Result<(), Fail> {
-    let alloc = rt.alloc();
-    let never = format!(in alloc; "{}", CompileError::NeverEndingRecursion)?;
-    assert_eq!(rt; never.as_str(), "never ending recursion");
-    let class = CompileError::InnerError(String::from_str(alloc, "[z-a]")?);
-    let class = format!(in alloc; "{class}")?;
-    assert_eq!(rt; class.as_str(), "inner error: [z-a]");
-    let memory = format!(in alloc; "{}", CompileError::Memory)?;
-    assert_eq!(rt; memory.as_str(), "Out of memory");
     Ok(())
 }
 

@@ -2,8 +2,8 @@ use Rattle.std.proofs.Common.{arith, ◌≡◌, ◌++◌, ℕ, Bool, true, false
 use Rattle.std.specs.Prelude.{◌==◌}
 use Rattle.std.proofs.lemmas.List.{length-map}
 use Rattle.fancy_regex_tree.specs.Tree.{Tree}
-use Rattle.fancy_regex_sizes.specs.Infos.{info_of, facts_in}
-use Rattle.fancy_regex_sizes.specs.Views.{pattern_in}
+use Rattle.fancy_regex_info.specs.Infos.{info_of, facts_in}
+use Rattle.fancy_regex_info.specs.Views.{pattern_in}
 use Rattle.fancy_regex_program.specs.Known.{groups_in, pat_with}
 use Rattle.fancy_regex_program.specs.Writing.{info_at}
 use Rattle.fancy_regex_program.proofs.ClassLemmas.{classes_are_read}
@@ -16,8 +16,8 @@ use Rattle.fancy_regex_sizes.proofs.TellLemmas.{gives}
 use Rattle.fancy_regex_program.specs.Programs.{IsTooLong}
 use Rattle.fancy_regex_program.specs.Shapes.{IsAllowed}
 use Rattle.fancy_regex_program.specs.Refusals.{IsClear, IsRefusal}
-use Rattle.fancy_regex_sizes.specs.Analysis.{analysis}
-use Rattle.fancy_regex_sizes.specs.declared.error.CompileError.{CompileError}
+use Rattle.fancy_regex_info.specs.Analysis.{analysis}
+use Rattle.fancy_regex_info.specs.declared.error.CompileError.{CompileError}
 use Rattle.fancy_regex_program.proofs.RefusalLemmas.{hands}
 use Rattle.fancy_regex_program.proofs.PlanLemmas.{told_of, refusal}
 use Rattle.fancy_regex_program.proofs.compiler.compile.Goals as goal

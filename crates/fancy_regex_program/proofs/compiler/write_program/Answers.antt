@@ -2,7 +2,7 @@ use Rattle.std.proofs.Common.{rules, arith, ◌≡◌, ◌+◌, ◌*◌, ℕ, tr
 use Rattle.std.proofs.lemmas.List.{length-map}
 use Rattle.fancy_regex_class.specs.Classes.{in_class, folded}
 use Rattle.fancy_regex_pattern.specs.Pats.{Pat}
-use Rattle.fancy_regex_sizes.specs.Infos.{info_of}
+use Rattle.fancy_regex_info.specs.Infos.{info_of}
 use Rattle.fancy_regex_program.specs.Code.{slots_in, program_of}
 use Rattle.fancy_regex_program.specs.Known.{most_calls_in}
 use Rattle.fancy_regex_program.specs.Shapes.{IsAllowed}

@@ -17,9 +17,9 @@ use Rattle.fancy_regex_meaning.specs.Ways.{is_full}
 use Rattle.fancy_regex_pattern.specs.Pats.{fail, group, Pat}
 use Rattle.fancy_regex_pattern.specs.Rooms.{room}
 use Rattle.fancy_regex_pattern.specs.Unfolded.{cat_all, alt_all}
-use Rattle.fancy_regex_sizes.specs.Infos.{facts_in, info_of}
-use Rattle.fancy_regex_sizes.specs.declared.info.Info.{Info}
-use Rattle.fancy_regex_sizes.specs.declared.info.Info.TheViews.{out-Info}
+use Rattle.fancy_regex_info.specs.Infos.{facts_in, info_of}
+use Rattle.fancy_regex_info.specs.declared.info.Info.{Info}
+use Rattle.fancy_regex_info.specs.declared.info.Info.TheViews.{out-Info}
 use Rattle.fancy_regex_program.specs.Known.{info_call, info_written}
 use Rattle.fancy_regex_program.proofs.RoomLemmas.{took, took_closed, chosen_took, branch_read, last_read, row_read, room_fail, room_behind, room_group, room_ahead, room_never, room_atomic, room_repeat, room_conditional, room_absent, call_is, late, full_same, full_behind}
 use Rattle.fancy_regex_program.proofs.TreeLemmas.{tree_call, tree_empty}

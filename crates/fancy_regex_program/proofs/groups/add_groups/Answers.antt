@@ -1,6 +1,6 @@
 use Rattle.std.proofs.Common.{◌≡◌, ◌++◌, [], ◌∷◌, map, cond, sym, ap, ◌∙◌, append-nil}
 use Rattle.std.proofs.lemmas.List.{map-append}
-use Rattle.fancy_regex_sizes.specs.Infos.{info_of}
+use Rattle.fancy_regex_info.specs.Infos.{info_of}
 use Rattle.fancy_regex_program.specs.Writing.{info_at}
 use Rattle.fancy_regex_program.proofs.GroupLemmas.{whole_first}
 use Rattle.fancy_regex_program.proofs.groups.add_groups.Goals as goal

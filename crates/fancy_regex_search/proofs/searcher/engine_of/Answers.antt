@@ -1,6 +1,6 @@
 use Rattle.std.proofs.Common.{◌∙◌, inl, inr}
 use Rattle.fancy_regex_tree.specs.Tree.{tree_of}
-use Rattle.fancy_regex_sizes.specs.declared.error.CompileError.TheVariants.{InvalidBackref}
+use Rattle.fancy_regex_info.specs.declared.error.CompileError.TheVariants.{InvalidBackref}
 use Rattle.fancy_regex_search.proofs.BridgeLemmas.{analyzed_end}
 use Rattle.fancy_regex_search.proofs.RefusalLemmas.{analysis_told, engine_told}
 use Rattle.std.proofs.lemmas.Result.{err_from_is_err_and}

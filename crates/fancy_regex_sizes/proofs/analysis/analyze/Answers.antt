@@ -2,16 +2,16 @@ use Rattle.std.proofs.Common.{◌≡◌, false, length, map, ap, sym, subst, ◌
 use Rattle.fancy_regex_tree.specs.Tree.{Tree, tree_of}
 use Rattle.fancy_regex_meaning.specs.Sizes.{size_with}
 use Rattle.fancy_regex_sizes.specs.Endings.{never_ends}
-use Rattle.fancy_regex_sizes.specs.Infos.{info_of}
-use Rattle.fancy_regex_sizes.specs.Survey.{Knows}
-use Rattle.fancy_regex_sizes.specs.Views.{size_at, body_tree}
+use Rattle.fancy_regex_info.specs.Infos.{info_of}
+use Rattle.fancy_regex_info.specs.Survey.{Knows}
+use Rattle.fancy_regex_info.specs.Views.{size_at, body_tree}
 use Rattle.fancy_regex_sizes.specs.NodeCauses.{some_node, is_faulty}
 use Rattle.fancy_regex_sizes.specs.PartCauses.{is_stopped}
 use Rattle.fancy_regex_sizes.specs.Written.{some_written, IsWhole}
 use Rattle.fancy_regex_sizes.specs.declared.written.Inside.{Inside}
 use Rattle.fancy_regex_sizes.proofs.CauseLemmas.{Told, node_told, root_told, start_told, part_told, none_passed, no_stopped_part}
 use Rattle.fancy_regex_sizes.proofs.TellLemmas.{gives}
-use Rattle.fancy_regex_sizes.proofs.WholeLemmas.{length_trees}
+use Rattle.fancy_regex_info.proofs.WholeLemmas.{length_trees}
 use Rattle.fancy_regex_sizes.proofs.analysis.analyze.Goals as goal
 
 pub returns-in_err-check_nodes-clause-refused : goal.returns-in_err-check_nodes-clause-refused

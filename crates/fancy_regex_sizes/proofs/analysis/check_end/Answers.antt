@@ -3,7 +3,7 @@ use Rattle.fancy_regex_tree.specs.Tree.{tree_of}
 use Rattle.fancy_regex_meaning.specs.Ends.{can_end}
 use Rattle.fancy_regex_meaning.specs.Sizes.{calls_in}
 use Rattle.fancy_regex_sizes.specs.Endings.{is_some_list}
-use Rattle.fancy_regex_sizes.specs.Views.{body_tree}
+use Rattle.fancy_regex_info.specs.Views.{body_tree}
 use Rattle.fancy_regex_sizes.proofs.EndRoundLemmas.{ends_known, end_clear, end_refused, some_call}
 use Rattle.fancy_regex_sizes.proofs.analysis.check_end.Goals as goal
 

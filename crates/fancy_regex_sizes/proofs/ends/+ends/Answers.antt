@@ -1,5 +1,5 @@
 use Rattle.std.proofs.Common.{sym, ◌∙◌}
-use Rattle.fancy_regex_sizes.specs.Survey.{ends_in}
+use Rattle.fancy_regex_sizes.specs.Endings.{ends_in}
 use Rattle.fancy_regex_sizes.proofs.EndsLemmas.{all_fails, all_goes_on, all_holds, some_holds, some_goes_on, some_fails}
 use Rattle.fancy_regex_sizes.proofs.ends.+ends.Goals as goal
 

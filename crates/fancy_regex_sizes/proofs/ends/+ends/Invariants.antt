@@ -1,7 +1,7 @@
 use Rattle.std.proofs.Common.{◌≡◌, map, drop}
 use Rattle.fancy_regex_tree.specs.Tree.{tree_of, trees}
 use Rattle.fancy_regex_meaning.specs.Ends.{all_can_end, some_can_end}
-use Rattle.fancy_regex_sizes.specs.Survey.{ends_in}
+use Rattle.fancy_regex_sizes.specs.Endings.{ends_in}
 use Rattle.fancy_regex_sizes.proofs.ends.+ends.Given as goal
 
 abbrev pub invariant-all_can_end_in-loop-part : goal.invariant-all_can_end_in-loop-part

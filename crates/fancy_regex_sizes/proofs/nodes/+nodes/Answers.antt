@@ -2,8 +2,8 @@ use Rattle.std.proofs.Common.{⊎_elim, ap, ◌∙◌, map, arith}
 use Rattle.fancy_regex_tree.specs.Tree.{tree_of, absent_tree_of, trees}
 use Rattle.fancy_regex_sizes.specs.NodeCauses.{some_node, some_node_of, is_memory, is_faulty, shows}
 use Rattle.fancy_regex_sizes.proofs.TellLemmas.{tells, hands_on, stays_clear, row_has, row_goes_on, row_ends, no_row_node, more_row_node, in_group, in_repeat, in_repeater, in_stopper, in_condition, in_yes, in_no, in_absent, in_expression, clear_repeat, clear_conditional, clear_expression, not_less}
-use Rattle.fancy_regex_sizes.proofs.TreeLemmas.{tree_group, tree_repeat, tree_conditional, tree_repeater, tree_stopper, tree_expression, tree_ast}
-use Rattle.fancy_regex_sizes.proofs.ReachLemmas.{or_right}
+use Rattle.fancy_regex_info.proofs.TreeLemmas.{tree_group, tree_repeat, tree_conditional, tree_repeater, tree_stopper, tree_expression, tree_ast}
+use Rattle.fancy_regex_info.proofs.ReachLemmas.{or_right}
 use Rattle.fancy_regex_sizes.proofs.nodes.+nodes.Goals as goal
 
 pub check_absent-returns-in_err-check_nodes-in-Expression-clause-refused : goal.check_absent-returns-in_err-check_nodes-in-Expression-clause-refused

@@ -2,12 +2,12 @@ use Rattle.std.proofs.Common.{map, ap, ◌∙◌}
 use Rattle.fancy_regex_tree.specs.Tree.{tree_of, absent_tree_of, trees}
 use Rattle.fancy_regex_meaning.specs.Sizes.{size_with}
 use Rattle.fancy_regex_sizes.specs.PartCauses.{is_stopped, stops}
-use Rattle.fancy_regex_sizes.specs.Views.{size_at}
+use Rattle.fancy_regex_info.specs.Views.{size_at}
 use Rattle.fancy_regex_sizes.specs.Written.{some_below, some_of_row, some_written}
 use Rattle.fancy_regex_sizes.specs.declared.written.Inside.TheVariants.{Absent}
 use Rattle.fancy_regex_sizes.proofs.PartLemmas.{no_part, more_parts, below_yes, below_no, below_expression}
 use Rattle.fancy_regex_sizes.proofs.TellLemmas.{tells, hands_on, row_has, row_goes_on, row_ends}
-use Rattle.fancy_regex_sizes.proofs.TreeLemmas.{tree_conditional, tree_expression}
+use Rattle.fancy_regex_info.proofs.TreeLemmas.{tree_conditional, tree_expression}
 use Rattle.fancy_regex_sizes.proofs.parts.+parts.Goals as goal
 
 pub check_below-returns-in_err-check_part-in-Conditional-2-clause-refused : goal.check_below-returns-in_err-check_part-in-Conditional-2-clause-refused

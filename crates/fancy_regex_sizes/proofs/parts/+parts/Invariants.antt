@@ -2,7 +2,7 @@ use Rattle.std.proofs.Common.{◌≡◌, map, drop}
 use Rattle.fancy_regex_tree.specs.Tree.{tree_of, trees}
 use Rattle.fancy_regex_meaning.specs.Sizes.{size_with}
 use Rattle.fancy_regex_sizes.specs.PartCauses.{is_stopped}
-use Rattle.fancy_regex_sizes.specs.Views.{size_at}
+use Rattle.fancy_regex_info.specs.Views.{size_at}
 use Rattle.fancy_regex_sizes.specs.Written.{some_of_row}
 use Rattle.fancy_regex_sizes.proofs.parts.+parts.Given as goal
 

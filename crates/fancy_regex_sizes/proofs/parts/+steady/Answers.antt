@@ -1,6 +1,6 @@
 use Rattle.std.proofs.Common.{sym, ◌∙◌}
 use Rattle.fancy_regex_meaning.specs.Sizes.{size_with}
-use Rattle.fancy_regex_sizes.specs.Views.{size_at}
+use Rattle.fancy_regex_info.specs.Views.{size_at}
 use Rattle.fancy_regex_sizes.proofs.AllLemmas.{all_fails, all_goes_on, all_holds}
 use Rattle.fancy_regex_sizes.proofs.PartLemmas.{all_steady, more_steady}
 use Rattle.fancy_regex_sizes.specs.PartCauses.{is_steady, are_steady}

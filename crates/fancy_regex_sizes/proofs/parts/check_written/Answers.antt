@@ -5,11 +5,11 @@ use Rattle.fancy_regex_tree.specs.Tree.{tree_of}
 use Rattle.fancy_regex_meaning.specs.Sizes.{size_with}
 use Rattle.fancy_regex_sizes.specs.NodeCauses.{is_memory}
 use Rattle.fancy_regex_sizes.specs.PartCauses.{is_stopped, stops}
-use Rattle.fancy_regex_sizes.specs.Views.{size_at, body_tree}
+use Rattle.fancy_regex_info.specs.Views.{size_at, body_tree}
 use Rattle.fancy_regex_sizes.specs.Written.{written_calls, itself, SomePart, is_in}
 use Rattle.fancy_regex_sizes.specs.declared.written.Inside.TheVariants.{Nothing}
 use Rattle.fancy_regex_sizes.proofs.TellLemmas.{gives}
-use Rattle.fancy_regex_sizes.proofs.WholeLemmas.{length_trees}
+use Rattle.fancy_regex_info.proofs.WholeLemmas.{length_trees}
 use Rattle.fancy_regex_sizes.proofs.WrittenLemmas.{Progress, nowhere, begins, passes_over, meets, finished, left, left_met, met_at, met_is, target_is, part_told}
 use Rattle.fancy_regex_sizes.proofs.parts.check_written.Goals as goal
 use Rattle.fancy_regex_sizes.proofs.parts.check_written.Goals.{else-call-groups-via-then-call-groups+else-not-is_in, else-call-groups-via-else-call-groups}

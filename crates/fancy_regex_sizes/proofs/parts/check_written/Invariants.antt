@@ -2,7 +2,7 @@ use Rattle.std.proofs.Common.{◌+◌, map, vec_len}
 use Rattle.fancy_regex_tree.specs.Tree.{tree_of}
 use Rattle.fancy_regex_meaning.specs.Sizes.{size_with}
 use Rattle.fancy_regex_sizes.specs.PartCauses.{is_stopped}
-use Rattle.fancy_regex_sizes.specs.Views.{size_at, body_tree}
+use Rattle.fancy_regex_info.specs.Views.{size_at, body_tree}
 use Rattle.fancy_regex_sizes.proofs.WrittenLemmas.{Progress, left}
 use Rattle.fancy_regex_sizes.proofs.parts.check_written.Given as goal
 

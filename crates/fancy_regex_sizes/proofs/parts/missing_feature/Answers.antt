@@ -1,7 +1,7 @@
 use Rattle.std.proofs.Common.{ap, sym, ◌∙◌}
 use Rattle.fancy_regex_tree.specs.Tree.{tree_of}
 use Rattle.fancy_regex_sizes.specs.PartCauses.{missing_in}
-use Rattle.fancy_regex_sizes.proofs.TreeLemmas.{tree_verb}
+use Rattle.fancy_regex_info.proofs.TreeLemmas.{tree_verb}
 use Rattle.fancy_regex_sizes.proofs.parts.missing_feature.Goals as goal
 
 pub returns-in-BacktrackingControlVerb : goal.returns-in-BacktrackingControlVerb

@@ -2,7 +2,7 @@ use Rattle.std.proofs.Common.{◌++◌, ◌==◌, map, ap, sym, ◌∙◌, arith
 use Rattle.fancy_regex_tree.specs.Tree.{tree_of, trees}
 use Rattle.fancy_regex_meaning.specs.Sizes.{size_with}
 use Rattle.fancy_regex_sizes.specs.Starts.{first_calls_in_row}
-use Rattle.fancy_regex_sizes.specs.Views.{size_at}
+use Rattle.fancy_regex_info.specs.Views.{size_at}
 use Rattle.fancy_regex_sizes.proofs.StartLemmas.{branches_begin, branches_go_on, row_goes_past, row_stops, row_is_over, is_zero, not_zero}
 use Rattle.fancy_regex_sizes.proofs.starts.+starts.Goals as goal
 

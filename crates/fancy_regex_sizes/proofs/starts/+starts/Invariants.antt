@@ -2,7 +2,7 @@ use Rattle.std.proofs.Common.{◌≡◌, ◌++◌, map, take, drop}
 use Rattle.fancy_regex_tree.specs.Tree.{tree_of, trees}
 use Rattle.fancy_regex_meaning.specs.Sizes.{size_with}
 use Rattle.fancy_regex_sizes.specs.Starts.{first_calls_in_row, first_calls_in_branches}
-use Rattle.fancy_regex_sizes.specs.Views.{size_at}
+use Rattle.fancy_regex_info.specs.Views.{size_at}
 use Rattle.fancy_regex_sizes.proofs.starts.+starts.Given as goal
 
 abbrev pub invariant-add_row_starts-loop-part : goal.invariant-add_row_starts-loop-part

@@ -1,7 +1,7 @@
 use Rattle.std.proofs.Common.{map, inr, refl}
 use Rattle.fancy_regex_meaning.specs.Sizes.{size_with}
 use Rattle.fancy_regex_sizes.specs.Starts.{first_calls}
-use Rattle.fancy_regex_sizes.specs.Views.{size_at, body_tree}
+use Rattle.fancy_regex_info.specs.Views.{size_at, body_tree}
 use Rattle.fancy_regex_sizes.proofs.StartLemmas.{marked_again}
 use Rattle.fancy_regex_sizes.proofs.starts.check_starts.Goals as goal
 

@@ -1,9 +1,9 @@
 use Rattle.std.proofs.Common.{◌≡◌, ◌∙◌, ◌++◌, ap, [], ◌∷◌, List, Bool, ℕ, ◌+◌, ◌==◌, not, if◌then◌else◌, length, subst, arith, rules}
 use Rattle.fancy_regex_tree.specs.Tree.{Tree, tree_of}
-use Rattle.fancy_regex_sizes.specs.Analysis.{analysis}
-use Rattle.fancy_regex_sizes.specs.Infos.{info_of}
-use Rattle.fancy_regex_sizes.specs.Views.{pattern_in}
-use Rattle.fancy_regex_sizes.specs.declared.info.Info.{out-Info}
+use Rattle.fancy_regex_info.specs.Analysis.{analysis}
+use Rattle.fancy_regex_info.specs.Infos.{info_of}
+use Rattle.fancy_regex_info.specs.Views.{pattern_in}
+use Rattle.fancy_regex_info.specs.declared.info.Info.{out-Info}
 use Rattle.fancy_regex_runner.specs.Re.{shape}
 use Rattle.fancy_regex_runner.specs.Program.{emitted}
 use Rattle.fancy_regex_runner.specs.Plain.{IsPlain, classes, re_of}

@@ -6,9 +6,9 @@ use Rattle.fancy_regex_meaning.specs.Groups.{pattern_of}
 use Rattle.fancy_regex_program.specs.Caps.{cap_of}
 use Rattle.fancy_regex_program.specs.Refusals.{IsClear, ReadsClasses}
 use Rattle.fancy_regex_sizes.specs.Causes.{is_too_complex}
-use Rattle.fancy_regex_sizes.specs.Analysis.{analysis}
-use Rattle.fancy_regex_sizes.specs.Infos.{info_of}
-use Rattle.fancy_regex_sizes.specs.declared.options.CompileOptions.{CompileOptions}
+use Rattle.fancy_regex_info.specs.Analysis.{analysis}
+use Rattle.fancy_regex_info.specs.Infos.{info_of}
+use Rattle.fancy_regex_info.specs.declared.options.CompileOptions.{CompileOptions}
 use Rattle.fancy_regex_sizes.proofs.TellLemmas.{gives}
 use Rattle.fancy_regex_runner.specs.Refused.{IsTaken, IsCause}
 use Rattle.fancy_regex_search.specs.Engines.{IsCompiled}

@@ -1,0 +1,13 @@
+pub mod RowLemmas
+pub mod SizeLemmas
+pub mod WalkLemmas
+pub mod FactsLemmas
+pub mod ReachLemmas
+pub mod ClosureLemmas
+pub mod StopLemmas
+pub mod DescribeLemmas
+pub mod TreeLemmas
+pub mod TableLemmas
+pub mod KnowsLemmas
+pub mod ReadLemmas
+pub mod WholeLemmas

@@ -1,0 +1,9 @@
+pub mod Views
+pub mod Easy
+pub mod Infos
+pub mod Combined
+pub mod Survey
+pub mod References
+pub mod Reach
+pub mod Rounds
+pub mod Analysis

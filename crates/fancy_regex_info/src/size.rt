@@ -1,0 +1,186 @@
+//! How many characters a part takes.
+
+ghost use Rattle.std.specs.Prelude.{◌≡◌, ℕ, map};
+ghost use Rattle.fancy_regex_tree.specs.Tree.{tree_of, trees, absent_tree_of, ast_tree_of};
+ghost use Rattle.fancy_regex_meaning.specs.Sizes as sizes;
+ghost use Rattle.fancy_regex_meaning.specs.Sizes.{size_with, sum_size, branch_size};
+ghost use Rattle.fancy_regex_info.specs.Views.{size_of as meant, size_at, newline_size};
+
+use fancy_regex_tree::{Absent, AstNode, Expr};
+
+/// The least and the greatest count of characters, up to `usize::MAX`, and whether it is the same on each way.
+#[derive(Clone, Copy, Debug, PartialEq, Eq)]
+pub struct Size {
+    pub least: usize,
+    /// `usize::MAX` is no bound.
+    pub greatest: usize,
+    pub always: bool,
+}
+
+/// Always so many.
+pub(crate) fn always(count: usize) -> Size
+    ensures { meant result ≡ sizes.always_size count }
+{
+    Size {
+        least: count,
+        greatest: count,
+        always: true,
+    }
+}
+
+/// Any number of characters.
+pub(crate) fn any_size() -> Size
+    ensures { meant result ≡ sizes.any_size }
+{
+    Size {
+        least: 0,
+        greatest: usize::MAX,
+        always: false,
+    }
+}
+
+/// What has no finite unfolding.
+pub(crate) fn endless() -> Size
+    ensures { meant result ≡ sizes.endless_size }
+{
+    Size {
+        least: usize::MAX,
+        greatest: usize::MAX,
+        always: false,
+    }
+}
+
+/// What a line break takes.
+fn one_or_two() -> Size
+    ensures { meant result ≡ newline_size }
+{
+    Size {
+        least: 1,
+        greatest: 2,
+        always: false,
+    }
+}
+
+/// One behind the other.
+pub(crate) fn both(a: Size, b: Size) -> Size
+    ensures { meant result ≡ sizes.both_sizes (meant a) (meant b) }
+{
+    Size {
+        least: a.least.saturating_add(b.least),
+        greatest: a.greatest.saturating_add(b.greatest),
+        always: a.always && b.always,
+    }
+}
+
+/// One of two.
+pub(crate) fn either(a: Size, b: Size) -> Size
+    ensures { meant result ≡ sizes.either_size (meant a) (meant b) }
+{
+    Size {
+        least: a.least.min(b.least),
+        greatest: a.greatest.max(b.greatest),
+        always: a.always && b.always && a.least == b.least,
+    }
+}
+
+/// So many times.
+pub(crate) fn repeated(a: Size, lo: usize, hi: usize) -> Size
+    ensures { meant result ≡ sizes.repeated_size (meant a) lo hi }
+{
+    Size {
+        least: lo.saturating_mul(a.least),
+        greatest: hi.saturating_mul(a.greatest),
+        always: a.always && (lo == hi || a.least == 0),
+    }
+}
+
+/// What a call of the group takes, by the sizes of the calls; any number where there is no such group.
+fn size_of_call(calls: &[Size], group: usize) -> Size
+    ensures { meant result ≡ size_at calls.now group }
+{
+    match calls.get(group) {
+        Some(size) => *size,
+        None => any_size(),
+    }
+}
+
+/// What the tree takes, where that of a call of each group is given.
+#[tactic(auto, unfolding(fancy_regex_meaning::specs::Sizes::size_with))]
+#[cycle(size)]
+pub fn size_in(expr: &Expr, calls: &[Size]) -> Size
+    ensures { meant result ≡ size_with (size_at calls.now) (tree_of expr.now) }
+{
+    match expr {
+        Expr::Any { .. } | Expr::Literal { .. } | Expr::LiteralBytes { .. } => always(1),
+        Expr::Delegate { .. } => always(1),
+        Expr::GeneralNewline { .. } => one_or_two(),
+        Expr::Concat(parts) => size_in_row(parts, calls),
+        Expr::Alt(branches) => size_in_branches(branches, calls),
+        Expr::Group(child) | Expr::AtomicGroup(child) => size_in(child, calls),
+        Expr::Repeat { child, lo, hi, .. } => repeated(size_in(child, calls), *lo, *hi),
+        Expr::Conditional {
+            condition,
+            true_branch,
+            false_branch,
+        } => either(
+            both(size_in(condition, calls), size_in(true_branch, calls)),
+            size_in(false_branch, calls),
+        ),
+        Expr::SubroutineCall(group) => size_of_call(calls, *group),
+        Expr::Backref { .. } | Expr::BackrefWithRelativeRecursionLevel { .. } => any_size(),
+        Expr::Absent(absent) => size_of_absent(absent),
+        Expr::AstNode(node, _) => size_of_unresolved(node),
+        Expr::Empty | Expr::Assertion(_) | Expr::LookAround(_, _) | Expr::KeepOut => always(0),
+        Expr::ContinueFromPreviousMatchEnd | Expr::BackrefExistsCondition { .. } => always(0),
+        Expr::BacktrackingControlVerb(_) | Expr::DefineGroup { .. } => always(0),
+    }
+}
+
+/// Each absent operator takes any number.
+#[tactic(auto, unfolding(fancy_regex_meaning::specs::Sizes::size_with))]
+pub(crate) fn size_of_absent(absent: &Absent) -> Size
+    ensures { (call : ℕ → sizes.Size) → meant result ≡ size_with call (absent_tree_of absent.now) }
+{
+    match absent {
+        Absent::Repeater(_) | Absent::Expression { .. } | Absent::Stopper(_) | Absent::Clear => {
+            any_size()
+        }
+    }
+}
+
+#[tactic(auto, unfolding(fancy_regex_meaning::specs::Sizes::size_with))]
+pub(crate) fn size_of_unresolved(node: &AstNode) -> Size
+    ensures { (call : ℕ → sizes.Size) (position : ℕ) → meant result ≡ size_with call (ast_tree_of node.now position) }
+{
+    match node {
+        AstNode::Backref { .. } | AstNode::SubroutineCall(_) => any_size(),
+        AstNode::AstGroup { .. } | AstNode::BackrefExistsCondition { .. } => always(0),
+    }
+}
+
+#[cycle(size)]
+fn size_in_row(parts: &[Expr], calls: &[Size]) -> Size
+    ensures { meant result ≡ sum_size (size_at calls.now) (trees (map tree_of parts.now)) }
+{
+    let mut size = always(0);
+    for i in (0..parts.len()).rev() {
+        size = both(size_in(&parts[i], calls), size);
+    }
+    size
+}
+
+/// No branch at all takes nothing.
+#[cycle(size)]
+fn size_in_branches(branches: &[Expr], calls: &[Size]) -> Size
+    ensures { meant result ≡ branch_size (size_at calls.now) (trees (map tree_of branches.now)) }
+{
+    if branches.is_empty() {
+        return always(0);
+    }
+    let last = branches.len() - 1;
+    let mut size = size_in(&branches[last], calls);
+    for i in (0..last).rev() {
+        size = either(size_in(&branches[i], calls), size);
+    }
+    size
+}

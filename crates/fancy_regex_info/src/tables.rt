@@ -1,0 +1,127 @@
+//! What is known of the groups of a pattern, by their numbers.
+
+ghost use Rattle.std.specs.Prelude.{◌≡◌, ℕ, ◌<◌, false, map, length, IfOk, IsTrue, slice_index_or};
+ghost use Rattle.fancy_regex_meaning.specs.Sizes.{calls_in};
+ghost use Rattle.fancy_regex_info.specs.Reach.{rows};
+ghost use Rattle.fancy_regex_info.specs.Rounds.{is_reached_again, size_when, next_size, size_in_round};
+ghost use Rattle.fancy_regex_info.specs.Survey.{reads_in};
+ghost use Rattle.fancy_regex_info.specs.Views.{size_of as meant, size_at, body_tree};
+
+use crate::bodies::add_calls;
+use crate::closure::reached;
+use crate::size::{Size, endless, size_in};
+use fancy_regex_tree::Expr;
+use std::alloc::{AllocError, Global};
+
+/// The groups that are called in the body of each group.
+pub(crate) fn calls_by_group(alloc: Global, groups: &[&Expr]) -> Result<Vec<Vec<usize>>, AllocError>
+    ensures { IfOk result (λ all. rows all.items ≡ map calls_in (map body_tree groups.now)) }
+{
+    let mut all = Vec::new(alloc);
+    for body in groups {
+        let mut calls = Vec::new(alloc);
+        add_calls(body, &mut calls)?;
+        all.push(calls)?;
+    }
+    Ok(all)
+}
+
+/// Which groups are reached again from their own bodies, by these calls.
+pub fn recursive_groups(alloc: Global, calls: &[Vec<usize>]) -> Result<Vec<bool>, AllocError>
+    ensures length { IfOk result (λ all. length all.items ≡ length calls.now) }
+    ensures marks { IfOk result (λ all. (k : ℕ) → k < length calls.now → slice_index_or all.items k false ≡ is_reached_again (rows calls.now) k) }
+{
+    let mut all = Vec::new(alloc);
+    for group in 0..calls.len() {
+        all.push(is_recursive(alloc, calls, group)?)?;
+    }
+    Ok(all)
+}
+
+fn is_recursive(alloc: Global, calls: &[Vec<usize>], group: usize) -> Result<bool, AllocError>
+    requires { group < length calls.now }
+    ensures { IfOk result (λ is. is ≡ is_reached_again (rows calls.now) group) }
+{
+    let starts = calls[group].as_slice();
+    if starts.is_empty() {
+        return Ok(false);
+    }
+    let seen = reached(alloc, calls, starts)?;
+    Ok(is_marked(&seen, group))
+}
+
+/// Whether the group is marked; a group past the marks is not.
+pub(crate) fn is_marked(marks: &[bool], group: usize) -> bool
+    ensures { result ≡ reads_in marks.now group }
+{
+    match marks.get(group) {
+        Some(is_marked) => *is_marked,
+        None => false,
+    }
+}
+
+/// What a call of each group takes.
+pub(crate) fn call_sizes(
+    alloc: Global,
+    groups: &[&Expr],
+    recursive: &[bool],
+) -> Result<Vec<Size>, AllocError>
+    ensures { IfOk result (λ sizes. (k : ℕ) → size_at sizes.items k ≡ size_in_round (map body_tree groups.now) recursive.now (length groups.now) k) }
+{
+    let mut sizes = vec![in alloc; endless(); groups.len()]?;
+    for _round in 0..groups.len() {
+        let next = next_sizes(alloc, groups, recursive, &sizes)?;
+        if are_same(&next, &sizes) {
+            return Ok(sizes);
+        }
+        sizes = next;
+    }
+    Ok(sizes)
+}
+
+/// The same with one call more inside each call.
+fn next_sizes(
+    alloc: Global,
+    groups: &[&Expr],
+    recursive: &[bool],
+    sizes: &[Size],
+) -> Result<Vec<Size>, AllocError>
+    ensures { IfOk result (λ next. (k : ℕ) → size_at next.items k ≡ next_size (map body_tree groups.now) recursive.now (size_at sizes.now) k) }
+{
+    let mut next = Vec::new(alloc);
+    for group in 0..groups.len() {
+        let size = size_in(groups[group], sizes);
+        next.push(called_size(size, is_marked(recursive, group)))?;
+    }
+    Ok(next)
+}
+
+/// What a call takes, by what the body takes: of a group that is reached again from its own body there is no greatest.
+fn called_size(body: Size, is_recursive: bool) -> Size
+    ensures { meant result ≡ size_when is_recursive (meant body) }
+{
+    if is_recursive {
+        Size {
+            least: body.least,
+            greatest: usize::MAX,
+            always: false,
+        }
+    } else {
+        body
+    }
+}
+
+/// Whether the sizes are the same.
+fn are_same(a: &[Size], b: &[Size]) -> bool
+    ensures { IsTrue result → a.now ≡ b.now }
+{
+    if a.len() != b.len() {
+        return false;
+    }
+    for i in 0..a.len() {
+        if a[i] != b[i] {
+            return false;
+        }
+    }
+    true
+}
