@@ -7,3 +7,4 @@ pub mod References
 pub mod Reach
 pub mod Rounds
 pub mod Analysis
+pub mod Defaults

@@ -1,5 +1,7 @@
 //! What is asked for besides the pattern.
 
+ghost use Rattle.std.specs.Prelude.{◌≡◌};
+
 /// How a text's bytes are seen.
 #[derive(Clone, Copy, Debug, PartialEq, Eq, Default)]
 pub enum BytesMode {
@@ -29,6 +31,10 @@ pub struct CompileOptions {
 }
 
 impl Default for CompileOptions {
+    ghost use Rattle.fancy_regex_info.specs.Defaults.{default_compile_options};
+
+    ghost is_default = { λ options. options ≡ default_compile_options };
+
     /// Not anchored, no calls, Unicode, no cap, the first way.
     fn default() -> CompileOptions {
         CompileOptions {
