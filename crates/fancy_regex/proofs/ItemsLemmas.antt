@@ -13,10 +13,10 @@ use Rattle.fancy_regex_search.specs.declared.searcher.Searcher.{Searcher}
 use Rattle.fancy_regex.specs.Left.{items_left, all_left}
 use Rattle.fancy_regex.specs.declared.walk.Standing.{Standing}
 
-nat_lt-yes : (a b : ℕ) → a < b → nat_lt a b ≡ true
+pub nat_lt-yes : (a b : ℕ) → a < b → nat_lt a b ≡ true
 nat_lt-yes a b h = search rules
 
-nat_lt-no : (a b : ℕ) → b ≤ a → nat_lt a b ≡ false
+pub nat_lt-no : (a b : ℕ) → b ≤ a → nat_lt a b ≡ false
 nat_lt-no a b h = search rules
 
 turn : (b : Bool) (o : Option Match) (F : Match → List Match) (m : Match) → b ≡ false → o ≡ Some m → (if b then [] else for_some F o) ≡ F m
@@ -38,7 +38,7 @@ pick-third : (b c : Bool) (A B C : List Match) → b ≡ false → c ≡ false �
 pick-third b c A B C e f = rw (e, f) refl
 
 -- a search does not read where it was to start
-found-same : (s : Searcher) (text : List ℕ) (a : Asked) (p : ℕ) → own_found_from s text (record a { start = p }) ≡ own_found_from s text a
+pub found-same : (s : Searcher) (text : List ℕ) (a : Asked) (p : ℕ) → own_found_from s text (record a { start = p }) ≡ own_found_from s text a
 unfolding search_from
 found-same s text a p = refl
 

@@ -3,4 +3,5 @@ pub mod Steps
 pub mod Shown
 pub mod Naming
 pub mod Looks
+pub mod Made
 pub mod Fails

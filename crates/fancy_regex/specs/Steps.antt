@@ -1,5 +1,5 @@
 -- One search of an iteration.
-use Rattle.std.specs.Prelude.{◌≡◌, ℕ, ◌<◌, ◌≤◌, List, [], ◌∷◌, slice_index, MatchOption, MatchResult, Option}
+use Rattle.std.specs.Prelude.{◌≡◌, ℕ, ◌<◌, ◌≤◌, List, [], ◌∷◌, true, slice_index, MatchOption, MatchResult, IfErr, Option}
 use Rattle.std.specs.declared.result.Result.{Result}
 use Rattle.fancy_regex_meaning.specs.Groups.{Pattern}
 use Rattle.fancy_regex_meaning.specs.Places.{place_after}
@@ -8,6 +8,7 @@ use Rattle.fancy_regex_runner.specs.Plain.{places_of}
 use Rattle.fancy_regex_input.specs.declared.asked.Asked.{Asked}
 use Rattle.fancy_regex_search.specs.Places.{IsWithin}
 use Rattle.fancy_regex.specs.Left.{next_start}
+use Rattle.fancy_regex.specs.declared.walk.Standing.{Standing}
 use Rattle.fancy_regex.specs.declared.walk.Step.{Step}
 use Rattle.fancy_regex.specs.declared.walk.Step.TheVariants.{Item, Skip, End, Fault}
 
@@ -32,8 +33,19 @@ StepNears before (Item v) after = after < before
 StepNears before Skip after = after < before
 StepNears before (Fault e) after = after < before
 
+-- After the end and after a fault the iteration is over.
+abbrev pub StepEnds : Step → Standing → Type 0
+StepEnds (Item v) standing = Unit {0}
+StepEnds Skip standing = Unit {0}
+StepEnds End standing = standing.is_done ≡ true
+StepEnds (Fault e) standing = standing.is_done ≡ true
+
 -- Where the next search starts after a whole turn of an iteration: behind the places that it gave, or behind the range.
 abbrev pub TurnMoves : {A E : Type 0} → (A → ℕ × ℕ) → List ℕ → Asked → Option (Result A E) → Asked → Type 0
 TurnMoves span text old result new =
     MatchOption result (Unit {0})
     (λ item. MatchResult item (λ x. new.start ≡ next_start text (span x).0 (span x).1) (λ _. new.start ≡ place_after text old.range_end))
+
+-- The same of a whole turn: after `None` and after an error nothing comes.
+abbrev pub TurnEnds : {A E : Type 0} → Option (Result A E) → Standing → Type 0
+TurnEnds result standing = MatchOption result (standing.is_done ≡ true) (λ item. IfErr item (λ _. standing.is_done ≡ true))

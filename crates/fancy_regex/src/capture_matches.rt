@@ -1,11 +1,13 @@
 //! The matches of a text with their groups, in order.
 
-ghost use Rattle.std.specs.Prelude.{◌≡◌, ◌≤◌, IfSome, IfOk, IfErr};
+ghost use Rattle.std.specs.Prelude.{◌≡◌, ◌≤◌, false, IfSome, IfOk, IfErr};
 ghost use Rattle.std.specs.Iterator.{at_most};
 ghost use Rattle.fancy_regex_runner.specs.Plain.{places_of};
 ghost use Rattle.fancy_regex_search.specs.Owned.{own_pattern};
 ghost use Rattle.fancy_regex.specs.Fails.{IsItemError};
+ghost use Rattle.fancy_regex.specs.Made.{Passes};
 ghost use Rattle.fancy_regex.specs.Left.{items_left, all_left, searches_left, Yields};
+ghost use Rattle.fancy_regex.specs.Steps.{TurnEnds};
 
 use crate::captures::Captures;
 use crate::regex::Regex;
@@ -31,6 +33,7 @@ impl<'r, S: Input> CaptureMatches<'r, S> {
         ensures left { items_left result.walk.regex.now.searcher (S.text result.walk.input.haystack) result.walk.input.asked result.walk.standing ≡ all_left regex.entry.now.searcher (S.text input.haystack) input.asked }
         ensures input { (result.walk.input.haystack ≡ input.haystack) × (result.walk.input.asked ≡ input.asked) }
         ensures regex { result.walk.regex ≡ regex.entry }
+        ensures begins { result.walk.standing.off ≡ false }
     {
         CaptureMatches {
             walk: Walk::new(alloc, regex, input),
@@ -62,7 +65,10 @@ impl<'r, S: Input> Iterator for CaptureMatches<'r, S> {
         × (s.walk.input.asked.start ≤ t.walk.input.asked.start)
         × (t.walk.input.haystack ≡ s.walk.input.haystack) × (t.walk.regex ≡ s.walk.regex)
         × (t.walk.input.asked ≡ record (s.walk.input.asked) { start = t.walk.input.asked.start })
-        × IfSome r (λ item. IfErr item (λ e. IsItemError s.walk.regex.now.searcher (S.text s.walk.input.haystack) s.walk.input.asked e)) };
+        × IfSome r (λ item. IfErr item (λ e. IsItemError s.walk.regex.now.searcher (S.text s.walk.input.haystack) s.walk.input.asked s.walk.standing.off e))
+        × IfSome r (λ item. IfOk item (λ m. Passes s.walk.regex.now.searcher (S.text s.walk.input.haystack) s.walk.input.asked s.walk.standing.off
+        t.walk.input.asked t.walk.standing.off))
+        × TurnEnds r t.walk.standing };
 
     ghost remaining = { λ s. at_most (searches_left (S.text s.walk.input.haystack) s.walk.input.asked s.walk.standing) };
 

@@ -1,6 +1,6 @@
 //! The groups of a match.
 
-ghost use Rattle.std.specs.Prelude.{◌≡◌, ◌+◌, ◌-◌, ◌*◌, ◌/◌, ◌<◌, ◌≤◌, option_map, vec_len, slice_index, slice_range, MatchOption};
+ghost use Rattle.std.specs.Prelude.{◌≡◌, ◌+◌, ◌-◌, ◌*◌, ◌/◌, ◌<◌, ◌≤◌, option_map, vec_len, slice_index, slice_range, MatchOption, IfSome};
 ghost use Rattle.std.specs.Iterator.{at_most};
 ghost use Rattle.fancy_regex.specs.Naming.{own_last, IsSpanOf, IsThere, IsTextOf};
 ghost use Rattle.fancy_regex.specs.Shown.{IsSpanAt, TookPart};
@@ -35,14 +35,16 @@ impl<'r, S: Input> Captures<'r, S> {
     /// What the group with this number matched. `None` where it took no part, or there is none; group 0 is the whole
     /// match.
     pub fn get(&self, i: usize) -> Option<S::Match>
-        ensures { IsSpanAt (S.text self.now.haystack) self.now.places.items i (option_map S.span result) }
+        ensures span { IsSpanAt (S.text self.now.haystack) self.now.places.items i (option_map S.span result) }
+        ensures text { IfSome result (λ m. S.match_text m ≡ S.text self.now.haystack) }
     {
         match_of(self.haystack, &self.places, i)
     }
 
     /// What the last group of this name matched. `None` where it took no part, or there is none.
     pub fn name(&self, name: &str) -> Option<S::Match>
-        ensures { IsSpanOf (S.text self.now.haystack) self.now.places.items (own_last self.now.regex.now.searcher name.now) (option_map S.span result) }
+        ensures span { IsSpanOf (S.text self.now.haystack) self.now.places.items (own_last self.now.regex.now.searcher name.now) (option_map S.span result) }
+        ensures text { IfSome result (λ m. S.match_text m ≡ S.text self.now.haystack) }
     {
         self.get(self.group_named(name)?)
     }
@@ -111,7 +113,8 @@ impl<'c, 'r, S: Input> Iterator for SubCaptureMatches<'c, 'r, S> {
 
     ghost next_gives = { λ s r t. MatchOption r ((vec_len s.captures.now.places / 2 ≤ s.next) × (t ≡ s))
         (λ item. (s.next < vec_len s.captures.now.places / 2) × (t.next ≡ s.next + 1) × (t.captures ≡ s.captures)
-        × IsSpanAt (S.text s.captures.now.haystack) s.captures.now.places.items s.next (option_map S.span item)) };
+        × IsSpanAt (S.text s.captures.now.haystack) s.captures.now.places.items s.next (option_map S.span item)
+        × IfSome item (λ m. S.match_text m ≡ S.text s.captures.now.haystack)) };
 
     ghost remaining = { λ s. at_most (vec_len s.captures.now.places / 2 - s.next) };
 

@@ -61,7 +61,8 @@ pub fn span_of<S: Input>(haystack: S, places: &[usize], group: usize) -> Option<
 
 /// A group's match, if the group took part.
 pub fn match_of<S: Input>(haystack: S, places: &[usize], group: usize) -> Option<S::Match>
-    ensures { IsSpanAt (S.text haystack) places.now group (option_map S.span result) }
+    ensures span { IsSpanAt (S.text haystack) places.now group (option_map S.span result) }
+    ensures text { IfSome result (λ m. S.match_text m ≡ S.text haystack) }
 {
     let (start, end) = span_of(haystack, places, group)?;
     Some(haystack.make_match(start, end))
@@ -70,7 +71,8 @@ pub fn match_of<S: Input>(haystack: S, places: &[usize], group: usize) -> Option
 /// The whole match, of places that begin with it.
 pub fn whole_of<S: Input>(haystack: S, asked: Asked, places: &[usize]) -> S::Match
     requires { IsWithin (S.text haystack) asked places.now }
-    ensures { S.span result ≡ (slice_index places.now 0, slice_index places.now 1) }
+    ensures span { S.span result ≡ (slice_index places.now 0, slice_index places.now 1) }
+    ensures text { S.match_text result ≡ S.text haystack }
 {
     haystack.make_match(places[0], places[1])
 }

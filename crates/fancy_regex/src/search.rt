@@ -47,6 +47,7 @@ impl Regex {
     /// The first match of the text, if it has one. `RuntimeError` where the search passes a limit; or `Memory`.
     pub fn find<S: Input>(&self, alloc: Global, haystack: S) -> Result<Option<S::Match>>
         ensures answer { IfOk result (λ found. option_map S.span found ≡ option_map span_in (own_found self.now.searcher (S.text haystack) (whole (S.text haystack)))) }
+        ensures text { IfOk result (λ found. IfSome found (λ m. S.match_text m ≡ S.text haystack)) }
         ensures limits { IfErr result (λ e. IsOwnError self.now.searcher (S.text haystack) (whole (S.text haystack)) false e) }
     {
         self.find_input(alloc, RegexInput::new(haystack))
@@ -61,6 +62,7 @@ impl Regex {
     ) -> Result<Option<S::Match>>
         requires { position ≤ length (S.text haystack) → IsCharBoundary (S.text haystack) position }
         ensures answer { IfOk result (λ found. option_map S.span found ≡ option_map span_in (own_found self.now.searcher (S.text haystack) (record (whole (S.text haystack)) { start = position }))) }
+        ensures text { IfOk result (λ found. IfSome found (λ m. S.match_text m ≡ S.text haystack)) }
         ensures limits { IfErr result (λ e. IsOwnError self.now.searcher (S.text haystack) (record (whole (S.text haystack)) { start = position }) false e) }
     {
         self.find_input(alloc, RegexInput::new(haystack).from_pos(position))
@@ -73,6 +75,7 @@ impl Regex {
         input: RegexInput<S>,
     ) -> Result<Option<S::Match>>
         ensures answer { IfOk result (λ found. option_map S.span found ≡ option_map span_in (own_found self.now.searcher (S.text input.haystack) (input.asked))) }
+        ensures text { IfOk result (λ found. IfSome found (λ m. S.match_text m ≡ S.text input.haystack)) }
         ensures limits { IfErr result (λ e. IsOwnError self.now.searcher (S.text input.haystack) input.asked false e) }
     {
         self.find_input_counted(alloc, input, &mut Steps::new())
@@ -87,6 +90,7 @@ impl Regex {
         steps: &mut Steps,
     ) -> Result<Option<S::Match>>
         ensures answer { IfOk result (λ found. option_map S.span found ≡ option_map span_in (own_found self.now.searcher (S.text input.haystack) (input.asked))) }
+        ensures text { IfOk result (λ found. IfSome found (λ m. S.match_text m ≡ S.text input.haystack)) }
         ensures limits { IfErr result (λ e. IsOwnError self.now.searcher (S.text input.haystack) input.asked false e) }
         ensures looks_most { own_served self.now.searcher ≡ true → steps.new ≤ steps.old + most_looks self.now.searcher input.asked }
         ensures looks_least { IfOk result (λ _. own_served self.now.searcher ≡ true → min (steps.old + own_tried self.now.searcher (S.text input.haystack) input.asked false) (2 ^ 64 - 1) ≤ steps.new) }
@@ -158,6 +162,7 @@ impl Regex {
         ensures left { items_left result.walk.regex.now.searcher (S.text result.walk.input.haystack) result.walk.input.asked result.walk.standing ≡ all_left self.now.searcher (S.text haystack) (whole (S.text haystack)) }
         ensures input { (result.walk.input.haystack ≡ haystack) × (result.walk.input.asked ≡ whole (S.text haystack)) }
         ensures regex { result.walk.regex.now ≡ self.now }
+        ensures begins { result.walk.standing.off ≡ false }
     {
         self.find_iter_input(alloc, RegexInput::new(haystack))
     }
@@ -167,6 +172,7 @@ impl Regex {
         ensures left { items_left result.walk.regex.now.searcher (S.text result.walk.input.haystack) result.walk.input.asked result.walk.standing ≡ all_left self.now.searcher (S.text input.haystack) (input.asked) }
         ensures input { (result.walk.input.haystack ≡ input.haystack) × (result.walk.input.asked ≡ input.asked) }
         ensures regex { result.walk.regex.now ≡ self.now }
+        ensures begins { result.walk.standing.off ≡ false }
     {
         Matches::new(alloc, self, input)
     }
@@ -177,6 +183,7 @@ impl Regex {
         ensures left { items_left result.walk.regex.now.searcher (S.text result.walk.input.haystack) result.walk.input.asked result.walk.standing ≡ all_left self.now.searcher (S.text haystack) (whole (S.text haystack)) }
         ensures input { (result.walk.input.haystack ≡ haystack) × (result.walk.input.asked ≡ whole (S.text haystack)) }
         ensures regex { result.walk.regex.now ≡ self.now }
+        ensures begins { result.walk.standing.off ≡ false }
     {
         self.captures_iter_input(alloc, RegexInput::new(haystack))
     }
@@ -190,6 +197,7 @@ impl Regex {
         ensures left { items_left result.walk.regex.now.searcher (S.text result.walk.input.haystack) result.walk.input.asked result.walk.standing ≡ all_left self.now.searcher (S.text input.haystack) (input.asked) }
         ensures input { (result.walk.input.haystack ≡ input.haystack) × (result.walk.input.asked ≡ input.asked) }
         ensures regex { result.walk.regex.now ≡ self.now }
+        ensures begins { result.walk.standing.off ≡ false }
     {
         CaptureMatches::new(alloc, self, input)
     }

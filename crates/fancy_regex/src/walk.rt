@@ -43,16 +43,18 @@ enum Step {
 }
 
 impl<'r, S: Input> Walk<'r, S> {
-    ghost use Rattle.fancy_regex.specs.Fails.{IsItemError, StepFails};
+    ghost use Rattle.fancy_regex.specs.Fails.{IsItemError, StepFails, StepPasses};
+    ghost use Rattle.fancy_regex.specs.Made.{Passes};
     ghost use Rattle.fancy_regex.specs.Left.{items_left, all_left, searches_left, Yields};
     ghost use Rattle.fancy_regex.specs.Shown.{AreGroupsOf};
-    ghost use Rattle.fancy_regex.specs.Steps.{StepGives, StepMoves, StepNears, TurnMoves};
+    ghost use Rattle.fancy_regex.specs.Steps.{StepGives, StepMoves, StepNears, StepEnds, TurnMoves, TurnEnds};
 
     /// Before the first search.
     pub fn new(alloc: Global, regex: &'r Regex, input: RegexInput<S>) -> Walk<'r, S>
         ensures left { items_left result.regex.now.searcher (S.text result.input.haystack) result.input.asked result.standing ≡ all_left regex.entry.now.searcher (S.text input.haystack) input.asked }
         ensures input { (result.input.haystack ≡ input.haystack) × (result.input.asked ≡ input.asked) }
         ensures regex { result.regex ≡ regex.entry }
+        ensures begins { result.standing.off ≡ false }
     {
         Walk {
             alloc,
@@ -78,7 +80,10 @@ impl<'r, S: Input> Walk<'r, S> {
         ensures haystack { self.new.input.haystack ≡ self.old.input.haystack }
         ensures regex { self.new.regex ≡ self.old.regex }
         ensures asked { self.new.input.asked ≡ record (self.old.input.asked) { start = self.new.input.asked.start } }
-        ensures fails { StepFails self.old.regex.now.searcher (S.text self.old.input.haystack) self.old.input.asked result }
+        ensures fails { StepFails self.old.regex.now.searcher (S.text self.old.input.haystack) self.old.input.asked self.old.standing.off result }
+        ensures passes { StepPasses self.old.regex.now.searcher (S.text self.old.input.haystack) self.old.input.asked self.old.standing.off result
+            self.new.input.asked self.new.standing.off }
+        ensures ends { StepEnds result self.new.standing }
     {
         if self.standing.is_done {
             return Step::End;
@@ -127,7 +132,10 @@ impl<'r, S: Input> Walk<'r, S> {
         ensures haystack { self.new.input.haystack ≡ self.old.input.haystack }
         ensures regex { self.new.regex ≡ self.old.regex }
         ensures asked { self.new.input.asked ≡ record (self.old.input.asked) { start = self.new.input.asked.start } }
-        ensures fails { StepFails self.old.regex.now.searcher (S.text self.old.input.haystack) self.old.input.asked result }
+        ensures fails { StepFails self.old.regex.now.searcher (S.text self.old.input.haystack) self.old.input.asked self.old.standing.off result }
+        ensures passes { StepPasses self.old.regex.now.searcher (S.text self.old.input.haystack) self.old.input.asked self.old.standing.off result
+            self.new.input.asked self.new.standing.off }
+        ensures ends { StepEnds result self.new.standing }
     {
         self.standing.is_done = true;
         Step::End
@@ -150,7 +158,10 @@ impl<'r, S: Input> Walk<'r, S> {
         ensures haystack { self.new.input.haystack ≡ self.old.input.haystack }
         ensures regex { self.new.regex ≡ self.old.regex }
         ensures asked { self.new.input.asked ≡ record (self.old.input.asked) { start = self.new.input.asked.start } }
-        ensures fails { StepFails self.old.regex.now.searcher (S.text self.old.input.haystack) self.old.input.asked result }
+        ensures fails { StepFails self.old.regex.now.searcher (S.text self.old.input.haystack) self.old.input.asked self.old.standing.off result }
+        ensures passes { StepPasses self.old.regex.now.searcher (S.text self.old.input.haystack) self.old.input.asked self.old.standing.off result
+            self.new.input.asked self.new.standing.off }
+        ensures ends { StepEnds result self.new.standing }
     {
         laws_of_items();
         let start = places[0];
@@ -184,7 +195,11 @@ impl<'r, S: Input> Walk<'r, S> {
         ensures haystack { self.new.input.haystack ≡ self.old.input.haystack }
         ensures regex { self.new.regex ≡ self.old.regex }
         ensures asked { self.new.input.asked ≡ record (self.old.input.asked) { start = self.new.input.asked.start } }
-        ensures fails { IfSome result (λ item. IfErr item (λ e. IsItemError self.old.regex.now.searcher (S.text self.old.input.haystack) self.old.input.asked e)) }
+        ensures fails { IfSome result (λ item. IfErr item (λ e. IsItemError self.old.regex.now.searcher (S.text self.old.input.haystack) self.old.input.asked
+            self.old.standing.off e)) }
+        ensures passes { IfSome result (λ item. IfOk item (λ v. Passes self.old.regex.now.searcher (S.text self.old.input.haystack) self.old.input.asked
+            self.old.standing.off self.new.input.asked self.new.standing.off)) }
+        ensures ends { TurnEnds result self.new.standing }
     {
         loop {
             match self.step() {

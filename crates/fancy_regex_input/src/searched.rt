@@ -18,6 +18,9 @@ pub trait Input: Copy {
     /// Where a match starts and ends.
     ghost span: { Self.Match → ℕ × ℕ };
 
+    /// The bytes of the text that a match lies in.
+    ghost match_text: { Self.Match → List ℕ };
+
     /// How many bytes the text has.
     fn len(&self) -> usize
         ensures text { result ≡ length (text self.now) }
@@ -56,7 +59,8 @@ pub trait Input: Copy {
         requires ordered { start ≤ end }
         requires starts { IsCharBoundary (text self.now) start }
         requires ends { IsCharBoundary (text self.now) end }
-        ensures { span result ≡ (start, end) };
+        ensures span { span result ≡ (start, end) }
+        ensures text { match_text result ≡ text self.now };
 
     /// The character boundary behind this one; at the end of the text the end and one byte more.
     fn advance_position(&self, index: usize) -> usize
@@ -72,6 +76,8 @@ impl<'t> Input for &'t str {
     ghost text = { λ s. s.now };
 
     ghost span = { λ m. (m.start, m.end) };
+
+    ghost match_text = { λ m. m.text.now };
 
     fn len(&self) -> usize {
         (*self).len()
@@ -108,6 +114,8 @@ impl<'t> Input for &'t String {
     ghost text = { λ s. string_bytes s.now };
 
     ghost span = { λ m. (m.start, m.end) };
+
+    ghost match_text = { λ m. m.text.now };
 
     fn len(&self) -> usize {
         (*self).as_str().len()

@@ -76,7 +76,7 @@ fn find(alloc: Global, asked: Asked<'_>, text: &str) -> Result<Found, Fault>
     ensures lines { IfOk result (λ found. string_bytes found.lines ≡ lines_in (request_seen asked.entry) text.now) }
     ensures status { IfOk result (λ found. found.status ≡ status_by (string_bytes found.lines)) }
     ensures accepted { IfOk result (λ _. IsAccepted (request_seen asked.entry)) }
-    ensures fault { IfErr result (IsOfRegex (request_seen asked.entry)) }
+    ensures fault { IfErr result (IsOfRegex (request_seen asked.entry) text.now) }
 {
     let regex = pattern::regex(alloc, asked)?;
     let lines = match asked.subcommand {

@@ -17,7 +17,7 @@ use std::alloc::{AllocError, Global};
 /// A line `START..END` for each match in the text.
 pub fn find_lines(alloc: Global, regex: &Regex, text: &str) -> Result<String, Fault>
     ensures lines { IfOk result (λ lines. string_bytes lines ≡ lines_of asked.Find (all_left regex.now.searcher text.now (whole text.now))) }
-    ensures fault { IfErr result IsOfSearch }
+    ensures fault { IfErr result (IsOfSearch regex.now.searcher.options (string_bytes regex.now.searcher.pattern) text.now) }
 {
     let mut lines = String::new(alloc);
     let mut matches = regex.find_iter(alloc, text);
@@ -31,7 +31,7 @@ pub fn find_lines(alloc: Global, regex: &Regex, text: &str) -> Result<String, Fa
 /// A line for each match in the text: what each group matched.
 pub fn captures_lines(alloc: Global, regex: &Regex, text: &str) -> Result<String, Fault>
     ensures lines { IfOk result (λ lines. string_bytes lines ≡ lines_of asked.Captures (all_left regex.now.searcher text.now (whole text.now))) }
-    ensures fault { IfErr result IsOfSearch }
+    ensures fault { IfErr result (IsOfSearch regex.now.searcher.options (string_bytes regex.now.searcher.pattern) text.now) }
 {
     laws_of_items();
     let mut lines = String::new(alloc);

@@ -18,4 +18,4 @@ returns-clause-lines c =
 pub returns-in_err-regex-clause-fault : goal.returns-in_err-regex-clause-fault
 returns-in_err-regex-clause-fault c =
     let p = err_from_is_err_and c.from_residual.result c.from_residual.ensures.1 in
-    rw (p.1, p.2) (told_regex (request_seen c.args.asked) _ c.in_err-regex.ensures.refused)
+    rw (p.1, p.2) (told_regex (request_seen c.args.asked) c.args.text.now _ c.in_err-regex.ensures.refused)

@@ -13,7 +13,8 @@ pub returns-in_err-found-clause-outcome : goal.returns-in_err-found-clause-outco
 returns-in_err-found-clause-outcome g c =
     let p = err_from_is_err_and c.from_residual.result c.from_residual.ensures.1 in
     let C = g.W.Write.contents in
-    rw (p.1, p.2) (outcome_regex (request_seen c.args.asked) (C c.args.writer.now) (C c.args.writer.now) c.args.input.now c.in-Ok.ensures.cases.1 _ c.in_err-found.ensures.fault)
+    rw (p.1, p.2) (outcome_regex (request_seen c.args.asked) (C c.args.writer.now) (C c.args.writer.now) c.args.input.now c.in-Ok.ensures.cases.1 _
+    (rw c.in-Ok.ensures.cases.0 at c.in_err-found.ensures.fault))
 
 pub returns-in_err-write_whole-clause-outcome : goal.returns-in_err-write_whole-clause-outcome
 returns-in_err-write_whole-clause-outcome g c =

@@ -1,6 +1,7 @@
-use Rattle.std.proofs.Common.{◌≡◌, ◌++◌, ◌∷◌, ◌<◌, ◌≤◌, length, arith, ap, refl, ◌∙◌}
+use Rattle.std.proofs.Common.{◌≡◌, ◌++◌, ◌∷◌, ◌<◌, ◌≤◌, ℕ, Bool, length, arith, ap, sym, subst, refl, ◌∙◌}
 use Rattle.std.specs.Prelude.{codes, string_bytes, slice_set}
 use Rattle.std.proofs.lemmas.Str.{IsCharBoundary-start}
+use Rattle.fancy_regex_input.specs.declared.asked.Asked.{Asked}
 use Rattle.fancy_regex_input.specs.Inputs.{whole, input_of}
 use Rattle.fancy_regex_meaning.specs.Laws.{Each}
 use Rattle.fancy_regex_meaning.specs.Searches.{Match}
@@ -8,6 +9,9 @@ use Rattle.fancy_regex_runner.specs.Plain.{flat}
 use Rattle.fancy_regex_search.specs.Owned.{own_pattern}
 use Rattle.fancy_regex_search.specs.Patterns.{options_in, setting_in}
 use Rattle.fancy_regex.specs.Left.{items_left, all_left}
+use Rattle.fancy_regex.specs.Made.{MakesFrom}
+use Rattle.std.proofs.lemmas.Result.{err_from_is_err_and}
+use Rattle.fancy_search.proofs.Outcomes.{of_item, told_item}
 use Rattle.fancy_search.proofs.SpanLemmas.{HasSpans, all_have_spans, first_spans, each_later}
 use Rattle.fancy_search.proofs.LineLemmas.{line_more}
 use Rattle.fancy_search.specs.Lines.{lines_of, groups_text, spans_of}
@@ -28,10 +32,16 @@ loop-found-init c =
     let all : Each (HasSpans text) (all_left s text (whole text)) =
     all_have_spans text (length text) (all_left s text (whole text)) fits (laws.ascend setting (own_pattern s) (options_in s.options) (input_of (whole text)))
     (laws.cuts setting (own_pattern s) (options_in s.options) (input_of (whole text)) c.utf8.text (start, start, end)) in
+    let asked : c.captures_iter-matches.result.walk.input.asked ≡ whole text = c.captures_iter-matches.ensures.input.1 in
+    let from : ℕ → Asked = λ k. record (whole text) { start = k } in
     record {
       lines = rw c.new-lines.ensures.bytes (ap (λ ms. lines_of Captures ms) left);
       cut = rw (left, same) all;
+      text = same;
+      asked = asked ∙ ap from (sym (ap (λ (a : Asked). a.start) asked));
       regex = c.captures_iter-matches.ensures.regex;
+      passes = λ q o made. subst (λ (b : Bool). MakesFrom s text (whole text) b q o) c.captures_iter-matches.ensures.begins
+          (subst (λ (a : Asked). MakesFrom s text a c.captures_iter-matches.result.walk.standing.off q o) asked made);
     }
 
 pub loop-found-preserved : goal.loop-found-preserved
@@ -48,6 +58,8 @@ loop-found-preserved c =
     rw c.in_ok-found.was at steps.0 in
     let of = rw c.in_ok-found.was at steps.1 in
     let shown : c.in_ok-found.field-0.haystack.now ≡ text = λ i. (of.0 i).now in
+    let passes = rw (c.in_ok-found.was, c.loop-found.invariant.regex, c.loop-found.invariant.text) at steps.7 in
+    let again : Asked → Asked = λ a. record a { start = new.input.asked.start } in
     record {
       lines =
           let out = string_bytes c.loop-found.lines in
@@ -60,5 +72,18 @@ loop-found-preserved c =
           ∙ line_more Captures out told gave.0 before after gave.1 refl
           ∙ c.loop-found.invariant.lines;
       cut = each_later text new.input.haystack.now gave.0 before after c.loop-found.invariant.cut gave.1 seen;
+      text = seen ∙ c.loop-found.invariant.text;
+      asked = steps.5 ∙ ap again c.loop-found.invariant.asked;
       regex = searches ∙ c.loop-found.invariant.regex;
+      passes = λ q o made. c.loop-found.invariant.passes q o (passes q o made);
     }
+
+pub returns-in_err-found-clause-fault : goal.returns-in_err-found-clause-fault
+returns-in_err-found-clause-fault c =
+    let p = err_from_is_err_and c.from_residual.result c.from_residual.ensures.1 in
+    let s = c.args.regex.now.searcher in
+    let text = c.args.text.now in
+    let walk = c.loop-found.matches.walk in
+    let told = rw (c.in_err-found.was, c.loop-found.invariant.regex, c.loop-found.invariant.text) at c.in-Some.ensures.steps.6 in
+    rw (p.1, p.2) (told_item s.options (string_bytes s.pattern) text _
+    (of_item s text walk.input.asked walk.input.asked.start walk.standing.off c.loop-found.invariant.asked c.loop-found.invariant.passes _ told))

@@ -39,10 +39,10 @@ loop-group-preserved c =
     elim c.match-get.branch [
       | in-Some+in_ok-show-in-Some w ↦
           one_more c spans are (Some (w.in-Some.found.start, w.in-Some.found.end))
-          (shown text places spans are c.loop-group.group within (Some (w.in-Some.found.start, w.in-Some.found.end)) w.in-Some.ensures)
+          (shown text places spans are c.loop-group.group within (Some (w.in-Some.found.start, w.in-Some.found.end)) w.in-Some.ensures.span)
           (ap string_bytes w.line-is ∙ w.in_ok-show-in-Some.ensures)
       | in-None+in_ok-push-in-None w ↦
-          one_more c spans are None (shown text places spans are c.loop-group.group within None w.in-None.ensures)
+          one_more c spans are None (shown text places spans are c.loop-group.group within None w.in-None.ensures.span)
           (ap string_bytes w.line-is ∙ w.in_ok-push-in-None.ensures.bytes ∙ ap (λ xs. string_bytes c.if-group-gt0.line ++ xs) (w.in_ok-push-in-None.ensures.ascii (omega arith)))
     ]
 

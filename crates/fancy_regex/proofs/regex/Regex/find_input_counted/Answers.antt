@@ -20,7 +20,7 @@ returns-in-Some-clause-answer g c =
     let f = some-of (places_of (own_pattern s)) (own_found_from s text a (max a.start a.range_start) false) v told in
     let within = rw c.in-Some.is at c.in_ok-places.ensures.within in
     let k = span-is (tree_in s.options (string_bytes s.pattern)) f.0 v f.2 within.whole in
-    ap Some (c.whole_of.ensures ∙ (λ i. (slice_index (c.deref.ensures.value i) 0, slice_index (c.deref.ensures.value i) 1)) ∙ (λ i. (k.0 i, k.1 i)))
+    ap Some (c.whole_of.ensures.span ∙ (λ i. (slice_index (c.deref.ensures.value i) 0, slice_index (c.deref.ensures.value i) 1)) ∙ (λ i. (k.0 i, k.1 i)))
     ∙ sym (ap (option_map span_in) (found-is s text a ∙ f.1))
 
 pub returns-in-None-clause-answer : goal.returns-in-None-clause-answer

@@ -1,5 +1,6 @@
 use Rattle.std.proofs.Common.{◌≡◌, ◌≤◌}
 use Rattle.fancy_regex.specs.Left.{items_left, searches_left}
+use Rattle.fancy_regex.specs.Made.{Passes}
 use Rattle.fancy_regex.proofs.walk.Walk.advance.Given as goal
 
 abbrev pub invariant-loop-places : goal.invariant-loop-places
@@ -12,6 +13,7 @@ invariant-loop-places g l =
     × (s.input.haystack ≡ o.input.haystack) × (s.regex ≡ o.regex)
     × (s.input.asked ≡ record (o.input.asked) { start = s.input.asked.start })
     × (searches_left text s.input.asked s.standing ≤ searches_left text o.input.asked o.standing)
+    × Passes o.regex.now.searcher text o.input.asked o.standing.off s.input.asked s.standing.off
 
 abbrev pub decreases-loop-places : goal.decreases-loop-places
 decreases-loop-places g l =

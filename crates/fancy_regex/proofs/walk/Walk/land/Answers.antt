@@ -8,6 +8,7 @@ use Rattle.fancy_regex_runner.specs.Plain.{places_of}
 use Rattle.fancy_regex_search.specs.Owned.{own_pattern, own_found_from}
 use Rattle.fancy_regex_search.specs.Patterns.{tree_in}
 use Rattle.fancy_regex.proofs.PlaceLemmas.{some-of, span-is}
+use Rattle.fancy_regex.proofs.MadeLemmas.{passed, long_next, empty_next, long_off, empty_off}
 use Rattle.fancy_regex.proofs.ItemsLemmas.{left-item, left-skip, left-empty, moved}
 use Rattle.fancy_regex.proofs.walk.Walk.land.Goals as goal
 
@@ -75,3 +76,55 @@ returns-clause-gives g c =
           (ap g.S.Input.text c.set_start-2.ensures.haystack) c.set_start-2.ensures.asked next off c.requires.going end),
       f.2,
     )
+
+pub returns-then-start-end-clause-passes : goal.returns-then-start-end-clause-passes
+returns-then-start-end-clause-passes g c =
+    let self = c.args.self.now in
+    let s = self.regex.now.searcher in
+    let text = g.S.Input.text self.input.haystack in
+    let a = self.input.asked in
+    let f = some-of (places_of (own_pattern s)) (own_found_from s text a (max a.start a.range_start) self.standing.off) c.args.places.items c.requires.found in
+    let m : Match = f.0 in
+    let k = span-is (tree_in s.options (string_bytes s.pattern)) m c.args.places.items f.2 c.requires.within.whole in
+    let start : c.index-start.result.now ≡ m.start = c.index-start.ensures ∙ sym (get_or_default c.args.places.items 0 0 c.index-start.result.now (omega (arith, c.requires.within.whole))) ∙ k.0 in
+    let end : c.index-end.result.now ≡ m.end = c.index-end.ensures ∙ sym (get_or_default c.args.places.items 1 0 c.index-end.result.now (omega (arith, c.requires.within.whole))) ∙ k.1 in
+    let inside : max a.start a.range_start ≤ a.range_end = omega (arith, c.requires.within.behind, c.requires.within.cuts.ordered, c.requires.within.inside) in
+    let less : m.start < m.end = omega (arith, start, end, c.if-start-end.true) in
+    passed s text a _ self.standing.off _ m c.index-end.result.now inside f.1 c.set_start.ensures.asked
+    (end ∙ long_next text m.start m.end less) (long_off (max a.start a.range_start) m less)
+
+pub returns-then-is_repeated-clause-passes : goal.returns-then-is_repeated-clause-passes
+returns-then-is_repeated-clause-passes g c =
+    let self = c.args.self.now in
+    let s = self.regex.now.searcher in
+    let text = g.S.Input.text self.input.haystack in
+    let a = self.input.asked in
+    let f = some-of (places_of (own_pattern s)) (own_found_from s text a (max a.start a.range_start) self.standing.off) c.args.places.items c.requires.found in
+    let m : Match = f.0 in
+    let k = span-is (tree_in s.options (string_bytes s.pattern)) m c.args.places.items f.2 c.requires.within.whole in
+    let start : c.index-start.result.now ≡ m.start = c.index-start.ensures ∙ sym (get_or_default c.args.places.items 0 0 c.index-start.result.now (omega (arith, c.requires.within.whole))) ∙ k.0 in
+    let end : c.index-end.result.now ≡ m.end = c.index-end.ensures ∙ sym (get_or_default c.args.places.items 1 0 c.index-end.result.now (omega (arith, c.requires.within.whole))) ∙ k.1 in
+    let inside : max a.start a.range_start ≤ a.range_end = omega (arith, c.requires.within.behind, c.requires.within.cuts.ordered, c.requires.within.inside) in
+    let most : m.end ≤ m.start = omega (arith, start, end, c.if-start-end.false) in
+    let next : c.advance_position-next.result ≡ place_after text m.end = c.advance_position-next.ensures.value ∙ (λ i. place_after (g.S.Input.text (c.haystack.ensures i)) (end i)) in
+    let off : (c.index-end.result.now == c.effective_start.result) ≡ (m.end == max a.start a.range_start) = λ i. end i == c.effective_start.ensures i in
+    passed s text a _ self.standing.off _ m c.advance_position-next.result inside f.1 c.set_start-2.ensures.asked
+    (next ∙ empty_next text m.start m.end most) (off ∙ empty_off (max a.start a.range_start) m most)
+
+pub returns-clause-passes : goal.returns-clause-passes
+returns-clause-passes g c =
+    let self = c.args.self.now in
+    let s = self.regex.now.searcher in
+    let text = g.S.Input.text self.input.haystack in
+    let a = self.input.asked in
+    let f = some-of (places_of (own_pattern s)) (own_found_from s text a (max a.start a.range_start) self.standing.off) c.args.places.items c.requires.found in
+    let m : Match = f.0 in
+    let k = span-is (tree_in s.options (string_bytes s.pattern)) m c.args.places.items f.2 c.requires.within.whole in
+    let start : c.index-start.result.now ≡ m.start = c.index-start.ensures ∙ sym (get_or_default c.args.places.items 0 0 c.index-start.result.now (omega (arith, c.requires.within.whole))) ∙ k.0 in
+    let end : c.index-end.result.now ≡ m.end = c.index-end.ensures ∙ sym (get_or_default c.args.places.items 1 0 c.index-end.result.now (omega (arith, c.requires.within.whole))) ∙ k.1 in
+    let inside : max a.start a.range_start ≤ a.range_end = omega (arith, c.requires.within.behind, c.requires.within.cuts.ordered, c.requires.within.inside) in
+    let most : m.end ≤ m.start = omega (arith, start, end, c.if-start-end.false) in
+    let next : c.advance_position-next.result ≡ place_after text m.end = c.advance_position-next.ensures.value ∙ (λ i. place_after (g.S.Input.text (c.haystack.ensures i)) (end i)) in
+    let off : (c.index-end.result.now == c.effective_start.result) ≡ (m.end == max a.start a.range_start) = λ i. end i == c.effective_start.ensures i in
+    passed s text a _ self.standing.off _ m c.advance_position-next.result inside f.1 c.set_start-2.ensures.asked
+    (next ∙ empty_next text m.start m.end most) (off ∙ empty_off (max a.start a.range_start) m most)

@@ -1,4 +1,4 @@
-use Rattle.std.proofs.Common.{◌<◌, max, refl, arith}
+use Rattle.std.proofs.Common.{◌<◌, ◌≤◌, max, refl, arith}
 use Rattle.fancy_regex.proofs.ItemsLemmas.{left-past}
 use Rattle.fancy_regex.proofs.walk.Walk.step.Goals as goal
 
@@ -12,8 +12,6 @@ returns-then-place-asked-clause-gives g c =
 
 pub returns-in-Err-clause-fails : goal.returns-in-Err-clause-fails
 returns-in-Err-clause-fails g c =
-    let self = c.args.self.now in (
-      self.input.asked.start,
-      self.standing.off,
-      rw (c.asked-asked.ensures, c.haystack-haystack.ensures) at c.in-Err.ensures.limits,
-    )
+    let a = c.args.self.now.input.asked in
+    let inside : max a.start a.range_start ≤ a.range_end = rw (← c.asked-asked.ensures, ← c.max-place.ensures) c.if-place-asked.false in
+    (inside, rw (c.asked-asked.ensures, c.haystack-haystack.ensures) at c.in-Err.ensures.limits)
