@@ -1,5 +1,5 @@
 -- Which causes the compiler answers.
-use Rattle.std.specs.Prelude.{◌≡◌, ℕ, ◌<◌, ◌≤◌, Bool, true, false, not, ◌&&◌, if◌then◌else◌, List, chars, string_bytes, bytes_eq, length, slice_get, Some, is_some, IsTrue}
+use Rattle.std.specs.Prelude.{◌≡◌, ℕ, ◌<◌, ◌≤◌, Bool, true, false, not, ◌&&◌, if◌then◌else◌, List, chars, codes, string_bytes, bytes_eq, length, slice_get, Some, is_some, IsTrue}
 use Rattle.std.specs.List.{Contains}
 use Rattle.fancy_regex_tree.specs.Tree.{Text, Tree, any, assertion, general_newline, literal, literal_bytes, delegate, backref, backref_with_level, keep_out, continue, backref_exists, verb, absent_repeater}
 use Rattle.fancy_regex_tree.specs.declared.expr.LookAround.{LookAround}
@@ -44,6 +44,16 @@ abbrev pub IsMissing : CompileError → Type 0
 IsMissing (FeatureNotYetSupported feature) = Unit {0}
 IsMissing Memory = Unit {0}
 IsMissing _ = ⊥
+
+-- a feature that is not supported, in these words, or want of memory to say so
+abbrev pub IsMissingAs : List ℕ → CompileError → Type 0
+IsMissingAs words (FeatureNotYetSupported feature) = string_bytes feature ≡ words
+IsMissingAs words Memory = Unit {0}
+IsMissingAs words _ = ⊥
+
+-- the words for bytes that are not seen as Unicode
+abbrev pub other_bytes : List ℕ
+other_bytes = codes "bytes mode"
 
 -- inside of this no start is kept
 abbrev pub KeepsNone : Inside → Type 0
@@ -146,7 +156,7 @@ IsReason unicode groups root e = IsPlain e
 
 -- the same of what the compiler answers, which reads no bytes
 abbrev pub IsRefusal : BytesMode → Bool → List Tree → Tree → CompileError → Type 0
-IsRefusal mode unicode groups root (FeatureNotYetSupported feature) = mode ≡ Unicode → ⊥
+IsRefusal mode unicode groups root (FeatureNotYetSupported feature) = (string_bytes feature ≡ other_bytes) × (mode ≡ Unicode → ⊥)
 IsRefusal mode unicode groups root e = IsReason unicode groups root e
 
 -- what the compiler goes by: the bodies of the groups, which of them are read, and the whole tree

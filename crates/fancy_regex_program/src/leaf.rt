@@ -13,7 +13,7 @@ ghost use Rattle.fancy_regex_program.specs.Extents.{IsFull};
 ghost use Rattle.fancy_regex_program.specs.Known.{front_of};
 ghost use Rattle.fancy_regex_program.specs.Ops as op;
 ghost use Rattle.fancy_regex_program.specs.Ops.{op_of};
-ghost use Rattle.fancy_regex_program.specs.Refusals.{IsMissing, IsPlain, IsNoVerb, IsNoGroup, IsNoClass, IsNoSingle, IsNoLeaf};
+ghost use Rattle.fancy_regex_program.specs.Refusals.{IsMissing, IsMissingAs, IsPlain, IsNoVerb, IsNoGroup, IsNoClass, IsNoSingle, IsNoLeaf};
 ghost use Rattle.fancy_regex_program.specs.Shapes.{IsAllowed};
 ghost use Rattle.fancy_regex_program.specs.Writing.{Wrote, IsInsn};
 
@@ -227,6 +227,7 @@ fn slot_of_group(task: &Task<'_, '_, '_>, group: usize) -> Result<usize, Compile
 pub(crate) fn not_supported(alloc: Global, feature: &str) -> CompileError
     ensures full { is_too_complex result ≡ false }
     ensures refused { IsMissing result }
+    ensures words { IsMissingAs feature.now result }
 {
     match String::from_str(alloc, feature) {
         Ok(shown) => CompileError::FeatureNotYetSupported(shown),

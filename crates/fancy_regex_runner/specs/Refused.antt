@@ -1,5 +1,5 @@
 -- Which trees are made ready, and why others are refused.
-use Rattle.std.specs.Prelude.{◌≡◌, ◌≢◌, ◌<◌, ◌≤◌, ℕ, Bool, List, All, IsTrue, chars, string_bytes}
+use Rattle.std.specs.Prelude.{◌≡◌, ◌≢◌, ◌<◌, ◌≤◌, ℕ, Bool, List, All, IsTrue, chars, codes, string_bytes}
 use Rattle.std.specs.List.{Contains}
 use Rattle.fancy_regex_tree.specs.Tree.{Text}
 use Rattle.fancy_regex_meaning.specs.Groups.{Pattern}
@@ -32,7 +32,7 @@ IsClassCause unicode cs _ = ⊥
 -- why a plain pattern is not made ready
 abbrev pub IsCause : CompileOptions → Pattern → CompileError → Type 0
 IsCause options pattern (InnerError shown) = ShowsClass options.unicode (classes pattern.tree) (string_bytes shown)
-IsCause options pattern (FeatureNotYetSupported shown) = options.bytes_mode ≢ Unicode
+IsCause options pattern (FeatureNotYetSupported shown) = (string_bytes shown ≡ codes "bytes mode") × (options.bytes_mode ≢ Unicode)
 IsCause options pattern PatternTooComplex = greatest_weight < tree_weight pattern.groups pattern.tree
 IsCause options pattern Memory = Unit {0}
 IsCause options pattern _ = ⊥
