@@ -1,6 +1,6 @@
 //! Classes in brackets.
 
-ghost use Rattle.std.specs.Prelude.{◌≡◌, ◌<◌, ◌≤◌, ◌+◌, ◌-◌, ◌^◌, ◌++◌, length, chars, option_map, string_bytes, All, IfOk, OnOk, [], ◌∷◌};
+ghost use Rattle.std.specs.Prelude.{◌≡◌, ◌<◌, ◌≤◌, ◌+◌, ◌-◌, ◌^◌, ◌++◌, length, chars, option_map, string_bytes, All, IfOk, OnOk, OnErr, [], ◌∷◌};
 ghost use Rattle.fancy_regex_text.specs.Fault.{Gives, with_front};
 ghost use Rattle.fancy_regex_lex.specs.Escapes.{property_letter, class_of, escape_of};
 ghost use Rattle.fancy_regex_lex.specs.Classes.{is_quoted, quoted, IsAdded, escaped_text, class_escape_at, class_part, level_behind, class_parts, optional, class_in_brackets};
@@ -57,25 +57,13 @@ fn property_letter(negated: bool) -> char
 }
 
 impl EscapedClass<'_> {
-    /// Adds the text of the class.
+    /// Adds the text of the class. After a refusal what is written is as before.
     pub fn push_to(self, out: &mut String) -> Result<(), AllocError>
-        ensures { OnOk result (chars (string_bytes out.new) ≡ chars (string_bytes out.old) ++ class_of self.entry) }
+        ensures added { OnOk result (chars (string_bytes out.new) ≡ chars (string_bytes out.old) ++ class_of self.entry) }
+        ensures refused { OnErr result (string_bytes out.new ≡ string_bytes out.old) }
     {
-        match self {
-            EscapedClass::Perl(c) => push_escaped(out, c),
-            EscapedClass::HexDigit => push_ascii(out, "[0-9A-Fa-f]"),
-            EscapedClass::NotHexDigit => push_ascii(out, "[^0-9A-Fa-f]"),
-            EscapedClass::OneLetter { negated, letter } => {
-                push_escaped(out, property_letter(negated))?;
-                push(out, letter)
-            }
-            EscapedClass::Named { negated, name } => {
-                push_escaped(out, property_letter(negated))?;
-                push(out, '{')?;
-                push_text(out, name)?;
-                push(out, '}')
-            }
-        }
+        let text = self.text(*out.allocator())?;
+        push_text(out, &text)
     }
 
     /// The text of the class.
@@ -83,7 +71,21 @@ impl EscapedClass<'_> {
         ensures { IfOk result (λ s. chars (string_bytes s) ≡ class_of self.entry) }
     {
         let mut out = empty(alloc);
-        self.push_to(&mut out)?;
+        match self {
+            EscapedClass::Perl(c) => push_escaped(&mut out, c)?,
+            EscapedClass::HexDigit => push_ascii(&mut out, "[0-9A-Fa-f]")?,
+            EscapedClass::NotHexDigit => push_ascii(&mut out, "[^0-9A-Fa-f]")?,
+            EscapedClass::OneLetter { negated, letter } => {
+                push_escaped(&mut out, property_letter(negated))?;
+                push(&mut out, letter)?
+            }
+            EscapedClass::Named { negated, name } => {
+                push_escaped(&mut out, property_letter(negated))?;
+                push(&mut out, '{')?;
+                push_text(&mut out, name)?;
+                push(&mut out, '}')?
+            }
+        }
         Ok(out)
     }
 }

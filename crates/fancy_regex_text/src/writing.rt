@@ -39,12 +39,13 @@ pub fn push_ascii(out: &mut String, text: &str) -> Result<(), AllocError>
     Ok(())
 }
 
-/// Adds a backslash and a character.
+/// Adds a backslash and a character. After a refusal what is written is as before.
 pub fn push_escaped(out: &mut String, c: char) -> Result<(), AllocError>
-    ensures { OnOk result (chars (string_bytes out.new) ≡ chars (string_bytes out.old) ++ 0x5C ∷ c ∷ []) }
+    ensures added { OnOk result (chars (string_bytes out.new) ≡ chars (string_bytes out.old) ++ 0x5C ∷ c ∷ []) }
+    ensures refused { OnErr result (string_bytes out.new ≡ string_bytes out.old) }
 {
-    push(out, '\\')?;
-    push(out, c)
+    let text = escaped(*out.allocator(), c)?;
+    push_text(out, &text)
 }
 
 /// A backslash and a character.
@@ -52,6 +53,7 @@ pub fn escaped(alloc: Global, c: char) -> Result<String, AllocError>
     ensures { IfOk result (λ s. chars (string_bytes s) ≡ 0x5C ∷ c ∷ []) }
 {
     let mut text = empty(alloc);
-    push_escaped(&mut text, c)?;
+    push(&mut text, '\\')?;
+    push(&mut text, c)?;
     Ok(text)
 }
