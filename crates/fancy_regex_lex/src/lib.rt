@@ -21,6 +21,3 @@ pub use flags::flag_letters;
 pub use openings::opening;
 pub use rows::{class_rows, count_rows, escape_rows, flag_rows, opening_rows};
 pub use token::{Count, Escape, EscapedClass, Flags, Look, Marks, Opening, Place, Verb};
-
-#[cfg(test)]
-mod tests;

@@ -14,11 +14,7 @@ mod groups;
 mod marks;
 mod nodes;
 mod parse;
-#[cfg(test)]
-mod parse_tests;
 mod print;
-#[cfg(test)]
-mod print_tests;
 mod print_text;
 mod print_tokens;
 mod printable;

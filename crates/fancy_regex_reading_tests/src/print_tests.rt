@@ -1,4 +1,6 @@
-use crate::{Assertion, Expr};
+//! What the printer writes.
+
+use fancy_regex_tree::{Assertion, Expr};
 use std::alloc::{AllocError, Global};
 use std::test::Fail;
 

@@ -1,8 +1,8 @@
-//! What the public calls answer.
+//! What the reader of patterns and the walks over trees answer.
 
-use crate::error::Error;
-use crate::expr::Expr;
-use crate::flag_bits::{FLAG_IGNORE_NUMBERED_GROUPS_WHEN_NAMED_GROUPS_EXIST, FLAG_UNICODE};
+use fancy_regex_tree::{
+    Error, Expr, FLAG_IGNORE_NUMBERED_GROUPS_WHEN_NAMED_GROUPS_EXIST, FLAG_UNICODE,
+};
 use std::alloc::{AllocError, Global};
 use std::test::Fail;
 

@@ -1,4 +1,6 @@
-use crate::{
+//! What the readers of tokens answer.
+
+use fancy_regex_lex::{
     Count, Escape, EscapedClass, Fault, Flags, Marks, Opening, ParseError, Place, ReadError,
     Reference, Target, class_in_brackets, escape, marks, opening, quantifier_at, skip,
 };
