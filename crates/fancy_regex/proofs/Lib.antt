@@ -1,5 +1,5 @@
-pub mod PlaceLemmas
-pub mod ItemsLemmas
+pub mod OffsetLemmas
+pub mod RemainingLemmas
 pub mod NameLemmas
 pub mod LookLemmas
-pub mod MadeLemmas
+pub mod IterationLemmas

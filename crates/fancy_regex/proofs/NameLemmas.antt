@@ -11,7 +11,7 @@ use Rattle.std.proofs.lemmas.Slice.Eq.{bytes_eq-Decides}
 use Rattle.std.proofs.lemmas.Map.Entries.{All-lookup}
 use Rattle.fancy_regex_tree.specs.Tree.{Text}
 use Rattle.fancy_regex_tree.specs.Numbering.{Names, numbers_of, numbers_under, same_text}
-use Rattle.fancy_regex_search.specs.Named.{AreNumbersOf, proper, name_at}
+use Rattle.fancy_regex_meta.specs.GroupNames.{AreGroupNumbersOf, valid_name, name_at}
 
 -- the number is among these
 abbrev pub has : ℕ → List ℕ → Bool
@@ -74,7 +74,7 @@ is_among name n (Some other ∷ names) (suc index) h =
     ap (λ k. has k (cond (same_text other name) (suc n ∷ []) [] ++ numbers_of name (suc n) names)) same
     ∙ has_behind (suc n + suc index) (cond (same_text other name) (suc n ∷ []) []) (numbers_of name (suc n) names) (is_among name (suc n) names index h)
 
-module _ (m : BTreeMap (String Global) (Vec ℕ Global)) (names : Names) (are : AreNumbersOf m names) (group : ℕ) where
+module _ (m : BTreeMap (String Global) (Vec ℕ Global)) (names : Names) (are : AreGroupNumbersOf m names) (group : ℕ) where
   place_named : (k : ℕ) (name : Text) → all_scalars name ≡ true → Stands names 0 k name → Some name ≡ name_at names k
   place_named k name scalar s =
       let here : k ≡ suc s.index = omega (arith, s.place) in
@@ -84,7 +84,7 @@ module _ (m : BTreeMap (String Global) (Vec ℕ Global)) (names : Names) (are : 
   pub name_found : (q : List ℕ) → IsUtf8 q → has group (numbers_under m q) ≡ true → Some (chars q) ≡ name_at names group
   name_found q text h = place_named group (chars q) (scalars-chars q text) (stands (chars q) 0 names group (sym (ap (has group) (are q text)) ∙ h))
 
-  none_at : (index : ℕ) → ((q : List ℕ) → IsUtf8 q → has (suc index) (numbers_under m q) ≡ false) → (o : Option (Option Text)) → slice_get names index ≡ o → None ≡ proper o
+  none_at : (index : ℕ) → ((q : List ℕ) → IsUtf8 q → has (suc index) (numbers_under m q) ≡ false) → (o : Option (Option Text)) → slice_get names index ≡ o → None ≡ valid_name o
   none_at index absent None e = refl
   none_at index absent (Some None) e = refl
   none_at index absent (Some (Some name)) e = scalar_case (all_scalars name) refl where

@@ -1,7 +1,7 @@
-pub mod Left
-pub mod Steps
-pub mod Shown
-pub mod Naming
+pub mod RemainingMatches
+pub mod IterationSteps
+pub mod CaptureSpans
+pub mod GroupLookup
 pub mod Looks
-pub mod Made
-pub mod Fails
+pub mod IterationSearches
+pub mod IterationErrors

@@ -1,15 +1,15 @@
--- How often a search of a pattern whose repeats are not counted looks at its text.
+-- How often a search of a pattern without counted repeats looks at its haystack.
 use Rattle.std.specs.Prelude.{ℕ, ◌+◌, ◌-◌, ◌*◌, length, string_bytes}
 use Rattle.fancy_regex_meaning.specs.Groups.{pattern_of}
-use Rattle.fancy_regex_weights.specs.Uncounted.{IsUncounted}
-use Rattle.fancy_regex_input.specs.declared.asked.Asked.{Asked}
-use Rattle.fancy_regex_search.specs.Limits.{own_tree, effective_start}
-use Rattle.fancy_regex_search.specs.declared.searcher.Searcher.{Searcher}
+use Rattle.fancy_regex_tree_laws.specs.UncountedRepeats.{HasNoCountedRepeats}
+use Rattle.fancy_regex_input.specs.declared.config.SearchConfig.{SearchConfig}
+use Rattle.fancy_regex_meta.specs.SearchLimits.{meta_tree, effective_start}
+use Rattle.fancy_regex_meta.specs.declared.meta_regex.MetaRegex.{MetaRegex}
 
--- No repeat of the pattern is counted past one, and no unbounded one is of what may be empty.
-abbrev pub IsOwnUncounted : Searcher → Type 0
-IsOwnUncounted s = IsUncounted (pattern_of (own_tree s)).groups (own_tree s)
+-- No repeat of the pattern has a bound above one, and no unbounded repeat has a body that can match the empty string.
+abbrev pub MetaHasNoCountedRepeats : MetaRegex → Type 0
+MetaHasNoCountedRepeats s = HasNoCountedRepeats (pattern_of (meta_tree s)).groups (meta_tree s)
 
--- four for each byte of the pattern and four more, for each place of the range
-abbrev pub plain_looks : Searcher → Asked → ℕ
-plain_looks s asked = 4 * (length (string_bytes s.pattern) + 1) * (asked.range_end - effective_start asked + 1)
+-- four for each byte of the pattern and four more, for each position of the range
+abbrev pub plain_looks : MetaRegex → SearchConfig → ℕ
+plain_looks s config = 4 * (length (string_bytes s.pattern) + 1) * (config.range_end - effective_start config + 1)

@@ -1,24 +1,27 @@
-//! A pattern and options, and the regex that is built of them.
+//! `RegexBuilder`: a pattern with its options. `build` compiles them to a `Regex`; each setter changes one option only.
 
 ghost use Rattle.std.specs.Prelude.{◌≡◌, Some, string_bytes, IfOk, IfErr};
-ghost use Rattle.fancy_regex_search.specs.Defaults.{default_options};
-ghost use Rattle.fancy_regex_search.specs.Refusals.{Accepts, Refuses};
+ghost use Rattle.fancy_regex_meta.specs.Defaults.{default_options};
+ghost use Rattle.fancy_regex_meta.specs.Refusals.{Accepts, Refuses};
 
 use crate::options_builder::RegexOptionsBuilder;
 use crate::regex::Regex;
 use fancy_regex_info::BytesMode;
-use fancy_regex_search::Result;
+use fancy_regex_meta::Result;
 use std::alloc::Global;
 
-/// A pattern and options under which a regex is built. Each setter changes the one thing that it names.
+/// A pattern and the options to compile it with. Each setter changes only what it names and returns the builder.
 #[derive(Debug, Drop)]
 pub struct RegexBuilder {
+    /// The text of the pattern.
     pattern: String,
+    /// The options to compile it with.
     options: RegexOptionsBuilder,
 }
 
 impl RegexBuilder {
-    /// This pattern, in Unicode, with at most a million backtracks and no cap, and all else off; or `Memory`.
+    /// This pattern with the default options: Unicode mode, a backtrack limit of 1,000,000, no cap on the program's size, and
+    /// every other option false. `Memory` if memory runs out.
     pub fn new(alloc: Global, pattern: &str) -> Result<RegexBuilder>
         ensures pattern { IfOk result (λ b. string_bytes b.pattern ≡ pattern.now) }
         ensures options { IfOk result (λ b. b.options.options ≡ default_options) }
@@ -29,12 +32,12 @@ impl RegexBuilder {
         })
     }
 
-    /// Reads the pattern under these options and makes it ready. `ParseError` where the text is no pattern, with the first
-    /// fault and its place in bytes; `CompileError` where the pattern is refused, with one of the causes that hold; or
-    /// `Memory`.
+    /// Parses and compiles the pattern with these options. `ParseError` if the text is no pattern, with the first error and
+    /// its byte offset; `CompileError` if the pattern is refused, with one of the reasons that hold; `Memory` if memory runs
+    /// out. The builder can be used again, also after an error.
     pub fn build(&self, alloc: Global) -> Result<Regex>
-        ensures pattern { IfOk result (λ regex. string_bytes regex.searcher.pattern ≡ string_bytes self.now.pattern) }
-        ensures options { IfOk result (λ regex. regex.searcher.options ≡ self.now.options.options) }
+        ensures pattern { IfOk result (λ regex. string_bytes regex.meta.pattern ≡ string_bytes self.now.pattern) }
+        ensures options { IfOk result (λ regex. regex.meta.options ≡ self.now.options.options) }
         ensures accepted { IfOk result (λ _. Accepts self.now.options.options (string_bytes self.now.pattern)) }
         ensures refused { IfErr result (λ e. Refuses self.now.options.options (string_bytes self.now.pattern) e) }
     {
@@ -42,7 +45,7 @@ impl RegexBuilder {
         self.options.build(alloc, pattern)
     }
 
-    /// Another pattern.
+    /// Replaces the pattern and keeps the options.
     pub fn pattern(&mut self, pattern: String) -> &mut Self
         ensures value { result.now.pattern ≡ pattern }
         ensures options { result.now.options ≡ self.old.options }
@@ -52,7 +55,7 @@ impl RegexBuilder {
         self
     }
 
-    /// Letters match in either case, as behind `(?i)`.
+    /// Letters match case-insensitively, as after `(?i)`. Default: false.
     pub fn case_insensitive(&mut self, yes: bool) -> &mut Self
         ensures value { result.now.options.options ≡ record (self.old.options.options) { case_insensitive = yes } }
         ensures pattern { result.now.pattern ≡ self.old.pattern }
@@ -62,7 +65,7 @@ impl RegexBuilder {
         self
     }
 
-    /// `^` and `$` hold at lines, as behind `(?m)`.
+    /// `^` and `$` match at the start and the end of each line, as after `(?m)`. Default: false.
     pub fn multi_line(&mut self, yes: bool) -> &mut Self
         ensures value { result.now.options.options ≡ record (self.old.options.options) { multi_line = yes } }
         ensures pattern { result.now.pattern ≡ self.old.pattern }
@@ -72,7 +75,7 @@ impl RegexBuilder {
         self
     }
 
-    /// Blanks and `#` lines of the pattern are skipped, as behind `(?x)`.
+    /// Whitespace and `#` comments in the pattern are ignored, as after `(?x)`. Default: false.
     pub fn ignore_whitespace(&mut self, yes: bool) -> &mut Self
         ensures value { result.now.options.options ≡ record (self.old.options.options) { ignore_whitespace = yes } }
         ensures pattern { result.now.pattern ≡ self.old.pattern }
@@ -82,7 +85,7 @@ impl RegexBuilder {
         self
     }
 
-    /// The same as `ignore_whitespace`.
+    /// Another name for `ignore_whitespace`.
     pub fn verbose_mode(&mut self, yes: bool) -> &mut Self
         ensures value { result.now.options.options ≡ record (self.old.options.options) { ignore_whitespace = yes } }
         ensures pattern { result.now.pattern ≡ self.old.pattern }
@@ -91,7 +94,7 @@ impl RegexBuilder {
         self.ignore_whitespace(yes)
     }
 
-    /// A dot matches a newline too, as behind `(?s)`.
+    /// `.` also matches a newline, as after `(?s)`. Default: false.
     pub fn dot_matches_new_line(&mut self, yes: bool) -> &mut Self
         ensures value { result.now.options.options ≡ record (self.old.options.options) { dot_matches_new_line = yes } }
         ensures pattern { result.now.pattern ≡ self.old.pattern }
@@ -101,7 +104,7 @@ impl RegexBuilder {
         self
     }
 
-    /// A carriage return with a newline ends a line, as behind `(?R)`.
+    /// CRLF mode: a carriage return with a newline ends a line, as after `(?R)`. Default: false.
     pub fn crlf(&mut self, yes: bool) -> &mut Self
         ensures value { result.now.options.options ≡ record (self.old.options.options) { crlf = yes } }
         ensures pattern { result.now.pattern ≡ self.old.pattern }
@@ -111,7 +114,7 @@ impl RegexBuilder {
         self
     }
 
-    /// Classes, foldings and word characters are those of Unicode, else those of ASCII.
+    /// Character classes, case folding and word characters are those of Unicode if true, of ASCII if false. Default: true.
     pub fn unicode_mode(&mut self, yes: bool) -> &mut Self
         ensures value { result.now.options.options ≡ record (self.old.options.options) { unicode_mode = yes } }
         ensures pattern { result.now.pattern ≡ self.old.pattern }
@@ -121,7 +124,7 @@ impl RegexBuilder {
         self
     }
 
-    /// How often a search by a program may go back.
+    /// How often one search by a program may backtrack before it fails with `BacktrackLimitExceeded`. Default: 1,000,000.
     pub fn backtrack_limit(&mut self, limit: usize) -> &mut Self
         ensures value { result.now.options.options ≡ record (self.old.options.options) { backtrack_limit = limit } }
         ensures pattern { result.now.pattern ≡ self.old.pattern }
@@ -131,7 +134,8 @@ impl RegexBuilder {
         self
     }
 
-    /// How many instructions a program may have; a pattern whose program is longer is refused.
+    /// How many instructions a program may have. A pattern whose program is longer is refused with `PatternTooComplex`.
+    /// Default: no cap.
     pub fn max_prog_size(&mut self, limit: usize) -> &mut Self
         ensures value { result.now.options.options ≡ record (self.old.options.options) { max_prog_size = Some limit } }
         ensures pattern { result.now.pattern ≡ self.old.pattern }
@@ -141,7 +145,7 @@ impl RegexBuilder {
         self
     }
 
-    /// Empty matches are passed over. A pattern that has no others is refused.
+    /// Empty matches are skipped. A pattern that can match nothing else is refused with `PatternCanNeverMatch`. Default: false.
     pub fn find_not_empty(&mut self, yes: bool) -> &mut Self
         ensures value { result.now.options.options ≡ record (self.old.options.options) { find_not_empty = yes } }
         ensures pattern { result.now.pattern ≡ self.old.pattern }
@@ -151,7 +155,7 @@ impl RegexBuilder {
         self
     }
 
-    /// Groups without a name do not capture where some group has a name.
+    /// Unnamed groups do not capture if the pattern has a named group. Default: false.
     pub fn ignore_numbered_groups_when_named_groups_exist(&mut self, yes: bool) -> &mut Self
         ensures value { result.now.options.options ≡ record (self.old.options.options) { ignore_numbered_groups_when_named_groups_exist = yes } }
         ensures pattern { result.now.pattern ≡ self.old.pattern }
@@ -163,7 +167,8 @@ impl RegexBuilder {
         self
     }
 
-    /// Starts may be skipped at which no match can start. It changes no answer, and has no effect yet.
+    /// Allows a search to skip start offsets at which no match can start. It changes no answer and has no effect yet.
+    /// Default: false.
     pub fn seek(&mut self, yes: bool) -> &mut Self
         ensures value { result.now.options.options ≡ record (self.old.options.options) { seek = yes } }
         ensures pattern { result.now.pattern ≡ self.old.pattern }
@@ -173,7 +178,7 @@ impl RegexBuilder {
         self
     }
 
-    /// The pattern is read as Oniguruma does where the two differ.
+    /// The pattern is parsed as Oniguruma does where the two dialects differ. Default: false.
     pub fn oniguruma_mode(&mut self, yes: bool) -> &mut Self
         ensures value { result.now.options.options ≡ record (self.old.options.options) { oniguruma_mode = yes } }
         ensures pattern { result.now.pattern ≡ self.old.pattern }
@@ -183,7 +188,7 @@ impl RegexBuilder {
         self
     }
 
-    /// How a text's bytes are seen. Any mode but `Unicode` is refused when a pattern is built.
+    /// How the bytes of a haystack are interpreted. `build` refuses every mode but `Unicode`, which is the default.
     pub fn bytes_mode(&mut self, mode: BytesMode) -> &mut Self
         ensures value { result.now.options.options ≡ record (self.old.options.options) { bytes_mode = mode } }
         ensures pattern { result.now.pattern ≡ self.old.pattern }
@@ -193,7 +198,8 @@ impl RegexBuilder {
         self
     }
 
-    /// The match is the first of the longest ways from the first start that has any, and not the first way.
+    /// The match is the longest at the leftmost start that has one (of several, the first in priority order), not the first
+    /// in priority order. Default: false.
     pub fn leftmost_longest(&mut self, yes: bool) -> &mut Self
         ensures value { result.now.options.options ≡ record (self.old.options.options) { leftmost_longest = yes } }
         ensures pattern { result.now.pattern ≡ self.old.pattern }

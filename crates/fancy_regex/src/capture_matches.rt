@@ -1,82 +1,83 @@
-//! The matches of a text with their groups, in order.
+//! `CaptureMatches`: the iterator over the capture groups of all matches in a haystack.
 
 ghost use Rattle.std.specs.Prelude.{◌≡◌, ◌≤◌, false, IfSome, IfOk, IfErr};
 ghost use Rattle.std.specs.Iterator.{at_most};
 ghost use Rattle.fancy_regex_runner.specs.Plain.{places_of};
-ghost use Rattle.fancy_regex_search.specs.Owned.{own_pattern};
-ghost use Rattle.fancy_regex.specs.Fails.{IsItemError};
-ghost use Rattle.fancy_regex.specs.Made.{Passes};
-ghost use Rattle.fancy_regex.specs.Left.{items_left, all_left, searches_left, Yields};
-ghost use Rattle.fancy_regex.specs.Steps.{TurnEnds};
+ghost use Rattle.fancy_regex_meta.specs.MetaMatches.{meta_pattern};
+ghost use Rattle.fancy_regex.specs.IterationErrors.{IsItemError};
+ghost use Rattle.fancy_regex.specs.IterationSearches.{KeepsSearches};
+ghost use Rattle.fancy_regex.specs.RemainingMatches.{remaining_matches, all_matches, remaining_searches, Yields};
+ghost use Rattle.fancy_regex.specs.IterationSteps.{NextEnds};
 
 use crate::captures::Captures;
+use crate::match_iter::MatchIter;
 use crate::regex::Regex;
-use crate::walk::Walk;
 use fancy_regex_input::{Input, RegexInput};
-use fancy_regex_search::Result;
+use fancy_regex_meta::Result;
 use std::alloc::Global;
 
-/// The groups of the matches of a text that do not overlap, from left to right. Each item may be an error, and is the
-/// last then.
+/// The capture groups of the non-overlapping matches in a haystack, from left to right. An item may be an error; after an
+/// error or `None` there are no more items.
 #[derive(Drop)]
 pub struct CaptureMatches<'r, S: Input> {
-    walk: Walk<'r, S>,
+    /// The searches of the iteration.
+    match_iter: MatchIter<'r, S>,
 }
 
 impl<'r, S: Input> CaptureMatches<'r, S> {
-    /// Before the first search.
+    /// The iterator before its first search.
     pub(crate) fn new(
         alloc: Global,
         regex: &'r Regex,
         input: RegexInput<S>,
     ) -> CaptureMatches<'r, S>
-        ensures left { items_left result.walk.regex.now.searcher (S.text result.walk.input.haystack) result.walk.input.asked result.walk.standing ≡ all_left regex.entry.now.searcher (S.text input.haystack) input.asked }
-        ensures input { (result.walk.input.haystack ≡ input.haystack) × (result.walk.input.asked ≡ input.asked) }
-        ensures regex { result.walk.regex ≡ regex.entry }
-        ensures begins { result.walk.standing.off ≡ false }
+        ensures left { remaining_matches result.match_iter.regex.now.meta (S.text result.match_iter.input.haystack) result.match_iter.input.config result.match_iter.state ≡ all_matches regex.entry.now.meta (S.text input.haystack) input.config }
+        ensures input { (result.match_iter.input.haystack ≡ input.haystack) × (result.match_iter.input.config ≡ input.config) }
+        ensures regex { result.match_iter.regex ≡ regex.entry }
+        ensures begins { result.match_iter.state.continue_disabled ≡ false }
     {
         CaptureMatches {
-            walk: Walk::new(alloc, regex, input),
+            match_iter: MatchIter::new(alloc, regex, input),
         }
     }
 
-    /// The text that is searched.
+    /// The haystack.
     pub fn text(&self) -> S
-        ensures { result ≡ self.now.walk.input.haystack }
+        ensures { result ≡ self.now.match_iter.input.haystack }
     {
-        self.walk.input.haystack()
+        self.match_iter.input.haystack()
     }
 
     /// The regex that searches.
     pub fn regex(&self) -> &'r Regex
-        ensures { result ≡ self.now.walk.regex }
+        ensures { result ≡ self.now.match_iter.regex }
     {
-        self.walk.regex
+        self.match_iter.regex
     }
 }
 
 impl<'r, S: Input> Iterator for CaptureMatches<'r, S> {
     type Item = Result<Captures<'r, S>>;
 
-    ghost next_gives = { λ s r t. (Yields (λ c m. c.places.items ≡ places_of (own_pattern s.walk.regex.now.searcher) m)
-        (items_left s.walk.regex.now.searcher (S.text s.walk.input.haystack) s.walk.input.asked s.walk.standing) r
-        (items_left t.walk.regex.now.searcher (S.text t.walk.input.haystack) t.walk.input.asked t.walk.standing))
-        × IfSome r (λ item. IfOk item (λ c. (c.haystack ≡ s.walk.input.haystack) × (c.regex ≡ s.walk.regex)))
-        × (s.walk.input.asked.start ≤ t.walk.input.asked.start)
-        × (t.walk.input.haystack ≡ s.walk.input.haystack) × (t.walk.regex ≡ s.walk.regex)
-        × (t.walk.input.asked ≡ record (s.walk.input.asked) { start = t.walk.input.asked.start })
-        × IfSome r (λ item. IfErr item (λ e. IsItemError s.walk.regex.now.searcher (S.text s.walk.input.haystack) s.walk.input.asked s.walk.standing.off e))
-        × IfSome r (λ item. IfOk item (λ m. Passes s.walk.regex.now.searcher (S.text s.walk.input.haystack) s.walk.input.asked s.walk.standing.off
-        t.walk.input.asked t.walk.standing.off))
-        × TurnEnds r t.walk.standing };
+    ghost next_gives = { λ s r t. (Yields (λ c m. c.slots.items ≡ places_of (meta_pattern s.match_iter.regex.now.meta) m)
+        (remaining_matches s.match_iter.regex.now.meta (S.text s.match_iter.input.haystack) s.match_iter.input.config s.match_iter.state) r
+        (remaining_matches t.match_iter.regex.now.meta (S.text t.match_iter.input.haystack) t.match_iter.input.config t.match_iter.state))
+        × IfSome r (λ item. IfOk item (λ c. (c.haystack ≡ s.match_iter.input.haystack) × (c.regex ≡ s.match_iter.regex)))
+        × (s.match_iter.input.config.start ≤ t.match_iter.input.config.start)
+        × (t.match_iter.input.haystack ≡ s.match_iter.input.haystack) × (t.match_iter.regex ≡ s.match_iter.regex)
+        × (t.match_iter.input.config ≡ record (s.match_iter.input.config) { start = t.match_iter.input.config.start })
+        × IfSome r (λ item. IfErr item (λ e. IsItemError s.match_iter.regex.now.meta (S.text s.match_iter.input.haystack) s.match_iter.input.config s.match_iter.state.continue_disabled e))
+        × IfSome r (λ item. IfOk item (λ m. KeepsSearches s.match_iter.regex.now.meta (S.text s.match_iter.input.haystack) s.match_iter.input.config s.match_iter.state.continue_disabled
+        t.match_iter.input.config t.match_iter.state.continue_disabled))
+        × NextEnds r t.match_iter.state };
 
-    ghost remaining = { λ s. at_most (searches_left (S.text s.walk.input.haystack) s.walk.input.asked s.walk.standing) };
+    ghost remaining = { λ s. at_most (remaining_searches (S.text s.match_iter.input.haystack) s.match_iter.input.config s.match_iter.state) };
 
     fn next(&mut self) -> Option<Result<Captures<'r, S>>> {
-        let regex = self.walk.regex;
-        let haystack = self.walk.input.haystack();
-        match self.walk.advance()? {
-            Ok(places) => Some(Ok(Captures::new(regex, haystack, places))),
+        let regex = self.match_iter.regex;
+        let haystack = self.match_iter.input.haystack();
+        match self.match_iter.advance()? {
+            Ok(slots) => Some(Ok(Captures::new(regex, haystack, slots))),
             Err(error) => Some(Err(error)),
         }
     }

@@ -1,16 +1,18 @@
-//! Regular expressions with look-around, back references and more.
+//! Regular expressions with look-around, backreferences and more: `Regex` compiles a pattern, searches a haystack, returns
+//! its capture groups and iterates over all matches. Every answer is the match that the definitions of the pattern's meaning
+//! give. A call whose requirements hold never panics; one that fails returns an `Error`, and the regex can be used again.
 #![tactic(auto)]
 
 mod builder;
 mod capture_matches;
 mod captures;
-mod found;
+mod group_spans;
+mod match_iter;
 mod matches;
 mod names;
 mod options_builder;
 mod regex;
 mod search;
-mod walk;
 
 pub use crate::regex::Regex;
 pub use builder::RegexBuilder;
@@ -20,7 +22,7 @@ pub use fancy_regex_class::Steps;
 pub use fancy_regex_info::{BytesMode, CompileError};
 pub use fancy_regex_input::{Input, Match, RegexInput};
 pub use fancy_regex_machine::RuntimeError;
-pub use fancy_regex_search::{Error, Result};
+pub use fancy_regex_meta::{Error, Result};
 pub use fancy_regex_tree::{
     Absent, Assertion, AstNode, BacktrackingControlVerb, CaptureGroupTarget, Expr,
     ExprChildrenIter, ExprTree, LookAround, NamedGroups, ParseError, ParseErrorPosition,
@@ -28,8 +30,3 @@ pub use fancy_regex_tree::{
 pub use matches::Matches;
 pub use names::CaptureNames;
 pub use options_builder::RegexOptionsBuilder;
-
-#[cfg(test)]
-mod row_tests;
-#[cfg(test)]
-mod tests;

@@ -1,59 +1,61 @@
-//! The matches of a text, in order.
+//! `Matches`: the iterator over all matches in a haystack.
 
 ghost use Rattle.std.specs.Prelude.{◌≡◌, ◌≤◌, false, IfSome, IfOk, IfErr};
 ghost use Rattle.std.specs.Iterator.{at_most};
-ghost use Rattle.fancy_regex.specs.Fails.{IsItemError};
-ghost use Rattle.fancy_regex.specs.Made.{Passes};
-ghost use Rattle.fancy_regex.specs.Left.{items_left, all_left, searches_left, Yields};
-ghost use Rattle.fancy_regex.specs.Shown.{span_in};
-ghost use Rattle.fancy_regex.specs.Steps.{TurnMoves, TurnEnds};
+ghost use Rattle.fancy_regex.specs.IterationErrors.{IsItemError};
+ghost use Rattle.fancy_regex.specs.IterationSearches.{KeepsSearches};
+ghost use Rattle.fancy_regex.specs.RemainingMatches.{remaining_matches, all_matches, remaining_searches, Yields};
+ghost use Rattle.fancy_regex.specs.CaptureSpans.{span_in};
+ghost use Rattle.fancy_regex.specs.IterationSteps.{NextMoves, NextEnds};
 
-use crate::found::whole_of;
+use crate::group_spans::whole_match;
+use crate::match_iter::MatchIter;
 use crate::regex::Regex;
-use crate::walk::Walk;
 use fancy_regex_input::{Input, RegexInput};
-use fancy_regex_search::Result;
+use fancy_regex_meta::Result;
 use std::alloc::Global;
 
-/// The matches of a text that do not overlap, from left to right. Each item may be an error, and is the last then.
+/// The non-overlapping matches in a haystack, from left to right. An item may be an error; after an error or `None` there are
+/// no more items.
 #[derive(Drop)]
 pub struct Matches<'r, S: Input> {
-    walk: Walk<'r, S>,
+    /// The searches of the iteration.
+    match_iter: MatchIter<'r, S>,
 }
 
 impl<'r, S: Input> Matches<'r, S> {
-    /// Before the first search.
+    /// The iterator before its first search.
     pub(crate) fn new(alloc: Global, regex: &'r Regex, input: RegexInput<S>) -> Matches<'r, S>
-        ensures left { items_left result.walk.regex.now.searcher (S.text result.walk.input.haystack) result.walk.input.asked result.walk.standing ≡ all_left regex.entry.now.searcher (S.text input.haystack) input.asked }
-        ensures input { (result.walk.input.haystack ≡ input.haystack) × (result.walk.input.asked ≡ input.asked) }
-        ensures regex { result.walk.regex ≡ regex.entry }
-        ensures begins { result.walk.standing.off ≡ false }
+        ensures left { remaining_matches result.match_iter.regex.now.meta (S.text result.match_iter.input.haystack) result.match_iter.input.config result.match_iter.state ≡ all_matches regex.entry.now.meta (S.text input.haystack) input.config }
+        ensures input { (result.match_iter.input.haystack ≡ input.haystack) × (result.match_iter.input.config ≡ input.config) }
+        ensures regex { result.match_iter.regex ≡ regex.entry }
+        ensures begins { result.match_iter.state.continue_disabled ≡ false }
     {
         Matches {
-            walk: Walk::new(alloc, regex, input),
+            match_iter: MatchIter::new(alloc, regex, input),
         }
     }
 
     /// The regex that searches.
     pub fn regex(&self) -> &'r Regex
-        ensures { result ≡ self.now.walk.regex }
+        ensures { result ≡ self.now.match_iter.regex }
     {
-        self.walk.regex
+        self.match_iter.regex
     }
 
-    /// The text that is searched.
+    /// The haystack.
     pub fn text(&self) -> S
-        ensures { result ≡ self.now.walk.input.haystack }
+        ensures { result ≡ self.now.match_iter.input.haystack }
     {
-        self.walk.input.haystack()
+        self.match_iter.input.haystack()
     }
 
-    /// What the next search is asked. After an error it starts at the boundary behind the range's end, one byte past the
-    /// text where there is none.
+    /// The input of the next search. After an error its start is the character boundary after the end of the range, or one
+    /// byte past the end of the haystack if there is no such boundary.
     pub fn input(&self) -> &RegexInput<S>
-        ensures { result.now ≡ self.now.walk.input }
+        ensures { result.now ≡ self.now.match_iter.input }
     {
-        &self.walk.input
+        &self.match_iter.input
     }
 }
 
@@ -61,24 +63,24 @@ impl<'r, S: Input> Iterator for Matches<'r, S> {
     type Item = Result<S::Match>;
 
     ghost next_gives = { λ s r t. (Yields (λ x m. S.span x ≡ span_in m)
-        (items_left s.walk.regex.now.searcher (S.text s.walk.input.haystack) s.walk.input.asked s.walk.standing) r
-        (items_left t.walk.regex.now.searcher (S.text t.walk.input.haystack) t.walk.input.asked t.walk.standing))
-        × TurnMoves S.span (S.text s.walk.input.haystack) s.walk.input.asked r t.walk.input.asked
-        × (s.walk.input.asked.start ≤ t.walk.input.asked.start)
-        × (t.walk.input.haystack ≡ s.walk.input.haystack) × (t.walk.regex ≡ s.walk.regex)
-        × (t.walk.input.asked ≡ record (s.walk.input.asked) { start = t.walk.input.asked.start })
-        × IfSome r (λ item. IfErr item (λ e. IsItemError s.walk.regex.now.searcher (S.text s.walk.input.haystack) s.walk.input.asked s.walk.standing.off e))
-        × IfSome r (λ item. IfOk item (λ m. Passes s.walk.regex.now.searcher (S.text s.walk.input.haystack) s.walk.input.asked s.walk.standing.off
-        t.walk.input.asked t.walk.standing.off))
-        × TurnEnds r t.walk.standing × IfSome r (λ item. IfOk item (λ m. S.match_text m ≡ S.text s.walk.input.haystack)) };
+        (remaining_matches s.match_iter.regex.now.meta (S.text s.match_iter.input.haystack) s.match_iter.input.config s.match_iter.state) r
+        (remaining_matches t.match_iter.regex.now.meta (S.text t.match_iter.input.haystack) t.match_iter.input.config t.match_iter.state))
+        × NextMoves S.span (S.text s.match_iter.input.haystack) s.match_iter.input.config r t.match_iter.input.config
+        × (s.match_iter.input.config.start ≤ t.match_iter.input.config.start)
+        × (t.match_iter.input.haystack ≡ s.match_iter.input.haystack) × (t.match_iter.regex ≡ s.match_iter.regex)
+        × (t.match_iter.input.config ≡ record (s.match_iter.input.config) { start = t.match_iter.input.config.start })
+        × IfSome r (λ item. IfErr item (λ e. IsItemError s.match_iter.regex.now.meta (S.text s.match_iter.input.haystack) s.match_iter.input.config s.match_iter.state.continue_disabled e))
+        × IfSome r (λ item. IfOk item (λ m. KeepsSearches s.match_iter.regex.now.meta (S.text s.match_iter.input.haystack) s.match_iter.input.config s.match_iter.state.continue_disabled
+        t.match_iter.input.config t.match_iter.state.continue_disabled))
+        × NextEnds r t.match_iter.state × IfSome r (λ item. IfOk item (λ m. S.match_text m ≡ S.text s.match_iter.input.haystack)) };
 
-    ghost remaining = { λ s. at_most (searches_left (S.text s.walk.input.haystack) s.walk.input.asked s.walk.standing) };
+    ghost remaining = { λ s. at_most (remaining_searches (S.text s.match_iter.input.haystack) s.match_iter.input.config s.match_iter.state) };
 
     fn next(&mut self) -> Option<Result<S::Match>> {
-        let haystack = self.walk.input.haystack();
-        let asked = self.walk.input.asked();
-        match self.walk.advance()? {
-            Ok(places) => Some(Ok(whole_of(haystack, asked, &places))),
+        let haystack = self.match_iter.input.haystack();
+        let config = self.match_iter.input.config();
+        match self.match_iter.advance()? {
+            Ok(slots) => Some(Ok(whole_match(haystack, config, &slots))),
             Err(error) => Some(Err(error)),
         }
     }

@@ -1,31 +1,34 @@
-//! Options, and regexes that are built under them.
+//! `RegexOptionsBuilder`: compile options without a pattern, to compile several patterns with. Each setter changes one
+//! option only.
 
 ghost use Rattle.std.specs.Prelude.{◌≡◌, Some, string_bytes, IfOk, IfErr};
-ghost use Rattle.fancy_regex_search.specs.Defaults.{default_options};
-ghost use Rattle.fancy_regex_search.specs.Refusals.{Accepts, Refuses};
+ghost use Rattle.fancy_regex_meta.specs.Defaults.{default_options};
+ghost use Rattle.fancy_regex_meta.specs.Refusals.{Accepts, Refuses};
 
 use crate::regex::Regex;
 use fancy_regex_info::BytesMode;
-use fancy_regex_search::{RegexOptions, Result};
+use fancy_regex_meta::{RegexOptions, Result};
 use std::alloc::Global;
 
-/// Options under which regexes are built. Each setter changes the one option that it names.
+/// The options to compile patterns with. Each setter changes only the option that it names and returns the builder.
 #[derive(Clone, Copy, Debug, PartialEq, Eq)]
 pub struct RegexOptionsBuilder {
+    /// The options set so far.
     pub(crate) options: RegexOptions,
 }
 
 impl Default for RegexOptionsBuilder {
     ghost is_default = { λ builder. builder.options ≡ default_options };
 
-    /// The same as `new`.
+    /// The builder that `new` returns.
     fn default() -> RegexOptionsBuilder {
         RegexOptionsBuilder::new()
     }
 }
 
 impl RegexOptionsBuilder {
-    /// Unicode, at most a million backtracks, no cap, and all else off.
+    /// The default options: Unicode mode, a backtrack limit of 1,000,000, no cap on the program's size, and every other
+    /// option false.
     pub fn new() -> RegexOptionsBuilder
         ensures { result.options ≡ default_options }
     {
@@ -34,19 +37,19 @@ impl RegexOptionsBuilder {
         }
     }
 
-    /// Reads a pattern under these options and makes it ready. `ParseError` where the text is no pattern, with the first
-    /// fault and its place in bytes; `CompileError` where the pattern is refused, with one of the causes that hold; or
-    /// `Memory`.
+    /// Parses and compiles a pattern with these options. `ParseError` if the text is no pattern, with the first error and its
+    /// byte offset; `CompileError` if the pattern is refused, with one of the reasons that hold; `Memory` if memory runs out.
+    /// The builder can be used again, also after an error.
     pub fn build(&self, alloc: Global, pattern: String) -> Result<Regex>
-        ensures pattern { IfOk result (λ regex. regex.searcher.pattern ≡ pattern) }
-        ensures options { IfOk result (λ regex. regex.searcher.options ≡ self.now.options) }
+        ensures pattern { IfOk result (λ regex. regex.meta.pattern ≡ pattern) }
+        ensures options { IfOk result (λ regex. regex.meta.options ≡ self.now.options) }
         ensures accepted { IfOk result (λ _. Accepts self.now.options (string_bytes pattern)) }
         ensures refused { IfErr result (λ e. Refuses self.now.options (string_bytes pattern) e) }
     {
         Regex::with_options(alloc, pattern, &self.options)
     }
 
-    /// Letters match in either case, as behind `(?i)`.
+    /// Letters match case-insensitively, as after `(?i)`. Default: false.
     pub fn case_insensitive(&mut self, yes: bool) -> &mut Self
         ensures value { result.now.options ≡ record (self.old.options) { case_insensitive = yes } }
         ensures same { result.ghost_name ≡ self.entry.ghost_name }
@@ -55,7 +58,7 @@ impl RegexOptionsBuilder {
         self
     }
 
-    /// `^` and `$` hold at lines, as behind `(?m)`.
+    /// `^` and `$` match at the start and the end of each line, as after `(?m)`. Default: false.
     pub fn multi_line(&mut self, yes: bool) -> &mut Self
         ensures value { result.now.options ≡ record (self.old.options) { multi_line = yes } }
         ensures same { result.ghost_name ≡ self.entry.ghost_name }
@@ -64,7 +67,7 @@ impl RegexOptionsBuilder {
         self
     }
 
-    /// Blanks and `#` lines of the pattern are skipped, as behind `(?x)`.
+    /// Whitespace and `#` comments in the pattern are ignored, as after `(?x)`. Default: false.
     pub fn ignore_whitespace(&mut self, yes: bool) -> &mut Self
         ensures value { result.now.options ≡ record (self.old.options) { ignore_whitespace = yes } }
         ensures same { result.ghost_name ≡ self.entry.ghost_name }
@@ -73,7 +76,7 @@ impl RegexOptionsBuilder {
         self
     }
 
-    /// The same as `ignore_whitespace`.
+    /// Another name for `ignore_whitespace`.
     pub fn verbose_mode(&mut self, yes: bool) -> &mut Self
         ensures value { result.now.options ≡ record (self.old.options) { ignore_whitespace = yes } }
         ensures same { result.ghost_name ≡ self.entry.ghost_name }
@@ -81,7 +84,7 @@ impl RegexOptionsBuilder {
         self.ignore_whitespace(yes)
     }
 
-    /// A dot matches a newline too, as behind `(?s)`.
+    /// `.` also matches a newline, as after `(?s)`. Default: false.
     pub fn dot_matches_new_line(&mut self, yes: bool) -> &mut Self
         ensures value { result.now.options ≡ record (self.old.options) { dot_matches_new_line = yes } }
         ensures same { result.ghost_name ≡ self.entry.ghost_name }
@@ -90,7 +93,7 @@ impl RegexOptionsBuilder {
         self
     }
 
-    /// A carriage return with a newline ends a line, as behind `(?R)`.
+    /// CRLF mode: a carriage return with a newline ends a line, as after `(?R)`. Default: false.
     pub fn crlf(&mut self, yes: bool) -> &mut Self
         ensures value { result.now.options ≡ record (self.old.options) { crlf = yes } }
         ensures same { result.ghost_name ≡ self.entry.ghost_name }
@@ -99,7 +102,7 @@ impl RegexOptionsBuilder {
         self
     }
 
-    /// Classes, foldings and word characters are those of Unicode, else those of ASCII.
+    /// Character classes, case folding and word characters are those of Unicode if true, of ASCII if false. Default: true.
     pub fn unicode_mode(&mut self, yes: bool) -> &mut Self
         ensures value { result.now.options ≡ record (self.old.options) { unicode_mode = yes } }
         ensures same { result.ghost_name ≡ self.entry.ghost_name }
@@ -108,7 +111,7 @@ impl RegexOptionsBuilder {
         self
     }
 
-    /// How often a search by a program may go back.
+    /// How often one search by a program may backtrack before it fails with `BacktrackLimitExceeded`. Default: 1,000,000.
     pub fn backtrack_limit(&mut self, limit: usize) -> &mut Self
         ensures value { result.now.options ≡ record (self.old.options) { backtrack_limit = limit } }
         ensures same { result.ghost_name ≡ self.entry.ghost_name }
@@ -117,7 +120,8 @@ impl RegexOptionsBuilder {
         self
     }
 
-    /// How many instructions a program may have; a pattern whose program is longer is refused.
+    /// How many instructions a program may have. A pattern whose program is longer is refused with `PatternTooComplex`.
+    /// Default: no cap.
     pub fn max_prog_size(&mut self, limit: usize) -> &mut Self
         ensures value { result.now.options ≡ record (self.old.options) { max_prog_size = Some limit } }
         ensures same { result.ghost_name ≡ self.entry.ghost_name }
@@ -126,7 +130,7 @@ impl RegexOptionsBuilder {
         self
     }
 
-    /// Empty matches are passed over. A pattern that has no others is refused.
+    /// Empty matches are skipped. A pattern that can match nothing else is refused with `PatternCanNeverMatch`. Default: false.
     pub fn find_not_empty(&mut self, yes: bool) -> &mut Self
         ensures value { result.now.options ≡ record (self.old.options) { find_not_empty = yes } }
         ensures same { result.ghost_name ≡ self.entry.ghost_name }
@@ -135,7 +139,7 @@ impl RegexOptionsBuilder {
         self
     }
 
-    /// Groups without a name do not capture where some group has a name.
+    /// Unnamed groups do not capture if the pattern has a named group. Default: false.
     pub fn ignore_numbered_groups_when_named_groups_exist(&mut self, yes: bool) -> &mut Self
         ensures value { result.now.options ≡ record (self.old.options) { ignore_numbered_groups_when_named_groups_exist = yes } }
         ensures same { result.ghost_name ≡ self.entry.ghost_name }
@@ -144,7 +148,8 @@ impl RegexOptionsBuilder {
         self
     }
 
-    /// Starts may be skipped at which no match can start. It changes no answer, and has no effect yet.
+    /// Allows a search to skip start offsets at which no match can start. It changes no answer and has no effect yet.
+    /// Default: false.
     pub fn seek(&mut self, yes: bool) -> &mut Self
         ensures value { result.now.options ≡ record (self.old.options) { seek = yes } }
         ensures same { result.ghost_name ≡ self.entry.ghost_name }
@@ -153,7 +158,7 @@ impl RegexOptionsBuilder {
         self
     }
 
-    /// The pattern is read as Oniguruma does where the two differ.
+    /// The pattern is parsed as Oniguruma does where the two dialects differ. Default: false.
     pub fn oniguruma_mode(&mut self, yes: bool) -> &mut Self
         ensures value { result.now.options ≡ record (self.old.options) { oniguruma_mode = yes } }
         ensures same { result.ghost_name ≡ self.entry.ghost_name }
@@ -162,7 +167,7 @@ impl RegexOptionsBuilder {
         self
     }
 
-    /// How a text's bytes are seen. Any mode but `Unicode` is refused when a pattern is built.
+    /// How the bytes of a haystack are interpreted. `build` refuses every mode but `Unicode`, which is the default.
     pub fn bytes_mode(&mut self, mode: BytesMode) -> &mut Self
         ensures value { result.now.options ≡ record (self.old.options) { bytes_mode = mode } }
         ensures same { result.ghost_name ≡ self.entry.ghost_name }
@@ -171,7 +176,8 @@ impl RegexOptionsBuilder {
         self
     }
 
-    /// The match is the first of the longest ways from the first start that has any, and not the first way.
+    /// The match is the longest at the leftmost start that has one (of several, the first in priority order), not the first
+    /// in priority order. Default: false.
     pub fn leftmost_longest(&mut self, yes: bool) -> &mut Self
         ensures value { result.now.options ≡ record (self.old.options) { leftmost_longest = yes } }
         ensures same { result.ghost_name ≡ self.entry.ghost_name }

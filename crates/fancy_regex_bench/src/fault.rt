@@ -1,17 +1,20 @@
+//! Why a measurement failed.
+
 use fancy_regex::Error;
 use std::alloc::AllocError;
 use std::io;
 use std::num::ParseIntError;
 
-/// Why nothing was measured.
+/// Why a measurement failed.
 #[derive(Debug, Drop)]
 pub enum Fault {
-    /// The word is no size.
+    /// The first word is no size.
     Words,
-    /// The clock, or standard error.
+    /// Reading the clock or writing to standard error failed.
     System,
-    /// A pattern is refused, or a search ended in an error.
+    /// A pattern was refused, or a search failed.
     Regex,
+    /// Memory ran out.
     Memory,
 }
 

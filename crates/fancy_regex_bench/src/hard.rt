@@ -1,3 +1,5 @@
+//! Searches with patterns that need a backtracking program: throughput and number of backtracks.
+
 use crate::clock::Pace;
 use crate::fault::Fault;
 use crate::text;
@@ -5,7 +7,7 @@ use fancy_regex::{Error, Regex, RegexOptionsBuilder, RuntimeError};
 use std::alloc::Global;
 use std::time::Instant;
 
-/// Patterns that run a program, and find nothing in the text.
+/// Patterns that need a program and have no match in the haystack.
 const PATTERNS: [&str; 10] = [
     "foo(?=X)",
     "(?<=foo)X",
@@ -19,13 +21,13 @@ const PATTERNS: [&str; 10] = [
     "(?~the)X",
 ];
 
-/// The greatest limit that is tried.
+/// The greatest backtrack limit to try.
 const MOST: usize = 1_000_000_000;
 
-/// How often that limit can be halved.
+/// How many halvings narrow the limit down to one value.
 const ROUNDS: usize = 31;
 
-/// Searches a text of the size for each of the patterns.
+/// Searches a haystack of this size in bytes with each pattern.
 pub fn measure_all(rt: &HostRuntime, size: usize) -> Result<(), Fault> {
     let text = text::make(rt.alloc(), size)?;
     for pattern in PATTERNS {
@@ -34,7 +36,7 @@ pub fn measure_all(rt: &HostRuntime, size: usize) -> Result<(), Fault> {
     Ok(())
 }
 
-/// Searches the whole text, and says how long that took and how often the search went back.
+/// Searches the whole haystack, and prints the throughput and the number of backtracks.
 fn measure(rt: &HostRuntime, pattern: &str, text: &str) -> Result<(), Fault> {
     let regex = limited(rt.alloc(), pattern, MOST)?;
     let start = Instant::now(rt)?;
@@ -49,14 +51,14 @@ fn measure(rt: &HostRuntime, pattern: &str, text: &str) -> Result<(), Fault> {
     Ok(())
 }
 
-/// The pattern with a limit.
+/// The pattern compiled with a backtrack limit.
 fn limited(alloc: Global, pattern: &str, limit: usize) -> Result<Regex, Fault> {
     let mut options = RegexOptionsBuilder::new();
     let _ = options.backtrack_limit(limit);
     Ok(options.build(alloc, String::from_str(alloc, pattern)?)?)
 }
 
-/// How often the search goes back: the least limit that lets it answer, found by halving.
+/// The number of backtracks of a search: the least limit with which it does not fail, by binary search.
 fn backtracks_of(alloc: Global, pattern: &str, text: &str) -> Result<usize, Fault> {
     let mut least: usize = 0;
     let mut greatest = MOST;
@@ -71,7 +73,7 @@ fn backtracks_of(alloc: Global, pattern: &str, text: &str) -> Result<usize, Faul
     Ok(greatest)
 }
 
-/// Whether the search answers under the limit.
+/// Whether the search stays within the backtrack limit; every other error of it is returned.
 fn answers(alloc: Global, pattern: &str, text: &str, limit: usize) -> Result<bool, Fault> {
     match limited(alloc, pattern, limit)?.find(alloc, text) {
         Ok(_) => Ok(true),

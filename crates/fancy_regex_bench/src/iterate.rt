@@ -1,3 +1,5 @@
+//! Iteration over all matches: time and number of matches.
+
 use crate::clock::Pace;
 use crate::fault::Fault;
 use crate::text;
@@ -5,10 +7,10 @@ use fancy_regex::Regex;
 use std::alloc::Global;
 use std::time::Instant;
 
-/// A match at every character, at every word, and none.
+/// Patterns with a match at every character, with one at every word, and without any.
 const PATTERNS: [&str; 3] = ["(?s).", "[a-z]+", "[0-9]+"];
 
-/// Goes through all matches of each of the patterns in a text of the size.
+/// Iterates over all matches of each pattern in a haystack of this size in bytes.
 pub fn measure_all(rt: &HostRuntime, size: usize) -> Result<(), Fault> {
     let text = text::make(rt.alloc(), size)?;
     for pattern in PATTERNS {
@@ -17,7 +19,7 @@ pub fn measure_all(rt: &HostRuntime, size: usize) -> Result<(), Fault> {
     Ok(())
 }
 
-/// Goes through all matches, and says how long that took and how many there were.
+/// Iterates over all matches, and prints the time and their number.
 fn measure(rt: &HostRuntime, pattern: &str, text: &str) -> Result<(), Fault> {
     let regex = Regex::new(rt.alloc(), pattern)?;
     let start = Instant::now(rt)?;
@@ -31,7 +33,7 @@ fn measure(rt: &HostRuntime, pattern: &str, text: &str) -> Result<(), Fault> {
     Ok(())
 }
 
-/// How many matches there are.
+/// The number of matches.
 fn count_matches(alloc: Global, regex: &Regex, text: &str) -> Result<u64, Fault> {
     let mut count: u64 = 0;
     let mut matches = regex.find_iter(alloc, text);

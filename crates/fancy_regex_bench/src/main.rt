@@ -1,5 +1,5 @@
-//! How fast regexes search texts that the program makes itself. The word, if there is one, is the size of the greatest
-//! text in bytes. A line for each measurement goes to standard error.
+//! A benchmark: measures searches and iteration over generated haystacks. The first word, if given, is the size of the largest
+//! haystack in bytes. Each measurement is a line on standard error. Exit status: 0, or 2 if a measurement failed.
 #![tactic(auto)]
 
 use fault::Fault;
@@ -13,7 +13,7 @@ mod iterate;
 mod plain;
 mod text;
 
-/// The size of the text where no word says another.
+/// The default size of the haystack, in bytes.
 const SMALL: usize = 2000;
 
 fn main(rt: HostRuntime) -> ExitCode {
@@ -23,7 +23,7 @@ fn main(rt: HostRuntime) -> ExitCode {
     }
 }
 
-/// Plain patterns on the whole text, hard ones on a tenth of it, iterations on a tenth, a fifth, a half and the whole.
+/// Plain patterns on the whole size, hard ones on a tenth of it, iterations on a tenth, a fifth, a half and the whole.
 fn measure_all(rt: &HostRuntime) -> Result<(), Fault> {
     let size = asked_size(rt)?;
     plain::measure_all(rt, size)?;
@@ -34,7 +34,7 @@ fn measure_all(rt: &HostRuntime) -> Result<(), Fault> {
     Ok(())
 }
 
-/// The size that the first word asks for.
+/// The size that the first word gives, in bytes; `Fault::Words` if it is no number.
 fn asked_size(rt: &HostRuntime) -> Result<usize, Fault> {
     match env::args(rt)?.nth(1) {
         Some(word) => Ok(word.parse::<usize>()?),

@@ -1,10 +1,12 @@
+//! Searches with plain patterns: throughput and number of looks at the haystack.
+
 use crate::clock::Pace;
 use crate::fault::Fault;
 use crate::text;
 use fancy_regex::{Regex, RegexInput, Steps};
 use std::time::Instant;
 
-/// Plain patterns that find nothing in the text.
+/// Plain patterns without a match in the haystack.
 const PATTERNS: [&str; 10] = [
     "abaX",
     "(?i)ABX",
@@ -18,7 +20,7 @@ const PATTERNS: [&str; 10] = [
     ".*X",
 ];
 
-/// Searches a text of the size for each of the patterns.
+/// Searches a haystack of this size in bytes with each pattern.
 pub fn measure_all(rt: &HostRuntime, size: usize) -> Result<(), Fault> {
     let text = text::make(rt.alloc(), size)?;
     for pattern in PATTERNS {
@@ -27,7 +29,7 @@ pub fn measure_all(rt: &HostRuntime, size: usize) -> Result<(), Fault> {
     Ok(())
 }
 
-/// Searches the whole text, and says how long that took and how many looks.
+/// Searches the whole haystack, and prints the throughput and the looks per byte.
 fn measure(rt: &HostRuntime, pattern: &str, text: &str) -> Result<(), Fault> {
     let regex = Regex::new(rt.alloc(), pattern)?;
     let mut steps = Steps::new();

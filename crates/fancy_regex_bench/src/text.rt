@@ -1,10 +1,13 @@
+//! The generated haystack.
+
 use std::alloc::{AllocError, Global};
 
+/// The words of the haystack, without digits and upper-case letters.
 const WORDS: [&str; 8] = [
     "abab ", "foo ", "bar\n", "aab ", "zebra ", "the ", "quick ", "é ",
 ];
 
-/// A text of about so many bytes, of a few words in a mixed order, with neither digits nor upper-case letters.
+/// A haystack of about this many bytes: the words in a pseudorandom order, the same in each run.
 pub fn make(alloc: Global, size: usize) -> Result<String, AllocError> {
     let mut text = String::new(alloc);
     text.reserve(size)?;

@@ -25,10 +25,10 @@ use Rattle.regex_syntax.proofs.CapturesLemmas.{spans, find_str_alike}
 use Rattle.regex_syntax.proofs.Written.{is_some-option_map}
 use Rattle.regex.specs.Strings.{regex_pattern, regex_source, regex_config, IsReadFromSource, regex_names}
 use Rattle.regex.specs.declared.string.regex.Regex.{Regex}
-use Rattle.fancy_regex_class.specs.Classes.{read_tree, is_read, has_alone, matches_alone, in_class, class_text, with_case, RegexMatchesMembers}
-use Rattle.fancy_regex_class.proofs.AloneLemmas.{small_bytes}
+use Rattle.fancy_regex_class.specs.Classes.{read_tree, is_read, text_matches_char, matches_single_char, in_class, class_text, with_case, RegexMatchesMembers}
+use Rattle.fancy_regex_class.proofs.SingleCharLemmas.{small_bytes}
 
-pub alike_alone : (a b : Re) → SameCaptures a b → (c : ℕ) → IsScalar c → matches_alone a c ≡ matches_alone b c
+pub alike_alone : (a b : Re) → SameCaptures a b → (c : ℕ) → IsScalar c → matches_single_char a c ≡ matches_single_char b c
 alike_alone a b same c scalar =
     sym (is_some-option_map spans (find_str a (encode_utf8 c) 0))
     ∙ ap is_some (find_str_alike a b same (encode_utf8 c) (small_bytes c scalar) 0)
@@ -37,7 +37,7 @@ alike_alone a b same c scalar =
 -- what was read matches as the text does
 read_alone : (found : Option (Nested Re × Names)) (most : ℕ) (re : Re) (names : Names) →
     IsSomeAnd found (λ (part, others). (part.depth ≤ most) × SameCaptures re part.value × (names ≡ others) × (group_count re ≤ length names)) →
-    (c : ℕ) → IsScalar c → matches_alone re c ≡ is_some_and (option_map (λ r. r.0.value) found) (λ r. matches_alone r c)
+    (c : ℕ) → IsScalar c → matches_single_char re c ≡ is_some_and (option_map (λ r. r.0.value) found) (λ r. matches_single_char r c)
 read_alone None most re names h c scalar = absurd h
 read_alone (Some part) most re names h c scalar = alike_alone re _ h.1 c scalar
 
@@ -47,7 +47,7 @@ some_read None P h = absurd h
 some_read (Some part) P h = refl
 
 module _ (source : List ℕ) (tree : Hir) (names : Names) (reads : Reads default_config source tree names) where
-  pub read_has : (c : ℕ) → IsScalar c → matches_alone (meaning tree) c ≡ has_alone (chars source) c
+  pub read_has : (c : ℕ) → IsScalar c → matches_single_char (meaning tree) c ≡ text_matches_char (chars source) c
   unfolding Reads read_tree
   read_has = read_alone (read default_config (chars source)) _ (meaning tree) names reads
 
@@ -60,7 +60,7 @@ module _ (r : Regex) (source : List ℕ) (is_source : regex_source r ≡ source)
   as_default : Reads default_config source r.pattern.program.hir (regex_names r)
   as_default = rw (is_source, is_default) at reads
 
-  pub regex_has : (c : ℕ) → IsScalar c → is_some (find_str (regex_pattern r) (encode_utf8 c) 0) ≡ has_alone (chars source) c
+  pub regex_has : (c : ℕ) → IsScalar c → is_some (find_str (regex_pattern r) (encode_utf8 c) 0) ≡ text_matches_char (chars source) c
   regex_has = read_has source r.pattern.program.hir (regex_names r) as_default
 
   pub regex_read : IsTrue (is_read (chars source))
@@ -69,7 +69,7 @@ module _ (r : Regex) (source : List ℕ) (is_source : regex_source r ≡ source)
 pub regex_matches_members : RegexMatchesMembers
 unfolding in_class
 regex_matches_members r unicode casei class is_source is_default reads c scalar =
-    regex_has r (regex_source r) refl is_default reads c scalar ∙ ap (λ text. has_alone text c) is_source
+    regex_has r (regex_source r) refl is_default reads c scalar ∙ ap (λ text. text_matches_char text c) is_source
 
 -- a text in a group
 pub closing : chars (encode_utf8 41) ≡ 41 ∷ []

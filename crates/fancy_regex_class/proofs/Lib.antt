@@ -1,5 +1,5 @@
-pub mod LookLemmas
-pub mod AloneLemmas
+pub mod AdjacentCharLemmas
+pub mod SingleCharLemmas
 pub mod ClassLemmas
-pub mod TableLemmas
+pub mod HirClassLemmas
 pub mod WordLemmas

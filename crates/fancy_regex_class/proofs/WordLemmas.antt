@@ -22,8 +22,8 @@ use Rattle.regex_syntax.proofs.SetLemmas.{in_ranges-members}
 use Rattle.regex_syntax.proofs.TreeLaws.{same_refl, ◌then◌}
 use Rattle.regex_syntax.proofs.Written.{grammar, alone}
 use Rattle.ucd_perl.specs.Perl.{is_word_char, is_word_byte}
-use Rattle.fancy_regex_class.specs.Classes.{in_class, read_tree, matches_alone}
-use Rattle.fancy_regex_class.proofs.AloneLemmas.{class_alone, bytes_alone}
+use Rattle.fancy_regex_class.specs.Classes.{in_class, read_tree, matches_single_char}
+use Rattle.fancy_regex_class.proofs.SingleCharLemmas.{class_alone, bytes_alone}
 use Rattle.fancy_regex_class.proofs.ClassLemmas.{alike_alone}
 
 abbrev in_pattern : Re → Re
@@ -115,7 +115,7 @@ unfolding read_tree read names_below
 read_byte_word =
     ap (λ (o : Option (Nested Re × Place)). option_map (λ (r : Nested Re × Names). r.0.value) (o >>= λ (whole, end). is_empty end.text >> Some (whole, names_below whole.value end.names (max 1 (group_count whole.value))))) outside
 
-matched : (re : Re) (c : ℕ) → IsScalar c → matches_alone (in_pattern re) c ≡ matches_alone re c
+matched : (re : Re) (c : ℕ) → IsScalar c → matches_single_char (in_pattern re) c ≡ matches_single_char re c
 matched re = alike_alone (in_pattern re) re (alike_of_same (alone (same_refl re)).matches)
 
 in_members : (set : Set) (c : ℕ) → IsScalar c → in_ranges (members set) c ≡ set c
@@ -124,7 +124,7 @@ in_members set c scalar = let range = InScalarRange-of_IsScalar c scalar in rw (
 pub word_members : (c : ℕ) → IsScalar c → in_class true (codes "\\w") false c ≡ is_word_char c
 unfolding in_class
 word_members c scalar =
-    ap (λ o. is_some_and o (λ re. matches_alone re c)) read_word ∙ matched _ c scalar
+    ap (λ o. is_some_and o (λ re. matches_single_char re c)) read_word ∙ matched _ c scalar
     ∙ class_alone c scalar (members is_word_char) ∙ in_members is_word_char c scalar
 
 small_members : (b : ℕ) → in_ranges (members is_word_byte) b ≡ true → b ≤ 127
@@ -134,5 +134,5 @@ small_members b h =
 pub byte_word_members : (c : ℕ) → IsScalar c → in_class false (codes "\\w") false c ≡ is_word_byte c
 unfolding in_class
 byte_word_members c scalar =
-    ap (λ o. is_some_and o (λ re. matches_alone re c)) read_byte_word ∙ matched _ c scalar ∙ matched _ c scalar
+    ap (λ o. is_some_and o (λ re. matches_single_char re c)) read_byte_word ∙ matched _ c scalar ∙ matched _ c scalar
     ∙ bytes_alone c scalar (members is_word_byte) small_members ∙ in_members is_word_byte c scalar

@@ -28,11 +28,11 @@ abbrev pub is_read : Text → Bool
 is_read text = is_some (read_tree text)
 
 -- the text of the one character is matched
-abbrev pub matches_alone : Re → ℕ → Bool
-matches_alone re c = is_some (find_str re (encode_utf8 c) 0)
+abbrev pub matches_single_char : Re → ℕ → Bool
+matches_single_char re c = is_some (find_str re (encode_utf8 c) 0)
 
-abbrev pub has_alone : Text → ℕ → Bool
-has_alone text c = is_some_and (read_tree text) (λ re. matches_alone re c)
+abbrev pub text_matches_char : Text → ℕ → Bool
+text_matches_char text c = is_some_and (read_tree text) (λ re. matches_single_char re c)
 
 -- `regex` reads the class
 abbrev pub is_class : Bool → Text → Bool → Bool
@@ -40,7 +40,7 @@ is_class unicode class casei = is_read (class_text unicode casei class)
 
 -- the class has the character
 unfoldable pub in_class : Bool → Text → Bool → ℕ → Bool
-in_class unicode class casei c = has_alone (class_text unicode casei class) c
+in_class unicode class casei c = text_matches_char (class_text unicode casei class) c
 
 abbrev pub ascii_lower : ℕ → ℕ
 ascii_lower c = if nat_le 65 c && nat_le c 90 then c + 32 else c

@@ -39,5 +39,5 @@ IsClassError unicode class casei (InnerError shown) =
 IsClassError unicode class casei Memory = Unit {0}
 
 -- the character folds to what the literal's does
-abbrev pub is_alike : CaseiLiteral → ℕ → Bool
-is_alike l c = folded l.unicode c == l.folded
+abbrev pub equals_ignoring_case : CaseiLiteral → ℕ → Bool
+equals_ignoring_case l c = folded l.unicode c == l.folded

@@ -1,3 +1,5 @@
+//! Matchers for character classes. Membership is decided once by `regex`'s parser, and is then a search in sorted ranges.
+
 ghost use Rattle.std.specs.Prelude.{◌≡◌, ℕ, ◌<◌, false, [], ◌∷◌, ◌++◌, chars, string_bytes, IfOk, IfErr, IsTrue, slice_index_or};
 ghost use Rattle.std.specs.Char.{IsScalar};
 ghost use Rattle.regex_class.specs.Ranges.{in_ranges};
@@ -7,11 +9,12 @@ use crate::matcher::{Refusal, members};
 use regex_class::Class;
 use std::alloc::{AllocError, Global};
 
-/// Why a class has no matcher.
+/// Why no matcher was built for a class.
 #[derive(Debug, Drop)]
 pub enum ClassError {
-    /// The class's text, which `regex` does not take.
+    /// `regex` rejects the class; the payload is the class's own text, without the groups put around it.
     InnerError(String),
+    /// Memory ran out.
     Memory,
 }
 
@@ -26,7 +29,7 @@ impl From<AllocError> for ClassError {
     }
 }
 
-/// The characters of a class, as sorted ranges, with the answers for ASCII in front.
+/// The members of a character class: sorted ranges of code points, and the answers for the 128 ASCII characters.
 #[derive(Debug, Drop)]
 pub struct CharClassMatcher {
     class: Class,
@@ -37,8 +40,9 @@ pub struct CharClassMatcher {
 impl CharClassMatcher {
     ghost use Rattle.fancy_regex_class.specs.Matchers.{has, IsMatcherOf, IsClassError};
 
-    /// The characters that the class has, where case is disregarded and in Unicode mode if asked for. The text is read
-    /// by the grammar of `regex`; where that does not read it, or refuses it, the error is `InnerError` with the text.
+    /// Builds the matcher of a class. `text` is parsed as a pattern by `regex`; with `casei` case is ignored, and
+    /// without `unicode` classes and case are those of ASCII. If `regex` rejects the text, the error is `InnerError`
+    /// with `text`; if memory runs out, it is `Memory`.
     pub fn new(
         alloc: Global,
         text: &str,
@@ -57,6 +61,7 @@ impl CharClassMatcher {
         }
     }
 
+    /// Adds the answers for ASCII to the ranges.
     fn of(class: Class) -> CharClassMatcher
         ensures { (c : ℕ) → has result c ≡ in_ranges class.ranges.items c }
     {
@@ -67,7 +72,7 @@ impl CharClassMatcher {
         CharClassMatcher { class, ascii }
     }
 
-    /// Whether the class has the character.
+    /// Whether the class contains the character.
     pub fn contains(&self, c: char) -> bool
         ensures { result ≡ has self.now c }
     {
@@ -79,7 +84,7 @@ impl CharClassMatcher {
         }
     }
 
-    /// Whether the class has each of the ASCII characters, by its code.
+    /// For each ASCII character, by its code, whether the class contains it.
     pub fn ascii(&self) -> &[bool; 128]
         ensures { (c : ℕ) → c < 128 → slice_index_or result.now c false ≡ has self.now c }
     {
@@ -87,7 +92,7 @@ impl CharClassMatcher {
     }
 }
 
-/// The text that `regex` is to read for the class.
+/// The pattern that `regex` parses for the class: its text, in a group that sets the flags.
 fn class_text(alloc: Global, text: &str, casei: bool, unicode: bool) -> Result<String, AllocError>
     ensures { IfOk result (λ s. chars (string_bytes s) ≡ class_text unicode casei (chars text.now)) }
 {
@@ -103,7 +108,7 @@ fn class_text(alloc: Global, text: &str, casei: bool, unicode: bool) -> Result<S
     }
 }
 
-/// The text in a group that opens so.
+/// The text in a group with this opening, which ends in `:`, and a closing parenthesis.
 fn wrapped(alloc: Global, opening: &str, text: &str) -> Result<String, AllocError>
     ensures { IfOk result (λ s. chars (string_bytes s) ≡ chars opening.now ++ chars text.now ++ 41 ∷ []) }
 {

@@ -1,10 +1,12 @@
+//! A haystack whose reads are counted, so that the work of a search can be bounded.
+
 ghost use Rattle.std.specs.Prelude.{◌≡◌, ℕ, ◌+◌, ◌-◌, ◌^◌, ◌≤◌, min, IfSome, IsCharBoundary};
 ghost use Rattle.std.specs.Char.{len_utf8};
 ghost use Rattle.regex_hir.specs.Text.{char_at, char_before};
 
 use std::marker::Model;
 
-/// How many looks there were. It stays at the last value of `u64`.
+/// A counter of reads of a haystack. It saturates at `u64::MAX`.
 #[derive(Drop)]
 pub struct Steps {
     count: u64,
@@ -17,20 +19,21 @@ impl Model for Steps {
 }
 
 impl Steps {
-    /// No look yet.
+    /// A counter at 0.
     pub fn new() -> Steps
         ensures { result ≡ 0 }
     {
         Steps { count: 0 }
     }
 
-    /// How many looks there were, or the last value of `u64` where there were more.
+    /// The number of reads so far, or `u64::MAX` if there were more.
     pub fn count(&self) -> u64
         ensures { result ≡ self.now }
     {
         self.count
     }
 
+    /// Counts one read.
     fn tick(&mut self)
         ensures { self.new ≡ min (self.old + 1) (2 ^ 64 - 1) }
     {
@@ -40,7 +43,7 @@ impl Steps {
     }
 }
 
-/// A text that is seen one look at a time, each of which is counted.
+/// A haystack that is read through `look` only, and the counter that each read adds to.
 #[derive(Drop)]
 pub struct Counted<'t, 's> {
     text: &'t str,
@@ -50,7 +53,7 @@ pub struct Counted<'t, 's> {
 impl<'t, 's> Counted<'t, 's> {
     ghost use Rattle.fancy_regex_class.specs.Looks.{looked_text, look_count, SameCounter};
 
-    /// The text, with its looks added to the steps.
+    /// Wraps the haystack; its reads are added to `steps`.
     pub fn new(text: &'t str, steps: &'s mut Steps) -> Counted<'t, 's>
         ensures text { looked_text result ≡ text.now }
         ensures count { look_count result ≡ steps.old }
@@ -59,8 +62,8 @@ impl<'t, 's> Counted<'t, 's> {
         Counted { text, steps }
     }
 
-    /// The characters before and after the position, in bytes, each None at its end of the text. Counts one look, and
-    /// takes no memory.
+    /// The character that ends at `position`, a byte offset, and the one that starts there; `None` at the start and at
+    /// the end of the haystack. Counts one read, and allocates nothing.
     pub fn look(&mut self, position: usize) -> (Option<char>, Option<char>)
         requires { IsCharBoundary (looked_text self.old) position }
         ensures before { result.0 ≡ char_before (looked_text self.old) position }
@@ -71,12 +74,12 @@ impl<'t, 's> Counted<'t, 's> {
         ensures same_counter { SameCounter self.old self.new }
     {
         self.steps.tick();
-        chars_round(self.text, position)
+        chars_around(self.text, position)
     }
 }
 
-/// The characters before and after the position.
-fn chars_round(text: &str, position: usize) -> (Option<char>, Option<char>)
+/// The characters before and after the byte offset `position`.
+fn chars_around(text: &str, position: usize) -> (Option<char>, Option<char>)
     requires { IsCharBoundary text.now position }
     ensures before { result.0 ≡ char_before text.now position }
     ensures after { result.1 ≡ char_at text.now position }

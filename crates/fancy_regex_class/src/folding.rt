@@ -1,11 +1,13 @@
+//! Simple case folding, word characters, and literals that ignore case. Nothing here allocates.
+
 ghost use Rattle.std.specs.Prelude.{◌≡◌, ℕ, ◌==◌, codes, false};
 ghost use Rattle.fancy_regex_class.specs.Classes.{in_class, folded};
 
 use unicode::case::simple_fold;
 use unicode::perl::is_word_character;
 
-/// What the character has in common with those that differ from it in case alone: its simple folding, or outside Unicode
-/// mode the ASCII letter in lower case.
+/// The case folding of the character: Unicode's simple folding, or without `unicode` the lower case of ASCII letters. Two
+/// characters differ in case only if their foldings are equal.
 pub fn fold(c: char, unicode: bool) -> char
     ensures { result ≡ folded unicode c }
 {
@@ -16,7 +18,7 @@ pub fn fold(c: char, unicode: bool) -> char
     }
 }
 
-/// Whether the character is one of `\w`; outside Unicode mode these are the ASCII letters, digits and `_`.
+/// Whether `\w` matches the character; without `unicode` these are the ASCII letters, digits and `_`.
 pub fn is_word(c: char, unicode: bool) -> bool
     ensures { result ≡ in_class unicode (codes "\\w") false c }
 {
@@ -27,7 +29,7 @@ pub fn is_word(c: char, unicode: bool) -> bool
     }
 }
 
-/// A character whose case is disregarded.
+/// A literal character that is matched without regard to case.
 #[derive(Clone, Copy, Debug)]
 pub struct CaseiLiteral {
     folded: char,
@@ -35,11 +37,11 @@ pub struct CaseiLiteral {
 }
 
 impl CaseiLiteral {
-    ghost use Rattle.fancy_regex_class.specs.Matchers.{is_alike};
+    ghost use Rattle.fancy_regex_class.specs.Matchers.{equals_ignoring_case};
 
-    /// The character, and the mode in which it is folded.
+    /// Folds the literal once; `unicode` chooses the folding, as for `fold`.
     pub fn new(c: char, unicode: bool) -> CaseiLiteral
-        ensures { (d : ℕ) → is_alike result d ≡ (folded unicode d == folded unicode c) }
+        ensures { (d : ℕ) → equals_ignoring_case result d ≡ (folded unicode d == folded unicode c) }
     {
         CaseiLiteral {
             folded: fold(c, unicode),
@@ -47,9 +49,9 @@ impl CaseiLiteral {
         }
     }
 
-    /// Whether the character differs from it in case alone.
+    /// Whether the character equals the literal up to case.
     pub fn matches(self, c: char) -> bool
-        ensures { result ≡ is_alike self c }
+        ensures { result ≡ equals_ignoring_case self c }
     {
         fold(c, self.unicode) == self.folded
     }

@@ -1,3 +1,6 @@
+//! The members of a class: taken from the tree that `regex_syntax` parses where that is a class or a single character, else
+//! found by matching each character.
+
 ghost use Rattle.std.specs.Prelude.{◌≡◌, ◌≢◌, ℕ, true, IsTrue, IfOk, IfErr, IfSome, encode_utf8, is_some, chars};
 ghost use Rattle.std.specs.Char.{IsScalar};
 ghost use Rattle.regex_class.specs.Ranges.{in_ranges};
@@ -5,7 +8,7 @@ ghost use Rattle.regex_hir.specs.Find.{find_str};
 ghost use Rattle.regex_hir.specs.Meaning.{meaning};
 ghost use Rattle.regex_syntax.specs.WellFormed.{IsWellFormed};
 ghost use Rattle.regex.specs.Strings.{matcher_pattern};
-ghost use Rattle.fancy_regex_class.specs.Classes.{has_alone, matches_alone, is_read};
+ghost use Rattle.fancy_regex_class.specs.Classes.{text_matches_char, matches_single_char, is_read};
 ghost use Rattle.regex.specs.declared.error.Error.TheVariants as regex_error;
 
 use regex::{Matcher, Regex};
@@ -14,11 +17,12 @@ use regex_hir::Hir;
 use regex_syntax::{Config, ErrorKind};
 use std::alloc::{AllocError, Global};
 
-/// Why a text has no members.
+/// Why no members were determined.
 #[derive(Clone, Copy, PartialEq, Eq)]
 pub(crate) enum Refusal {
-    /// `regex` does not take the text.
+    /// `regex` rejects the text.
     Refused,
+    /// Memory ran out.
     Memory,
 }
 
@@ -35,14 +39,15 @@ impl From<AllocError> for Refusal {
 
 ghost use Rattle.fancy_regex_class.specs.Matchers.{RefusesText};
 
-/// The characters whose text alone the pattern matches.
+/// The characters whose text, as a whole haystack, the pattern matches. The error is `Refused` where `regex` rejects the
+/// pattern, and `Memory` where memory runs out.
 pub(crate) fn members(alloc: Global, written: &str) -> Result<Class, Refusal>
-    ensures members { IfOk result (λ class. (c : ℕ) → IsScalar c → in_ranges class.ranges.items c ≡ has_alone (chars written.now) c) }
+    ensures members { IfOk result (λ class. (c : ℕ) → IsScalar c → in_ranges class.ranges.items c ≡ text_matches_char (chars written.now) c) }
     ensures read { IfOk result (λ _. IsTrue (is_read (chars written.now))) }
     ensures refused { IfErr result (λ r. r ≡ Refusal.Refused → RefusesText (chars written.now)) }
 {
     match regex_syntax::parse(alloc, written, &Config::default()) {
-        Ok(parsed) => match table(alloc, parsed.hir)? {
+        Ok(parsed) => match class_of_hir(alloc, parsed.hir)? {
             Some(class) => Ok(class),
             None => members_by_search(alloc, written),
         },
@@ -50,8 +55,8 @@ pub(crate) fn members(alloc: Global, written: &str) -> Result<Class, Refusal>
     }
 }
 
-/// The characters that the tree matches alone, if it is a class or the text of one character.
-fn table(alloc: Global, tree: Hir) -> Result<Option<Class>, AllocError>
+/// The characters that the parsed tree matches, if it is a class or a literal of one character.
+fn class_of_hir(alloc: Global, tree: Hir) -> Result<Option<Class>, AllocError>
     requires { IsWellFormed true tree }
     ensures { IfOk result (λ o. IfSome o (λ class. (c : ℕ) → IsScalar c →
         in_ranges class.ranges.items c ≡ is_some (find_str (meaning tree) (encode_utf8 c) 0))) }
@@ -59,7 +64,7 @@ fn table(alloc: Global, tree: Hir) -> Result<Option<Class>, AllocError>
     match tree {
         Hir::Chars(class) => Ok(Some(class)),
         Hir::Bytes(class) => Ok(Some(class)),
-        Hir::Literal(bytes) => match only_char(&bytes) {
+        Hir::Literal(bytes) => match single_char(&bytes) {
             Some(c) => Ok(Some(Class::from_ranges(alloc, &[(c as u32, c as u32)])?)),
             None => Ok(None),
         },
@@ -67,8 +72,8 @@ fn table(alloc: Global, tree: Hir) -> Result<Option<Class>, AllocError>
     }
 }
 
-/// The character whose text this is, if it is that of one.
-fn only_char(bytes: &[u8]) -> Option<char>
+/// The character that these bytes encode, if they are the UTF-8 of exactly one.
+fn single_char(bytes: &[u8]) -> Option<char>
     ensures { IfSome result (λ c. bytes.now ≡ encode_utf8 c) }
 {
     let text = str::from_utf8(bytes).ok()?;
@@ -80,23 +85,23 @@ fn only_char(bytes: &[u8]) -> Option<char>
     }
 }
 
-/// The characters whose text alone a search finds the pattern in. This asks about every character.
+/// Like `members`, by running a search on the text of every character.
 fn members_by_search(alloc: Global, written: &str) -> Result<Class, Refusal>
-    ensures members { IfOk result (λ class. (c : ℕ) → IsScalar c → in_ranges class.ranges.items c ≡ has_alone (chars written.now) c) }
+    ensures members { IfOk result (λ class. (c : ℕ) → IsScalar c → in_ranges class.ranges.items c ≡ text_matches_char (chars written.now) c) }
     ensures read { IfOk result (λ _. IsTrue (is_read (chars written.now))) }
     ensures refused { IfErr result (λ r. r ≡ Refusal.Refused → RefusesText (chars written.now)) }
 {
     match Regex::new(alloc, written) {
         Ok(regex) => {
             let mut matcher = regex.matcher(alloc)?;
-            Ok(found_alone(alloc, &mut matcher)?)
+            Ok(class_of_matches(alloc, &mut matcher)?)
         }
         Err(error) => Err(refusal_of_build(error)),
     }
 }
 
-/// The characters whose text alone the matcher finds.
-fn found_alone(alloc: Global, matcher: &mut Matcher<'_>) -> Result<Class, AllocError>
+/// The characters in whose text the matcher finds a match.
+fn class_of_matches(alloc: Global, matcher: &mut Matcher<'_>) -> Result<Class, AllocError>
     ensures { IfOk result (λ class. (c : ℕ) → IsScalar c →
         in_ranges class.ranges.items c ≡ is_some (find_str (matcher_pattern matcher.old) (encode_utf8 c) 0)) }
 {
@@ -109,9 +114,9 @@ fn found_alone(alloc: Global, matcher: &mut Matcher<'_>) -> Result<Class, AllocE
     Class::new(ranges)
 }
 
-/// Whether the matcher finds something in the text of the character with this code.
+/// Whether the matcher finds a match in the text of the character with this code; false for codes of no character.
 fn is_found(matcher: &mut Matcher<'_>, code: u32) -> bool
-    ensures found { IsScalar code → result ≡ matches_alone (matcher_pattern matcher.old) code }
+    ensures found { IsScalar code → result ≡ matches_single_char (matcher_pattern matcher.old) code }
     ensures scalar { IsTrue result → IsScalar code }
     ensures same { matcher_pattern matcher.new ≡ matcher_pattern matcher.old }
 {
@@ -121,6 +126,7 @@ fn is_found(matcher: &mut Matcher<'_>, code: u32) -> bool
     }
 }
 
+/// Tells want of memory from the other errors of building a regex.
 fn refusal_of_build(error: regex::Error) -> Refusal
     ensures { result ≡ Refusal.Refused → error ≢ regex_error.OutOfMemory }
 {
@@ -130,6 +136,7 @@ fn refusal_of_build(error: regex::Error) -> Refusal
     }
 }
 
+/// Tells want of memory from the other errors of parsing.
 fn refusal_of_syntax(kind: ErrorKind) -> Refusal
     ensures { result ≡ Refusal.Refused → kind ≢ ErrorKind.OutOfMemory }
 {

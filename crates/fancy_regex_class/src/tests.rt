@@ -1,3 +1,5 @@
+//! Tests of class matchers, folding and counted reads.
+
 use crate::{CaseiLiteral, CharClassMatcher, ClassError, Counted, Steps, is_word};
 use std::alloc::Global;
 

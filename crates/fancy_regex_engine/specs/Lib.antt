@@ -1,1 +1,1 @@
-pub mod OneAnswer
+pub mod EngineAgreement

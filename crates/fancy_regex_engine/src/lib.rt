@@ -1,8 +1,8 @@
-//! The engine: classes and looks that are counted, the analysis of trees, the search of plain patterns in bounded steps,
-//! programs, and the machine that runs them.
+//! The matching engine under one name: character classes, the analysis of trees, the step-bounded search of easy patterns, the compiler and
+//! the backtracking machine. It re-exports the crates below and adds the law that both engines return the same match.
 #![tactic(auto)]
 
-ghost use Rattle.fancy_regex_engine.specs.OneAnswer.{OneAnswer};
+ghost use Rattle.fancy_regex_engine.specs.EngineAgreement.{EnginesAgree};
 
 pub use fancy_regex_class::{
     CaseiLiteral, CharClassMatcher, ClassError, Counted, Steps, fold, is_word,
@@ -15,8 +15,8 @@ pub use fancy_regex_program::{
 pub use fancy_regex_runner::{Easy, RunInput};
 pub use fancy_regex_sizes::{analyze, can_compile_as_anchored, is_well_formed};
 
-/// A run of a pattern's program and a search by its runner find the same, with the places of all groups, wherever both
-/// answer: on a program that tries each start, without a table of bytes to seek, where empty matches are admitted.
-pub fn law_of_one_answer()
-    ensures { OneAnswer }
+/// Wherever both succeed, a run of a pattern's program and an `Easy` search of the same pattern return the same spans of all groups. The run
+/// must try every start position (no table of first bytes to seek) and must admit empty matches.
+pub fn engines_agree()
+    ensures { EnginesAgree }
 {}

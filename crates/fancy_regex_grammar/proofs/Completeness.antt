@@ -1,25 +1,25 @@
 -- What the relations have, the functions read, or stop at.
 use Rattle.std.proofs.Common.{◌≡◌, ℕ, zero, suc, ◌+◌, ◌<◌, Bool, true, false, Option, Ok, Err, List, [], ◌∷◌, length, refl, ap, ◌∙◌, not-suc-le-zero, arith, if◌then◌else◌}
-use Rattle.fancy_regex_text.specs.Text.{Text, behind}
-use Rattle.fancy_regex_text.specs.Fault.{Fault, Reading, ◌>>=◌, unclosed_open_paren}
-use Rattle.fancy_regex_lex.specs.Counts.{most_quantifiers}
+use Rattle.fancy_regex_text.specs.Text.{Text, strip_prefix}
+use Rattle.fancy_regex_text.specs.Fault.{Fault, ParseOutcome, ◌>>=◌, unclosed_open_paren}
+use Rattle.fancy_regex_lex.specs.Quantifiers.{most_quantifiers}
 use Rattle.fancy_regex_lex.specs.declared.token.Flags.{Flags}
-use Rattle.fancy_regex_tree.specs.declared.profile.Profile.{Profile}
+use Rattle.fancy_regex_tree.specs.declared.parser_config.ParserConfig.{ParserConfig}
 use Rattle.fancy_regex_tree.specs.Tree.{Tree}
-use Rattle.fancy_regex_tree.specs.Quantifiers.{Atom, quantified}
-use Rattle.fancy_regex_tree.specs.Groups.{Branches, Inner, plain, is_nothing, yes_and_no, tested, ends_branch, closed, enclosed, construct, simple, atom, piece, pieces, branches, nested, inner_at}
+use Rattle.fancy_regex_tree.specs.Quantifiers.{Atom, parse_quantifiers}
+use Rattle.fancy_regex_tree.specs.Parser.{Branches, AlternationParser, plain, is_empty_body, conditional_of_branches, make_conditional, ends_branch, parse_group_body, parse_group_expression, parse_group, parse_simple_atom, parse_atom, parse_piece, parse_branch, branches, parse_alternation, inner_parser}
 use Rattle.fancy_regex_tree.proofs.Loops.{nested_is}
-use Rattle.fancy_regex_tokens.specs.Exact.{at}
+use Rattle.fancy_regex_lex_grammar.specs.Exact.{at}
 use Rattle.fancy_regex_grammar.specs.Patterns.{IsAtom, dot, caret, dollar, a_class, escaped, character, capturing_group, bare_group, flag_setting, an_atomic_group, a_look_around, bare_condition, if_reference, if_expression, definitions, an_absent_repeater, absent_bounds, a_reference, a_call, a_verb, IsPiece, with_quantifiers, IsBranch, no_more_pieces, and_piece, IsBranches, last_branch, and_branch}
-use Rattle.fancy_regex_grammar.specs.Faults.{NoClosing, AtomStops, class_stops, escape_stops, no_atom, too_deep, opening_stops, inside_stops, unclosed, body_stops, body_unclosed, without_branches, PieceStops, atom_stops, quantifiers_stop, BranchStops, layout_stops, piece_stops, later_piece_stops, BranchesStop, first_stops, later_branch_stops}
-use Rattle.fancy_regex_grammar.proofs.Fronts.{skipped_shorter, piece_shorter, branch_shorter}
+use Rattle.fancy_regex_grammar.specs.Faults.{NoClosing, AtomFails, class_stops, escape_stops, no_atom, too_deep, opening_stops, inside_stops, unclosed, body_stops, body_unclosed, without_branches, PieceFails, atom_stops, quantifiers_stop, BranchFails, layout_stops, piece_stops, later_piece_stops, BranchesFail, first_stops, later_branch_stops}
+use Rattle.fancy_regex_grammar.proofs.LengthLemmas.{skipped_shorter, piece_shorter, branch_shorter}
 use Rattle.fancy_regex_grammar.proofs.QuantifierProofs.{quantifiers_are_exact}
-use Rattle.fancy_regex_grammar.proofs.Steps.{ok_tree, ok_body, other_goes_on, quantifier_goes_on, class_read, class_stopped, escape_read, escape_stopped, character_read, no_atom_stopped, opened, opening_stopped, none_inside, closed_read, closed_stops, closed_lacks, construct_stops, condition_then, branches_there, no_branches, body_stopped, layout_stopped, pieces_end, pieces_go_on, branch_then, no_bar}
+use Rattle.fancy_regex_grammar.proofs.ReadingLemmas.{ok_tree, ok_body, other_goes_on, quantifier_goes_on, class_read, class_stopped, escape_read, escape_stopped, character_read, no_atom_stopped, opened, opening_stopped, none_inside, closed_read, closed_stops, closed_lacks, construct_stops, condition_then, branches_there, no_branches, body_stopped, layout_stopped, pieces_end, pieces_go_on, branch_then, no_bar}
 
 pub one_more_is_greater : (k : ℕ) → k < k + 1
 one_more_is_greater k = omega arith
 
-module _ (p : Profile) where
+module _ (p : ParserConfig) where
   atom_goes_on : {n : ℕ} {in_look : Bool} {f g : Flags} {t rest : Text} {e : Atom} → IsAtom p n in_look f t e g rest → ends_branch t ≡ false
   atom_goes_on dot = refl
   atom_goes_on caret = refl
@@ -47,38 +47,38 @@ module _ (p : Profile) where
 
   -- branches inside a construct, with the `)` behind them
   inside : (n : ℕ) (in_look : Bool) (f : Flags) (t : Text) {g : Flags} {rest : Text} {body : Branches} →
-      branches p (inner_at p n) (length t + 1) in_look f t ≡ Ok (body, g, 0x29 ∷ rest) → closed p (nested p n) in_look f t ≡ Ok (body, g, rest)
-  inside n in_look f t h = closed_read p (nested p n) in_look f t (nested_is p n in_look f t ∙ h)
+      branches p (inner_parser p n) (length t + 1) in_look f t ≡ Ok (body, g, 0x29 ∷ rest) → parse_group_body p (parse_alternation p n) in_look f t ≡ Ok (body, g, rest)
+  inside n in_look f t h = closed_read p (parse_alternation p n) in_look f t (nested_is p n in_look f t ∙ h)
 
-  abbrev with_others : Tree → Reading (List Tree × Flags × Text) → Reading (List Tree × Flags × Text)
+  abbrev with_others : Tree → ParseOutcome (List Tree × Flags × Text) → ParseOutcome (List Tree × Flags × Text)
   with_others e r = r >>= λ y. Ok (e ∷ y.0, y.1, y.2)
 
-  abbrev with_branches : List Tree → Reading (Branches × Flags × Text) → Reading (Branches × Flags × Text)
+  abbrev with_branches : List Tree → ParseOutcome (Branches × Flags × Text) → ParseOutcome (Branches × Flags × Text)
   with_branches branch r = r >>= λ y. Ok (branch ∷ y.0, y.1, y.2)
 
-  abbrev piece_from : Reading (Atom × Flags × Text) → Reading (Tree × Flags × Text)
-  piece_from r = r >>= λ x. quantified p x.1 (most_quantifiers p.oniguruma) x.0 x.2 >>= λ y. Ok (y.0, x.1, y.1)
+  abbrev piece_from : ParseOutcome (Atom × Flags × Text) → ParseOutcome (Tree × Flags × Text)
+  piece_from r = r >>= λ x. parse_quantifiers p x.1 (most_quantifiers p.oniguruma) x.0 x.2 >>= λ y. Ok (y.0, x.1, y.1)
 
-  abbrev branch_from : Option Inner → ℕ → Bool → Reading (Tree × Flags × Text) → Reading (List Tree × Flags × Text)
-  branch_from inner m in_look r = r >>= λ x. with_others x.0 (pieces p inner m in_look x.1 x.2)
+  abbrev branch_from : Option AlternationParser → ℕ → Bool → ParseOutcome (Tree × Flags × Text) → ParseOutcome (List Tree × Flags × Text)
+  branch_from inner m in_look r = r >>= λ x. with_others x.0 (parse_branch p inner m in_look x.1 x.2)
 
-  tested_bare : (c : Tree) (body : Branches) → is_nothing body ≡ true → tested c body ≡ c
-  tested_bare c body h = ap (λ k. if k then c else yes_and_no c body) h
+  tested_bare : (c : Tree) (body : Branches) → is_empty_body body ≡ true → make_conditional c body ≡ c
+  tested_bare c body h = ap (λ k. if k then c else conditional_of_branches c body) h
 
-  tested_full : (c : Tree) (body : Branches) → is_nothing body ≡ false → tested c body ≡ yes_and_no c body
-  tested_full c body h = ap (λ k. if k then c else yes_and_no c body) h
+  tested_full : (c : Tree) (body : Branches) → is_empty_body body ≡ false → make_conditional c body ≡ conditional_of_branches c body
+  tested_full c body h = ap (λ k. if k then c else conditional_of_branches c body) h
 
   mutual
-    unfolding atom simple construct enclosed piece behind
+    unfolding parse_atom parse_simple_atom parse_group parse_group_expression parse_piece strip_prefix
 
     pub atom_complete : {n : ℕ} {in_look : Bool} {f g : Flags} {t rest : Text} {e : Atom} → IsAtom p n in_look f t e g rest →
-        atom p (inner_at p n) in_look f t ≡ Ok (e, g, rest)
+        parse_atom p (inner_parser p n) in_look f t ≡ Ok (e, g, rest)
     atom_complete dot = refl
     atom_complete caret = refl
     atom_complete dollar = refl
-    atom_complete (a_class {n} {in_look} {f} c) = class_read p (inner_at p n) in_look f c
-    atom_complete (escaped {n} {in_look} {f} e) = escape_read p (inner_at p n) in_look f e
-    atom_complete (character {n} {in_look} {f} {c} {t} h k) = character_read p (inner_at p n) in_look f c t h k
+    atom_complete (a_class {n} {in_look} {f} c) = class_read p (inner_parser p n) in_look f c
+    atom_complete (escaped {n} {in_look} {f} e) = escape_read p (inner_parser p n) in_look f e
+    atom_complete (character {n} {in_look} {f} {c} {t} h k) = character_read p (inner_parser p n) in_look f c t h k
     atom_complete (capturing_group {n} {in_look} {f} o b) = opened p n in_look f o ∙ ok_tree p _ _ (inside n _ _ _ (branches_complete b _ (one_more_is_greater _)))
     atom_complete (bare_group {n} {in_look} {f} o b) = opened p n in_look f o ∙ ok_tree p _ _ (inside n _ _ _ (branches_complete b _ (one_more_is_greater _)))
     atom_complete (flag_setting {n} {in_look} {f} o) = opened p n in_look f o
@@ -99,33 +99,33 @@ module _ (p : Profile) where
     atom_complete (a_verb {n} {in_look} {f} o) = opened p n in_look f o
 
     pub piece_complete : {n : ℕ} {in_look : Bool} {f g : Flags} {t rest : Text} {e : Tree} → IsPiece p n in_look f t e g rest →
-        piece p (inner_at p n) in_look f t ≡ Ok (e, g, rest)
+        parse_piece p (inner_parser p n) in_look f t ≡ Ok (e, g, rest)
     piece_complete (with_quantifiers {g = g} {after = after} {rest} {e} {whole} a q) =
         ap piece_from (atom_complete a)
         ∙ ap (λ r. r >>= λ y. Ok (y.0, g, y.1)) ((quantifiers_are_exact p g (most_quantifiers p.oniguruma) e after).complete (whole, rest) q)
 
     pub branch_complete : {n : ℕ} {in_look : Bool} {f g : Flags} {t rest : Text} {es : List Tree} → IsBranch p n in_look f t es g rest →
-        (m : ℕ) → length t < m → pieces p (inner_at p n) m in_look f t ≡ Ok (es, g, rest)
+        (m : ℕ) → length t < m → parse_branch p (inner_parser p n) m in_look f t ≡ Ok (es, g, rest)
     branch_complete (no_more_pieces s e) zero k = absurd (not-suc-le-zero k)
-    branch_complete (no_more_pieces {n} {in_look} {f} s e) (suc m) k = pieces_end p (inner_at p n) m in_look f s e
+    branch_complete (no_more_pieces {n} {in_look} {f} s e) (suc m) k = pieces_end p (inner_parser p n) m in_look f s e
     branch_complete (and_piece s q b) zero k = absurd (not-suc-le-zero k)
     branch_complete (and_piece {n} {in_look} {f} {e = e} s q b) (suc m) k =
-        pieces_go_on p (inner_at p n) m in_look f s (piece_goes_on q) ∙ ap (branch_from (inner_at p n) m in_look) (piece_complete q)
+        pieces_go_on p (inner_parser p n) m in_look f s (piece_goes_on q) ∙ ap (branch_from (inner_parser p n) m in_look) (piece_complete q)
         ∙ ap (with_others e) (branch_complete b m (let x = skipped_shorter s in let y = piece_shorter p q in omega arith))
 
     pub branches_complete : {n : ℕ} {in_look : Bool} {f g : Flags} {t rest : Text} {body : Branches} → IsBranches p n in_look f t body g rest →
-        (m : ℕ) → length t < m → branches p (inner_at p n) m in_look f t ≡ Ok (body, g, rest)
+        (m : ℕ) → length t < m → branches p (inner_parser p n) m in_look f t ≡ Ok (body, g, rest)
     branches_complete (last_branch b c) zero k = absurd (not-suc-le-zero k)
     branches_complete (last_branch {n} {in_look} {f} {t = t} b c) (suc m) k =
-        branch_then p (inner_at p n) m in_look f t (branch_complete b (length t + 1) (one_more_is_greater (length t))) ∙ no_bar p (inner_at p n) m in_look c
+        branch_then p (inner_parser p n) m in_look f t (branch_complete b (length t + 1) (one_more_is_greater (length t))) ∙ no_bar p (inner_parser p n) m in_look c
     branches_complete (and_branch b c) zero k = absurd (not-suc-le-zero k)
     branches_complete (and_branch {n} {in_look} {f} {t = t} {branch = branch} b c) (suc m) k =
-        branch_then p (inner_at p n) m in_look f t (branch_complete b (length t + 1) (one_more_is_greater (length t)))
+        branch_then p (inner_parser p n) m in_look f t (branch_complete b (length t + 1) (one_more_is_greater (length t)))
         ∙ ap (with_branches branch) (branches_complete c m (let x = branch_shorter p b in omega arith))
 
   -- the faults
 
-  atom_stop_goes_on : {n : ℕ} {in_look : Bool} {f : Flags} {t : Text} {e : Fault} → AtomStops p n in_look f t e → ends_branch t ≡ false
+  atom_stop_goes_on : {n : ℕ} {in_look : Bool} {f : Flags} {t : Text} {e : Fault} → AtomFails p n in_look f t e → ends_branch t ≡ false
   atom_stop_goes_on (class_stops s) = refl
   atom_stop_goes_on (escape_stops s) = refl
   atom_stop_goes_on (no_atom q) = quantifier_goes_on q
@@ -137,33 +137,33 @@ module _ (p : Profile) where
   atom_stop_goes_on (body_unclosed o b c l) = refl
   atom_stop_goes_on (without_branches o b c h) = refl
 
-  piece_stop_goes_on : {n : ℕ} {in_look : Bool} {f : Flags} {t : Text} {e : Fault} → PieceStops p n in_look f t e → ends_branch t ≡ false
+  piece_stop_goes_on : {n : ℕ} {in_look : Bool} {f : Flags} {t : Text} {e : Fault} → PieceFails p n in_look f t e → ends_branch t ≡ false
   piece_stop_goes_on (atom_stops s) = atom_stop_goes_on s
   piece_stop_goes_on (quantifiers_stop a s) = atom_goes_on a
 
   -- branches inside a construct, that stop or have no `)` behind them
-  inside_stopped : (n : ℕ) (in_look : Bool) (f : Flags) (t : Text) {e : Fault} → branches p (inner_at p n) (length t + 1) in_look f t ≡ Err e →
-      closed p (nested p n) in_look f t ≡ Err e
-  inside_stopped n in_look f t h = closed_stops p (nested p n) in_look f t (nested_is p n in_look f t ∙ h)
+  inside_stopped : (n : ℕ) (in_look : Bool) (f : Flags) (t : Text) {e : Fault} → branches p (inner_parser p n) (length t + 1) in_look f t ≡ Err e →
+      parse_group_body p (parse_alternation p n) in_look f t ≡ Err e
+  inside_stopped n in_look f t h = closed_stops p (parse_alternation p n) in_look f t (nested_is p n in_look f t ∙ h)
 
   inside_unclosed : (n : ℕ) (in_look : Bool) (f : Flags) (t : Text) {g : Flags} {rest : Text} {body : Branches} →
-      branches p (inner_at p n) (length t + 1) in_look f t ≡ Ok (body, g, rest) → NoClosing rest →
-      closed p (nested p n) in_look f t ≡ Err (at unclosed_open_paren [])
-  inside_unclosed n in_look f t h l = closed_lacks p (nested p n) in_look f t (nested_is p n in_look f t ∙ h) l
+      branches p (inner_parser p n) (length t + 1) in_look f t ≡ Ok (body, g, rest) → NoClosing rest →
+      parse_group_body p (parse_alternation p n) in_look f t ≡ Err (at unclosed_open_paren [])
+  inside_unclosed n in_look f t h l = closed_lacks p (parse_alternation p n) in_look f t (nested_is p n in_look f t ∙ h) l
 
   mutual
-    unfolding piece behind
+    unfolding parse_piece strip_prefix
 
-    pub atom_stop : {n : ℕ} {in_look : Bool} {f : Flags} {t : Text} {e : Fault} → AtomStops p n in_look f t e → atom p (inner_at p n) in_look f t ≡ Err e
-    atom_stop (class_stops {n} {in_look} {f} s) = class_stopped p (inner_at p n) in_look f s
-    atom_stop (escape_stops {n} {in_look} {f} s) = escape_stopped p (inner_at p n) in_look f s
-    atom_stop (no_atom {n} {in_look} {f} q) = no_atom_stopped p (inner_at p n) in_look f q
+    pub atom_stop : {n : ℕ} {in_look : Bool} {f : Flags} {t : Text} {e : Fault} → AtomFails p n in_look f t e → parse_atom p (inner_parser p n) in_look f t ≡ Err e
+    atom_stop (class_stops {n} {in_look} {f} s) = class_stopped p (inner_parser p n) in_look f s
+    atom_stop (escape_stops {n} {in_look} {f} s) = escape_stopped p (inner_parser p n) in_look f s
+    atom_stop (no_atom {n} {in_look} {f} q) = no_atom_stopped p (inner_parser p n) in_look f q
     atom_stop (too_deep {in_look} {f} {t}) = none_inside p in_look f t
     atom_stop (opening_stops {n} {in_look} {f} s) = opening_stopped p n in_look f s
     atom_stop (inside_stops {n} {in_look} {f = f} o h s) =
-        opened p n in_look f o ∙ construct_stops p (nested p n) _ _ h (inside_stopped n _ _ _ (branches_stop s _ (one_more_is_greater _)))
+        opened p n in_look f o ∙ construct_stops p (parse_alternation p n) _ _ h (inside_stopped n _ _ _ (branches_stop s _ (one_more_is_greater _)))
     atom_stop (unclosed {n} {in_look} {f = f} o h b l) =
-        opened p n in_look f o ∙ construct_stops p (nested p n) _ _ h (inside_unclosed n _ _ _ (branches_complete b _ (one_more_is_greater _)) l)
+        opened p n in_look f o ∙ construct_stops p (parse_alternation p n) _ _ h (inside_unclosed n _ _ _ (branches_complete b _ (one_more_is_greater _)) l)
     atom_stop (body_stops {n} {in_look} {f} o b s) =
         opened p n in_look f o ∙ condition_then p _ _ _ _ _ (inside n _ _ _ (branches_complete b _ (one_more_is_greater _)))
         ∙ body_stopped p _ _ _ (inside_stopped n _ _ _ (branches_stop s _ (one_more_is_greater _)))
@@ -174,27 +174,27 @@ module _ (p : Profile) where
         opened p n in_look f o ∙ condition_then p _ _ _ _ _ (inside n _ _ _ (branches_complete b _ (one_more_is_greater _)))
         ∙ no_branches p _ _ _ (inside n _ _ _ (branches_complete c _ (one_more_is_greater _))) h
 
-    pub piece_stop : {n : ℕ} {in_look : Bool} {f : Flags} {t : Text} {e : Fault} → PieceStops p n in_look f t e → piece p (inner_at p n) in_look f t ≡ Err e
+    pub piece_stop : {n : ℕ} {in_look : Bool} {f : Flags} {t : Text} {e : Fault} → PieceFails p n in_look f t e → parse_piece p (inner_parser p n) in_look f t ≡ Err e
     piece_stop (atom_stops s) = ap piece_from (atom_stop s)
     piece_stop (quantifiers_stop {g = g} {after = after} {a} {e} h s) =
         ap piece_from (atom_complete h)
-        ∙ ap (λ r. r >>= λ y. Ok (y.0, g, y.1)) ((quantifiers_are_exact p g (most_quantifiers p.oniguruma) a after).stop_is_complete e s)
+        ∙ ap (λ r. r >>= λ y. Ok (y.0, g, y.1)) ((quantifiers_are_exact p g (most_quantifiers p.oniguruma) a after).fault_is_complete e s)
 
-    pub branch_stop : {n : ℕ} {in_look : Bool} {f : Flags} {t : Text} {e : Fault} → BranchStops p n in_look f t e → (m : ℕ) → length t < m →
-        pieces p (inner_at p n) m in_look f t ≡ Err e
+    pub branch_stop : {n : ℕ} {in_look : Bool} {f : Flags} {t : Text} {e : Fault} → BranchFails p n in_look f t e → (m : ℕ) → length t < m →
+        parse_branch p (inner_parser p n) m in_look f t ≡ Err e
     branch_stop s zero k = absurd (not-suc-le-zero k)
-    branch_stop (layout_stops {n} {in_look} {f} s) (suc m) k = layout_stopped p (inner_at p n) m in_look f s
+    branch_stop (layout_stops {n} {in_look} {f} s) (suc m) k = layout_stopped p (inner_parser p n) m in_look f s
     branch_stop (piece_stops {n} {in_look} {f} s q) (suc m) k =
-        pieces_go_on p (inner_at p n) m in_look f s (piece_stop_goes_on q) ∙ ap (branch_from (inner_at p n) m in_look) (piece_stop q)
+        pieces_go_on p (inner_parser p n) m in_look f s (piece_stop_goes_on q) ∙ ap (branch_from (inner_parser p n) m in_look) (piece_stop q)
     branch_stop (later_piece_stops {n} {in_look} {f} {tree = tree} s q b) (suc m) k =
-        pieces_go_on p (inner_at p n) m in_look f s (piece_goes_on q) ∙ ap (branch_from (inner_at p n) m in_look) (piece_complete q)
+        pieces_go_on p (inner_parser p n) m in_look f s (piece_goes_on q) ∙ ap (branch_from (inner_parser p n) m in_look) (piece_complete q)
         ∙ ap (with_others tree) (branch_stop b m (let x = skipped_shorter s in let y = piece_shorter p q in omega arith))
 
-    pub branches_stop : {n : ℕ} {in_look : Bool} {f : Flags} {t : Text} {e : Fault} → BranchesStop p n in_look f t e → (m : ℕ) → length t < m →
-        branches p (inner_at p n) m in_look f t ≡ Err e
+    pub branches_stop : {n : ℕ} {in_look : Bool} {f : Flags} {t : Text} {e : Fault} → BranchesFail p n in_look f t e → (m : ℕ) → length t < m →
+        branches p (inner_parser p n) m in_look f t ≡ Err e
     branches_stop s zero k = absurd (not-suc-le-zero k)
     branches_stop (first_stops {n} {in_look} {f} {t} s) (suc m) k =
-        branch_then p (inner_at p n) m in_look f t (branch_stop s (length t + 1) (one_more_is_greater (length t)))
+        branch_then p (inner_parser p n) m in_look f t (branch_stop s (length t + 1) (one_more_is_greater (length t)))
     branches_stop (later_branch_stops {n} {in_look} {f} {t = t} {branch = branch} b s) (suc m) k =
-        branch_then p (inner_at p n) m in_look f t (branch_complete b (length t + 1) (one_more_is_greater (length t)))
+        branch_then p (inner_parser p n) m in_look f t (branch_complete b (length t + 1) (one_more_is_greater (length t)))
         ∙ ap (with_branches branch) (branches_stop s m (let x = branch_shorter p b in omega arith))

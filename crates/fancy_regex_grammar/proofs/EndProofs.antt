@@ -3,22 +3,22 @@ use Rattle.std.proofs.Common.{◌≤◌, ℕ, Bool, List, ◌∷◌, le_refl, le
 use Rattle.fancy_regex_text.specs.Text.{Text, bytes}
 use Rattle.fancy_regex_text.specs.Fault.{Fault}
 use Rattle.fancy_regex_lex.specs.declared.token.Flags.{Flags}
-use Rattle.fancy_regex_tree.specs.declared.profile.Profile.{Profile}
+use Rattle.fancy_regex_tree.specs.declared.parser_config.ParserConfig.{ParserConfig}
 use Rattle.fancy_regex_tree.specs.Tree.{Tree}
 use Rattle.fancy_regex_tree.specs.Quantifiers.{Atom}
-use Rattle.fancy_regex_tree.specs.Groups.{Branches}
-use Rattle.fancy_regex_tokens.proofs.EndProofs.{Ends, all, past, further, is_end, bytes_left, none_left, skipped_ends, quantifier_ends, marks_end, escape_ends, class_ends, opening_ends, layout_inside, class_inside, opening_inside}
-use Rattle.fancy_regex_grammar.specs.Quantifiers.{IsQuantified, no_more, enough, and_quantifier, QuantifiersStop, before_quantifier, too_many, no_target, before_marks, behind_quantifier}
+use Rattle.fancy_regex_tree.specs.Parser.{Branches}
+use Rattle.fancy_regex_lex_grammar.proofs.EndProofs.{Ends, all, past, further, is_end, bytes_left, none_left, skipped_ends, quantifier_ends, marks_end, escape_ends, class_ends, opening_ends, layout_inside, class_inside, opening_inside}
+use Rattle.fancy_regex_grammar.specs.Quantifiers.{IsQuantified, no_more, enough, and_quantifier, QuantifiersFail, before_quantifier, too_many, no_target, before_marks, behind_quantifier}
 use Rattle.fancy_regex_grammar.specs.Patterns.{IsAtom, dot, caret, dollar, a_class, escaped, character, capturing_group, bare_group, flag_setting, an_atomic_group, a_look_around, bare_condition, if_reference, if_expression, definitions, an_absent_repeater, absent_bounds, a_reference, a_call, a_verb, IsPiece, with_quantifiers, IsBranch, no_more_pieces, and_piece, IsBranches, last_branch, and_branch}
-use Rattle.fancy_regex_grammar.specs.Faults.{AtomStops, class_stops, escape_stops, no_atom, too_deep, opening_stops, inside_stops, unclosed, body_stops, body_unclosed, without_branches, PieceStops, atom_stops, quantifiers_stop, BranchStops, layout_stops, piece_stops, later_piece_stops, BranchesStop, first_stops, later_branch_stops, PatternStops, inside_pattern, nothing_to_close}
-use Rattle.fancy_regex_grammar.specs.Agree.{LeftIsEnd, FaultsAreInside}
+use Rattle.fancy_regex_grammar.specs.Faults.{AtomFails, class_stops, escape_stops, no_atom, too_deep, opening_stops, inside_stops, unclosed, body_stops, body_unclosed, without_branches, PieceFails, atom_stops, quantifiers_stop, BranchFails, layout_stops, piece_stops, later_piece_stops, BranchesFail, first_stops, later_branch_stops, PatternFails, inside_pattern, nothing_to_close}
+use Rattle.fancy_regex_grammar.specs.GrammarLaws.{RestIsSuffix, PatternFaultsAreInside}
 
-quantified_ends : {p : Profile} {f : Flags} {more : ℕ} {e : Atom} {t rest : Text} {whole : Tree} → IsQuantified p f more e t whole rest → Ends rest t
+quantified_ends : {p : ParserConfig} {f : Flags} {more : ℕ} {e : Atom} {t rest : Text} {whole : Tree} → IsQuantified p f more e t whole rest → Ends rest t
 quantified_ends (no_more s n) = skipped_ends s
 quantified_ends (enough s n) = skipped_ends s
 quantified_ends (and_quantifier s q m u more) = further (quantified_ends more) (further (marks_end m) (further (quantifier_ends q) (skipped_ends s)))
 
-quantifiers_inside : {p : Profile} {f : Flags} {more : ℕ} {e : Atom} {t : Text} {fault : Fault} → QuantifiersStop p f more e t fault → fault.left ≤ bytes t
+quantifiers_inside : {p : ParserConfig} {f : Flags} {more : ℕ} {e : Atom} {t : Text} {fault : Fault} → QuantifiersFail p f more e t fault → fault.left ≤ bytes t
 quantifiers_inside (before_quantifier l) = layout_inside l
 quantifiers_inside (too_many s h q) = bytes_left (skipped_ends s)
 quantifiers_inside (no_target s q h n) = bytes_left (skipped_ends s)
@@ -26,7 +26,7 @@ quantifiers_inside (before_marks s q d l) = le_trans (layout_inside l) (bytes_le
 quantifiers_inside (behind_quantifier s q m u more) =
     le_trans (quantifiers_inside more) (bytes_left (further (marks_end m) (further (quantifier_ends q) (skipped_ends s))))
 
-module _ (p : Profile) where
+module _ (p : ParserConfig) where
   -- behind a construct with this inside
   around : {t inside rest : Text} → Ends (0x29 ∷ rest) inside → Ends inside t → Ends rest (0x28 ∷ t)
   around h k = past (further (further (past all) h) k)
@@ -66,7 +66,7 @@ module _ (p : Profile) where
     branches_end (and_branch b c) = further (branches_end c) (further (past all) (branch_ends b))
 
   mutual
-    atom_inside : {n : ℕ} {in_look : Bool} {f : Flags} {t : Text} {e : Fault} → AtomStops p n in_look f t e → e.left ≤ bytes t
+    atom_inside : {n : ℕ} {in_look : Bool} {f : Flags} {t : Text} {e : Fault} → AtomFails p n in_look f t e → e.left ≤ bytes t
     atom_inside (class_stops s) = le_trans (class_inside s) (bytes_left (past all))
     atom_inside (escape_stops s) = le_of_eq s.place
     atom_inside (no_atom {t = t} q) = le_refl (bytes t)
@@ -78,25 +78,25 @@ module _ (p : Profile) where
     atom_inside (body_unclosed {t = t} o b c l) = none_left (0x28 ∷ t)
     atom_inside (without_branches {t = t} o b c h) = le_refl (bytes (0x28 ∷ t))
 
-    piece_inside : {n : ℕ} {in_look : Bool} {f : Flags} {t : Text} {e : Fault} → PieceStops p n in_look f t e → e.left ≤ bytes t
+    piece_inside : {n : ℕ} {in_look : Bool} {f : Flags} {t : Text} {e : Fault} → PieceFails p n in_look f t e → e.left ≤ bytes t
     piece_inside (atom_stops s) = atom_inside s
     piece_inside (quantifiers_stop a s) = le_trans (quantifiers_inside s) (bytes_left (atom_ends a))
 
-    branch_inside : {n : ℕ} {in_look : Bool} {f : Flags} {t : Text} {e : Fault} → BranchStops p n in_look f t e → e.left ≤ bytes t
+    branch_inside : {n : ℕ} {in_look : Bool} {f : Flags} {t : Text} {e : Fault} → BranchFails p n in_look f t e → e.left ≤ bytes t
     branch_inside (layout_stops s) = layout_inside s
     branch_inside (piece_stops s q) = le_trans (piece_inside q) (bytes_left (skipped_ends s))
     branch_inside (later_piece_stops s q b) = le_trans (branch_inside b) (bytes_left (further (piece_ends q) (skipped_ends s)))
 
-    branches_inside : {n : ℕ} {in_look : Bool} {f : Flags} {t : Text} {e : Fault} → BranchesStop p n in_look f t e → e.left ≤ bytes t
+    branches_inside : {n : ℕ} {in_look : Bool} {f : Flags} {t : Text} {e : Fault} → BranchesFail p n in_look f t e → e.left ≤ bytes t
     branches_inside (first_stops s) = branch_inside s
     branches_inside (later_branch_stops b s) = le_trans (branches_inside s) (bytes_left (further (past all) (branch_ends b)))
 
-  pattern_inside : {f : Flags} {t : Text} {e : Fault} → PatternStops p f t e → e.left ≤ bytes t
+  pattern_inside : {f : Flags} {t : Text} {e : Fault} → PatternFails p f t e → e.left ≤ bytes t
   pattern_inside (inside_pattern s) = branches_inside s
   pattern_inside (nothing_to_close b n) = bytes_left (branches_end b)
 
-pub left_is_end : LeftIsEnd
+pub left_is_end : RestIsSuffix
 left_is_end p n in_look f g t rest body b = is_end (branches_end p b)
 
-pub faults_are_inside : FaultsAreInside
-faults_are_inside p f t e s = pattern_inside p s
+pub pattern_faults_are_inside : PatternFaultsAreInside
+pattern_faults_are_inside p f t e s = pattern_inside p s

@@ -1,7 +1,7 @@
-pub mod Fronts
+pub mod LengthLemmas
 pub mod QuantifierProofs
 pub mod Soundness
-pub mod Steps
+pub mod ReadingLemmas
 pub mod Completeness
 pub mod BranchProofs
 pub mod PatternProofs

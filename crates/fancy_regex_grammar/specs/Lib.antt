@@ -2,4 +2,4 @@ pub mod Quantifiers
 pub mod Patterns
 pub mod Faults
 pub mod Shapes
-pub mod Agree
+pub mod GrammarLaws

@@ -1,34 +1,34 @@
--- Constructs, atoms, pieces and branches: the text, and what is left behind what is read.
+-- The grammar of atoms, pieces and branches.
 use Rattle.std.specs.Prelude.{◌≡◌, ◌≢◌, ℕ, ℤ, suc, Bool, true, false, List, [], ◌∷◌, Option}
 use Rattle.fancy_regex_text.specs.Text.{Text, ◌∈◌}
 use Rattle.fancy_regex_text.specs.Names.{Named}
 use Rattle.fancy_regex_lex.specs.Escapes.{Escape}
-use Rattle.fancy_regex_lex.specs.Counts.{most_quantifiers}
-use Rattle.fancy_regex_lex.specs.Openings.{capturing, bare, setting, atomic, look, if_set, if_matches, define, absent, absent_bar, whole_reference, whole_call, whole_verb}
+use Rattle.fancy_regex_lex.specs.Quantifiers.{most_quantifiers}
+use Rattle.fancy_regex_lex.specs.Openings.{capturing, non_capturing, set_flags, atomic, look, if_set, if_matches, define, absent, absent_bar, whole_reference, whole_call, whole_verb}
 use Rattle.fancy_regex_lex.specs.declared.token.Flags.{Flags}
 use Rattle.fancy_regex_lex.specs.declared.token.Look.{Look}
 use Rattle.fancy_regex_lex.specs.declared.token.Verb.{Verb}
-use Rattle.fancy_regex_tree.specs.declared.profile.Profile.{Profile}
+use Rattle.fancy_regex_tree.specs.declared.parser_config.ParserConfig.{ParserConfig}
 use Rattle.fancy_regex_tree.specs.Tree.{Tree, empty, any, delegate, look_around, atomic_group, verb, absent_repeater, define_group, ast_group, ast_backref, ast_call, ast_condition}
-use Rattle.fancy_regex_tree.specs.Shapes.{pattern_of}
+use Rattle.fancy_regex_tree.specs.TreeBuilders.{pattern_of}
 use Rattle.fancy_regex_tree.specs.Atoms.{place, target_named, look_of, verb_of, char_tree, escape_tree, line_start, line_end}
 use Rattle.fancy_regex_tree.specs.Quantifiers.{Atom}
-use Rattle.fancy_regex_tree.specs.Groups.{Branches, plain, is_nothing, yes_and_no, absent_bar_of}
-use Rattle.fancy_regex_tokens.specs.Layout.{IsSkipped}
-use Rattle.fancy_regex_tokens.specs.Escapes.{IsEscape}
-use Rattle.fancy_regex_tokens.specs.Classes.{IsClass}
-use Rattle.fancy_regex_tokens.specs.Openings.{IsOpening}
+use Rattle.fancy_regex_tree.specs.Parser.{Branches, plain, is_empty_body, conditional_of_branches, absent_bar_of}
+use Rattle.fancy_regex_lex_grammar.specs.Layout.{IsSkipped}
+use Rattle.fancy_regex_lex_grammar.specs.Escapes.{IsEscape}
+use Rattle.fancy_regex_lex_grammar.specs.Classes.{IsClass}
+use Rattle.fancy_regex_lex_grammar.specs.Openings.{IsOpening}
 use Rattle.fancy_regex_grammar.specs.Quantifiers.{NoQuantifier, IsQuantified}
 
--- no piece begins here: the end of the text, `|` or `)`
+-- a branch ends here: at the end of the text, `|` or `)`
 pub data EndsBranch : Text → Type 0 where
   at_end : EndsBranch []
   at_bar : {t : Text} → EndsBranch (0x7C ∷ t)
   at_close : {t : Text} → EndsBranch (0x29 ∷ t)
 
-module _ (p : Profile) where
-  -- In each, so many more levels of parentheses may nest; then whether the place is in a look-around, the flags there, the text, what
-  -- it is read as, the flags behind it, and what is left.
+module _ (p : ParserConfig) where
+  -- The arguments of each: how many more levels of parentheses may nest, whether the position is in a look-around, the flags, the text, what it
+  -- parses to, the flags after it, and the rest.
   mutual
     pub data IsAtom : ℕ → Bool → Flags → Text → Atom → Flags → Text → Type 0 where
       dot : {n : ℕ} {in_look : Bool} {f : Flags} {t : Text} → IsAtom n in_look f (0x2E ∷ t) (plain (any f.dot_newline f.crlf)) f t
@@ -38,18 +38,18 @@ module _ (p : Profile) where
           IsAtom n in_look f (0x5B ∷ t) (plain (delegate text f.casei)) f rest
       escaped : {n : ℕ} {in_look : Bool} {f : Flags} {t rest : Text} {e : Escape} → IsEscape p.oniguruma t e rest →
           IsAtom n in_look f (0x5C ∷ t) (plain (escape_tree p f (place p (0x5C ∷ t)) e)) f rest
-      -- any other, where no quantifier begins
+      -- any other character that begins no quantifier
       character : {n : ℕ} {in_look : Bool} {f : Flags} {c : ℕ} {t : Text} → c ∈ "([\\.^$|)" ≡ false → NoQuantifier f.verbose (c ∷ t) →
           IsAtom n in_look f (c ∷ t) (plain (char_tree f c)) f t
-      -- `(..)`, `(?<n>..)`: restores no flags
+      -- `(..)`, `(?<n>..)`: flags that are set in it stay set after it
       capturing_group : {n : ℕ} {in_look : Bool} {f g : Flags} {t inside rest : Text} {name : Option Text} {body : Branches} →
           IsOpening p.unicode f t (capturing name) inside → IsBranches n in_look f inside body g (0x29 ∷ rest) →
           IsAtom (suc n) in_look f (0x28 ∷ t) (plain (ast_group name (pattern_of body) (place p (0x28 ∷ t)))) g rest
-      -- `(?fl:..)`: the flags before it are restored
+      -- `(?flags:..)`: the flags before it are restored after it
       bare_group : {n : ℕ} {in_look : Bool} {f g changed : Flags} {t inside rest : Text} {body : Branches} →
-          IsOpening p.unicode f t (bare changed) inside → IsBranches n in_look changed inside body g (0x29 ∷ rest) →
-          IsAtom (suc n) in_look f (0x28 ∷ t) (record { tree = pattern_of body; is_bare_group = true }) f rest
-      flag_setting : {n : ℕ} {in_look : Bool} {f changed : Flags} {t rest : Text} → IsOpening p.unicode f t (setting changed) rest →
+          IsOpening p.unicode f t (non_capturing changed) inside → IsBranches n in_look changed inside body g (0x29 ∷ rest) →
+          IsAtom (suc n) in_look f (0x28 ∷ t) (record { tree = pattern_of body; is_non_capturing_group = true }) f rest
+      flag_setting : {n : ℕ} {in_look : Bool} {f changed : Flags} {t rest : Text} → IsOpening p.unicode f t (set_flags changed) rest →
           IsAtom (suc n) in_look f (0x28 ∷ t) (plain empty) changed rest
       an_atomic_group : {n : ℕ} {in_look : Bool} {f g : Flags} {t inside rest : Text} {body : Branches} →
           IsOpening p.unicode f t atomic inside → IsBranches n in_look f inside body g (0x29 ∷ rest) →
@@ -58,15 +58,15 @@ module _ (p : Profile) where
           IsOpening p.unicode f t (look k) inside → IsBranches n true f inside body g (0x29 ∷ rest) →
           IsAtom (suc n) in_look f (0x28 ∷ t) (plain (look_around (pattern_of body) (look_of k))) g rest
       bare_condition : {n : ℕ} {in_look : Bool} {f g : Flags} {t inside rest : Text} {body : Branches} {target : Named} {level : Option ℤ} →
-          IsOpening p.unicode f t (if_set target level) inside → IsBranches n in_look f inside body g (0x29 ∷ rest) → is_nothing body ≡ true →
+          IsOpening p.unicode f t (if_set target level) inside → IsBranches n in_look f inside body g (0x29 ∷ rest) → is_empty_body body ≡ true →
           IsAtom (suc n) in_look f (0x28 ∷ t) (plain (ast_condition (target_named target) level (place p (0x28 ∷ t)))) g rest
       if_reference : {n : ℕ} {in_look : Bool} {f g : Flags} {t inside rest : Text} {body : Branches} {target : Named} {level : Option ℤ} →
-          IsOpening p.unicode f t (if_set target level) inside → IsBranches n in_look f inside body g (0x29 ∷ rest) → is_nothing body ≡ false →
-          IsAtom (suc n) in_look f (0x28 ∷ t) (plain (yes_and_no (ast_condition (target_named target) level (place p (0x28 ∷ t))) body)) g rest
+          IsOpening p.unicode f t (if_set target level) inside → IsBranches n in_look f inside body g (0x29 ∷ rest) → is_empty_body body ≡ false →
+          IsAtom (suc n) in_look f (0x28 ∷ t) (plain (conditional_of_branches (ast_condition (target_named target) level (place p (0x28 ∷ t))) body)) g rest
       if_expression : {n : ℕ} {in_look : Bool} {f g h : Flags} {t inside between rest : Text} {c body : Branches} →
           IsOpening p.unicode f t if_matches inside → IsBranches n in_look f inside c g (0x29 ∷ between) →
-          IsBranches n in_look g between body h (0x29 ∷ rest) → is_nothing body ≡ false →
-          IsAtom (suc n) in_look f (0x28 ∷ t) (plain (yes_and_no (pattern_of c) body)) h rest
+          IsBranches n in_look g between body h (0x29 ∷ rest) → is_empty_body body ≡ false →
+          IsAtom (suc n) in_look f (0x28 ∷ t) (plain (conditional_of_branches (pattern_of c) body)) h rest
       definitions : {n : ℕ} {in_look : Bool} {f g : Flags} {t inside rest : Text} {body : Branches} →
           IsOpening p.unicode f t define inside → IsBranches n in_look f inside body g (0x29 ∷ rest) →
           IsAtom (suc n) in_look f (0x28 ∷ t) (plain (define_group (pattern_of body))) g rest
@@ -103,7 +103,7 @@ module _ (p : Profile) where
           IsBranch n in_look f t branch g (0x7C ∷ after) → IsBranches n in_look g after others h rest →
           IsBranches n in_look f t (branch ∷ others) h rest
 
-  -- the whole text is read as this tree, in which 63 levels may nest
+  -- the whole text parses to this tree, in which at most 63 levels nest
   pub record IsPattern (f : Flags) (t : Text) (e : Tree) : Type 0 where
     pub body : Branches
     pub flags_behind : Flags

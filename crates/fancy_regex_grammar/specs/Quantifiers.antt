@@ -1,21 +1,21 @@
--- What quantifiers make of an atom.
+-- Atoms with quantifiers.
 use Rattle.std.specs.Prelude.{◌≡◌, ◌≤◌, ◌<◌, ℕ, zero, suc, Bool, true, false}
 use Rattle.fancy_regex_text.specs.Text.{Text}
 use Rattle.fancy_regex_text.specs.Fault.{Fault, recursion_exceeded, target_not_repeatable}
-use Rattle.fancy_regex_lex.specs.declared.token.Count.{Count}
-use Rattle.fancy_regex_lex.specs.declared.token.Marks.{Marks}
+use Rattle.fancy_regex_lex.specs.declared.token.Quantifier.{Quantifier}
+use Rattle.fancy_regex_lex.specs.declared.token.QuantifierSuffix.{QuantifierSuffix}
 use Rattle.fancy_regex_lex.specs.declared.token.Flags.{Flags}
-use Rattle.fancy_regex_tree.specs.declared.profile.Profile.{Profile}
+use Rattle.fancy_regex_tree.specs.declared.parser_config.ParserConfig.{ParserConfig}
 use Rattle.fancy_regex_tree.specs.Tree.{Tree, empty, repeat, atomic_group}
-use Rattle.fancy_regex_tree.specs.Shapes.{is_repeatable}
+use Rattle.fancy_regex_tree.specs.TreeBuilders.{is_repeatable}
 use Rattle.fancy_regex_tree.specs.Quantifiers.{Atom}
-use Rattle.fancy_regex_tokens.specs.Exact.{at}
-use Rattle.fancy_regex_tokens.specs.Layout.{IsSkipped, LayoutStops}
-use Rattle.fancy_regex_tokens.specs.Counts.{IsQuantifier, IsMarks}
+use Rattle.fancy_regex_lex_grammar.specs.Exact.{at}
+use Rattle.fancy_regex_lex_grammar.specs.Layout.{IsSkipped, LayoutFails}
+use Rattle.fancy_regex_lex_grammar.specs.Counts.{IsQuantifier, IsMarks}
 
--- no quantifier begins here
+-- the text does not begin with a quantifier
 abbrev pub NoQuantifier : Bool → Text → Type 0
-NoQuantifier verbose t = (count : Count) (rest : Text) → IsQuantifier verbose t count rest → ⊥
+NoQuantifier verbose t = (count : Quantifier) (rest : Text) → IsQuantifier verbose t count rest → ⊥
 
 -- Whether a quantifier is greedy, by its mark `?` and the flag U.
 pub data IsGreedy : Bool → Bool → Bool → Type 0 where
@@ -24,14 +24,14 @@ pub data IsGreedy : Bool → Bool → Bool → Type 0 where
   swapped_to_lazy : IsGreedy false true false
   swapped_to_greedy : IsGreedy true true true
 
-module _ (p : Profile) (f : Flags) where
-  -- bounds in order, which in Oniguruma mode a repeat wants
-  pub data IsInOrder (count : Count) : Type 0 where
+module _ (p : ParserConfig) (f : Flags) where
+  -- the bounds are in order; only Oniguruma mode needs that for a plain repetition
+  pub data IsInOrder (count : Quantifier) : Type 0 where
     in_plain_mode : p.oniguruma ≡ false → IsInOrder count
     not_reversed : count.lo ≤ count.hi → IsInOrder count
 
-  -- a tree under a quantifier and its marks
-  pub data IsRepeated (count : Count) (marks : Marks) (e : Tree) : Tree → Type 0 where
+  -- the tree of an expression with a quantifier and its marks
+  pub data IsRepeated (count : Quantifier) (marks : QuantifierSuffix) (e : Tree) : Tree → Type 0 where
     a_repeat : {greedy : Bool} → IsInOrder count → marks.possessive ≡ false → IsGreedy marks.lazy f.swap_greed greedy →
         IsRepeated count marks e (repeat e count.lo count.hi greedy)
     possessive : {greedy : Bool} → IsInOrder count → marks.possessive ≡ true → IsGreedy marks.lazy f.swap_greed greedy →
@@ -39,38 +39,38 @@ module _ (p : Profile) (f : Flags) where
     reversed : {greedy : Bool} → p.oniguruma ≡ true → count.hi < count.lo → IsGreedy marks.lazy f.swap_greed greedy →
         IsRepeated count marks e (atomic_group (repeat e count.hi count.lo greedy))
 
-  -- in Oniguruma mode a quantifier on a written empty group is dropped
+  -- in Oniguruma mode a quantifier on an empty `(?:)` is dropped
   pub record IsDropped (e : Atom) : Type 0 where
     pub mode : p.oniguruma ≡ true
-    pub written : e.is_bare_group ≡ true
+    pub written : e.is_non_capturing_group ≡ true
     pub nothing : e.tree ≡ empty
 
-  -- what an atom is under a quantifier and its marks
-  pub data IsUnder (count : Count) (marks : Marks) (e : Atom) : Tree → Type 0 where
-    repeats : {tree : Tree} → is_repeatable e.tree ≡ true → IsRepeated count marks e.tree tree → IsUnder count marks e tree
-    dropped : IsDropped e → IsUnder count marks e empty
+  -- the tree of an atom with one quantifier and its marks
+  pub data IsQuantifierApplied (count : Quantifier) (marks : QuantifierSuffix) (e : Atom) : Tree → Type 0 where
+    repeats : {tree : Tree} → is_repeatable e.tree ≡ true → IsRepeated count marks e.tree tree → IsQuantifierApplied count marks e tree
+    dropped : IsDropped e → IsQuantifierApplied count marks e empty
 
-  -- the quantifiers behind an atom, of which so many may stand there: the tree, and what is left
+  -- the quantifiers after an atom, of which at most this many are allowed: the tree, and the rest
   pub data IsQuantified : ℕ → Atom → Text → Tree → Text → Type 0 where
     no_more : {more : ℕ} {e : Atom} {t here : Text} → IsSkipped f.verbose t here → NoQuantifier f.verbose here →
         IsQuantified (suc more) e t e.tree here
-    -- in plain mode a quantifier that stands there begins a piece of its own
+    -- outside of Oniguruma mode one more quantifier begins a piece of its own
     enough : {e : Atom} {t here : Text} → IsSkipped f.verbose t here → (p.oniguruma ≡ true → NoQuantifier f.verbose here) →
         IsQuantified zero e t e.tree here
-    and_quantifier : {more : ℕ} {e : Atom} {t here marked behind rest : Text} {count : Count} {marks : Marks} {tree whole : Tree} →
+    and_quantifier : {more : ℕ} {e : Atom} {t here marked behind rest : Text} {count : Quantifier} {marks : QuantifierSuffix} {tree whole : Tree} →
         IsSkipped f.verbose t here → IsQuantifier f.verbose here count marked → IsMarks p.oniguruma f.verbose count.braces marked marks behind →
-        IsUnder count marks e tree → IsQuantified more (record e { tree = tree }) behind whole rest → IsQuantified (suc more) e t whole rest
+        IsQuantifierApplied count marks e tree → IsQuantified more (record e { tree = tree }) behind whole rest → IsQuantified (suc more) e t whole rest
 
-  -- where quantifiers stop
-  pub data QuantifiersStop : ℕ → Atom → Text → Fault → Type 0 where
-    before_quantifier : {more : ℕ} {e : Atom} {t : Text} {fault : Fault} → LayoutStops f.verbose t fault → QuantifiersStop more e t fault
-    too_many : {e : Atom} {t here rest : Text} {count : Count} → IsSkipped f.verbose t here → p.oniguruma ≡ true →
-        IsQuantifier f.verbose here count rest → QuantifiersStop zero e t (at recursion_exceeded here)
-    no_target : {more : ℕ} {e : Atom} {t here marked : Text} {count : Count} → IsSkipped f.verbose t here → IsQuantifier f.verbose here count marked →
-        is_repeatable e.tree ≡ false → (IsDropped e → ⊥) → QuantifiersStop (suc more) e t (at target_not_repeatable here)
-    before_marks : {more : ℕ} {e : Atom} {t here marked : Text} {count : Count} {fault : Fault} → IsSkipped f.verbose t here →
-        IsQuantifier f.verbose here count marked → (is_repeatable e.tree ≡ false → IsDropped e) → LayoutStops f.verbose marked fault →
-        QuantifiersStop (suc more) e t fault
-    behind_quantifier : {more : ℕ} {e : Atom} {t here marked behind : Text} {count : Count} {marks : Marks} {tree : Tree} {fault : Fault} →
+  -- where quantifiers fail, and the error
+  pub data QuantifiersFail : ℕ → Atom → Text → Fault → Type 0 where
+    before_quantifier : {more : ℕ} {e : Atom} {t : Text} {fault : Fault} → LayoutFails f.verbose t fault → QuantifiersFail more e t fault
+    too_many : {e : Atom} {t here rest : Text} {count : Quantifier} → IsSkipped f.verbose t here → p.oniguruma ≡ true →
+        IsQuantifier f.verbose here count rest → QuantifiersFail zero e t (at recursion_exceeded here)
+    no_target : {more : ℕ} {e : Atom} {t here marked : Text} {count : Quantifier} → IsSkipped f.verbose t here → IsQuantifier f.verbose here count marked →
+        is_repeatable e.tree ≡ false → (IsDropped e → ⊥) → QuantifiersFail (suc more) e t (at target_not_repeatable here)
+    before_marks : {more : ℕ} {e : Atom} {t here marked : Text} {count : Quantifier} {fault : Fault} → IsSkipped f.verbose t here →
+        IsQuantifier f.verbose here count marked → (is_repeatable e.tree ≡ false → IsDropped e) → LayoutFails f.verbose marked fault →
+        QuantifiersFail (suc more) e t fault
+    behind_quantifier : {more : ℕ} {e : Atom} {t here marked behind : Text} {count : Quantifier} {marks : QuantifierSuffix} {tree : Tree} {fault : Fault} →
         IsSkipped f.verbose t here → IsQuantifier f.verbose here count marked → IsMarks p.oniguruma f.verbose count.braces marked marks behind →
-        IsUnder count marks e tree → QuantifiersStop more (record e { tree = tree }) behind fault → QuantifiersStop (suc more) e t fault
+        IsQuantifierApplied count marks e tree → QuantifiersFail more (record e { tree = tree }) behind fault → QuantifiersFail (suc more) e t fault

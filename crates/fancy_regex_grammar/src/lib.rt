@@ -1,32 +1,33 @@
-//! The grammar of patterns as a relation on a text and what is left of it, beside the functions that read it. There is no code
-//! here, but relations and laws.
+//! The grammar of patterns, as relations between a text, the syntax tree at its beginning and the rest of the text. The laws say that the
+//! parser returns exactly the tree or the error that the relations allow. Laws only: every function here has an empty body.
 #![tactic(auto)]
 
-ghost use Rattle.fancy_regex_grammar.specs.Agree.{BranchesAreExact, FaultsAreInside, LeftIsEnd, PatternsAreExact, QuantifiersAreExact};
+ghost use Rattle.fancy_regex_grammar.specs.GrammarLaws.{BranchesAreExact, PatternFaultsAreInside, RestIsSuffix, PatternsAreExact, QuantifiersAreExact};
 ghost use Rattle.fancy_regex_grammar.specs.Shapes.{ShapesAreExact};
 
-/// The quantifiers behind an atom are read as their rows say, or stop.
+/// The quantifiers after an atom are parsed, or fail, exactly as the grammar says.
 pub fn quantifiers_are_exact()
     ensures { QuantifiersAreExact }
 {}
 
-/// Branches are read as the rows of constructs, atoms, pieces and branches say, or stop at the first part that stops.
+/// The branches of an alternation are parsed exactly as the grammar of atoms, pieces and branches says, or fail at the first part that fails.
 pub fn branches_are_exact()
     ensures { BranchesAreExact }
 {}
 
-/// A whole pattern has the tree or the fault that the relations give it, and no other.
+/// For each whole pattern the parser returns the tree or the error that the grammar gives; the grammar gives exactly one of the two.
 pub fn patterns_are_exact()
     ensures { PatternsAreExact }
 {}
 
-/// What is left behind branches is an end of the text, and no fault of a pattern lies outside of it.
-pub fn patterns_are_fronts()
-    ensures left { LeftIsEnd }
-    ensures faults { FaultsAreInside }
+/// The rest after branches is a suffix of the text. The position of a parse error is inside the pattern or at its end.
+pub fn patterns_are_prefixes()
+    ensures left { RestIsSuffix }
+    ensures faults { PatternFaultsAreInside }
 {}
 
-/// Rows of pieces, branches, conditionals, absent operators and anchors become the trees that their rows say.
+/// The parser builds exactly the trees that the grammar gives for sequences of pieces, alternations, conditionals, absent operators, anchors
+/// and escapes.
 pub fn shapes_are_exact()
     ensures { ShapesAreExact }
 {}

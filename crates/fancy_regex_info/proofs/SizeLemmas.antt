@@ -3,34 +3,34 @@ use Rattle.std.proofs.Common.{◌≡◌, ℕ, ◌+◌, ◌-◌, ◌<◌, ◌≤�
 use Rattle.std.proofs.lemmas.List.{at_drop_more}
 use Rattle.fancy_regex_tree.specs.Tree.{tree_of, trees}
 use Rattle.fancy_regex_tree.specs.declared.expr.Expr.{Expr}
-use Rattle.fancy_regex_meaning.specs.Sizes.{Size, always_size, both_sizes, either_size, size_with, sum_size, branch_size}
+use Rattle.fancy_regex_meaning.specs.Sizes.{Size, always_size, both_sizes, either_size, size_with, concat_size, alternation_size}
 use Rattle.fancy_regex_info.proofs.RowLemmas.{one_before, at_end, at_last}
 
 module _ (call : ℕ → Size) where
   abbrev row : List Expr → Size
-  row xs = sum_size call (trees (map tree_of xs))
+  row xs = concat_size call (trees (map tree_of xs))
 
   abbrev branches : List Expr → Size
-  branches xs = branch_size call (trees (map tree_of xs))
+  branches xs = alternation_size call (trees (map tree_of xs))
 
   pub row_of_none : row [] ≡ always_size 0
-  unfolding size_with sum_size branch_size
+  unfolding size_with concat_size alternation_size
   row_of_none = refl
 
   row_of_more : (x : Expr) (xs : List Expr) → row (x ∷ xs) ≡ both_sizes (size_with call (tree_of x)) (row xs)
-  unfolding size_with sum_size branch_size
+  unfolding size_with concat_size alternation_size
   row_of_more x xs = refl
 
   pub branches_of_none : branches [] ≡ always_size 0
-  unfolding size_with sum_size branch_size
+  unfolding size_with concat_size alternation_size
   branches_of_none = refl
 
   branches_of_one : (x : Expr) → branches (x ∷ []) ≡ size_with call (tree_of x)
-  unfolding size_with sum_size branch_size
+  unfolding size_with concat_size alternation_size
   branches_of_one x = refl
 
   branches_of_more : (x y : Expr) (xs : List Expr) → branches (x ∷ y ∷ xs) ≡ either_size (size_with call (tree_of x)) (branches (y ∷ xs))
-  unfolding size_with sum_size branch_size
+  unfolding size_with concat_size alternation_size
   branches_of_more x y xs = refl
 
   pub row_end : (xs : List Expr) → row (drop (length xs) xs) ≡ always_size 0

@@ -5,14 +5,14 @@ use Rattle.std.proofs.lemmas.Bool.{cases_lt}
 use Rattle.fancy_regex_tree.specs.Tree.{Tree}
 use Rattle.fancy_regex_tree.specs.declared.expr.Expr.{Expr}
 use Rattle.fancy_regex_meaning.specs.Sizes.{Size, any_size, endless_size, size_with, target}
-use Rattle.fancy_regex_info.specs.Reach.{rows, has, through}
-use Rattle.fancy_regex_info.specs.Rounds.{is_reached_again, size_when, size_of_target, next_size, size_in_round}
-use Rattle.fancy_regex_info.specs.Survey.{reads_in}
+use Rattle.fancy_regex_info.specs.Reachability.{rows, has, through}
+use Rattle.fancy_regex_info.specs.SizeFixpoint.{is_on_cycle, size_when, size_of_target, next_size, size_in_round}
+use Rattle.fancy_regex_info.specs.AnalysisRelations.{mark_at}
 use Rattle.fancy_regex_info.specs.Views.{size_of, size_at, body_tree}
 use Rattle.fancy_regex_info.specs.declared.size.Size as code
-use Rattle.fancy_regex_info.proofs.ReachLemmas.{row_at, length_rows}
+use Rattle.fancy_regex_info.proofs.ReachabilityLemmas.{row_at, length_rows}
 
-pub reads_at : (bs : List Bool) (k : ℕ) → reads_in bs k ≡ get_or bs k false
+pub reads_at : (bs : List Bool) (k : ℕ) → mark_at bs k ≡ get_or bs k false
 reads_at [] k = refl
 reads_at (b ∷ bs) zero = refl
 reads_at (b ∷ bs) (suc k) = reads_at bs k
@@ -23,27 +23,27 @@ none_reached edges zero k = refl
 none_reached edges (suc n) k = refl
 
 pub not_again : (calls : List (Vec ℕ Global)) (k : ℕ) (v : Vec ℕ Global) → k < length calls → v ≡ get_or calls k v → v.items ≡ [] →
-    false ≡ is_reached_again (rows calls) k
+    false ≡ is_on_cycle (rows calls) k
 not_again calls k v inside is none =
     sym (ap (λ s. has (through (rows calls) (length (rows calls)) s) k) (row_at calls k v inside is ∙ none)
     ∙ none_reached (rows calls) (length (rows calls)) k)
 
 pub again : (calls : List (Vec ℕ Global)) (k : ℕ) (v : Vec ℕ Global) (starts : List ℕ) (seen now : List Bool) (b : Bool) → k < length calls →
-    v ≡ get_or calls k v → starts ≡ v.items → now ≡ seen → b ≡ reads_in now k →
-    get_or seen k false ≡ has (through (rows calls) (length calls) starts) k → b ≡ is_reached_again (rows calls) k
+    v ≡ get_or calls k v → starts ≡ v.items → now ≡ seen → b ≡ mark_at now k →
+    get_or seen k false ≡ has (through (rows calls) (length calls) starts) k → b ≡ is_on_cycle (rows calls) k
 again calls k v starts seen now b inside is begun same told marked =
-    told ∙ ap (λ bs. reads_in bs k) same ∙ reads_at seen k ∙ marked
+    told ∙ ap (λ bs. mark_at bs k) same ∙ reads_at seen k ∙ marked
     ∙ ap₂ (λ n s. has (through (rows calls) n s) k) (sym (length_rows calls)) (begun ∙ sym (row_at calls k v inside is))
 
 -- one mark more
 pub marked_more : (calls : List (List ℕ)) (xs ys : List Bool) (g : ℕ) (y : Bool) → length xs ≡ g → ys ≡ xs ++ y ∷ [] →
-    y ≡ is_reached_again calls g → ((k : ℕ) → k < g → get_or xs k false ≡ is_reached_again calls k) →
-    (k : ℕ) → k < g + 1 → get_or ys k false ≡ is_reached_again calls k
+    y ≡ is_on_cycle calls g → ((k : ℕ) → k < g → get_or xs k false ≡ is_on_cycle calls k) →
+    (k : ℕ) → k < g + 1 → get_or ys k false ≡ is_on_cycle calls k
 marked_more calls xs ys g y long is now before k lt =
     ap (λ zs. get_or zs k false) is
     ∙ ⊎_elim
     (λ (below : k < g). get_left xs y k (omega arith) ∙ before k below)
-    (λ (above : g ≤ k). get_last xs y k (omega arith) ∙ now ∙ ap (is_reached_again calls) (let e : g ≡ k = omega arith in e))
+    (λ (above : g ≤ k). get_last xs y k (omega arith) ∙ now ∙ ap (is_on_cycle calls) (let e : g ≡ k = omega arith in e))
     (cases_lt k g)
   where
     get_left : (bs : List Bool) (c : Bool) (i : ℕ) → i < length bs → get_or (bs ++ c ∷ []) i false ≡ get_or bs i false
@@ -86,7 +86,7 @@ no_body (g ∷ gs) (suc k) h = no_body gs k (omega arith)
 -- one size more
 pub sizes_more : (gs : List (Bor Expr)) (recursive : List Bool) (call : ℕ → Size) (xs ys : List code.Size) (g : ℕ) (e : Bor Expr) (y : code.Size) →
     length xs ≡ g → g < length gs → e ≡ get_or gs g e → ys ≡ xs ++ y ∷ [] →
-    size_of y ≡ size_when (reads_in recursive g) (size_with call (body_tree e)) →
+    size_of y ≡ size_when (mark_at recursive g) (size_with call (body_tree e)) →
     ((k : ℕ) → k < g → size_at xs k ≡ next_size (map body_tree gs) recursive call k) →
     (k : ℕ) → k < g + 1 → size_at ys k ≡ next_size (map body_tree gs) recursive call k
 sizes_more gs recursive call xs ys g e y long inside is made now before k lt =
@@ -96,7 +96,7 @@ sizes_more gs recursive call xs ys g e y long inside is made now before k lt =
     (λ (above : g ≤ k).
     let here : g ≡ k = omega arith in
     at_last xs y k (omega arith) ∙ now
-    ∙ sym (ap (size_of_target (λ body. size_when (reads_in recursive g) (size_with call body))) (body_at gs g e inside is))
+    ∙ sym (ap (size_of_target (λ body. size_when (mark_at recursive g) (size_with call body))) (body_at gs g e inside is))
     ∙ ap (next_size (map body_tree gs) recursive call) here)
     (cases_lt k g)
 
@@ -108,7 +108,7 @@ sizes_all gs recursive call xs g long past within before k =
     (λ (below : k < g). before k below)
     (λ (above : g ≤ k).
     at_none xs k (omega arith)
-    ∙ sym (ap (size_of_target (λ body. size_when (reads_in recursive k) (size_with call body))) (no_body gs k (omega arith))))
+    ∙ sym (ap (size_of_target (λ body. size_when (mark_at recursive k) (size_with call body))) (no_body gs k (omega arith))))
     (cases_lt k g)
 
 -- before the first round

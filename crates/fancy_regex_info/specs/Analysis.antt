@@ -1,7 +1,7 @@
--- What the analysis says of a whole tree.
+-- The analysis of a whole tree.
 use Rattle.std.specs.Prelude.{Bool, length}
 use Rattle.fancy_regex_tree.specs.Tree.{Tree}
-use Rattle.fancy_regex_info.specs.Infos.{InfoTree, described}
+use Rattle.fancy_regex_info.specs.Infos.{InfoTree, expected_info}
 use Rattle.fancy_regex_info.specs.References.{is_read}
 use Rattle.fancy_regex_info.specs.Views.{pattern_in}
 
@@ -9,4 +9,4 @@ use Rattle.fancy_regex_info.specs.Views.{pattern_in}
 abbrev pub analysis : Bool → Tree → InfoTree
 analysis explicit t =
     let pattern = pattern_in explicit t in
-    described pattern.groups (is_read (length pattern.groups) t) pattern.first_group t
+    expected_info pattern.groups (is_read (length pattern.groups) t) pattern.first_group t

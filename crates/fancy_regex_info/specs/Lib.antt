@@ -1,10 +1,10 @@
 pub mod Views
 pub mod Easy
 pub mod Infos
-pub mod Combined
-pub mod Survey
+pub mod PropertyRules
+pub mod AnalysisRelations
 pub mod References
-pub mod Reach
-pub mod Rounds
+pub mod Reachability
+pub mod SizeFixpoint
 pub mod Analysis
 pub mod Defaults

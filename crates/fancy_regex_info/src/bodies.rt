@@ -1,4 +1,4 @@
-//! The groups of a tree, and what is called in it.
+//! The capture groups of a tree, and the groups that its subroutine calls name.
 
 ghost use Rattle.std.specs.Prelude.{◌≡◌, ℕ, ◌++◌, map, IfOk};
 ghost use Rattle.fancy_regex_tree.specs.Tree.{tree_of, trees, absent_tree_of, ast_tree_of};
@@ -9,8 +9,8 @@ ghost use Rattle.fancy_regex_info.specs.Views.{body_tree, pattern_in};
 use fancy_regex_tree::{Absent, AstNode, Expr};
 use std::alloc::{AllocError, Global};
 
-/// The bodies of the groups by their numbers. With `explicit` the groups count from 0, else from 1, and the first is the
-/// whole tree.
+/// The bodies of the capture groups, indexed by group number. With `explicit` group 0 is the first group of the tree;
+/// without, group 0 is the whole tree. Fails only if memory runs out.
 pub fn groups_of<'a>(
     alloc: Global,
     expr: &'a Expr,
@@ -26,7 +26,7 @@ pub fn groups_of<'a>(
     Ok(groups)
 }
 
-/// Adds the body of each group of the tree, in the order in which the groups open.
+/// Appends the body of each capture group of the tree, in the order of their opening parentheses.
 #[tactic(auto, unfolding(fancy_regex_meaning::specs::Groups::bodies))]
 #[cycle(bodies)]
 fn add_bodies<'a>(expr: &'a Expr, groups: &mut Vec<&'a Expr>) -> Result<(), AllocError>
@@ -102,7 +102,8 @@ fn add_row_bodies<'a>(parts: &'a [Expr], groups: &mut Vec<&'a Expr>) -> Result<(
     Ok(())
 }
 
-/// Adds the numbers of the groups that are called in the tree, in the order of the text.
+/// Appends the group number of each subroutine call in the tree, in pattern order, also of calls in definitions. Fails only
+/// if memory runs out; then some numbers may have been appended.
 #[tactic(auto, unfolding(fancy_regex_meaning::specs::Sizes::calls_in))]
 #[cycle(calls)]
 pub fn add_calls(expr: &Expr, calls: &mut Vec<usize>) -> Result<(), AllocError>

@@ -1,4 +1,4 @@
-//! Why no program is made of a tree.
+//! The errors of analysis and compilation.
 
 ghost use Rattle.std.specs.Prelude.{◌≡◌};
 ghost use Rattle.fancy_regex_info.specs.declared.error.CompileError.TheVariants as errors;
@@ -6,13 +6,13 @@ ghost use Rattle.fancy_regex_info.specs.declared.error.CompileError.TheVariants 
 use std::alloc::{AllocError, AllocFailed};
 use thiserror::Error;
 
-/// A cause for which a tree is refused, or want of memory.
+/// Why a pattern was not compiled: an error in the pattern, an unsupported feature, a limit, or want of memory.
 #[derive(Debug, PartialEq, Eq, Drop, Error)]
 pub enum CompileError {
-    /// A class that `regex` does not take; the payload is the text of the class.
+    /// `regex` rejects a character class; the payload is the text of the class.
     #[error("inner error: {0}")]
     InnerError(String),
-    /// The body of a look-behind is not always as long, and no alternation of such branches.
+    /// The body of a look-behind has no fixed length, and is no alternation of bodies that have.
     #[error("look behind not const")]
     LookBehindNotConst,
     /// Kept, and never answered.
@@ -30,31 +30,31 @@ pub enum CompileError {
     /// A back reference or a condition names group 0, or a number that no group has; the payload is the number.
     #[error("invalid backref: {0}")]
     InvalidBackref(usize),
-    /// Groups without a name are ignored, and a reference other than a call of the whole goes by number.
+    /// Unnamed groups do not capture, as named ones exist, but a reference other than `\g<0>` goes by number.
     #[error("named backref only")]
     NamedBackrefOnly,
-    /// A node that no program is made of; the payload is its kind in words.
+    /// The pattern uses a feature that the compiler does not support; the payload names it.
     #[error("feature not yet supported: {0}")]
     FeatureNotYetSupported(String),
-    /// A call of a group that is not there; the payload is the name, the number, or the distance with its sign.
+    /// A subroutine call of a group that does not exist; the payload is the name, the number, or the signed relative number.
     #[error("subroutine call target not found: {0}")]
     SubroutineCallTargetNotFound(String),
-    /// A call of the group is reached from the start of its own body; the payload is its number.
+    /// The group can call itself before any character is matched; the payload is its number.
     #[error("left recursive subroutine call: {0}")]
     LeftRecursiveSubroutineCall(usize),
-    /// The pattern calls itself on each path through it.
+    /// Every path through the pattern calls the pattern again, so no match ever ends.
     #[error("never ending recursion")]
     NeverEndingRecursion,
-    /// No empty match is wanted, and the pattern has no other.
+    /// Empty matches are excluded, and the pattern has only empty matches.
     #[error("pattern can never match")]
     PatternCanNeverMatch,
-    /// The pattern is too heavy, or its program too long.
+    /// The weight of the pattern, or the size of its program, is above the limit.
     #[error("pattern too complex")]
     PatternTooComplex,
-    /// The least count of a repeat is above its greatest.
+    /// The lower bound of a quantifier is above its upper bound.
     #[error("repeat bounds reversed")]
     RepeatBoundsReversed,
-    /// A node that the reader resolves is still there; only trees made by hand have one.
+    /// The tree has an unresolved node. The parser resolves all, so only trees built by hand have one.
     #[error("unresolved ast node")]
     UnresolvedAstNode,
     /// Kept, and never answered.

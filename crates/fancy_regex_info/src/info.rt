@@ -1,57 +1,62 @@
-//! What is known of a part of a pattern.
+//! The result of the analysis: a tree of `Info`, in the shape of the pattern's tree.
 
 ghost use Rattle.std.specs.Prelude.{◌≡◌, map};
 ghost use Rattle.fancy_regex_tree.specs.Tree.{tree_of};
 
-use crate::facts::Facts;
+use crate::properties::NodeProperties;
 use crate::size::Size;
 use fancy_regex_tree::Expr;
 
-/// A node of a tree with its sizes, its weight, and the same of its children.
+/// A node of the pattern, with its properties and the analysis of its children.
 #[derive(Debug, Drop)]
 pub struct Info<'a> {
-    /// The least count of characters that it takes, up to `usize::MAX`.
+    /// The least number of characters that a match of the node has; saturates at `usize::MAX`.
     pub min_size: usize,
-    /// The greatest count of characters, where `usize::MAX` is no bound.
+    /// The greatest number of characters; `usize::MAX` means unbounded.
     pub max_size: usize,
-    /// It takes the same count of characters on each way.
+    /// All matches of the node have the same number of characters.
     pub const_size: bool,
-    /// The runner of one table does not serve it.
+    /// The node needs the backtracking VM; if not, it is easy and runs on the state table.
     pub hard: bool,
+    /// The node itself.
     pub expr: &'a Expr,
-    /// In the order of the text; a leaf has none.
+    /// The children in pattern order; empty for a leaf.
     pub children: Vec<Info<'a>>,
-    /// How many states it needs at most, up to `u64::MAX`; the whole pattern needs two more.
+    /// An upper bound of the node's states in the state table; saturates at `u64::MAX`. The whole pattern has two more.
     pub weight: u64,
     start_group: usize,
     end_group: usize,
 }
 
 impl<'a> Info<'a> {
-    ghost use Rattle.fancy_regex_info.specs.Infos.{known, infos, info_of, facts_of, facts_in};
+    ghost use Rattle.fancy_regex_info.specs.Infos.{known, infos, info_of, properties_of, properties_in};
 
-    /// A node with this known of it and of its children.
-    pub(crate) fn new(expr: &'a Expr, facts: Facts, children: Vec<Info<'a>>) -> Info<'a>
-        ensures { info_of result ≡ known (facts_of facts) (tree_of expr.entry.now) (infos (map info_of children.entry.items)) }
+    /// Puts a node together from its properties and its children.
+    pub(crate) fn new(
+        expr: &'a Expr,
+        properties: NodeProperties,
+        children: Vec<Info<'a>>,
+    ) -> Info<'a>
+        ensures { info_of result ≡ known (properties_of properties) (tree_of expr.entry.now) (infos (map info_of children.entry.items)) }
     {
         Info {
-            min_size: facts.size.least,
-            max_size: facts.size.greatest,
-            const_size: facts.size.always,
-            hard: facts.hard,
+            min_size: properties.size.least,
+            max_size: properties.size.greatest,
+            const_size: properties.size.always,
+            hard: properties.hard,
             expr,
             children,
-            weight: facts.weight,
-            start_group: facts.start,
-            end_group: facts.end,
+            weight: properties.weight,
+            start_group: properties.start,
+            end_group: properties.end,
         }
     }
 
-    /// What is known of the node, apart from its parts.
-    pub(crate) fn facts(&self) -> Facts
-        ensures { facts_of result ≡ facts_in (info_of self.now) }
+    /// The properties of the node, without its children.
+    pub(crate) fn properties(&self) -> NodeProperties
+        ensures { properties_of result ≡ properties_in (info_of self.now) }
     {
-        Facts {
+        NodeProperties {
             size: Size {
                 least: self.min_size,
                 greatest: self.max_size,
@@ -64,16 +69,16 @@ impl<'a> Info<'a> {
         }
     }
 
-    /// The next free group number before the node.
+    /// The number that the first capture group of the node has, if it has one.
     pub fn start_group(&self) -> usize
-        ensures { result ≡ (facts_in (info_of self.now)).start }
+        ensures { result ≡ (properties_in (info_of self.now)).start }
     {
         self.start_group
     }
 
-    /// The next free group number behind the node.
+    /// The number of the next capture group after the node.
     pub fn end_group(&self) -> usize
-        ensures { result ≡ (facts_in (info_of self.now)).end }
+        ensures { result ≡ (properties_in (info_of self.now)).end }
     {
         self.end_group
     }

@@ -1,32 +1,33 @@
-//! What is asked for besides the pattern.
+//! Options of compilation and analysis.
 
 ghost use Rattle.std.specs.Prelude.{◌≡◌};
 
-/// How a text's bytes are seen.
+/// How the bytes of a haystack are interpreted.
 #[derive(Clone, Copy, Debug, PartialEq, Eq, Default)]
 pub enum BytesMode {
-    /// Texts are UTF-8, and classes are those of Unicode.
+    /// Haystacks are UTF-8.
     #[default]
     Unicode,
-    /// Kept; no program is made for it.
+    /// Kept for compatibility; compilation refuses it.
     Ascii,
-    /// Kept; no program is made for it.
+    /// Kept for compatibility; compilation refuses it.
     UnicodeBytes,
 }
 
-/// How a tree is made ready for searches.
+/// Options of compilation.
 #[derive(Clone, Copy, Debug, PartialEq, Eq)]
 pub struct CompileOptions {
-    /// Only the first start is tried.
+    /// A match must start where the search starts.
     pub anchored: bool,
-    /// A group or the whole pattern is called somewhere.
+    /// The pattern contains subroutine calls.
     pub contains_subroutines: bool,
+    /// How the bytes of a haystack are interpreted.
     pub bytes_mode: BytesMode,
-    /// Classes and foldings are those of Unicode, else those of ASCII.
+    /// Classes and case folding are those of Unicode; without, those of ASCII.
     pub unicode: bool,
-    /// How many instructions a program may have; `None` is no cap.
+    /// The greatest number of instructions of a program; `None` means no limit.
     pub max_prog_size: Option<usize>,
-    /// The match is the first of the longest ways, and not the first way.
+    /// Report the longest match at the leftmost start, and not the first by preference.
     pub leftmost_longest: bool,
 }
 
@@ -35,7 +36,7 @@ impl Default for CompileOptions {
 
     ghost is_default = { λ options. options ≡ default_compile_options };
 
-    /// Not anchored, no calls, Unicode, no cap, the first way.
+    /// Not anchored, no calls, Unicode, no program limit, leftmost-first matches.
     fn default() -> CompileOptions {
         CompileOptions {
             anchored: false,
@@ -48,11 +49,11 @@ impl Default for CompileOptions {
     }
 }
 
-/// How a tree is looked at.
+/// Options of the analysis. The default is neither.
 #[derive(Clone, Copy, Debug, PartialEq, Eq, Default)]
 pub struct AnalyzeContext {
-    /// Groups count from 0, and no group is the whole pattern.
+    /// The first capture group written in the pattern is group 0; no group stands for the whole match.
     pub explicit_capture_group_0: bool,
-    /// No empty match is wanted.
+    /// Empty matches are excluded; a pattern that has no other is refused.
     pub find_not_empty: bool,
 }

@@ -1,20 +1,21 @@
-//! The groups that back references and conditions name.
+//! The capture groups that back references and conditions name.
 
 ghost use Rattle.std.specs.Prelude.{◌≡◌, ℕ, [], ◌∷◌, ◌++◌, map, IfOk};
 ghost use Rattle.fancy_regex_tree.specs.Tree.{tree_of, trees, absent_tree_of, ast_tree_of};
 ghost use Rattle.fancy_regex_info.specs.References.{references_in, references_in_row, is_read};
-ghost use Rattle.fancy_regex_info.specs.Survey.{reads_in};
+ghost use Rattle.fancy_regex_info.specs.AnalysisRelations.{mark_at};
 
 use fancy_regex_tree::{Absent, AstNode, Expr};
 use std::alloc::{AllocError, Global};
 
-/// Which of so many groups are named by back references and conditions of the tree.
-pub(crate) fn read_groups(
+/// Marks, for each of `groups` groups, whether a back reference or condition of the tree names it. Fails only if memory
+/// runs out.
+pub(crate) fn referenced_groups(
     alloc: Global,
     expr: &Expr,
     groups: usize,
 ) -> Result<Vec<bool>, AllocError>
-    ensures { IfOk result (λ read. (k : ℕ) → reads_in read.items k ≡ is_read groups (tree_of expr.now) k) }
+    ensures { IfOk result (λ read. (k : ℕ) → mark_at read.items k ≡ is_read groups (tree_of expr.now) k) }
 {
     let mut named = Vec::new(alloc);
     add_references(expr, &mut named)?;
@@ -27,7 +28,7 @@ pub(crate) fn read_groups(
     Ok(read)
 }
 
-/// Adds the numbers that back references and conditions of the tree name, in the order of the text.
+/// Appends the group number of each back reference and condition of the tree, in pattern order.
 #[tactic(auto, unfolding(crate::specs::References::references_in))]
 #[cycle(references)]
 pub(crate) fn add_references(expr: &Expr, references: &mut Vec<usize>) -> Result<(), AllocError>

@@ -1,23 +1,25 @@
-//! How many characters a part takes.
+//! Sizes: how many characters the matches of a node have.
 
 ghost use Rattle.std.specs.Prelude.{◌≡◌, ℕ, map};
 ghost use Rattle.fancy_regex_tree.specs.Tree.{tree_of, trees, absent_tree_of, ast_tree_of};
 ghost use Rattle.fancy_regex_meaning.specs.Sizes as sizes;
-ghost use Rattle.fancy_regex_meaning.specs.Sizes.{size_with, sum_size, branch_size};
+ghost use Rattle.fancy_regex_meaning.specs.Sizes.{size_with, concat_size, alternation_size};
 ghost use Rattle.fancy_regex_info.specs.Views.{size_of as meant, size_at, newline_size};
 
 use fancy_regex_tree::{Absent, AstNode, Expr};
 
-/// The least and the greatest count of characters, up to `usize::MAX`, and whether it is the same on each way.
+/// Bounds on the number of characters that a match of a node has.
 #[derive(Clone, Copy, Debug, PartialEq, Eq)]
 pub struct Size {
+    /// The lower bound; saturates at `usize::MAX`.
     pub least: usize,
-    /// `usize::MAX` is no bound.
+    /// The upper bound; `usize::MAX` means unbounded.
     pub greatest: usize,
+    /// All matches have the same number of characters.
     pub always: bool,
 }
 
-/// Always so many.
+/// Exactly `count` characters.
 pub(crate) fn always(count: usize) -> Size
     ensures { meant result ≡ sizes.always_size count }
 {
@@ -39,7 +41,7 @@ pub(crate) fn any_size() -> Size
     }
 }
 
-/// What has no finite unfolding.
+/// The size of a recursion that never ends: no match, so the lower bound is the greatest number.
 pub(crate) fn endless() -> Size
     ensures { meant result ≡ sizes.endless_size }
 {
@@ -50,7 +52,7 @@ pub(crate) fn endless() -> Size
     }
 }
 
-/// What a line break takes.
+/// The size of `\R`: one character, or two for CRLF.
 fn one_or_two() -> Size
     ensures { meant result ≡ newline_size }
 {
@@ -61,7 +63,7 @@ fn one_or_two() -> Size
     }
 }
 
-/// One behind the other.
+/// The size of a concatenation of two nodes.
 pub(crate) fn both(a: Size, b: Size) -> Size
     ensures { meant result ≡ sizes.both_sizes (meant a) (meant b) }
 {
@@ -72,7 +74,7 @@ pub(crate) fn both(a: Size, b: Size) -> Size
     }
 }
 
-/// One of two.
+/// The size of an alternation of two nodes.
 pub(crate) fn either(a: Size, b: Size) -> Size
     ensures { meant result ≡ sizes.either_size (meant a) (meant b) }
 {
@@ -83,7 +85,7 @@ pub(crate) fn either(a: Size, b: Size) -> Size
     }
 }
 
-/// So many times.
+/// The size of a node that is quantified from `lo` to `hi` times.
 pub(crate) fn repeated(a: Size, lo: usize, hi: usize) -> Size
     ensures { meant result ≡ sizes.repeated_size (meant a) lo hi }
 {
@@ -94,7 +96,7 @@ pub(crate) fn repeated(a: Size, lo: usize, hi: usize) -> Size
     }
 }
 
-/// What a call of the group takes, by the sizes of the calls; any number where there is no such group.
+/// The size of a subroutine call of the group; any number of characters if there is no such group.
 fn size_of_call(calls: &[Size], group: usize) -> Size
     ensures { meant result ≡ size_at calls.now group }
 {
@@ -104,7 +106,7 @@ fn size_of_call(calls: &[Size], group: usize) -> Size
     }
 }
 
-/// What the tree takes, where that of a call of each group is given.
+/// The size of the tree, given the size of a call of each group, by group number.
 #[tactic(auto, unfolding(fancy_regex_meaning::specs::Sizes::size_with))]
 #[cycle(size)]
 pub fn size_in(expr: &Expr, calls: &[Size]) -> Size
@@ -136,7 +138,7 @@ pub fn size_in(expr: &Expr, calls: &[Size]) -> Size
     }
 }
 
-/// Each absent operator takes any number.
+/// The size of an absent operator: any number of characters.
 #[tactic(auto, unfolding(fancy_regex_meaning::specs::Sizes::size_with))]
 pub(crate) fn size_of_absent(absent: &Absent) -> Size
     ensures { (call : ℕ → sizes.Size) → meant result ≡ size_with call (absent_tree_of absent.now) }
@@ -160,7 +162,7 @@ pub(crate) fn size_of_unresolved(node: &AstNode) -> Size
 
 #[cycle(size)]
 fn size_in_row(parts: &[Expr], calls: &[Size]) -> Size
-    ensures { meant result ≡ sum_size (size_at calls.now) (trees (map tree_of parts.now)) }
+    ensures { meant result ≡ concat_size (size_at calls.now) (trees (map tree_of parts.now)) }
 {
     let mut size = always(0);
     for i in (0..parts.len()).rev() {
@@ -169,10 +171,10 @@ fn size_in_row(parts: &[Expr], calls: &[Size]) -> Size
     size
 }
 
-/// No branch at all takes nothing.
+/// The size of an alternation; without a branch it is 0.
 #[cycle(size)]
 fn size_in_branches(branches: &[Expr], calls: &[Size]) -> Size
-    ensures { meant result ≡ branch_size (size_at calls.now) (trees (map tree_of branches.now)) }
+    ensures { meant result ≡ alternation_size (size_at calls.now) (trees (map tree_of branches.now)) }
 {
     if branches.is_empty() {
         return always(0);

@@ -1,19 +1,20 @@
-//! What is known of the groups of a pattern, by their numbers.
+//! Tables indexed by group number: which groups each body calls, which groups are recursive, and the sizes of calls, which
+//! are found by fixpoint iteration.
 
 ghost use Rattle.std.specs.Prelude.{◌≡◌, ℕ, ◌<◌, false, map, length, IfOk, IsTrue, slice_index_or};
 ghost use Rattle.fancy_regex_meaning.specs.Sizes.{calls_in};
-ghost use Rattle.fancy_regex_info.specs.Reach.{rows};
-ghost use Rattle.fancy_regex_info.specs.Rounds.{is_reached_again, size_when, next_size, size_in_round};
-ghost use Rattle.fancy_regex_info.specs.Survey.{reads_in};
+ghost use Rattle.fancy_regex_info.specs.Reachability.{rows};
+ghost use Rattle.fancy_regex_info.specs.SizeFixpoint.{is_on_cycle, size_when, next_size, size_in_round};
+ghost use Rattle.fancy_regex_info.specs.AnalysisRelations.{mark_at};
 ghost use Rattle.fancy_regex_info.specs.Views.{size_of as meant, size_at, body_tree};
 
 use crate::bodies::add_calls;
-use crate::closure::reached;
+use crate::reachability::reachable;
 use crate::size::{Size, endless, size_in};
 use fancy_regex_tree::Expr;
 use std::alloc::{AllocError, Global};
 
-/// The groups that are called in the body of each group.
+/// For each group, the groups that its body calls. Fails only if memory runs out.
 pub(crate) fn calls_by_group(alloc: Global, groups: &[&Expr]) -> Result<Vec<Vec<usize>>, AllocError>
     ensures { IfOk result (λ all. rows all.items ≡ map calls_in (map body_tree groups.now)) }
 {
@@ -26,10 +27,11 @@ pub(crate) fn calls_by_group(alloc: Global, groups: &[&Expr]) -> Result<Vec<Vec<
     Ok(all)
 }
 
-/// Which groups are reached again from their own bodies, by these calls.
+/// For each group, whether it can call itself, directly or through others, where `calls[k]` are the groups that group `k`
+/// calls. Fails only if memory runs out.
 pub fn recursive_groups(alloc: Global, calls: &[Vec<usize>]) -> Result<Vec<bool>, AllocError>
     ensures length { IfOk result (λ all. length all.items ≡ length calls.now) }
-    ensures marks { IfOk result (λ all. (k : ℕ) → k < length calls.now → slice_index_or all.items k false ≡ is_reached_again (rows calls.now) k) }
+    ensures marks { IfOk result (λ all. (k : ℕ) → k < length calls.now → slice_index_or all.items k false ≡ is_on_cycle (rows calls.now) k) }
 {
     let mut all = Vec::new(alloc);
     for group in 0..calls.len() {
@@ -38,21 +40,22 @@ pub fn recursive_groups(alloc: Global, calls: &[Vec<usize>]) -> Result<Vec<bool>
     Ok(all)
 }
 
+/// Whether the group can call itself, directly or through others.
 fn is_recursive(alloc: Global, calls: &[Vec<usize>], group: usize) -> Result<bool, AllocError>
     requires { group < length calls.now }
-    ensures { IfOk result (λ is. is ≡ is_reached_again (rows calls.now) group) }
+    ensures { IfOk result (λ is. is ≡ is_on_cycle (rows calls.now) group) }
 {
     let starts = calls[group].as_slice();
     if starts.is_empty() {
         return Ok(false);
     }
-    let seen = reached(alloc, calls, starts)?;
+    let seen = reachable(alloc, calls, starts)?;
     Ok(is_marked(&seen, group))
 }
 
-/// Whether the group is marked; a group past the marks is not.
+/// Whether the group is marked; false for numbers past the table.
 pub(crate) fn is_marked(marks: &[bool], group: usize) -> bool
-    ensures { result ≡ reads_in marks.now group }
+    ensures { result ≡ mark_at marks.now group }
 {
     match marks.get(group) {
         Some(is_marked) => *is_marked,
@@ -60,7 +63,8 @@ pub(crate) fn is_marked(marks: &[bool], group: usize) -> bool
     }
 }
 
-/// What a call of each group takes.
+/// The size of a call of each group. Each round follows calls one level deeper; it stops as soon as a round changes
+/// nothing, after as many rounds as there are groups at most.
 pub(crate) fn call_sizes(
     alloc: Global,
     groups: &[&Expr],
@@ -79,7 +83,7 @@ pub(crate) fn call_sizes(
     Ok(sizes)
 }
 
-/// The same with one call more inside each call.
+/// One round: the sizes with calls followed one level deeper.
 fn next_sizes(
     alloc: Global,
     groups: &[&Expr],
@@ -96,7 +100,7 @@ fn next_sizes(
     Ok(next)
 }
 
-/// What a call takes, by what the body takes: of a group that is reached again from its own body there is no greatest.
+/// The size of a call, from the size of the body: a recursive group has no upper bound.
 fn called_size(body: Size, is_recursive: bool) -> Size
     ensures { meant result ≡ size_when is_recursive (meant body) }
 {
@@ -111,7 +115,7 @@ fn called_size(body: Size, is_recursive: bool) -> Size
     }
 }
 
-/// Whether the sizes are the same.
+/// Whether the two tables are equal.
 fn are_same(a: &[Size], b: &[Size]) -> bool
     ensures { IsTrue result → a.now ≡ b.now }
 {

@@ -1,15 +1,13 @@
-//! Texts that are searched, what a search is asked, and what it finds.
+//! The input of a search (a haystack with start, range and anchoring), character boundaries of UTF-8 text, and matches. Every
+//! offset is in bytes from the start of the haystack.
 #![tactic(auto)]
 
-mod asked;
 mod boundaries;
-mod found;
-mod searched;
+mod config;
+mod input;
+mod matched;
 
-pub use asked::{Asked, RegexInput};
 pub use boundaries::{next_boundary, previous_boundary};
-pub use found::Match;
-pub use searched::Input;
-
-#[cfg(test)]
-mod tests;
+pub use config::{RegexInput, SearchConfig};
+pub use input::Input;
+pub use matched::Match;

@@ -1,9 +1,9 @@
-pub mod Letters
-pub mod Parts
-pub mod Hexes
+pub mod FlagLetterLemmas
+pub mod ClassPartLemmas
+pub mod HexDigitLemmas
 pub mod Computing
-pub mod EscapeRowsProof
-pub mod ClassRowsProof
-pub mod FlagRowsProof
-pub mod CountRowsProof
-pub mod OpeningRowsProof
+pub mod EscapeExamplesProof
+pub mod ClassExamplesProof
+pub mod FlagExamplesProof
+pub mod QuantifierExamplesProof
+pub mod OpeningExamplesProof

@@ -1,28 +1,28 @@
--- What a backslash begins.
+-- Escapes.
 use Rattle.std.specs.Prelude.{ℕ, ℤ, Bool, true, false, not, ◌&&◌, ◌||◌, ◌==◌, nat_le, nat_lt, [], ◌∷◌, ◌++◌, length, Option, Some, None, Ok, if◌then◌else◌, codes, chars}
 use Rattle.std.specs.Char.{is_ascii_alphabetic}
-use Rattle.fancy_regex_text.specs.Text.{Text, ◌∈◌, span_most, behind, is_empty, up_to, value, is_hexadecimal}
+use Rattle.fancy_regex_text.specs.Text.{Text, ◌∈◌, span_at_most, strip_prefix, is_empty, split_once, value, is_hexadecimal}
 use Rattle.fancy_regex_text.specs.Names.{Named, by_number, Referred, digits, reference, named_of}
-use Rattle.fancy_regex_text.specs.Fault.{Reading, ◌>>=◌, stop, trailing_backslash, invalid_escape, unclosed_unicode_name, invalid_hex, invalid_codepoint_value, invalid_group_name}
-use Rattle.fancy_regex_lex.specs.declared.token.Place.{Place}
-use Rattle.fancy_regex_lex.specs.declared.token.Place.TheVariants.{TextStart, TextEnd, TextEndOrNewlines, WordBoundary, NotWordBoundary, LeftWordBoundary, RightWordBoundary, LeftWordHalfBoundary, RightWordHalfBoundary}
+use Rattle.fancy_regex_text.specs.Fault.{ParseOutcome, ◌>>=◌, fail_at, trailing_backslash, invalid_escape, unclosed_unicode_name, invalid_hex, invalid_codepoint_value, invalid_group_name}
+use Rattle.fancy_regex_lex.specs.declared.token.AssertionEscape.{AssertionEscape}
+use Rattle.fancy_regex_lex.specs.declared.token.AssertionEscape.TheVariants.{TextStart, TextEnd, TextEndOrNewlines, WordBoundary, NotWordBoundary, LeftWordBoundary, RightWordBoundary, LeftWordHalfBoundary, RightWordHalfBoundary}
 use Rattle.fancy_regex_lex.specs.declared.token.EscapedClass.{EscapedClass}
 use Rattle.fancy_regex_lex.specs.declared.token.EscapedClass.TheVariants as class
 use Rattle.fancy_regex_lex.specs.declared.token.Escape as declared
 use Rattle.fancy_regex_lex.specs.declared.token.Escape.TheVariants as token
 
--- what an escape is read as
+-- an escape, with texts as characters
 pub data Escape : Type 0 where
-  -- a character by its code
+  -- a literal character
   char_escape : ℕ → Escape
-  -- a byte that is no character
+  -- a literal byte above 7F
   byte_escape : ℕ → Escape
   -- a class, by its text
   class_escape : Text → Escape
   -- any character; whether a newline too
   any_escape : Bool → Escape
   newline_escape : Escape
-  assertion_escape : Place → Escape
+  assertion_escape : AssertionEscape → Escape
   continue_escape : Escape
   keep_out_escape : Escape
   -- what is referred to, and the level
@@ -50,8 +50,8 @@ class_letter c =
     else None
 
 -- the escapes of one letter for an assertion; `\<` and `\>` are none in Oniguruma mode
-unfoldable pub place_letter : Bool → ℕ → Option Place
-place_letter oniguruma c =
+unfoldable pub assertion_letter : Bool → ℕ → Option AssertionEscape
+assertion_letter oniguruma c =
     if c ∈ "A" then Some TextStart
     else if c ∈ "z" then Some TextEnd
     else if c ∈ "Z" then Some TextEndOrNewlines
@@ -70,20 +70,20 @@ other_letter c =
     else if c ∈ "K" then Some keep_out_escape
     else None
 
--- a sign stands for itself, and an ASCII letter for nothing
+-- the literal character of an escape: any character but an ASCII letter is itself
 unfoldable pub plain_sign : ℕ → Option Escape
 plain_sign c = if is_ascii_alphabetic c then None else Some (char_escape c)
 
--- the escapes of one letter or sign for a place, and any other
+-- the escapes of one character that are neither control characters nor classes
 unfoldable pub other_sign : Bool → ℕ → Option Escape
 other_sign oniguruma c =
-    elim (place_letter oniguruma c) [
+    elim (assertion_letter oniguruma c) [
       | Some a ↦ Some (assertion_escape a)
       | None ↦
           elim (other_letter c) [ Some e ↦ Some e | None ↦ plain_sign c ]
     ]
 
--- the escapes of one letter or sign; any character but an ASCII letter stands for itself
+-- the escapes of one character; any character but an ASCII letter is itself if it has no other meaning
 unfoldable pub one_letter : Bool → ℕ → Option Escape
 one_letter oniguruma c =
     elim (control_letter c) [
@@ -94,40 +94,40 @@ one_letter oniguruma c =
 
 -- Below, `here` is the text from the backslash on.
 
--- a code that is no surrogate, and at most 10FFFF
+-- the code point is a character: at most 10FFFF, and not a surrogate
 abbrev pub is_character : ℕ → Bool
 is_character code = nat_lt code 0xD800 || (nat_le 0xE000 code && nat_le code 0x10_FFFF)
 
 -- a character by its code
-unfoldable pub code_point : Text → ℕ → Text → Reading (Escape × Text)
-code_point here code rest = if is_character code then Ok (char_escape code, rest) else stop invalid_codepoint_value here
+unfoldable pub code_point : Text → ℕ → Text → ParseOutcome (Escape × Text)
+code_point here code rest = if is_character code then Ok (char_escape code, rest) else fail_at invalid_codepoint_value here
 
 -- in braces: one to eight digits, as a number
 unfoldable pub braced_digits : Text → Option ℕ
 braced_digits t =
-    let parts = span_most is_hexadecimal 8 t in if nat_lt 0 (length parts.0) && is_empty parts.1 then Some (value 16 parts.0) else None
+    let parts = span_at_most is_hexadecimal 8 t in if nat_lt 0 (length parts.0) && is_empty parts.1 then Some (value 16 parts.0) else None
 
-unfoldable pub braced_hex : Text → Text → Reading (Escape × Text)
+unfoldable pub braced_hex : Text → Text → ParseOutcome (Escape × Text)
 braced_hex here t =
-    elim (up_to 0x7D t) [
-      | None ↦ stop invalid_hex here
-      | Some found ↦ elim (braced_digits found.0) [ None ↦ stop invalid_hex here | Some code ↦ code_point here code found.1 ]
+    elim (split_once 0x7D t) [
+      | None ↦ fail_at invalid_hex here
+      | Some found ↦ elim (braced_digits found.0) [ None ↦ fail_at invalid_hex here | Some code ↦ code_point here code found.1 ]
     ]
 
--- n digits, as a number, and what follows
+-- exactly n leading digits, as a number, and the rest
 unfoldable pub plain_digits : ℕ → Text → Option (ℕ × Text)
-plain_digits n t = let parts = span_most is_hexadecimal n t in if length parts.0 == n then Some (value 16 parts.0, parts.1) else None
+plain_digits n t = let parts = span_at_most is_hexadecimal n t in if length parts.0 == n then Some (value 16 parts.0, parts.1) else None
 
 -- without braces: exactly n digits. Two of them above 7F are a byte.
-unfoldable pub plain_hex : ℕ → Text → Text → Reading (Escape × Text)
+unfoldable pub plain_hex : ℕ → Text → Text → ParseOutcome (Escape × Text)
 plain_hex n here t =
     elim (plain_digits n t) [
-      | None ↦ stop invalid_hex here
+      | None ↦ fail_at invalid_hex here
       | Some found ↦ if n == 2 && nat_lt 0x7F found.0 then Ok (byte_escape found.0, found.1) else code_point here found.0 found.1
     ]
 
-unfoldable pub hex : ℕ → Text → Text → Reading (Escape × Text)
-hex n here t = elim (behind (codes "{") t) [ Some inside ↦ braced_hex here inside | None ↦ plain_hex n here t ]
+unfoldable pub hex : ℕ → Text → Text → ParseOutcome (Escape × Text)
+hex n here t = elim (strip_prefix (codes "{") t) [ Some inside ↦ braced_hex here inside | None ↦ plain_hex n here t ]
 
 -- the letter of a property
 abbrev pub property_letter : Bool → ℕ
@@ -146,64 +146,64 @@ property_class negated (c ∷ name) =
     else Some (named_class (not negated) name)
 
 -- after `\p` or `\P`: one character, or a name in braces
-unfoldable pub property : Bool → Text → Text → Reading (Escape × Text)
-property negated here [] = stop unclosed_unicode_name here
+unfoldable pub property : Bool → Text → Text → ParseOutcome (Escape × Text)
+property negated here [] = fail_at unclosed_unicode_name here
 property negated here (c ∷ t) =
     if not (c ∈ "{") then Ok (class_escape (0x5C ∷ property_letter negated ∷ c ∷ []), t)
-    else (elim (up_to 0x7D t) [
-      | None ↦ stop unclosed_unicode_name here
+    else (elim (split_once 0x7D t) [
+      | None ↦ fail_at unclosed_unicode_name here
       | Some found ↦ elim (property_class negated found.0) [
-        | None ↦ stop unclosed_unicode_name here
+        | None ↦ fail_at unclosed_unicode_name here
         | Some name ↦ Ok (class_escape name, found.1)
       ]
     ])
 
 -- after `\b`: one of two names of half boundaries in braces, or nothing
-unfoldable pub half_boundary : Text → Place × Text
+unfoldable pub half_boundary : Text → AssertionEscape × Text
 half_boundary t =
-    elim (behind (codes "{start-half}") t) [
+    elim (strip_prefix (codes "{start-half}") t) [
       | Some rest ↦ (LeftWordHalfBoundary, rest)
       | None ↦
-          elim (behind (codes "{end-half}") t) [ Some rest ↦ (RightWordHalfBoundary, rest) | None ↦ (WordBoundary, t) ]
+          elim (strip_prefix (codes "{end-half}") t) [ Some rest ↦ (RightWordHalfBoundary, rest) | None ↦ (WordBoundary, t) ]
     ]
 
 -- after `\b`: one of four names in braces, or nothing
-unfoldable pub boundary : Text → Place × Text
+unfoldable pub boundary : Text → AssertionEscape × Text
 boundary t =
-    elim (behind (codes "{start}") t) [
+    elim (strip_prefix (codes "{start}") t) [
       | Some rest ↦ (LeftWordBoundary, rest)
       | None ↦
-          elim (behind (codes "{end}") t) [ Some rest ↦ (RightWordBoundary, rest) | None ↦ half_boundary t ]
+          elim (strip_prefix (codes "{end}") t) [ Some rest ↦ (RightWordBoundary, rest) | None ↦ half_boundary t ]
     ]
 
--- the reference up to a closing character; `here` is the start of the construct
-unfoldable pub reference_up_to : Bool → ℕ → Text → Text → Reading (Referred × Text)
-reference_up_to leveled close here t =
-    elim (up_to close t) [
-      | None ↦ stop invalid_group_name here
-      | Some found ↦ elim (reference leveled found.0) [ None ↦ stop invalid_group_name here | Some r ↦ Ok (r, found.1) ]
+-- the reference up to and with a closing character, and the rest; `here` is the text from the start of the construct on
+unfoldable pub delimited_reference : Bool → ℕ → Text → Text → ParseOutcome (Referred × Text)
+delimited_reference allow_level close here t =
+    elim (split_once close t) [
+      | None ↦ fail_at invalid_group_name here
+      | Some found ↦ elim (reference allow_level found.0) [ None ↦ fail_at invalid_group_name here | Some r ↦ Ok (r, found.1) ]
     ]
 
 -- after `\k` or `\g`: a reference in `<..>` or `'..'`
-unfoldable pub bracketed_reference : Bool → Text → Text → Reading (Referred × Text)
-bracketed_reference leveled here [] = stop invalid_group_name here
-bracketed_reference leveled here (c ∷ t) =
-    if c ∈ "<" then reference_up_to leveled 0x3E here t
-    else if c ∈ "'" then reference_up_to leveled 0x27 here t
-    else stop invalid_group_name here
+unfoldable pub bracketed_reference : Bool → Text → Text → ParseOutcome (Referred × Text)
+bracketed_reference allow_level here [] = fail_at invalid_group_name here
+bracketed_reference allow_level here (c ∷ t) =
+    if c ∈ "<" then delimited_reference allow_level 0x3E here t
+    else if c ∈ "'" then delimited_reference allow_level 0x27 here t
+    else fail_at invalid_group_name here
 
--- a back reference by the digits that the text begins with, if it begins with one
+-- the back reference by leading decimal digits, and the rest; None without a digit
 unfoldable pub numbered_reference : Text → Option (Escape × Text)
 numbered_reference t = elim (digits t).0 [ None ↦ None | Some n ↦ Some (reference_escape (by_number n) None, (digits t).1) ]
 
--- an escape of one letter or sign, which the text begins with
-unfoldable pub single : Bool → Text → ℕ → Text → Reading (Escape × Text)
+-- the escape of the character c; t is the text after it
+unfoldable pub single : Bool → Text → ℕ → Text → ParseOutcome (Escape × Text)
 single oniguruma here c t =
-    elim (one_letter oniguruma c) [ None ↦ stop (invalid_escape (0x5C ∷ c ∷ [])) here | Some e ↦ Ok (e, t) ]
+    elim (one_letter oniguruma c) [ None ↦ fail_at (invalid_escape (0x5C ∷ c ∷ [])) here | Some e ↦ Ok (e, t) ]
 
--- the escape whose backslash `here` begins with, and what follows it
-unfoldable pub after_backslash : Bool → Text → Text → Reading (Escape × Text)
-after_backslash oniguruma here [] = stop trailing_backslash here
+-- the escape from after its backslash, with which `here` starts, and the rest
+unfoldable pub after_backslash : Bool → Text → Text → ParseOutcome (Escape × Text)
+after_backslash oniguruma here [] = fail_at trailing_backslash here
 after_backslash oniguruma here (c ∷ t) =
     if c ∈ "x" then hex 2 here t
     else if c ∈ "u" then hex 4 here t
@@ -215,12 +215,12 @@ after_backslash oniguruma here (c ∷ t) =
     else if c ∈ "g" then (bracketed_reference false here t >>= λ r. Ok (call_escape r.0.0, r.1))
     else (elim (numbered_reference (c ∷ t)) [ Some found ↦ Ok found | None ↦ single oniguruma here c t ])
 
--- the escape at the front, and what follows it; the text begins with a backslash
-unfoldable pub escape : Bool → Text → Reading (Escape × Text)
-escape oniguruma [] = stop trailing_backslash []
+-- the escape that the text starts with, and the rest; its first character is taken to be a backslash
+unfoldable pub escape : Bool → Text → ParseOutcome (Escape × Text)
+escape oniguruma [] = fail_at trailing_backslash []
 escape oniguruma (c ∷ t) = after_backslash oniguruma (c ∷ t) t
 
--- declared escapes, with texts as characters
+-- escapes of the code, with texts as characters
 abbrev pub class_of : EscapedClass → Text
 class_of (class.Perl c) = 0x5C ∷ c ∷ []
 class_of class.HexDigit = codes "[0-9A-Fa-f]"

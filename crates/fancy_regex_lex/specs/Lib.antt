@@ -1,10 +1,10 @@
 pub mod Escapes
 pub mod Classes
 pub mod FlagLetters
-pub mod Counts
+pub mod Quantifiers
 pub mod Openings
-pub mod EscapeRows
-pub mod ClassRows
-pub mod FlagRows
-pub mod CountRows
-pub mod OpeningRows
+pub mod EscapeExamples
+pub mod ClassExamples
+pub mod FlagExamples
+pub mod QuantifierExamples
+pub mod OpeningExamples

@@ -1,17 +1,20 @@
-//! Classes in brackets.
+//! Bracketed classes. The text of a class is rewritten for the class parser of `regex`: its escapes become literal
+//! characters, escaped where needed, or class texts that it knows.
 
 ghost use Rattle.std.specs.Prelude.{◌≡◌, ◌<◌, ◌≤◌, ◌+◌, ◌-◌, ◌^◌, ◌++◌, length, chars, option_map, string_bytes, All, IfOk, OnOk, OnErr, [], ◌∷◌};
-ghost use Rattle.fancy_regex_text.specs.Fault.{Gives, with_front};
+ghost use Rattle.fancy_regex_text.specs.Fault.{Gives, prepend};
 ghost use Rattle.fancy_regex_lex.specs.Escapes.{property_letter, class_of, escape_of};
-ghost use Rattle.fancy_regex_lex.specs.Classes.{is_quoted, quoted, IsAdded, escaped_text, class_escape_at, class_part, level_behind, class_parts, optional, class_in_brackets};
+ghost use Rattle.fancy_regex_lex.specs.Classes.{is_quoted, quoted, IsAdded, escaped_text, class_escape_at, class_part, nesting_after, class_parts, optional, bracketed_class};
 
 use crate::escapes::escape;
 use crate::token::{Escape, EscapedClass};
 use fancy_regex_text::writing::{empty, push, push_ascii, push_escaped, push_text};
-use fancy_regex_text::{ParseError, ReadError, behind, behind_first, split_first, stop};
+use fancy_regex_text::{
+    ParseError, ReadError, fail_at, rest_after_first, split_first, strip_prefix,
+};
 use std::alloc::{AllocError, Global};
 
-/// Whether a class would read the character as a sign.
+/// Whether the character must be escaped in a class to be literal.
 fn is_quoted(c: char) -> bool
     ensures { result ≡ is_quoted c }
 {
@@ -37,7 +40,7 @@ fn is_quoted(c: char) -> bool
     )
 }
 
-/// Adds a character, behind a backslash where a class would read it as a sign.
+/// Appends a literal character of a class, with a backslash if it needs one.
 #[tactic(auto, unfolding(crate::specs::Classes::quoted))]
 fn push_quoted(out: &mut String, c: char) -> Result<(), AllocError>
     ensures { OnOk result (chars (string_bytes out.new) ≡ chars (string_bytes out.old) ++ quoted c) }
@@ -49,7 +52,7 @@ fn push_quoted(out: &mut String, c: char) -> Result<(), AllocError>
     }
 }
 
-/// The letter of a property.
+/// The letter of the escape of a Unicode property, `p` or `P`.
 fn property_letter(negated: bool) -> char
     ensures { result ≡ property_letter negated }
 {
@@ -57,7 +60,7 @@ fn property_letter(negated: bool) -> char
 }
 
 impl EscapedClass<'_> {
-    /// Adds the text of the class. After a refusal what is written is as before.
+    /// Appends the class as `regex` writes it. If an allocation is refused, `out` is unchanged.
     pub fn push_to(self, out: &mut String) -> Result<(), AllocError>
         ensures added { OnOk result (chars (string_bytes out.new) ≡ chars (string_bytes out.old) ++ class_of self.entry) }
         ensures refused { OnErr result (string_bytes out.new ≡ string_bytes out.old) }
@@ -66,7 +69,7 @@ impl EscapedClass<'_> {
         push_text(out, &text)
     }
 
-    /// The text of the class.
+    /// The class as `regex` writes it.
     pub fn text(self, alloc: Global) -> Result<String, AllocError>
         ensures { IfOk result (λ s. chars (string_bytes s) ≡ class_of self.entry) }
     {
@@ -90,7 +93,7 @@ impl EscapedClass<'_> {
     }
 }
 
-/// Adds what an escape stands for in a class, and answers whether it may stand there.
+/// Appends an escape of a class, a character or a class. Returns false, and appends nothing, for any other escape.
 #[tactic(auto, unfolding(crate::specs::Classes::escaped_text))]
 fn push_escape(out: &mut String, escape: Escape<'_>) -> Result<bool, AllocError>
     ensures { IfOk result (λ added. IsAdded added (chars (string_bytes out.old)) (chars (string_bytes out.new)) (escaped_text (escape_of escape.entry))) }
@@ -108,7 +111,8 @@ fn push_escape(out: &mut String, escape: Escape<'_>) -> Result<bool, AllocError>
     }
 }
 
-/// Adds an escape, with which the text begins, to a class.
+/// Parses the escape that the text starts with, appends it to a class, and returns the rest. Fails as `escape` does, or with
+/// `InvalidClass` at the backslash if the escape is not allowed in classes.
 #[tactic(auto, unfolding(crate::specs::Classes::class_escape_at))]
 fn push_escape_at<'t>(
     alloc: Global,
@@ -116,17 +120,18 @@ fn push_escape_at<'t>(
     text: &'t str,
     out: &mut String,
 ) -> Result<&'t str, ReadError>
-    ensures value { Gives (λ rest. (chars (string_bytes out.new), chars rest.now)) result (with_front (chars (string_bytes out.old)) (class_escape_at oniguruma (chars text.now))) }
+    ensures value { Gives (λ rest. (chars (string_bytes out.new), chars rest.now)) result (prepend (chars (string_bytes out.old)) (class_escape_at oniguruma (chars text.now))) }
     ensures shorter { IfOk result (λ rest. length (chars rest.now) < length (chars text.now)) }
 {
     let (escape, rest) = escape(alloc, oniguruma, text)?;
     if push_escape(out, escape)? {
         return Ok(rest);
     }
-    stop(ParseError::InvalidClass, text)
+    fail_at(ParseError::InvalidClass, text)
 }
 
-/// Adds one part of a class: an escape, where `\b` is a backspace, or a character.
+/// Parses one item of a class, appends it, and returns the rest: an escape, of which `\b` is a backspace, or a character.
+/// Fails with `InvalidClass` at the end of the pattern, and as `push_escape_at` does.
 #[tactic(auto, unfolding(crate::specs::Classes::class_part))]
 fn push_part<'t>(
     alloc: Global,
@@ -134,28 +139,28 @@ fn push_part<'t>(
     text: &'t str,
     out: &mut String,
 ) -> Result<&'t str, ReadError>
-    ensures value { Gives (λ rest. (chars (string_bytes out.new), chars rest.now)) result (with_front (chars (string_bytes out.old)) (class_part oniguruma (chars text.now))) }
+    ensures value { Gives (λ rest. (chars (string_bytes out.new), chars rest.now)) result (prepend (chars (string_bytes out.old)) (class_part oniguruma (chars text.now))) }
     ensures shorter { IfOk result (λ rest. length (chars rest.now) < length (chars text.now)) }
 {
     let Some((c, rest)) = split_first(text) else {
-        return stop(ParseError::InvalidClass, text);
+        return fail_at(ParseError::InvalidClass, text);
     };
     if c != '\\' {
         push(out, c)?;
         return Ok(rest);
     }
-    if let Some(rest) = behind(rest, "b") {
+    if let Some(rest) = strip_prefix(rest, "b") {
         push(out, '\x08')?;
         return Ok(rest);
     }
     push_escape_at(alloc, oniguruma, text, out)
 }
 
-/// How many brackets are open behind the first character, of those inside the first; None where it closes the first.
-#[tactic(auto, unfolding(crate::specs::Classes::level_behind))]
-fn level_behind(level: usize, text: &str) -> Option<usize>
+/// The nesting level after the first character: how many nested brackets are open. `None` if it closes the whole class.
+#[tactic(auto, unfolding(crate::specs::Classes::nesting_after))]
+fn nesting_after(level: usize, text: &str) -> Option<usize>
     requires { level < 2 ^ 64 - 1 }
-    ensures { result ≡ level_behind level (chars text.now) }
+    ensures { result ≡ nesting_after level (chars text.now) }
 {
     match split_first(text) {
         Some(('[', _)) => Some(level + 1),
@@ -164,45 +169,47 @@ fn level_behind(level: usize, text: &str) -> Option<usize>
     }
 }
 
-/// Adds a character, where the text begins with it, and answers what follows.
-fn push_front<'t>(text: &'t str, front: &str, out: &mut String) -> Result<&'t str, AllocError>
+/// If the text starts with `front`, appends that and returns the rest after it; else returns the text. `front` must be ASCII.
+fn push_optional<'t>(text: &'t str, front: &str, out: &mut String) -> Result<&'t str, AllocError>
     requires { All (λ b. b < 128) front.now }
     ensures added { OnOk result (chars (string_bytes out.new) ≡ chars (string_bytes out.old) ++ (optional front.now (chars text.now)).0) }
     ensures rest { IfOk result (λ rest. chars rest.now ≡ (optional front.now (chars text.now)).1) }
     ensures shorter { IfOk result (λ rest. length (chars rest.now) ≤ length (chars text.now)) }
 {
-    let Some(rest) = behind(text, front) else {
+    let Some(rest) = strip_prefix(text, front) else {
         return Ok(text);
     };
     push_ascii(out, front)?;
     Ok(rest)
 }
 
-/// The text of the class whose opening bracket stands first, and what follows it.
-pub fn class_in_brackets(
+/// Parses the bracketed class that the text starts with: its text for `regex`, brackets included, and the rest after it.
+/// Fails with `InvalidClass` at the end of the pattern if the class is not closed; with `InvalidClass` at the backslash of an
+/// escape that is not allowed in classes; as `escape` does; or for want of memory.
+pub fn bracketed_class(
     alloc: Global,
     oniguruma: bool,
     text: &str,
 ) -> Result<(String, &str), ReadError>
-    ensures value { Gives (λ x. (chars (string_bytes x.0), chars x.1.now)) result (class_in_brackets oniguruma (chars text.now)) }
+    ensures value { Gives (λ x. (chars (string_bytes x.0), chars x.1.now)) result (bracketed_class oniguruma (chars text.now)) }
     ensures shorter { IfOk result (λ x. length (chars x.1.now) < length (chars text.now)) }
 {
     let mut out = empty(alloc);
     push(&mut out, '[')?;
-    let rest = push_front(behind_first(text), "^", &mut out)?;
-    let rest = push_front(rest, "]", &mut out)?;
+    let rest = push_optional(rest_after_first(text), "^", &mut out)?;
+    let rest = push_optional(rest, "]", &mut out)?;
     let rest = push_parts(alloc, oniguruma, rest, &mut out)?;
     Ok((out, rest))
 }
 
-/// Adds the parts of a class up to and with the bracket that closes it.
+/// Parses the items of a class up to and with the bracket that closes it, appends them, and returns the rest.
 fn push_parts<'t>(
     alloc: Global,
     oniguruma: bool,
     text: &'t str,
     out: &mut String,
 ) -> Result<&'t str, ReadError>
-    ensures value { Gives (λ rest. (chars (string_bytes out.new), chars rest.now)) result (with_front (chars (string_bytes out.old)) (class_parts oniguruma (length (chars text.now) + 1) 0 (chars text.now))) }
+    ensures value { Gives (λ rest. (chars (string_bytes out.new), chars rest.now)) result (prepend (chars (string_bytes out.old)) (class_parts oniguruma (length (chars text.now) + 1) 0 (chars text.now))) }
     ensures shorter { IfOk result (λ rest. length (chars rest.now) < length (chars text.now)) }
 {
     let size = text.len();
@@ -211,7 +218,7 @@ fn push_parts<'t>(
     loop {
         let after = push_part(alloc, oniguruma, rest, out)?;
         prove!(level < size);
-        let Some(next) = level_behind(level, rest) else {
+        let Some(next) = nesting_after(level, rest) else {
             return Ok(after);
         };
         level = next;

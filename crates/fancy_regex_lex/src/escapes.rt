@@ -1,21 +1,22 @@
-//! What a backslash begins.
+//! Escapes. In these functions `here` is the text from the backslash on, where errors are reported, and `text` the rest that
+//! is still to be read.
 
 ghost use Rattle.std.specs.Prelude.{◌≡◌, ◌<◌, ◌≤◌, ◌^◌, length, chars, option_map, string_bytes, IfOk, IfErr, IfSome, OnOk, [], ◌∷◌};
-ghost use Rattle.fancy_regex_text.specs.Text.{digit_front, span_most, is_hexadecimal, value};
+ghost use Rattle.fancy_regex_text.specs.Text.{split_digit, span_at_most, is_hexadecimal, value};
 ghost use Rattle.fancy_regex_text.specs.Fault.{Gives};
-ghost use Rattle.fancy_regex_text.specs.Sure.{IsFault};
+ghost use Rattle.fancy_regex_text.specs.FaultOnly.{IsFault};
 ghost use Rattle.fancy_regex_text.specs.Names.{referred_of};
-ghost use Rattle.fancy_regex_lex.specs.Escapes.{class_escape, control_letter, class_letter, place_letter, other_letter, plain_sign, other_sign, one_letter, code_point, braced_digits, braced_hex, plain_digits, plain_hex, hex, property_class, property, half_boundary, boundary, reference_up_to, bracketed_reference, numbered_reference, single, after_backslash, escape, class_of, escape_of};
+ghost use Rattle.fancy_regex_lex.specs.Escapes.{class_escape, control_letter, class_letter, assertion_letter, other_letter, plain_sign, other_sign, one_letter, code_point, braced_digits, braced_hex, plain_digits, plain_hex, hex, property_class, property, half_boundary, boundary, delimited_reference, bracketed_reference, numbered_reference, single, after_backslash, escape, class_of, escape_of};
 
-use crate::token::{Escape, EscapedClass, Place};
+use crate::token::{AssertionEscape, Escape, EscapedClass};
 use fancy_regex_text::writing::escaped;
 use fancy_regex_text::{
-    ParseError, ReadError, Reference, Target, behind, digits, is_empty, reference, split_first,
-    stop, up_to,
+    ParseError, ReadError, Reference, Target, digits, fail_at, is_empty, reference, split_first,
+    split_once, strip_prefix,
 };
 use std::alloc::Global;
 
-/// A letter that stands for a control character.
+/// The control character of an escape of one letter, as `\n`.
 #[tactic(auto, unfolding(crate::specs::Escapes::control_letter))]
 fn control_letter(c: char) -> Option<char>
     ensures { result ≡ control_letter c }
@@ -32,7 +33,7 @@ fn control_letter(c: char) -> Option<char>
     }
 }
 
-/// A letter that stands for a class.
+/// The class of an escape of one letter, as `\d`.
 #[tactic(auto, unfolding(crate::specs::Escapes::class_letter))]
 fn class_letter<'t>(c: char) -> Option<EscapedClass<'t>>
     ensures { option_map class_of result ≡ class_letter c }
@@ -45,23 +46,23 @@ fn class_letter<'t>(c: char) -> Option<EscapedClass<'t>>
     }
 }
 
-/// A letter or sign that asserts something of its place.
-#[tactic(auto, unfolding(crate::specs::Escapes::place_letter))]
-fn place_letter(oniguruma: bool, c: char) -> Option<Place>
-    ensures { result ≡ place_letter oniguruma c }
+/// The assertion of an escape of one character, as `\A`. `\<` and `\>` are not assertions in Oniguruma mode.
+#[tactic(auto, unfolding(crate::specs::Escapes::assertion_letter))]
+fn assertion_letter(oniguruma: bool, c: char) -> Option<AssertionEscape>
+    ensures { result ≡ assertion_letter oniguruma c }
 {
     match c {
-        'A' => Some(Place::TextStart),
-        'z' => Some(Place::TextEnd),
-        'Z' => Some(Place::TextEndOrNewlines),
-        'B' => Some(Place::NotWordBoundary),
-        '<' if !oniguruma => Some(Place::LeftWordBoundary),
-        '>' if !oniguruma => Some(Place::RightWordBoundary),
+        'A' => Some(AssertionEscape::TextStart),
+        'z' => Some(AssertionEscape::TextEnd),
+        'Z' => Some(AssertionEscape::TextEndOrNewlines),
+        'B' => Some(AssertionEscape::NotWordBoundary),
+        '<' if !oniguruma => Some(AssertionEscape::LeftWordBoundary),
+        '>' if !oniguruma => Some(AssertionEscape::RightWordBoundary),
         _ => None,
     }
 }
 
-/// The other letters.
+/// The other escapes of one letter: `\N`, `\O`, `\R`, `\G` and `\K`.
 #[tactic(auto, unfolding(crate::specs::Escapes::other_letter))]
 fn other_letter<'t>(c: char) -> Option<Escape<'t>>
     ensures { option_map escape_of result ≡ other_letter c }
@@ -76,7 +77,7 @@ fn other_letter<'t>(c: char) -> Option<Escape<'t>>
     }
 }
 
-/// A sign stands for itself, and an ASCII letter for nothing.
+/// The literal character of an escape: any character but an ASCII letter is itself.
 #[tactic(auto, unfolding(crate::specs::Escapes::plain_sign))]
 fn plain_sign<'t>(c: char) -> Option<Escape<'t>>
     ensures { option_map escape_of result ≡ plain_sign c }
@@ -87,12 +88,12 @@ fn plain_sign<'t>(c: char) -> Option<Escape<'t>>
     Some(Escape::Character(c))
 }
 
-/// A letter or sign for a place, and any other.
+/// An escape of one character that is neither a control character nor a class.
 #[tactic(auto, unfolding(crate::specs::Escapes::other_sign))]
 fn other_sign<'t>(oniguruma: bool, c: char) -> Option<Escape<'t>>
     ensures { option_map escape_of result ≡ other_sign oniguruma c }
 {
-    if let Some(place) = place_letter(oniguruma, c) {
+    if let Some(place) = assertion_letter(oniguruma, c) {
         return Some(Escape::Assertion(place));
     }
     if let Some(escape) = other_letter(c) {
@@ -101,7 +102,7 @@ fn other_sign<'t>(oniguruma: bool, c: char) -> Option<Escape<'t>>
     plain_sign(c)
 }
 
-/// An escape of one letter or sign.
+/// An escape of one character. `None` for an ASCII letter that has no meaning.
 #[tactic(auto, unfolding(crate::specs::Escapes::one_letter))]
 fn one_letter<'t>(oniguruma: bool, c: char) -> Option<Escape<'t>>
     ensures { option_map escape_of result ≡ one_letter oniguruma c }
@@ -115,7 +116,7 @@ fn one_letter<'t>(oniguruma: bool, c: char) -> Option<Escape<'t>>
     other_sign(oniguruma, c)
 }
 
-/// The character of a code.
+/// The literal character of a code point. Fails with `InvalidCodepointValue` if it is not a character.
 #[tactic(auto, unfolding(crate::specs::Escapes::code_point))]
 fn code_point<'t>(here: &str, code: u32, rest: &'t str) -> Result<(Escape<'t>, &'t str), ReadError>
     ensures value { Gives (λ x. (escape_of x.0, chars x.1.now)) result (code_point (chars here.now) code (chars rest.now)) }
@@ -123,13 +124,13 @@ fn code_point<'t>(here: &str, code: u32, rest: &'t str) -> Result<(Escape<'t>, &
 {
     match char::from_u32(code) {
         Some(c) => Ok((Escape::Character(c), rest)),
-        None => stop(ParseError::InvalidCodepointValue, here),
+        None => fail_at(ParseError::InvalidCodepointValue, here),
     }
 }
 
-/// The value of the first character as a hexadecimal digit, and what follows it.
-fn behind_hex_digit(text: &str) -> Option<(u32, &str)>
-    ensures value { option_map (λ x. (x.0, chars x.1.now)) result ≡ digit_front 16 (chars text.now) }
+/// The value of the first character as a hexadecimal digit, and the rest.
+fn strip_hex_digit(text: &str) -> Option<(u32, &str)>
+    ensures value { option_map (λ x. (x.0, chars x.1.now)) result ≡ split_digit 16 (chars text.now) }
     ensures shorter { IfSome result (λ x. length (chars x.1.now) ≤ length (chars text.now)) }
     ensures digit { IfSome result (λ x. x.0 < 16) }
 {
@@ -138,22 +139,25 @@ fn behind_hex_digit(text: &str) -> Option<(u32, &str)>
     Some((digit, rest))
 }
 
-/// Hexadecimal digits: their number, how many there are, and what follows them.
+/// Leading hexadecimal digits of a text.
 #[derive(Clone, Copy)]
 struct HexDigits<'t> {
+    /// The number that they write.
     value: u32,
+    /// How many digits there are.
     count: usize,
+    /// The text after them.
     rest: &'t str,
 }
 
-/// The hexadecimal digits in front, of which at most so many, no more than eight, are read.
+/// Reads leading hexadecimal digits, at most `most` of them, which must be at most 8.
 fn hex_digits(most: usize, text: &str) -> HexDigits<'_>
     requires { most ≤ 8 }
-    ensures value { result.value ≡ value 16 (span_most is_hexadecimal most (chars text.now)).0 }
-    ensures count { result.count ≡ length (span_most is_hexadecimal most (chars text.now)).0 }
+    ensures value { result.value ≡ value 16 (span_at_most is_hexadecimal most (chars text.now)).0 }
+    ensures count { result.count ≡ length (span_at_most is_hexadecimal most (chars text.now)).0 }
     ensures small { result.value < 16 ^ result.count }
     ensures shorter { length (chars result.rest.now) ≤ length (chars text.now) }
-    ensures rest { chars result.rest.now ≡ (span_most is_hexadecimal most (chars text.now)).1 }
+    ensures rest { chars result.rest.now ≡ (span_at_most is_hexadecimal most (chars text.now)).1 }
 {
     let mut found = HexDigits {
         value: 0,
@@ -161,7 +165,7 @@ fn hex_digits(most: usize, text: &str) -> HexDigits<'_>
         rest: text,
     };
     while found.count < most {
-        let Some((digit, after)) = behind_hex_digit(found.rest) else {
+        let Some((digit, after)) = strip_hex_digit(found.rest) else {
             return found;
         };
         found = HexDigits {
@@ -173,7 +177,7 @@ fn hex_digits(most: usize, text: &str) -> HexDigits<'_>
     found
 }
 
-/// The number that a text of one to eight hexadecimal digits writes.
+/// The number, if the whole text is one to eight hexadecimal digits.
 #[tactic(auto, unfolding(crate::specs::Escapes::braced_digits))]
 fn braced_digits(text: &str) -> Option<u32>
     ensures { result ≡ braced_digits (chars text.now) }
@@ -186,22 +190,22 @@ fn braced_digits(text: &str) -> Option<u32>
     }
 }
 
-/// A code in braces, whose text begins behind the opening one.
+/// Parses a code point in braces from after the `{`. Fails with `InvalidHex` or `InvalidCodepointValue`.
 #[tactic(auto, unfolding(crate::specs::Escapes::braced_hex))]
 fn braced_hex<'t>(here: &str, text: &'t str) -> Result<(Escape<'t>, &'t str), ReadError>
     ensures value { Gives (λ x. (escape_of x.0, chars x.1.now)) result (braced_hex (chars here.now) (chars text.now)) }
     ensures shorter { IfOk result (λ x. length (chars x.1.now) ≤ length (chars text.now)) }
 {
-    let Some((digits, rest)) = up_to(text, '}') else {
-        return stop(ParseError::InvalidHex, here);
+    let Some((digits, rest)) = split_once(text, '}') else {
+        return fail_at(ParseError::InvalidHex, here);
     };
     let Some(code) = braced_digits(digits) else {
-        return stop(ParseError::InvalidHex, here);
+        return fail_at(ParseError::InvalidHex, here);
     };
     code_point(here, code, rest)
 }
 
-/// The number of exactly so many hexadecimal digits, no more than eight, and what follows them.
+/// The number of exactly `count` leading hexadecimal digits, and the rest. `count` must be at most 8.
 #[tactic(auto, unfolding(crate::specs::Escapes::plain_digits))]
 fn plain_digits(count: usize, text: &str) -> Option<(u32, &str)>
     requires { count ≤ 8 }
@@ -217,7 +221,8 @@ fn plain_digits(count: usize, text: &str) -> Option<(u32, &str)>
     }
 }
 
-/// A code of exactly so many digits, where two of them above 7F are a byte.
+/// Parses a code point of exactly `count` digits. Two digits above 7F are a byte instead. Fails with `InvalidHex` or
+/// `InvalidCodepointValue`.
 #[tactic(auto, unfolding(crate::specs::Escapes::plain_hex))]
 fn plain_hex<'t>(
     count: usize,
@@ -229,7 +234,7 @@ fn plain_hex<'t>(
     ensures shorter { IfOk result (λ x. length (chars x.1.now) ≤ length (chars text.now)) }
 {
     let Some((code, rest)) = plain_digits(count, text) else {
-        return stop(ParseError::InvalidHex, here);
+        return fail_at(ParseError::InvalidHex, here);
     };
     if count == 2 && code > 0x7F {
         return Ok((Escape::Byte(code as u8), rest));
@@ -237,20 +242,20 @@ fn plain_hex<'t>(
     code_point(here, code, rest)
 }
 
-/// A code in braces, or of exactly so many digits.
+/// Parses a code point in braces, or of exactly `count` digits. Fails with `InvalidHex` or `InvalidCodepointValue`.
 #[tactic(auto, unfolding(crate::specs::Escapes::hex))]
 fn hex<'t>(count: usize, here: &str, text: &'t str) -> Result<(Escape<'t>, &'t str), ReadError>
     requires { count ≤ 8 }
     ensures value { Gives (λ x. (escape_of x.0, chars x.1.now)) result (hex count (chars here.now) (chars text.now)) }
     ensures shorter { IfOk result (λ x. length (chars x.1.now) ≤ length (chars text.now)) }
 {
-    match behind(text, "{") {
+    match strip_prefix(text, "{") {
         Some(inside) => braced_hex(here, inside),
         None => plain_hex(count, here, text),
     }
 }
 
-/// The class of a property by the text in its braces, where a `^` in front negates it.
+/// The class of a Unicode property by the text in its braces, where a leading `^` negates it. `None` without a name.
 #[tactic(auto, unfolding(crate::specs::Escapes::property_class))]
 fn property_class(negated: bool, text: &str) -> Option<EscapedClass<'_>>
     ensures { option_map class_of result ≡ property_class negated (chars text.now) }
@@ -271,7 +276,7 @@ fn property_class(negated: bool, text: &str) -> Option<EscapedClass<'_>>
     })
 }
 
-/// A property: one character, or a name in braces.
+/// Parses a Unicode property after `\p` or `\P`: one character, or a name in braces. Fails with `UnclosedUnicodeName`.
 #[tactic(auto, unfolding(crate::specs::Escapes::property))]
 fn property<'t>(
     negated: bool,
@@ -282,7 +287,7 @@ fn property<'t>(
     ensures shorter { IfOk result (λ x. length (chars x.1.now) ≤ length (chars text.now)) }
 {
     let Some((letter, inside)) = split_first(text) else {
-        return stop(ParseError::UnclosedUnicodeName, here);
+        return fail_at(ParseError::UnclosedUnicodeName, here);
     };
     if letter != '{' {
         return Ok((
@@ -290,89 +295,91 @@ fn property<'t>(
             inside,
         ));
     }
-    let Some((name, rest)) = up_to(inside, '}') else {
-        return stop(ParseError::UnclosedUnicodeName, here);
+    let Some((name, rest)) = split_once(inside, '}') else {
+        return fail_at(ParseError::UnclosedUnicodeName, here);
     };
     let Some(class) = property_class(negated, name) else {
-        return stop(ParseError::UnclosedUnicodeName, here);
+        return fail_at(ParseError::UnclosedUnicodeName, here);
     };
     Ok((Escape::Class(class), rest))
 }
 
-/// The boundary behind `\b`: one of two names of half boundaries in braces, or nothing.
+/// Parses what follows `\b`: the name of a half boundary in braces, or nothing.
 #[tactic(auto, unfolding(crate::specs::Escapes::half_boundary))]
-fn half_boundary(text: &str) -> (Place, &str)
+fn half_boundary(text: &str) -> (AssertionEscape, &str)
     ensures value { (result.0, chars result.1.now) ≡ half_boundary (chars text.now) }
     ensures shorter { length (chars result.1.now) ≤ length (chars text.now) }
 {
-    if let Some(rest) = behind(text, "{start-half}") {
-        return (Place::LeftWordHalfBoundary, rest);
+    if let Some(rest) = strip_prefix(text, "{start-half}") {
+        return (AssertionEscape::LeftWordHalfBoundary, rest);
     }
-    if let Some(rest) = behind(text, "{end-half}") {
-        return (Place::RightWordHalfBoundary, rest);
+    if let Some(rest) = strip_prefix(text, "{end-half}") {
+        return (AssertionEscape::RightWordHalfBoundary, rest);
     }
-    (Place::WordBoundary, text)
+    (AssertionEscape::WordBoundary, text)
 }
 
-/// The boundary behind `\b`: one of four names in braces, or nothing.
+/// Parses what follows `\b`: one of four names of boundaries in braces, or nothing.
 #[tactic(auto, unfolding(crate::specs::Escapes::boundary))]
-fn boundary(text: &str) -> (Place, &str)
+fn boundary(text: &str) -> (AssertionEscape, &str)
     ensures value { (result.0, chars result.1.now) ≡ boundary (chars text.now) }
     ensures shorter { length (chars result.1.now) ≤ length (chars text.now) }
 {
-    if let Some(rest) = behind(text, "{start}") {
-        return (Place::LeftWordBoundary, rest);
+    if let Some(rest) = strip_prefix(text, "{start}") {
+        return (AssertionEscape::LeftWordBoundary, rest);
     }
-    if let Some(rest) = behind(text, "{end}") {
-        return (Place::RightWordBoundary, rest);
+    if let Some(rest) = strip_prefix(text, "{end}") {
+        return (AssertionEscape::RightWordBoundary, rest);
     }
     half_boundary(text)
 }
 
-/// A reference up to a closing character; `here` is the start of its construct. Asks for no memory.
-#[tactic(auto, unfolding(crate::specs::Escapes::reference_up_to))]
-pub fn reference_up_to<'t>(
-    leveled: bool,
+/// Parses a reference up to and with `close`, and the rest. With `allow_level`, it may have a recursion level. `here` is the text
+/// from the start of the construct on: fails there with `InvalidGroupName` if `close` is missing, or the text before it is
+/// not a reference. Allocates nothing.
+#[tactic(auto, unfolding(crate::specs::Escapes::delimited_reference))]
+pub fn delimited_reference<'t>(
+    allow_level: bool,
     close: char,
     here: &str,
     text: &'t str,
 ) -> Result<(Reference<'t>, &'t str), ReadError>
-    ensures value { Gives (λ x. (referred_of x.0, chars x.1.now)) result (reference_up_to leveled close (chars here.now) (chars text.now)) }
+    ensures value { Gives (λ x. (referred_of x.0, chars x.1.now)) result (delimited_reference allow_level close (chars here.now) (chars text.now)) }
     ensures shorter { IfOk result (λ x. length (chars x.1.now) ≤ length (chars text.now)) }
-    ensures sure { IfErr result IsFault }
+    ensures fault_only { IfErr result IsFault }
 {
-    let Some((inside, rest)) = up_to(text, close) else {
-        return stop(ParseError::InvalidGroupName, here);
+    let Some((inside, rest)) = split_once(text, close) else {
+        return fail_at(ParseError::InvalidGroupName, here);
     };
-    let Some(reference) = reference(leveled, inside) else {
-        return stop(ParseError::InvalidGroupName, here);
+    let Some(reference) = reference(allow_level, inside) else {
+        return fail_at(ParseError::InvalidGroupName, here);
     };
     Ok((reference, rest))
 }
 
-/// A reference in `<..>` or `'..'`.
+/// Parses a reference in `<..>` or `'..'`. Fails with `InvalidGroupName`.
 #[tactic(auto, unfolding(crate::specs::Escapes::bracketed_reference))]
 fn bracketed_reference<'t>(
-    leveled: bool,
+    allow_level: bool,
     here: &str,
     text: &'t str,
 ) -> Result<(Reference<'t>, &'t str), ReadError>
-    ensures value { Gives (λ x. (referred_of x.0, chars x.1.now)) result (bracketed_reference leveled (chars here.now) (chars text.now)) }
+    ensures value { Gives (λ x. (referred_of x.0, chars x.1.now)) result (bracketed_reference allow_level (chars here.now) (chars text.now)) }
     ensures shorter { IfOk result (λ x. length (chars x.1.now) ≤ length (chars text.now)) }
 {
     let Some((bracket, rest)) = split_first(text) else {
-        return stop(ParseError::InvalidGroupName, here);
+        return fail_at(ParseError::InvalidGroupName, here);
     };
     if bracket == '<' {
-        return reference_up_to(leveled, '>', here, rest);
+        return delimited_reference(allow_level, '>', here, rest);
     }
     if bracket == '\'' {
-        return reference_up_to(leveled, '\'', here, rest);
+        return delimited_reference(allow_level, '\'', here, rest);
     }
-    stop(ParseError::InvalidGroupName, here)
+    fail_at(ParseError::InvalidGroupName, here)
 }
 
-/// A back reference by digits, where the text begins with one.
+/// The back reference by leading decimal digits, and the rest. `None` without a digit.
 #[tactic(auto, unfolding(crate::specs::Escapes::numbered_reference))]
 fn numbered_reference(text: &str) -> Option<(Escape<'_>, &str)>
     ensures value { option_map (λ x. (escape_of x.0, chars x.1.now)) result ≡ numbered_reference (chars text.now) }
@@ -386,7 +393,7 @@ fn numbered_reference(text: &str) -> Option<(Escape<'_>, &str)>
     Some((Escape::BackReference(reference), rest))
 }
 
-/// An escape of the one letter or sign `c`.
+/// The escape of the character `c`, and the rest. Fails with `InvalidEscape`, or for want of memory.
 #[tactic(auto, unfolding(crate::specs::Escapes::single))]
 fn single<'t>(
     alloc: Global,
@@ -399,12 +406,12 @@ fn single<'t>(
     ensures shorter { IfOk result (λ x. length (chars x.1.now) ≤ length (chars rest.now)) }
 {
     let Some(escape) = one_letter(oniguruma, c) else {
-        return stop(ParseError::InvalidEscape(escaped(alloc, c)?), here);
+        return fail_at(ParseError::InvalidEscape(escaped(alloc, c)?), here);
     };
     Ok((escape, rest))
 }
 
-/// The escape behind a backslash, with which `here` begins.
+/// Parses an escape from after its backslash.
 #[tactic(auto, unfolding(crate::specs::Escapes::after_backslash))]
 fn after_backslash<'t>(
     alloc: Global,
@@ -416,7 +423,7 @@ fn after_backslash<'t>(
     ensures shorter { IfOk result (λ x. length (chars x.1.now) ≤ length (chars text.now)) }
 {
     let Some((c, rest)) = split_first(text) else {
-        return stop(ParseError::TrailingBackslash, here);
+        return fail_at(ParseError::TrailingBackslash, here);
     };
     match c {
         'x' => hex(2, here, rest),
@@ -443,14 +450,16 @@ fn after_backslash<'t>(
     }
 }
 
-/// The escape at the front of the text, which begins with a backslash, and what follows it.
+/// Parses the escape that the text starts with: its token, and the rest after it. The first character is taken to be a
+/// backslash. Fails at it with `TrailingBackslash`, `InvalidEscape`, `InvalidHex`, `InvalidCodepointValue`,
+/// `UnclosedUnicodeName` or `InvalidGroupName`; or for want of memory, which only the payload of `InvalidEscape` asks for.
 #[tactic(auto, unfolding(crate::specs::Escapes::escape))]
 pub fn escape(alloc: Global, oniguruma: bool, text: &str) -> Result<(Escape<'_>, &str), ReadError>
     ensures value { Gives (λ x. (escape_of x.0, chars x.1.now)) result (escape oniguruma (chars text.now)) }
     ensures shorter { IfOk result (λ x. length (chars x.1.now) < length (chars text.now)) }
 {
     let Some((_, rest)) = split_first(text) else {
-        return stop(ParseError::TrailingBackslash, text);
+        return fail_at(ParseError::TrailingBackslash, text);
     };
     after_backslash(alloc, oniguruma, text, rest)
 }

@@ -1,23 +1,30 @@
-//! The tokens of patterns: escapes, classes, flags, quantifiers and openings, with layout, names and numbers of the crate below shown again.
+//! The lexer of patterns: escapes, bracketed classes, flags, quantifiers, and what an open parenthesis starts.
+//! Each function takes the rest of the pattern that is still to be read, and returns one token and the rest after it, as
+//! the token's definition in `specs` does on the characters of that text; or a parse error with its position. The items of
+//! `fancy_regex_text` that a parser needs are exported again.
 #![tactic(auto)]
 
 mod classes;
-mod counts;
 mod escapes;
+mod examples;
 mod flags;
 mod openings;
-mod rows;
+mod quantifiers;
 mod token;
 
-pub use classes::class_in_brackets;
-pub use counts::{marks, quantifier_at};
-pub use escapes::{escape, reference_up_to};
+pub use classes::bracketed_class;
+pub use escapes::{delimited_reference, escape};
+pub use examples::{
+    class_examples, escape_examples, flag_examples, opening_examples, quantifier_examples,
+};
 pub use fancy_regex_text::{
-    Fault, ParseError, ReadError, Reference, Target, begins, behind, behind_first, digits,
-    fault_at, is_empty, is_name, next_token, reference, signed, skip, split_first, split_name,
-    stop, up_to, up_to_rest, whole_number,
+    Fault, ParseError, ReadError, Reference, Target, digits, fail_at, fault_at, has_prefix,
+    is_empty, is_name, next_token, prefix_before, reference, rest_after_first, signed, skip,
+    split_first, split_name, split_once, strip_prefix, whole_number,
 };
 pub use flags::flag_letters;
 pub use openings::opening;
-pub use rows::{class_rows, count_rows, escape_rows, flag_rows, opening_rows};
-pub use token::{Count, Escape, EscapedClass, Flags, Look, Marks, Opening, Place, Verb};
+pub use quantifiers::{leading_quantifier, quantifier_suffix};
+pub use token::{
+    AssertionEscape, Escape, EscapedClass, Flags, Look, Opening, Quantifier, QuantifierSuffix, Verb,
+};

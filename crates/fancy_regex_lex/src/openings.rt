@@ -1,67 +1,68 @@
-//! What a parenthesis opens.
+//! What an open parenthesis starts. In these functions `here` is the text from that parenthesis on, where errors are
+//! reported, and `text` the rest that is still to be read.
 
 ghost use Rattle.std.specs.Prelude.{◌≡◌, ◌-◌, ◌<◌, ◌≤◌, length, chars, option_map, IfOk, IfSome};
-ghost use Rattle.fancy_regex_text.specs.Text.{IsEnd};
+ghost use Rattle.fancy_regex_text.specs.Text.{IsSuffix};
 ghost use Rattle.fancy_regex_text.specs.Fault.{Gives};
 ghost use Rattle.fancy_regex_text.specs.Names.{referred_of};
-ghost use Rattle.fancy_regex_lex.specs.Openings.{later_verb, control_verb, named, numbered, bracketed, reference_condition, tested, condition, behind_angle, behind_tilde, flags, python, behind_question, opening, opening_of};
+ghost use Rattle.fancy_regex_lex.specs.Openings.{later_verb, control_verb, named, numbered, bracketed, reference_condition, tested, condition, after_angle, after_tilde, flags, python, after_question, opening, opening_of};
 
-use crate::escapes::reference_up_to;
+use crate::escapes::delimited_reference;
 use crate::flags::flag_letters;
 use crate::token::{Flags, Look, Opening, Verb};
 use fancy_regex_text::{
-    ParseError, ReadError, Reference, Target, behind, behind_first, digits, is_empty, is_name,
-    reference, signed, split_first, stop, up_to,
+    ParseError, ReadError, Reference, Target, digits, fail_at, is_empty, is_name, reference,
+    rest_after_first, signed, split_first, split_once, strip_prefix,
 };
 use std::alloc::Global;
 
-/// One of the last three verbs.
+/// `(*COMMIT)`, `(*SKIP)` or `(*PRUNE)`, and the rest.
 #[tactic(auto, unfolding(crate::specs::Openings::later_verb))]
 fn later_verb(text: &str) -> Option<(Verb, &str)>
     ensures value { option_map (λ x. (x.0, chars x.1.now)) result ≡ later_verb (chars text.now) }
     ensures shorter { IfSome result (λ x. length (chars x.1.now) < length (chars text.now)) }
 {
-    if let Some(rest) = behind(text, "(*COMMIT)") {
+    if let Some(rest) = strip_prefix(text, "(*COMMIT)") {
         return Some((Verb::Commit, rest));
     }
-    if let Some(rest) = behind(text, "(*SKIP)") {
+    if let Some(rest) = strip_prefix(text, "(*SKIP)") {
         return Some((Verb::Skip, rest));
     }
-    let rest = behind(text, "(*PRUNE)")?;
+    let rest = strip_prefix(text, "(*PRUNE)")?;
     Some((Verb::Prune, rest))
 }
 
-/// The verb that stands in front, and what follows it.
+/// The backtracking control verb that the text starts with, and the rest.
 #[tactic(auto, unfolding(crate::specs::Openings::control_verb))]
 fn control_verb(text: &str) -> Option<(Verb, &str)>
     ensures value { option_map (λ x. (x.0, chars x.1.now)) result ≡ control_verb (chars text.now) }
     ensures shorter { IfSome result (λ x. length (chars x.1.now) < length (chars text.now)) }
 {
-    if let Some(rest) = behind(text, "(*FAIL)") {
+    if let Some(rest) = strip_prefix(text, "(*FAIL)") {
         return Some((Verb::Fail, rest));
     }
-    if let Some(rest) = behind(text, "(*ACCEPT)") {
+    if let Some(rest) = strip_prefix(text, "(*ACCEPT)") {
         return Some((Verb::Accept, rest));
     }
     later_verb(text)
 }
 
-/// A named group, from its name on.
+/// Parses a named capture group from its name on, up to `>`. Fails with `InvalidGroupName`.
 #[tactic(auto, unfolding(crate::specs::Openings::named))]
 fn named<'t>(here: &str, text: &'t str) -> Result<(Opening<'t>, &'t str), ReadError>
     ensures value { Gives (λ x. (opening_of x.0, chars x.1.now)) result (named (chars here.now) (chars text.now)) }
     ensures shorter { IfOk result (λ x. length (chars x.1.now) ≤ length (chars text.now)) }
 {
-    let Some((name, rest)) = up_to(text, '>') else {
-        return stop(ParseError::InvalidGroupName, here);
+    let Some((name, rest)) = split_once(text, '>') else {
+        return fail_at(ParseError::InvalidGroupName, here);
     };
     if is_name(name) {
         return Ok((Opening::Capturing(Some(name)), rest));
     }
-    stop(ParseError::InvalidGroupName, here)
+    fail_at(ParseError::InvalidGroupName, here)
 }
 
-/// A condition of digits, with a level or without.
+/// The reference of a condition of decimal digits, with or without a recursion level.
 #[tactic(auto, unfolding(crate::specs::Openings::numbered))]
 fn numbered(text: &str) -> Option<Reference<'_>>
     ensures { option_map referred_of result ≡ numbered (chars text.now) }
@@ -81,12 +82,12 @@ fn numbered(text: &str) -> Option<Reference<'_>>
     })
 }
 
-/// A condition in brackets, from behind the opening one up to its end.
+/// The reference of a condition in angle brackets or quotes, from after the first of them. The text must end with `close`.
 #[tactic(auto, unfolding(crate::specs::Openings::bracketed))]
 fn bracketed(close: char, text: &str) -> Option<Reference<'_>>
     ensures { option_map referred_of result ≡ bracketed close (chars text.now) }
 {
-    let (inside, rest) = up_to(text, close)?;
+    let (inside, rest) = split_once(text, close)?;
     if is_empty(rest) {
         reference(true, inside)
     } else {
@@ -94,7 +95,7 @@ fn bracketed(close: char, text: &str) -> Option<Reference<'_>>
     }
 }
 
-/// A condition that is a reference.
+/// The reference that the whole text of a condition is. `None` if it is not one.
 #[tactic(auto, unfolding(crate::specs::Openings::reference_condition))]
 fn reference_condition(text: &str) -> Option<Reference<'_>>
     ensures { option_map referred_of result ≡ reference_condition (chars text.now) }
@@ -107,13 +108,13 @@ fn reference_condition(text: &str) -> Option<Reference<'_>>
     }
 }
 
-/// A condition that is no `DEFINE`: a reference, or else the beginning of an expression.
+/// Parses a condition that is not `DEFINE`: a reference up to `)`, or else an expression, of which nothing is read.
 #[tactic(auto, unfolding(crate::specs::Openings::tested))]
 fn tested(text: &str) -> (Opening<'_>, &str)
     ensures value { (opening_of result.0, chars result.1.now) ≡ tested (chars text.now) }
     ensures shorter { length (chars result.1.now) ≤ length (chars text.now) }
 {
-    let Some((inside, rest)) = up_to(text, ')') else {
+    let Some((inside, rest)) = split_once(text, ')') else {
         return (Opening::IfMatches, text);
     };
     match reference_condition(inside) {
@@ -122,46 +123,46 @@ fn tested(text: &str) -> (Opening<'_>, &str)
     }
 }
 
-/// What stands behind `(?(`.
+/// Parses what follows `(?(`.
 #[tactic(auto, unfolding(crate::specs::Openings::condition))]
 fn condition(text: &str) -> (Opening<'_>, &str)
     ensures value { (opening_of result.0, chars result.1.now) ≡ condition (chars text.now) }
     ensures shorter { length (chars result.1.now) ≤ length (chars text.now) }
 {
-    match behind(text, "DEFINE)") {
+    match strip_prefix(text, "DEFINE)") {
         Some(rest) => (Opening::Define, rest),
         None => tested(text),
     }
 }
 
-/// What stands behind `(?<`.
-#[tactic(auto, unfolding(crate::specs::Openings::behind_angle))]
-fn behind_angle<'t>(here: &str, text: &'t str) -> Result<(Opening<'t>, &'t str), ReadError>
-    ensures value { Gives (λ x. (opening_of x.0, chars x.1.now)) result (behind_angle (chars here.now) (chars text.now)) }
+/// Parses what follows `(?<`: a look-behind or a named group. Fails with `InvalidGroupName`.
+#[tactic(auto, unfolding(crate::specs::Openings::after_angle))]
+fn after_angle<'t>(here: &str, text: &'t str) -> Result<(Opening<'t>, &'t str), ReadError>
+    ensures value { Gives (λ x. (opening_of x.0, chars x.1.now)) result (after_angle (chars here.now) (chars text.now)) }
     ensures shorter { IfOk result (λ x. length (chars x.1.now) ≤ length (chars text.now)) }
 {
-    if let Some(rest) = behind(text, "=") {
+    if let Some(rest) = strip_prefix(text, "=") {
         return Ok((Opening::LookAround(Look::Behind), rest));
     }
-    if let Some(rest) = behind(text, "!") {
+    if let Some(rest) = strip_prefix(text, "!") {
         return Ok((Opening::LookAround(Look::BehindNeg), rest));
     }
     named(here, text)
 }
 
-/// What stands behind `(?~`.
-#[tactic(auto, unfolding(crate::specs::Openings::behind_tilde))]
-fn behind_tilde(text: &str) -> (Opening<'_>, &str)
-    ensures value { (opening_of result.0, chars result.1.now) ≡ behind_tilde (chars text.now) }
+/// Parses what follows `(?~`: an absent operator.
+#[tactic(auto, unfolding(crate::specs::Openings::after_tilde))]
+fn after_tilde(text: &str) -> (Opening<'_>, &str)
+    ensures value { (opening_of result.0, chars result.1.now) ≡ after_tilde (chars text.now) }
     ensures shorter { length (chars result.1.now) ≤ length (chars text.now) }
 {
-    match behind(text, "|") {
+    match strip_prefix(text, "|") {
         Some(rest) => (Opening::AbsentBar, rest),
         None => (Opening::Absent, text),
     }
 }
 
-/// Flags, with a body behind them or without.
+/// Parses flags, and `:` or `)` after them. Fails as `flag_letters` does.
 #[tactic(auto, unfolding(crate::specs::Openings::flags))]
 fn flags<'t>(
     alloc: Global,
@@ -170,18 +171,19 @@ fn flags<'t>(
     here: &str,
     text: &'t str,
 ) -> Result<(Opening<'t>, &'t str), ReadError>
-    requires { IsEnd (chars text.now) (chars here.now) }
+    requires { IsSuffix (chars text.now) (chars here.now) }
     ensures value { Gives (λ x. (opening_of x.0, chars x.1.now)) result (flags unicode before (chars here.now) (chars text.now)) }
     ensures shorter { IfOk result (λ x. length (chars x.1.now) ≤ length (chars text.now)) }
 {
     let (changed, has_body, rest) = flag_letters(alloc, unicode, before, here, text)?;
     if has_body {
-        return Ok((Opening::Bare(changed), rest));
+        return Ok((Opening::NonCapturing(changed), rest));
     }
-    Ok((Opening::Setting(changed), rest))
+    Ok((Opening::SetFlags(changed), rest))
 }
 
-/// What stands behind `(?` where a `P` does.
+/// Parses what follows `(?` and starts with `P`: a named group, a back reference, a call, or flags. Fails with
+/// `InvalidGroupName`, or as `flag_letters` does.
 #[tactic(auto, unfolding(crate::specs::Openings::python))]
 fn python<'t>(
     alloc: Global,
@@ -190,35 +192,35 @@ fn python<'t>(
     here: &str,
     text: &'t str,
 ) -> Result<(Opening<'t>, &'t str), ReadError>
-    requires { IsEnd (chars text.now) (chars here.now) }
+    requires { IsSuffix (chars text.now) (chars here.now) }
     ensures value { Gives (λ x. (opening_of x.0, chars x.1.now)) result (python unicode before (chars here.now) (chars text.now)) }
     ensures shorter { IfOk result (λ x. length (chars x.1.now) ≤ length (chars text.now)) }
 {
-    if let Some(rest) = behind(text, "P<") {
+    if let Some(rest) = strip_prefix(text, "P<") {
         return named(here, rest);
     }
-    if let Some(inside) = behind(text, "P=") {
-        let (reference, rest) = reference_up_to(true, ')', here, inside)?;
+    if let Some(inside) = strip_prefix(text, "P=") {
+        let (reference, rest) = delimited_reference(true, ')', here, inside)?;
         return Ok((Opening::BackReference(reference), rest));
     }
-    if let Some(inside) = behind(text, "P>") {
-        let (reference, rest) = reference_up_to(false, ')', here, inside)?;
+    if let Some(inside) = strip_prefix(text, "P>") {
+        let (reference, rest) = delimited_reference(false, ')', here, inside)?;
         return Ok((Opening::Call(reference.target), rest));
     }
     flags(alloc, unicode, before, here, text)
 }
 
-/// What stands behind `(?`.
-#[tactic(auto, unfolding(crate::specs::Openings::behind_question))]
-fn behind_question<'t>(
+/// Parses what follows `(?`. Fails with `InvalidGroupName`, or as `flag_letters` does.
+#[tactic(auto, unfolding(crate::specs::Openings::after_question))]
+fn after_question<'t>(
     alloc: Global,
     unicode: bool,
     before: Flags,
     here: &str,
     text: &'t str,
 ) -> Result<(Opening<'t>, &'t str), ReadError>
-    requires { IsEnd (chars text.now) (chars here.now) }
-    ensures value { Gives (λ x. (opening_of x.0, chars x.1.now)) result (behind_question unicode before (chars here.now) (chars text.now)) }
+    requires { IsSuffix (chars text.now) (chars here.now) }
+    ensures value { Gives (λ x. (opening_of x.0, chars x.1.now)) result (after_question unicode before (chars here.now) (chars text.now)) }
     ensures shorter { IfOk result (λ x. length (chars x.1.now) ≤ length (chars text.now)) }
 {
     let Some((c, rest)) = split_first(text) else {
@@ -227,17 +229,19 @@ fn behind_question<'t>(
     match c {
         '=' => Ok((Opening::LookAround(Look::Ahead), rest)),
         '!' => Ok((Opening::LookAround(Look::AheadNeg), rest)),
-        '<' => behind_angle(here, rest),
+        '<' => after_angle(here, rest),
         'P' => python(alloc, unicode, before, here, text),
         '>' => Ok((Opening::Atomic, rest)),
         '(' => Ok(condition(rest)),
-        '~' => Ok(behind_tilde(rest)),
+        '~' => Ok(after_tilde(rest)),
         _ => flags(alloc, unicode, before, here, text),
     }
 }
 
-/// What the parenthesis at the front of the text opens, and what follows. `unicode` is what the flag `u` is for the whole
-/// pattern, and `before` are the flags that hold before it.
+/// Parses what the open parenthesis that the text starts with starts: the token, and the rest after it. `unicode` is whether
+/// the pattern is in Unicode mode, and `before` are the flags that hold before the parenthesis. Fails at the parenthesis
+/// with `InvalidGroupName`, `UnknownFlag` or `ChangingUnicodeModeUnsupported`; at the end of the pattern with
+/// `UnclosedOpenParen`; or for want of memory, which only the payload of `UnknownFlag` asks for.
 #[tactic(auto, unfolding(crate::specs::Openings::opening))]
 pub fn opening(
     alloc: Global,
@@ -248,11 +252,11 @@ pub fn opening(
     ensures value { Gives (λ x. (opening_of x.0, chars x.1.now)) result (opening unicode before (chars text.now)) }
     ensures shorter { IfOk result (λ x. length (chars x.1.now) ≤ length (chars text.now) - 1) }
 {
-    if let Some(rest) = behind(text, "(?") {
-        return behind_question(alloc, unicode, before, text, rest);
+    if let Some(rest) = strip_prefix(text, "(?") {
+        return after_question(alloc, unicode, before, text, rest);
     }
     match control_verb(text) {
         Some((verb, rest)) => Ok((Opening::Verb(verb), rest)),
-        None => Ok((Opening::Capturing(None), behind_first(text))),
+        None => Ok((Opening::Capturing(None), rest_after_first(text))),
     }
 }

@@ -1,9 +1,9 @@
-pub mod PlaceLemmas
+pub mod BoundaryLemmas
 pub mod NewlineLemmas
-pub mod AgainLemmas
+pub mod BackrefLemmas
 pub mod StartLemmas
 pub mod TextLemmas
 pub mod RepeatLemmas
-pub mod TurnLemmas
+pub mod AdvanceLemmas
 pub mod Exec
 pub mod AnswerLemmas

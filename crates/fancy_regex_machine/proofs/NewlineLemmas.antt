@@ -5,7 +5,7 @@ use Rattle.std.proofs.lemmas.Bool.{cases_lt, false≢true, and_left, and_right}
 use Rattle.std.proofs.lemmas.Option.{slice_get-get_or, slice_get_past}
 use Rattle.std.specs.Prelude.{slice_get}
 use Rattle.regex_hir.specs.Text.{is_some_and}
-use Rattle.fancy_regex_meaning.specs.Places.{are_newlines, is_before_byte}
+use Rattle.fancy_regex_meaning.specs.Positions.{are_newlines, is_before_byte}
 
 or_nothing : (a : Bool) → (a || false) ≡ a
 or_nothing true = refl
@@ -16,15 +16,15 @@ past_newline crlf [] = refl
 past_newline false (c ∷ rest) = or_nothing _
 past_newline true (c ∷ rest) = or_nothing _
 
--- the byte at a place, and the rest
-at_place : (text : List ℕ) (p b : ℕ) → p < length text → get_or text p 0 ≡ b → drop p text ≡ b ∷ drop (p + 1) text
-at_place text p b lt is =
+-- the byte at an offset, and the rest
+with_position : (text : List ℕ) (p b : ℕ) → p < length text → get_or text p 0 ≡ b → drop p text ≡ b ∷ drop (p + 1) text
+with_position text p b lt is =
     let next : suc p ≡ p + 1 = omega arith in
     drop-cons text p 0 lt ∙ (λ i. is i ∷ drop (next i) text)
 
 pub newline_more : (crlf : Bool) (text : List ℕ) (p : ℕ) → p < length text → get_or text p 0 ≡ 10
     → are_newlines crlf (drop p text) ≡ are_newlines crlf (drop (p + 1) text)
-newline_more crlf text p lt is = ap (are_newlines crlf) (at_place text p 10 lt is) ∙ past_newline crlf (drop (p + 1) text)
+newline_more crlf text p lt is = ap (are_newlines crlf) (with_position text p 10 lt is) ∙ past_newline crlf (drop (p + 1) text)
 
 -- what the test for a byte says
 byte_there : (text : List ℕ) (b p : ℕ) → is_before_byte text b p ≡ true → (p < length text) × (get_or text p 0 ≡ b)
@@ -39,7 +39,7 @@ both_more crlf text p on lt is next =
     let there = byte_there text 10 (p + 1) next in
     let last : p + 1 + 1 ≡ p + 2 = omega arith in
     ap (λ b. are_newlines b (drop p text)) on
-    ∙ ap (are_newlines true) (at_place text p 13 lt is ∙ ap (λ l. 13 ∷ l) (at_place text (p + 1) 10 there.0 there.1))
+    ∙ ap (are_newlines true) (with_position text p 13 lt is ∙ ap (λ l. 13 ∷ l) (with_position text (p + 1) 10 there.0 there.1))
     ∙ ap (λ n. are_newlines true (drop n text)) last ∙ ap (λ b. are_newlines b (drop (p + 2) text)) (sym on)
 
 -- a byte that begins no newline
@@ -63,7 +63,7 @@ get_drop (x ∷ text) (suc n) = get_drop text n
 pub no_newline : (crlf : Bool) (text : List ℕ) (p : ℕ) → p < length text → (get_or text p 0 ≡ 10 → ⊥)
     → ((crlf && get_or text p 0 == 13) ≡ false) ⊎ (is_before_byte text 10 (p + 1) ≡ false) → are_newlines crlf (drop p text) ≡ false
 no_newline crlf text p lt not_one more =
-    let whole = at_place text p _ lt refl in
+    let whole = with_position text p _ lt refl in
     let look = ap (λ o. is_some_and o (λ c. c == 10)) (get_drop text (p + 1)) in
     ap (are_newlines crlf) whole
     ∙ other_byte crlf (get_or text p 0) (drop (p + 1) text) not_one (⊎_elim (λ e. inl e) (λ e. inr (look ∙ e)) more)

@@ -1,7 +1,7 @@
-pub mod Scenes
-pub mod Plans
+pub mod Haystacks
+pub mod RunConfigs
 pub mod Steps
-pub mod Turns
-pub mod Told
-pub mod Asked
-pub mod Answered
+pub mod Advances
+pub mod Endings
+pub mod RunArguments
+pub mod SearchAnswers

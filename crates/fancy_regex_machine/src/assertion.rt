@@ -1,23 +1,23 @@
-// Whether assertions hold.
+//! Evaluation of the zero-width assertions.
 
 ghost use Rattle.std.specs.Prelude.{◌≡◌, ◌≤◌, length, drop};
-ghost use Rattle.fancy_regex_meaning.specs.Places as places;
+ghost use Rattle.fancy_regex_meaning.specs.Positions as places;
 ghost use Rattle.fancy_regex_meaning.specs.Ways as ways;
-ghost use Rattle.fancy_regex_machine.specs.Scenes.{seen};
+ghost use Rattle.fancy_regex_machine.specs.Haystacks.{setting_of_haystack};
 
-use crate::scene::Scene;
+use crate::haystack::Haystack;
 use crate::sight::{char_at, char_before};
 use fancy_regex_class::is_word;
 use fancy_regex_tree::Assertion;
 
-/// Whether the assertion holds at the position.
-pub(crate) fn holds(scene: &Scene, assertion: Assertion, position: usize) -> bool
-    ensures { result ≡ ways.holds (seen scene.now) assertion position }
+/// Whether the assertion holds at the byte offset `position`.
+pub(crate) fn holds(haystack: &Haystack, assertion: Assertion, position: usize) -> bool
+    ensures { result ≡ ways.holds (setting_of_haystack haystack.now) assertion position }
 {
-    let text = scene.text.as_bytes();
+    let text = haystack.text.as_bytes();
     match assertion {
-        Assertion::StartText => position == 0 && !scene.no_start_text,
-        Assertion::EndText => position == text.len() && !scene.no_end_text,
+        Assertion::StartText => position == 0 && !haystack.no_start_text,
+        Assertion::EndText => position == text.len() && !haystack.no_end_text,
         Assertion::EndTextIgnoreTrailingNewlines { crlf } => are_newlines(text, crlf, position),
         Assertion::StartLine { crlf } => is_line_start(text, crlf, position),
         Assertion::StartLineOniguruma { crlf } => {
@@ -26,22 +26,22 @@ pub(crate) fn holds(scene: &Scene, assertion: Assertion, position: usize) -> boo
         }
         Assertion::EndLine { crlf } => is_line_end(text, crlf, position),
         Assertion::LeftWordBoundary => {
-            !is_after_word(scene, position) && is_before_word(scene, position)
+            !is_after_word(haystack, position) && is_before_word(haystack, position)
         }
-        Assertion::LeftWordHalfBoundary => !is_after_word(scene, position),
+        Assertion::LeftWordHalfBoundary => !is_after_word(haystack, position),
         Assertion::RightWordBoundary => {
-            is_after_word(scene, position) && !is_before_word(scene, position)
+            is_after_word(haystack, position) && !is_before_word(haystack, position)
         }
-        Assertion::RightWordHalfBoundary => !is_before_word(scene, position),
-        Assertion::WordBoundary => is_after_word(scene, position)
-            != is_before_word(scene, position),
+        Assertion::RightWordHalfBoundary => !is_before_word(haystack, position),
+        Assertion::WordBoundary => is_after_word(haystack, position)
+            != is_before_word(haystack, position),
         Assertion::NotWordBoundary => {
-            is_after_word(scene, position) == is_before_word(scene, position)
+            is_after_word(haystack, position) == is_before_word(haystack, position)
         }
     }
 }
 
-/// Whether this byte stands before the position.
+/// Whether the byte before `position` is this one.
 #[tactic(auto, unfolding(regex_hir::specs::Text::byte_before))]
 fn is_after_byte(text: &[u8], byte: u8, position: usize) -> bool
     ensures { result ≡ places.is_after_byte text.now byte position }
@@ -49,7 +49,7 @@ fn is_after_byte(text: &[u8], byte: u8, position: usize) -> bool
     position > 0 && is_before_byte(text, byte, position - 1)
 }
 
-/// Whether this byte stands at the position.
+/// Whether the byte at `position` is this one.
 pub(crate) fn is_before_byte(text: &[u8], byte: u8, position: usize) -> bool
     ensures { result ≡ places.is_before_byte text.now byte position }
 {
@@ -59,7 +59,7 @@ pub(crate) fn is_before_byte(text: &[u8], byte: u8, position: usize) -> bool
     }
 }
 
-/// Whether a line starts at the position.
+/// Whether a line starts at `position`; with `crlf` a line ends with `\n`, `\r` or `\r\n`.
 fn is_line_start(text: &[u8], crlf: bool, position: usize) -> bool
     ensures { result ≡ places.is_line_start text.now crlf position }
 {
@@ -68,7 +68,7 @@ fn is_line_start(text: &[u8], crlf: bool, position: usize) -> bool
         || (crlf && is_after_byte(text, b'\r', position) && !is_before_byte(text, b'\n', position))
 }
 
-/// Whether a line ends at the position.
+/// Whether a line ends at `position`.
 fn is_line_end(text: &[u8], crlf: bool, position: usize) -> bool
     ensures { result ≡ places.is_line_end text.now crlf position }
 {
@@ -83,7 +83,7 @@ fn is_line_end(text: &[u8], crlf: bool, position: usize) -> bool
     }
 }
 
-/// Whether nothing but newlines follow.
+/// Whether the rest of the text from `position` on consists of newlines.
 fn are_newlines(text: &[u8], crlf: bool, position: usize) -> bool
     ensures { result ≡ places.are_newlines crlf (drop position text.now) }
 {
@@ -100,22 +100,22 @@ fn are_newlines(text: &[u8], crlf: bool, position: usize) -> bool
     true
 }
 
-/// Whether a word character stands before the position.
-fn is_after_word(scene: &Scene, position: usize) -> bool
-    ensures { result ≡ ways.is_after_word (seen scene.now) position }
+/// Whether the character before `position` is a word character.
+fn is_after_word(haystack: &Haystack, position: usize) -> bool
+    ensures { result ≡ ways.is_after_word (setting_of_haystack haystack.now) position }
 {
-    match char_before(scene.text, position) {
-        Some(c) => is_word(c, scene.unicode),
+    match char_before(haystack.text, position) {
+        Some(c) => is_word(c, haystack.unicode),
         None => false,
     }
 }
 
-/// Whether a word character stands at the position.
-fn is_before_word(scene: &Scene, position: usize) -> bool
-    ensures { result ≡ ways.is_before_word (seen scene.now) position }
+/// Whether the character at `position` is a word character.
+fn is_before_word(haystack: &Haystack, position: usize) -> bool
+    ensures { result ≡ ways.is_before_word (setting_of_haystack haystack.now) position }
 {
-    match char_at(scene.text, position) {
-        Some(c) => is_word(c, scene.unicode),
+    match char_at(haystack.text, position) {
+        Some(c) => is_word(c, haystack.unicode),
         None => false,
     }
 }

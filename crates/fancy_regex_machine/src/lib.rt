@@ -1,24 +1,22 @@
-//! The machine that runs programs: it tries ways one after another, and goes back where one fails.
+//! The backtracking machine. It runs the program of a pattern on a text: it follows one thread at a time, pushes the
+//! alternatives as branches, and backtracks to the last branch where a thread fails. A run answers the match that the
+//! definitions give, or an error: a limit that was exceeded, or want of memory.
 #![tactic(auto)]
 
 mod absent;
-mod again;
+mod advance;
 mod assertion;
+mod backref;
 mod error;
-mod lawful;
-#[cfg(test)]
-mod memory_tests;
+mod haystack;
 mod newline;
-mod plan;
-mod scene;
+mod run_config;
+mod run_loop;
 mod search;
 mod sight;
+mod slot_check;
 mod start;
 mod step;
-#[cfg(test)]
-mod tests;
-mod turn;
-mod whole;
 
 pub use error::RuntimeError;
 pub use search::{RunOptions, run, run_default, run_spans};

@@ -1,19 +1,20 @@
-// What stands at a place of a text.
+//! Matching of single characters and literals at a byte offset. Each function answers the offset after the match, or
+//! `None`.
 
 ghost use Rattle.std.specs.Prelude.{◌≡◌, ◌+◌, ◌^◌, ◌<◌, ◌≤◌, IfSome, chars, length};
 ghost use Rattle.std.specs.Char.{len_utf8};
 ghost use Rattle.regex_hir.specs.Text as sight;
-ghost use Rattle.fancy_regex_meaning.specs.Places as places;
+ghost use Rattle.fancy_regex_meaning.specs.Positions as places;
 ghost use Rattle.fancy_regex_meaning.specs.Ways.{is_any};
-ghost use Rattle.fancy_regex_class.specs.Matchers.{has, is_alike};
+ghost use Rattle.fancy_regex_class.specs.Matchers.{has, equals_ignoring_case};
 ghost use Rattle.fancy_regex_program.specs.Machine as machine;
 ghost use Rattle.fancy_regex_program.specs.Ops.{among_scalars};
-ghost use Rattle.fancy_regex_machine.specs.Scenes.{seen};
+ghost use Rattle.fancy_regex_machine.specs.Haystacks.{setting_of_haystack};
 
-use crate::scene::Scene;
+use crate::haystack::Haystack;
 use fancy_regex_class::{CaseiLiteral, CharClassMatcher};
 
-/// The character that begins at the position, if one does.
+/// The character that begins at the byte offset `position`, if there is one.
 pub(crate) fn char_at(text: &str, position: usize) -> Option<char>
     ensures char { result ≡ sight.char_at text.now position }
     ensures room { IfSome result (λ c. position + len_utf8 c < 2 ^ 64) }
@@ -22,7 +23,7 @@ pub(crate) fn char_at(text: &str, position: usize) -> Option<char>
     rest.chars().next()
 }
 
-/// The character that ends at the position, if one does.
+/// The character that ends at the byte offset `position`, if there is one.
 pub(crate) fn char_before(text: &str, position: usize) -> Option<char>
     ensures char { result ≡ sight.char_before text.now position }
     ensures room { IfSome result (λ c. len_utf8 c ≤ position) }
@@ -31,23 +32,23 @@ pub(crate) fn char_before(text: &str, position: usize) -> Option<char>
     front.chars().next_back()
 }
 
-/// The place so many characters before the position, if the text has them.
-pub(crate) fn place_before(text: &str, count: usize, position: usize) -> Option<usize>
-    ensures { result ≡ places.place_before text.now count position }
+/// The byte offset `count` characters before `position`, or `None` if the text has fewer characters there.
+pub(crate) fn position_before(text: &str, count: usize, position: usize) -> Option<usize>
+    ensures { result ≡ places.position_before text.now count position }
 {
-    let mut place = position;
+    let mut cursor = position;
     for back in 0..count {
         let _ = back;
-        let c = char_before(text, place)?;
-        place -= c.len_utf8();
+        let c = char_before(text, cursor)?;
+        cursor -= c.len_utf8();
     }
-    Some(place)
+    Some(cursor)
 }
 
-/// The place behind these characters, if they stand at the position.
-pub(crate) fn behind_text(text: &str, wanted: &str, position: usize) -> Option<usize>
+/// The byte offset after the literal `wanted` if it occurs at `position`.
+pub(crate) fn match_text(text: &str, wanted: &str, position: usize) -> Option<usize>
     requires { position ≤ length text.now }
-    ensures { result ≡ machine.behind_text text.now (chars wanted.now) position }
+    ensures { result ≡ machine.match_text text.now (chars wanted.now) position }
 {
     let rest = &text.as_bytes()[position..];
     if rest.starts_with(wanted.as_bytes()) {
@@ -57,12 +58,17 @@ pub(crate) fn behind_text(text: &str, wanted: &str, position: usize) -> Option<u
     }
 }
 
-/// The place behind the character at the position, if there is one; without `newline` it is not `\n`, and with `crlf` not
-/// `\r` either.
-pub(crate) fn behind_any(scene: &Scene, newline: bool, crlf: bool, position: usize) -> Option<usize>
-    ensures { result ≡ machine.behind_char scene.now.text.now (is_any (seen scene.now) newline crlf) position }
+/// The byte offset after the character at `position`, if there is one. Without `newline` it may not be `\n`, and with
+/// `crlf` and without `newline` not `\r` either.
+pub(crate) fn match_any(
+    haystack: &Haystack,
+    newline: bool,
+    crlf: bool,
+    position: usize,
+) -> Option<usize>
+    ensures { result ≡ machine.match_char haystack.now.text.now (is_any (setting_of_haystack haystack.now) newline crlf) position }
 {
-    let c = char_at(scene.text, position)?;
+    let c = char_at(haystack.text, position)?;
     if newline || !(c == '\n' || (crlf && c == '\r')) {
         Some(position + c.len_utf8())
     } else {
@@ -70,9 +76,9 @@ pub(crate) fn behind_any(scene: &Scene, newline: bool, crlf: bool, position: usi
     }
 }
 
-/// The place behind the character at the position, if it differs from the literal in case alone.
-pub(crate) fn behind_alike(text: &str, literal: CaseiLiteral, position: usize) -> Option<usize>
-    ensures { result ≡ machine.behind_char text.now (is_alike literal) position }
+/// The byte offset after the character at `position`, if it equals the literal under case folding.
+pub(crate) fn match_casei(text: &str, literal: CaseiLiteral, position: usize) -> Option<usize>
+    ensures { result ≡ machine.match_char text.now (equals_ignoring_case literal) position }
 {
     let c = char_at(text, position)?;
     if literal.matches(c) {
@@ -82,13 +88,9 @@ pub(crate) fn behind_alike(text: &str, literal: CaseiLiteral, position: usize) -
     }
 }
 
-/// The place behind the character at the position, if it is a member of the class.
-pub(crate) fn behind_member(
-    text: &str,
-    matcher: &CharClassMatcher,
-    position: usize,
-) -> Option<usize>
-    ensures { result ≡ machine.behind_char text.now (among_scalars (has matcher.now)) position }
+/// The byte offset after the character at `position`, if it is a member of the class.
+pub(crate) fn match_class(text: &str, matcher: &CharClassMatcher, position: usize) -> Option<usize>
+    ensures { result ≡ machine.match_char text.now (among_scalars (has matcher.now)) position }
 {
     let c = char_at(text, position)?;
     if matcher.contains(c) {

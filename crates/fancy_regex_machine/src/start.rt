@@ -1,68 +1,68 @@
-// Where a search may start.
+//! The byte offsets at which a match may start.
 
 ghost use Rattle.std.specs.Prelude.{◌≡◌, ◌+◌, ◌^◌, ◌<◌, ◌≤◌, length};
 ghost use Rattle.std.specs.List.{filter};
 ghost use Rattle.regex_hir.specs.Text.{is_boundary};
-ghost use Rattle.fancy_regex_meaning.specs.Places.{boundaries};
+ghost use Rattle.fancy_regex_meaning.specs.Positions.{boundaries};
 ghost use Rattle.fancy_regex_meaning.specs.Searches.{first_item};
 ghost use Rattle.fancy_regex_program.specs.Machine as machine;
-ghost use Rattle.fancy_regex_machine.specs.Plans.{may_start, rules_of};
+ghost use Rattle.fancy_regex_machine.specs.RunConfigs.{may_start, run_parameters_of};
 
-use crate::plan::Plan;
+use crate::run_config::RunConfig;
 
-/// Whether a search may start at the place, by the bytes that it seeks.
-pub(crate) fn is_sought(plan: &Plan, place: usize) -> bool
-    ensures { result ≡ may_start plan.now.scene.text.now plan.now.seek place }
+/// Whether the prefilter lets a match start at this byte offset. With a prefilter no match starts at the end of the text.
+pub(crate) fn is_sought(config: &RunConfig, cursor: usize) -> bool
+    ensures { result ≡ may_start config.now.haystack.text.now config.now.seek cursor }
 {
-    match &plan.seek {
+    match &config.seek {
         None => true,
-        Some(table) => match plan.scene.text.as_bytes().get(place) {
+        Some(table) => match config.haystack.text.as_bytes().get(cursor) {
             Some(byte) => table[*byte as usize],
             None => false,
         },
     }
 }
 
-/// The first place from this one on at which a search may start.
-pub(crate) fn start_from(plan: &Plan, from: usize) -> Option<usize>
-    requires { plan.now.stop ≤ length plan.now.scene.text.now }
-    ensures { result ≡ first_item (filter (may_start plan.now.scene.text.now plan.now.seek) (boundaries plan.now.scene.text.now from plan.now.stop)) }
+/// The first byte offset from `from` on at which a match may start, up to the end of the range.
+pub(crate) fn start_from(config: &RunConfig, from: usize) -> Option<usize>
+    requires { config.now.stop ≤ length config.now.haystack.text.now }
+    ensures { result ≡ first_item (filter (may_start config.now.haystack.text.now config.now.seek) (boundaries config.now.haystack.text.now from config.now.stop)) }
 {
-    let mut place = from;
-    while place <= plan.stop {
-        if plan.scene.text.is_char_boundary(place) && is_sought(plan, place) {
-            return Some(place);
+    let mut cursor = from;
+    while cursor <= config.stop {
+        if config.haystack.text.is_char_boundary(cursor) && is_sought(config, cursor) {
+            return Some(cursor);
         }
-        place += 1;
+        cursor += 1;
     }
     None
 }
 
-/// The next start behind a place.
-pub(crate) fn next_start(plan: &Plan, place: usize) -> Option<usize>
-    requires { plan.now.stop ≤ length plan.now.scene.text.now }
-    ensures { result ≡ machine.next_start (rules_of plan.now) place }
+/// The next start after this byte offset; none for an anchored search.
+pub(crate) fn next_start(config: &RunConfig, cursor: usize) -> Option<usize>
+    requires { config.now.stop ≤ length config.now.haystack.text.now }
+    ensures { result ≡ machine.next_start (run_parameters_of config.now) cursor }
 {
-    if plan.anchored || place >= plan.stop {
+    if config.anchored || cursor >= config.stop {
         None
     } else {
-        start_from(plan, place + 1)
+        start_from(config, cursor + 1)
     }
 }
 
-/// The first place that a search tries.
-pub(crate) fn first_start(plan: &Plan) -> Option<usize>
-    requires { plan.now.stop ≤ length plan.now.scene.text.now }
-    ensures { result ≡ first_item (machine.tried (rules_of plan.now)) }
+/// The first start of a search, or `None` if there is none in the range.
+pub(crate) fn first_start(config: &RunConfig) -> Option<usize>
+    requires { config.now.stop ≤ length config.now.haystack.text.now }
+    ensures { result ≡ first_item (machine.tried (run_parameters_of config.now)) }
 {
-    if plan.first > plan.stop {
+    if config.first > config.stop {
         return None;
     }
-    if !plan.anchored {
-        return start_from(plan, plan.first);
+    if !config.anchored {
+        return start_from(config, config.first);
     }
-    if is_sought(plan, plan.first) {
-        Some(plan.first)
+    if is_sought(config, config.first) {
+        Some(config.first)
     } else {
         None
     }

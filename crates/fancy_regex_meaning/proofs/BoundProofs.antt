@@ -8,8 +8,8 @@ use Rattle.std.proofs.lemmas.Option.{slice_get_within}
 use mathlib.Core.Path.{fun_ext}
 use Rattle.fancy_regex_tree.specs.Tree.{Tree}
 use Rattle.fancy_regex_meaning.specs.Sizes.{target}
-use Rattle.fancy_regex_meaning.specs.Ways.{Way, Moves, Setting, meaning, call_ways, ways, most_calls, prefer, due, up_to, loop, for_some, is_full}
-use Rattle.fancy_regex_meaning.specs.Laws.{Each, IsOnward, GoesOnward, LoopsAreUnbounded, RepeatsUnroll, CallsAreUnbounded}
+use Rattle.fancy_regex_meaning.specs.Ways.{MatchState, Moves, Setting, meaning, call_ways, ways, max_open_calls, prefer, due, up_to, loop, for_some, is_at_call_limit}
+use Rattle.fancy_regex_meaning.specs.WayLaws.{Each, IsForward, MovesForward, LoopsAreUnbounded, RepeatsUnroll, CallsAreUnbounded}
 
 flat_map_each : {A B : Type 0} (P : A → Type 0) (f g : A → List B) → ((x : A) → P x → f x ≡ g x) → (xs : List A) → Each P xs →
     flat_map f xs ≡ flat_map g xs
@@ -21,13 +21,13 @@ else_same true x y z h = refl
 else_same false x y z h = h refl
 
 module _ (s : Setting) where
-  loop_enough : (n m : ℕ) (greedy : Bool) (body : Moves) → GoesOnward s.text body → (w : Way) → w.position ≤ length s.text →
+  loop_enough : (n m : ℕ) (greedy : Bool) (body : Moves) → MovesForward s.text body → (w : MatchState) → w.position ≤ length s.text →
       length s.text - w.position < n → length s.text - w.position < m → loop n greedy body w ≡ loop m greedy body w
   loop_enough zero m greedy body p w h en em = absurd (omega arith)
   loop_enough (suc n) zero greedy body p w h en em = absurd (omega arith)
   loop_enough (suc n) (suc m) greedy body p w h en em =
       ap (λ ws. prefer greedy ws (w ∷ []))
-      (flat_map_each (IsOnward s.text w) _ _
+      (flat_map_each (IsForward s.text w) _ _
       (λ v o. else_same (v.position == w.position) _ _ (v ∷ [])
       (λ e. let ne : v.position ≡ w.position → ⊥ = eqb-false v.position w.position e in
       loop_enough n m greedy body p v o.1 (omega (arith, o.0, o.1)) (omega (arith, o.0, o.1))))
@@ -115,10 +115,10 @@ module _ (s : Setting) (groups : List Tree) where
   abbrev most : ℕ
   most = length groups
 
-  is_full_at : (o : List ℕ) → AreWithin o → Each (λ j. j < most) o → 19 * most ≤ length o → (k : ℕ) → k < most → is_full o k ≡ true
+  is_full_at : (o : List ℕ) → AreWithin o → Each (λ j. j < most) o → 19 * most ≤ length o → (k : ℕ) → k < most → is_at_call_limit o k ≡ true
   is_full_at o h e le k lt = le-leb 19 _ (omega (arith, total_fewer most k o h lt, total_length most o e))
 
-  within-cons : (o : List ℕ) (k : ℕ) → AreWithin o → is_full o k ≡ false → AreWithin (k ∷ o)
+  within-cons : (o : List ℕ) (k : ℕ) → AreWithin o → is_at_call_limit o k ≡ false → AreWithin (k ∷ o)
   within-cons o k h e j =
       let room : count_by (λ i. i == k) o < 19 = leb-false 19 _ e in
       ⊎_elim
@@ -134,15 +134,15 @@ module _ (s : Setting) (groups : List Tree) where
       is_none x y ne = ap (λ b. cond b 1 0) (ne_eqb x y ne)
 
   calls_enough : (n m : ℕ) (o : List ℕ) → AreWithin o → Each (λ j. j < most) o → 19 * most ≤ n + length o → 19 * most ≤ m + length o →
-      (k : ℕ) (w : Way) → call_ways s groups n o k w ≡ call_ways s groups m o k w
+      (k : ℕ) (w : MatchState) → call_ways s groups n o k w ≡ call_ways s groups m o k w
   unfolding call_ways
   calls_enough zero zero o h e ln lm k w = refl
   calls_enough zero (suc m) o h e ln lm k w =
-      sym (else_none (is_full o k) _ (target groups k) (λ body is. is_full_at o h e (omega arith) k (slice_get_within groups k body is)))
+      sym (else_none (is_at_call_limit o k) _ (target groups k) (λ body is. is_full_at o h e (omega arith) k (slice_get_within groups k body is)))
   calls_enough (suc n) zero o h e ln lm k w =
-      else_none (is_full o k) _ (target groups k) (λ body is. is_full_at o h e (omega arith) k (slice_get_within groups k body is))
+      else_none (is_at_call_limit o k) _ (target groups k) (λ body is. is_full_at o h e (omega arith) k (slice_get_within groups k body is))
   calls_enough (suc n) (suc m) o h e ln lm k w =
-      else_same (is_full o k) _ _ [] (λ free. for_some_same _ _ (target groups k) (λ body is.
+      else_same (is_at_call_limit o k) _ _ [] (λ free. for_some_same _ _ (target groups k) (λ body is.
       ap (λ c. (meaning s groups c (k + 1) body).from w)
       (fun_ext (λ j. fun_ext (λ v.
       calls_enough n m (k ∷ o) (within-cons o k h free) (slice_get_within groups k body is, e) (omega arith) (omega arith) j v)))))
@@ -155,4 +155,4 @@ unfolding ways
 calls_are_unbounded s groups m le n t w =
     ap (λ c. (meaning s groups c n t).from w)
     (fun_ext (λ k. fun_ext (λ v.
-    calls_enough s groups m (most_calls groups) [] (none_yet s groups) tt (omega arith) (omega arith) k v)))
+    calls_enough s groups m (max_open_calls groups) [] (none_yet s groups) tt (omega arith) (omega arith) k v)))

@@ -3,8 +3,8 @@ use Rattle.std.proofs.Common.{◌≡◌, ℕ, zero, suc, ◌+◌, ◌-◌, ◌<�
 use Rattle.std.specs.List.{flat_map, filter}
 use mathlib.Core.List.{reverse_aux}
 use Rattle.regex_hir.specs.Text.{is_boundary}
-use Rattle.fancy_regex_meaning.specs.Places.{numbers_from, boundaries}
-use Rattle.fancy_regex_meaning.specs.Laws.{Each}
+use Rattle.fancy_regex_meaning.specs.Positions.{numbers_from, boundaries}
+use Rattle.fancy_regex_meaning.specs.WayLaws.{Each}
 use Rattle.fancy_regex_meaning.specs.Ways.{for_some}
 
 pub Each-weaker : {A : Type 0} (P Q : A → Type 0) → ((x : A) → P x → Q x) → (xs : List A) → Each P xs → Each Q xs

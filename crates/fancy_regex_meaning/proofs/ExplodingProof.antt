@@ -6,16 +6,16 @@ use Rattle.std.specs.Char.{len_utf8}
 use Rattle.std.proofs.lemmas.Bool.{and_parts}
 use Rattle.std.proofs.lemmas.List.{append-nil}
 use Rattle.regex_hir.specs.Text.{char_at}
-use Rattle.fancy_regex_meaning.specs.Places.{numbers_from}
+use Rattle.fancy_regex_meaning.specs.Positions.{numbers_from}
 use Rattle.fancy_regex_tree.specs.Tree.{Tree, group}
 use Rattle.fancy_regex_meaning.specs.Groups.{Pattern, pattern_of}
-use Rattle.fancy_regex_meaning.specs.Ways.{Way, Moves, Setting, character, for_some, at_place, meaning, ways}
+use Rattle.fancy_regex_meaning.specs.Ways.{MatchState, Moves, Setting, character, for_some, with_position, meaning, ways}
 use Rattle.fancy_regex_meaning.specs.Searches.{Search, default_options, first_some, first_item, match_at, first_match, is_admitted, match_of, find_input, search_from}
-use Rattle.fancy_regex_meaning.specs.Laws.{Each, IsOnward}
-use Rattle.fancy_regex_meaning.specs.Rows.{exploding, times_ab, Exploding, plain, a, b, c, star, alt, word}
+use Rattle.fancy_regex_meaning.specs.WayLaws.{Each, IsForward}
+use Rattle.fancy_regex_meaning.specs.Examples.{exploding, times_ab, Exploding, plain, a, b, c, star, alt, word}
 use Rattle.fancy_regex_meaning.proofs.EachLemmas.{Each-weaker, boundaries_within}
-use Rattle.fancy_regex_meaning.proofs.OnwardProofs.{ways_go_onward}
-use Rattle.fancy_regex_meaning.proofs.RowProofs.{everything}
+use Rattle.fancy_regex_meaning.proofs.ForwardProofs.{ways_go_onward}
+use Rattle.fancy_regex_meaning.proofs.ExampleProofs.{everything}
 use Rattle.std.proofs.Common.{◌==◌, codes}
 use Rattle.std.proofs.lemmas.Bool.{false≢true}
 
@@ -29,19 +29,19 @@ module _ (s : Setting) where
   in_a_row [] w = w ∷ []
   in_a_row (t ∷ ts) w = flat_map (in_a_row ts) (character s t w)
 
-  one_character : (o : Option ℕ) (w : Way) (t : ℕ → Bool) (ts : List (ℕ → Bool)) →
-      ((v : Way) → in_a_row ts v ≡ for_some (λ q. at_place v q ∷ []) (reads ts v.position)) →
-      flat_map (in_a_row ts) (for_some (λ c. cond (t c) (at_place w (w.position + len_utf8 c) ∷ []) []) o)
-      ≡ for_some (λ q. at_place w q ∷ []) (option_and_then (λ c. cond (t c) (reads ts (w.position + len_utf8 c)) None) o)
+  one_character : (o : Option ℕ) (w : MatchState) (t : ℕ → Bool) (ts : List (ℕ → Bool)) →
+      ((v : MatchState) → in_a_row ts v ≡ for_some (λ q. with_position v q ∷ []) (reads ts v.position)) →
+      flat_map (in_a_row ts) (for_some (λ c. cond (t c) (with_position w (w.position + len_utf8 c) ∷ []) []) o)
+      ≡ for_some (λ q. with_position w q ∷ []) (option_and_then (λ c. cond (t c) (reads ts (w.position + len_utf8 c)) None) o)
   one_character None w t ts h = refl
   one_character (Some c) w t ts h = elim (t c) as (λ b.
-      flat_map (in_a_row ts) (cond b (at_place w (w.position + len_utf8 c) ∷ []) [])
-      ≡ for_some (λ q. at_place w q ∷ []) (cond b (reads ts (w.position + len_utf8 c)) None)) [
-        | true ↦ append-nil _ ∙ h (at_place w (w.position + len_utf8 c))
+      flat_map (in_a_row ts) (cond b (with_position w (w.position + len_utf8 c) ∷ []) [])
+      ≡ for_some (λ q. with_position w q ∷ []) (cond b (reads ts (w.position + len_utf8 c)) None)) [
+        | true ↦ append-nil _ ∙ h (with_position w (w.position + len_utf8 c))
         | false ↦ refl
       ]
 
-  row_reads : (ts : List (ℕ → Bool)) (w : Way) → in_a_row ts w ≡ for_some (λ q. at_place w q ∷ []) (reads ts w.position)
+  row_reads : (ts : List (ℕ → Bool)) (w : MatchState) → in_a_row ts w ≡ for_some (λ q. with_position w q ∷ []) (reads ts w.position)
   unfolding in_a_row reads
   row_reads [] w = refl
   row_reads (t ∷ ts) w = one_character (char_at s.text w.position) w t ts (row_reads ts)
@@ -86,8 +86,8 @@ is_nothing (Some x) h = absurd (false≢true h)
 nothing_read : (p : ℕ) → p ≤ 58 → reads here (is_b ∷ is_c ∷ []) p ≡ None
 nothing_read p h = is_nothing _ (all_at (λ q. not (is_some (reads here (is_b ∷ is_c ∷ []) q))) 59 0 reads_nowhere p (omega arith) (omega arith))
 
-no_tail : (v : Way) → v.position ≤ 58 → in_a_row here (is_b ∷ is_c ∷ []) v ≡ []
-no_tail v h = row_reads here (is_b ∷ is_c ∷ []) v ∙ ap (for_some (λ q. at_place v q ∷ [])) (nothing_read v.position h)
+no_tail : (v : MatchState) → v.position ≤ 58 → in_a_row here (is_b ∷ is_c ∷ []) v ≡ []
+no_tail v h = row_reads here (is_b ∷ is_c ∷ []) v ∙ ap (for_some (λ q. with_position v q ∷ [])) (nothing_read v.position h)
 
 abbrev front : Tree
 front = star (group (alt (a ∷ b ∷ word (codes "ab") ∷ [])))
@@ -95,14 +95,14 @@ front = star (group (alt (a ∷ b ∷ word (codes "ab") ∷ [])))
 abbrev pattern : Pattern
 pattern = pattern_of exploding
 
-is_row : (w : Way) →
+is_row : (w : MatchState) →
     ways here pattern.groups 1 exploding w ≡ flat_map (in_a_row here (is_b ∷ is_c ∷ [])) (ways here pattern.groups 1 front w)
 unfolding ways meaning in_a_row is_b is_c
 is_row w = refl
 
-no_ways : (w : Way) → w.position ≤ 58 → ways here pattern.groups 1 exploding w ≡ []
+no_ways : (w : MatchState) → w.position ≤ 58 → ways here pattern.groups 1 exploding w ≡ []
 no_ways w h =
-    is_row w ∙ flat_map_none (IsOnward text w) _ (λ v o. no_tail v o.1) _ (ways_go_onward here pattern.groups 1 front w h)
+    is_row w ∙ flat_map_none (IsForward text w) _ (λ v o. no_tail v o.1) _ (ways_go_onward here pattern.groups 1 front w h)
 
 abbrev asked : Search
 asked = record { first = 0; stop = 58; anchored = false; options = default_options }

@@ -4,8 +4,8 @@ use Rattle.std.specs.Prelude.{slice_get}
 use Rattle.std.proofs.lemmas.Option.{none-some, same_Some}
 use Rattle.fancy_regex_tree.specs.Tree.{Tree, Trees, empty, any, assertion, general_newline, literal, literal_bytes, concat, alt, group, look_around, repeat, delegate, backref, backref_with_level, atomic_group, keep_out, continue, backref_exists, conditional, subroutine_call, verb, absent_repeater, absent_expression, absent_stopper, absent_clear, define_group, ast_group, ast_backref, ast_call, ast_condition, no_trees, more_trees}
 use Rattle.fancy_regex_meaning.specs.Groups.{bodies, row_bodies, group_count, row_group_count}
-use Rattle.fancy_regex_meaning.specs.Ways.{meaning, call_ways, is_full, for_some}
-use Rattle.fancy_regex_meaning.specs.GroupLaws.{AreSame, Stands, StandsInRow, GroupsAreCounted, NumbersAreRanks, BodiesStand, TargetsAreGroups, CallsRunGroups}
+use Rattle.fancy_regex_meaning.specs.Ways.{meaning, call_ways, is_at_call_limit, for_some}
+use Rattle.fancy_regex_meaning.specs.GroupLaws.{AreSame, OccursAt, OccursInRowAt, GroupsAreCounted, NumbersAreRanks, BodiesOccur, TargetsAreGroups, CallsRunGroups}
 
 mutual
   unfolding bodies group_count
@@ -94,12 +94,12 @@ inside : (n : ℕ) (t : Tree) (k : ℕ) (body : Tree) (Q : Type 0) → body_of t
 inside n t k body Q e h = ⊎_elim (λ (same : AreSame n t k (group body)). absurd (no_group n t k body e same)) (λ (q : Q). q) h
 
 mutual
-  unfolding bodies Stands group_count
+  unfolding bodies OccursAt group_count
 
-  finds : (n : ℕ) (t : Tree) (k : ℕ) (body : Tree) → Stands n t k (group body) → Listed (bodies t) n k body
+  finds : (n : ℕ) (t : Tree) (k : ℕ) (body : Tree) → OccursAt n t k (group body) → Listed (bodies t) n k body
   finds n (group t) k body h =
       ⊎_elim (λ (same : AreSame n (group t) k (group body)). (0, omega (arith, same.0), ap body_of same.1))
-      (λ (later : Stands (n + 1) t k (group body)).
+      (λ (later : OccursAt (n + 1) t k (group body)).
       let found = finds (n + 1) t k body later in
       (suc found.0, omega (arith, found.1), found.2))
       h
@@ -113,20 +113,20 @@ mutual
   finds n (define_group t) k body h = finds n t k body (inside n (define_group t) k body _ refl h)
   finds n (ast_group name t position) k body h = finds n t k body (inside n (ast_group name t position) k body _ refl h)
   finds n (conditional c a b) k body h =
-      ⊎_elim (λ (p : Stands n c k (group body)). in_first (bodies c) (bodies a ++ bodies b) n k body (finds n c k body p))
-      (λ (rest : Stands (n + group_count c) a k (group body) ⊎ Stands (n + group_count c + group_count a) b k (group body)).
+      ⊎_elim (λ (p : OccursAt n c k (group body)). in_first (bodies c) (bodies a ++ bodies b) n k body (finds n c k body p))
+      (λ (rest : OccursAt (n + group_count c) a k (group body) ⊎ OccursAt (n + group_count c + group_count a) b k (group body)).
       in_second (bodies c) (bodies a ++ bodies b) n (n + group_count c) k body (omega (arith, counted c))
       (⊎_elim
-      (λ (p : Stands (n + group_count c) a k (group body)).
+      (λ (p : OccursAt (n + group_count c) a k (group body)).
       in_first (bodies a) (bodies b) (n + group_count c) k body (finds (n + group_count c) a k body p))
-      (λ (p : Stands (n + group_count c + group_count a) b k (group body)).
+      (λ (p : OccursAt (n + group_count c + group_count a) b k (group body)).
       in_second (bodies a) (bodies b) (n + group_count c) (n + group_count c + group_count a) k body (omega (arith, counted a))
       (finds (n + group_count c + group_count a) b k body p))
       rest))
       (inside n (conditional c a b) k body _ refl h)
   finds n (absent_expression a t) k body h =
-      ⊎_elim (λ (p : Stands n a k (group body)). in_first (bodies a) (bodies t) n k body (finds n a k body p))
-      (λ (p : Stands (n + group_count a) t k (group body)).
+      ⊎_elim (λ (p : OccursAt n a k (group body)). in_first (bodies a) (bodies t) n k body (finds n a k body p))
+      (λ (p : OccursAt (n + group_count a) t k (group body)).
       in_second (bodies a) (bodies t) n (n + group_count a) k body (omega (arith, counted a)) (finds (n + group_count a) t k body p))
       (inside n (absent_expression a t) k body _ refl h)
   finds n empty k body h = absurd (no_group n empty k body refl h)
@@ -148,11 +148,11 @@ mutual
   finds n (ast_call goal position) k body h = absurd (no_group n (ast_call goal position) k body refl h)
   finds n (ast_condition goal level position) k body h = absurd (no_group n (ast_condition goal level position) k body refl h)
 
-  finds_in_row : (n : ℕ) (ts : Trees) (k : ℕ) (body : Tree) → StandsInRow n ts k (group body) → Listed (row_bodies ts) n k body
+  finds_in_row : (n : ℕ) (ts : Trees) (k : ℕ) (body : Tree) → OccursInRowAt n ts k (group body) → Listed (row_bodies ts) n k body
   finds_in_row n no_trees k body h = absurd h
   finds_in_row n (more_trees t ts) k body h =
-      ⊎_elim (λ (p : Stands n t k (group body)). in_first (bodies t) (row_bodies ts) n k body (finds n t k body p))
-      (λ (p : StandsInRow (n + group_count t) ts k (group body)).
+      ⊎_elim (λ (p : OccursAt n t k (group body)). in_first (bodies t) (row_bodies ts) n k body (finds n t k body p))
+      (λ (p : OccursInRowAt (n + group_count t) ts k (group body)).
       in_second (bodies t) (row_bodies ts) n (n + group_count t) k body (omega (arith, counted t))
       (finds_in_row (n + group_count t) ts k body p))
       h
@@ -179,13 +179,13 @@ targets_are_groups t k body = (
 pub calls_run_groups : CallsRunGroups
 unfolding call_ways
 calls_run_groups s t k body h m opened w =
-    ap (λ o. cond (is_full opened k) [] (for_some (λ b. (meaning s (t ∷ bodies t) (call_ways s (t ∷ bodies t) m (k ∷ opened)) (k + 1) b).from w) o))
+    ap (λ o. cond (is_at_call_limit opened k) [] (for_some (λ b. (meaning s (t ∷ bodies t) (call_ways s (t ∷ bodies t) m (k ∷ opened)) (k + 1) b).from w) o))
     ((targets_are_groups t k body).0 h)
 
 mutual
-  unfolding bodies Stands group_count
+  unfolding bodies OccursAt group_count
 
-  stand : (n : ℕ) (t : Tree) (i : ℕ) (body : Tree) (k : ℕ) → k ≡ n + i → slice_get (bodies t) i ≡ Some body → Stands n t k (group body)
+  stand : (n : ℕ) (t : Tree) (i : ℕ) (body : Tree) (k : ℕ) → k ≡ n + i → slice_get (bodies t) i ≡ Some body → OccursAt n t k (group body)
   stand n (group t) zero body k e h = inl (omega (arith, e), ap group (same_Some t body h))
   stand n (group t) (suc i) body k e h = inr (stand (n + 1) t i body k (omega (arith, e)) h)
   stand n (concat ts) i body k e h = inr (stand_in_row n ts i body k e h)
@@ -231,7 +231,7 @@ mutual
   stand n (ast_condition goal level position) i body k e h = absurd (none-some body h)
 
   stand_in_row : (n : ℕ) (ts : Trees) (i : ℕ) (body : Tree) (k : ℕ) → k ≡ n + i → slice_get (row_bodies ts) i ≡ Some body →
-      StandsInRow n ts k (group body)
+      OccursInRowAt n ts k (group body)
   stand_in_row n no_trees i body k e h = absurd (none-some body h)
   stand_in_row n (more_trees t ts) i body k e h =
       ⊎_elim (λ (p : slice_get (bodies t) i ≡ Some body). inl (stand n t i body k e p))
@@ -239,5 +239,5 @@ mutual
       inr (stand_in_row (n + group_count t) ts p.0 body k (omega (arith, e, p.1, counted t)) p.2))
       (get_split (bodies t) (row_bodies ts) i body h)
 
-pub bodies_stand : BodiesStand
+pub bodies_stand : BodiesOccur
 bodies_stand n t i body h = stand n t i body (n + i) refl h

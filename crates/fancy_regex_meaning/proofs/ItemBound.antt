@@ -4,12 +4,12 @@ use Rattle.std.specs.Prelude.{if◌then◌else◌}
 use Rattle.fancy_regex_meaning.specs.Groups.{Pattern}
 use Rattle.fancy_regex_meaning.specs.Ways.{Setting, for_some}
 use Rattle.std.proofs.lemmas.Bool.{ltb-true, ltb-false, lt-ltb, cond_both}
-use Rattle.fancy_regex_meaning.specs.Places.{place_after, boundaries}
+use Rattle.fancy_regex_meaning.specs.Positions.{position_after, boundaries}
 use Rattle.fancy_regex_meaning.specs.Searches.{Match, Search, match_at, Options, Input, first_item, first_some, first_match, find_input, items, all_items, search_from, is_last_end}
-use Rattle.fancy_regex_meaning.specs.ListLaws.{LooksOnward, ItemsAreUnbounded, ItemsNeedNoMore, FirstItemIsFound}
+use Rattle.fancy_regex_meaning.specs.ItemLaws.{LooksOnward, ItemsAreUnbounded, ItemsNeedNoMore, FirstItemIsFound}
 use Rattle.fancy_regex_meaning.proofs.BoundProofs.{else_same, for_some_same}
 use Rattle.fancy_regex_meaning.proofs.ListProofs.{advances}
-use Rattle.fancy_regex_meaning.proofs.KeptProofs.{search_onward}
+use Rattle.fancy_regex_meaning.proofs.MatchStartProofs.{search_onward}
 
 cond_same : {A : Type 0} (b : Bool) (x y u v : A) → (b ≡ true → x ≡ u) → (b ≡ false → y ≡ v) → cond b x y ≡ cond b u v
 cond_same true x y u v h k = h refl
@@ -32,7 +32,7 @@ module _ (text : List ℕ) (search : ℕ → Bool → Option Match) (range_start
       (λ lt. let more : r.start < r.end = ltb-true _ _ lt in
       ap (λ xs. r ∷ xs) (items_enough n m r.end (Some r.end) false (omega (arith, on.0)) (omega (arith, on.0))))
       (λ ge.
-      let next = items_enough n m (place_after text r.end) (Some r.end) (r.end == q) (omega (arith, on.0, on.1)) (omega (arith, on.0, on.1)) in
+      let next = items_enough n m (position_after text r.end) (Some r.end) (r.end == q) (omega (arith, on.0, on.1)) (omega (arith, on.0, on.1)) in
       cond_same (is_last_end text search range_start range_end last r.end) _ _ _ _ (λ e. next) (λ e. ap (λ xs. r ∷ xs) next))))
 
 pub items_need_no_more : ItemsNeedNoMore
@@ -59,7 +59,7 @@ first_of text search range_start range_end n p nothing =
     by_found : (o : Option Match) →
         first_item (for_some (λ m.
         let onward = m ∷ items text search range_start range_end n m.end (Some m.end) false in
-        let next = items text search range_start range_end n (place_after text m.end) (Some m.end) (m.end == max p range_start) in
+        let next = items text search range_start range_end n (position_after text m.end) (Some m.end) (m.end == max p range_start) in
         if nat_lt m.start m.end then onward else if is_last_end text search range_start range_end None m.end then next else m ∷ next) o)
         ≡ o
     by_found None = refl

@@ -6,7 +6,7 @@ use Rattle.std.proofs.lemmas.Option.{slice_get_within, same_Some}
 use Rattle.std.proofs.lemmas.Nat.{mul-le}
 use Rattle.fancy_regex_tree.specs.Tree as tree
 use Rattle.fancy_regex_tree.specs.Tree.{Tree, Trees, empty, any, assertion, general_newline, literal, literal_bytes, concat, alt, group, look_around, delegate, backref, backref_with_level, atomic_group, keep_out, continue, backref_exists, conditional, subroutine_call, verb, absent_repeater, absent_expression, absent_stopper, absent_clear, define_group, ast_group, ast_backref, ast_call, ast_condition, no_trees, more_trees}
-use Rattle.fancy_regex_meaning.specs.Sizes.{Size, unbounded, times, any_size, endless_size, both_sizes, either_size, repeated_size, size_with, sum_size, branch_size, size_through, size, target, is_recursive}
+use Rattle.fancy_regex_meaning.specs.Sizes.{Size, unbounded, times, any_size, endless_size, both_sizes, either_size, repeated_size, size_with, concat_size, alternation_size, size_through, size, target, is_recursive}
 
 -- The least of the second is no higher than that of the first, or that is at least B.
 pub record Above (B : ℕ) (z y : Size) : Type 0 where
@@ -47,15 +47,15 @@ module _ (B : ℕ) (le : B ≤ unbounded) where
       above (subroutine_call k) = calls k
       above _ = record { fits = omega arith; low = omega arith }
 
-      above_sum : (ts : Trees) → Above B (sum_size call ts) (sum_size other ts)
+      above_sum : (ts : Trees) → Above B (concat_size call ts) (concat_size other ts)
       above_sum no_trees = record { fits = omega arith; low = omega arith }
-      above_sum (more_trees t ts) = above_both _ _ (sum_size call ts) (sum_size other ts) (above t) (above_sum ts)
+      above_sum (more_trees t ts) = above_both _ _ (concat_size call ts) (concat_size other ts) (above t) (above_sum ts)
 
-      above_branches : (ts : Trees) → Above B (branch_size call ts) (branch_size other ts)
+      above_branches : (ts : Trees) → Above B (alternation_size call ts) (alternation_size other ts)
       above_branches no_trees = record { fits = omega arith; low = omega arith }
       above_branches (more_trees t no_trees) = above t
       above_branches (more_trees t (more_trees u ts)) =
-          above_either _ _ (branch_size call (more_trees u ts)) (branch_size other (more_trees u ts)) (above t) (above_branches (more_trees u ts))
+          above_either _ _ (alternation_size call (more_trees u ts)) (alternation_size other (more_trees u ts)) (above t) (above_branches (more_trees u ts))
 
 -- what is never too high, and what is no higher
 abbrev IsBounded : Size → Type 0

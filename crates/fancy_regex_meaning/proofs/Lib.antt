@@ -1,11 +1,11 @@
-pub mod RowProofs
+pub mod ExampleProofs
 pub mod EachLemmas
-pub mod LawProofs
+pub mod WayProofs
 pub mod BoundaryLemmas
-pub mod OnwardProofs
+pub mod ForwardProofs
 pub mod ListProofs
-pub mod FirstProofs
-pub mod KeptProofs
+pub mod FirstWayProofs
+pub mod MatchStartProofs
 pub mod BoundProofs
 pub mod ItemBound
 pub mod ChoiceProofs
@@ -16,5 +16,5 @@ pub mod CharacterLemmas
 pub mod SizedWays
 pub mod LeastLemmas
 pub mod SizeProofs
-pub mod EndProofs
-pub mod EndlessProofs
+pub mod TerminationProofs
+pub mod NonTerminationProofs

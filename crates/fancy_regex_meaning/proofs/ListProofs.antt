@@ -6,16 +6,16 @@ use Rattle.std.proofs.lemmas.List.Folds.{drop_split}
 use Rattle.std.specs.Char.{len_utf8}
 use Rattle.std.proofs.lemmas.Str.{len_utf8_bounds}
 use Rattle.regex_hir.specs.Text.{char_at}
-use Rattle.fancy_regex_meaning.specs.Places.{place_after}
+use Rattle.fancy_regex_meaning.specs.Positions.{position_after}
 use Rattle.fancy_regex_meaning.specs.Ways.{for_some}
 use Rattle.fancy_regex_meaning.specs.Searches.{Match, items, pieces_from, replaced_from, counted}
-use Rattle.fancy_regex_meaning.specs.ListLaws.{LooksOnward, Ascends, AreInOrder, ItemsAscend, in_turn, OneMorePiece, PiecesAreAll, PiecesUpToAreCounted, PiecesUpToAreFirst, alternately, ReplacedBySelf, ReplacedIsInTurn, NothingReplaced}
+use Rattle.fancy_regex_meaning.specs.ItemLaws.{LooksOnward, Ascends, AreInOrder, ItemsAscend, in_turn, OneMorePiece, PiecesAreAll, PiecesUpToAreCounted, PiecesUpToAreFirst, alternately, ReplacedBySelf, ReplacedIsInTurn, NothingReplaced}
 
 one_at_least : (o : Option ℕ) → 1 ≤ unwrap_or (option_map len_utf8 o) 1
 one_at_least None = omega arith
 one_at_least (Some c) = omega (arith, len_utf8_bounds c)
 
-pub advances : (text : List ℕ) (p : ℕ) → p < place_after text p
+pub advances : (text : List ℕ) (p : ℕ) → p < position_after text p
 advances text p = omega (arith, one_at_least (char_at text p))
 
 for_some_has : {A B : Type 0} (P : List B → Type 0) (f : A → List B) (o : Option A) → P [] → ((x : A) → o ≡ Some x → P (f x)) → P (for_some f o)
@@ -37,9 +37,9 @@ module _ (text : List ℕ) (search : ℕ → Bool → Option Match) (range_start
       (λ ge. let same = ltb-false _ _ ge in
       cond_both (l == m.end) _ _ (Ascends l)
       (λ e. let eq : l ≡ m.end = eqb-true l m.end e in
-      rw eq (ascends n (place_after text m.end) m.end (m.end == q) (omega arith)))
+      rw eq (ascends n (position_after text m.end) m.end (m.end == q) (omega arith)))
       (λ ne. let other = eqb-false l m.end ne in
-      (omega (arith, on.0), on.1, omega (arith, on.0, on.1, same), ascends n (place_after text m.end) m.end (m.end == q) (omega arith))))))
+      (omega (arith, on.0), on.1, omega (arith, on.0, on.1, same), ascends n (position_after text m.end) m.end (m.end == q) (omega arith))))))
 
   in_order : (n p : ℕ) → AreInOrder (items text search range_start range_end n p None false)
   unfolding items
@@ -52,7 +52,7 @@ module _ (text : List ℕ) (search : ℕ → Bool → Option Match) (range_start
       let step = advances text m.end in
       cond_both (nat_lt m.start m.end) _ _ AreInOrder
       (λ lt. (on.1, ascends n m.end m.end false (omega arith)))
-      (λ ge. (on.1, ascends n (place_after text m.end) m.end (m.end == q) (omega arith)))))
+      (λ ge. (on.1, ascends n (position_after text m.end) m.end (m.end == q) (omega arith)))))
 
 pub items_ascend : ItemsAscend
 items_ascend text search range_start range_end looks n p = in_order text search range_start range_end looks n p

@@ -11,22 +11,22 @@ use Rattle.std.proofs.lemmas.List.{get_or-replicate, get_or_past, length-replica
 use Rattle.std.proofs.Common.{length-drop}
 use Rattle.regex_hir.specs.Text.{char_at}
 use Rattle.regex_hir.proofs.TextLemmas.{char_at_parts, char_at_from}
-use Rattle.fancy_regex_meaning.specs.Places.{place_after}
+use Rattle.fancy_regex_meaning.specs.Positions.{position_after}
 use Rattle.fancy_regex_meaning.specs.Groups.{Pattern}
-use Rattle.fancy_regex_meaning.specs.Ways.{Way, Setting}
+use Rattle.fancy_regex_meaning.specs.Ways.{MatchState, Setting}
 use Rattle.fancy_regex_meaning.specs.Searches.{Search, Match, Input, Options, Member, match_of, is_admitted, ways_at, match_at, first_some, first_longest, farther, chosen, start_way, starts, first_match, search_from, find_input, items, all_items, is_last_end, member_match, set_answer, answer_if_any, found_at, set_starts, SetAnswer}
-use Rattle.fancy_regex_meaning.specs.Laws.{Each, CutsWell}
-use Rattle.fancy_regex_meaning.specs.SearchLaws.{admitted_at, MatchesAreAdmitted, NoneIsNone, LongestEndsLast, MatchCutsWell, MatchesCutWell, FitsText, FoundCutsWell, ItemsCutWell, OneMemberFinds, Rises, IsFoundAt, SetsFindMembers}
+use Rattle.fancy_regex_meaning.specs.WayLaws.{Each, HasCharBoundaries}
+use Rattle.fancy_regex_meaning.specs.SearchLaws.{admitted_at, MatchesAreAdmitted, NoneIsNone, LongestEndsLast, MatchHasCharBoundaries, MatchesHaveCharBoundaries, FitsText, FoundHasCharBoundaries, ItemsHaveCharBoundaries, OneMemberFinds, Rises, IsFoundAt, SetsFindMembers}
 use Rattle.fancy_regex_meaning.proofs.EachLemmas.{Each-for_some, Each-weaker, Each-filter, Each-filter_passes, Each-cond, boundaries_pass}
 use Rattle.fancy_regex_meaning.proofs.BoundaryLemmas.{IsCharBoundary-of_test}
-use Rattle.fancy_regex_meaning.proofs.OnwardProofs.{ways_cut_well}
+use Rattle.fancy_regex_meaning.proofs.ForwardProofs.{ways_cut_well}
 use Rattle.fancy_regex_meaning.proofs.ListProofs.{advances}
-use Rattle.fancy_regex_meaning.proofs.KeptProofs.{chosen_holds, found_in_list, first_in_list}
+use Rattle.fancy_regex_meaning.proofs.MatchStartProofs.{chosen_holds, found_in_list, first_in_list}
 
-each_admitted : (find : Search) (ws : List Way) → Each (λ w. is_admitted find w ≡ true) (filter (is_admitted find) ws)
+each_admitted : (find : Search) (ws : List MatchState) → Each (λ w. is_admitted find w ≡ true) (filter (is_admitted find) ws)
 each_admitted find ws = Each-weaker _ _ (λ w h. h.1) _ (Each-filter_passes (λ w. Unit {0}) (is_admitted find) ws (all_of_them ws))
   where
-    all_of_them : (vs : List Way) → Each (λ w. Unit {0}) vs
+    all_of_them : (vs : List MatchState) → Each (λ w. Unit {0}) vs
     all_of_them [] = tt
     all_of_them (v ∷ vs) = (tt, all_of_them vs)
 
@@ -41,7 +41,7 @@ matches_are_admitted s pattern find p m e =
       subst (λ (x : Match). x.end ≤ find.stop) found.2 (leb-true _ _ (and_parts _ _ admitted).0),
     )
 
-nothing_chosen : (longest : Bool) (ws : List Way) → option_map match_of (chosen longest ws) ≡ None → ws ≡ []
+nothing_chosen : (longest : Bool) (ws : List MatchState) → option_map match_of (chosen longest ws) ≡ None → ws ≡ []
 nothing_chosen longest [] e = refl
 nothing_chosen false (w ∷ ws) e = absurd (none-some _ (sym e))
 nothing_chosen true (w ∷ ws) e = absurd (none-some _ (sym e))
@@ -50,14 +50,14 @@ pub none_is_none : NoneIsNone
 unfolding match_at
 none_is_none s pattern find p e = nothing_chosen find.options.longest _ e
 
-ends_last : (ws : List Way) (v : Way) → first_longest ws ≡ Some v → Each (λ w. w.position ≤ v.position) ws
+ends_last : (ws : List MatchState) (v : MatchState) → first_longest ws ≡ Some v → Each (λ w. w.position ≤ v.position) ws
 ends_last [] v e = absurd (none-some v e)
-ends_last (w ∷ []) v e = subst (λ (x : Way). Each (λ y. y.position ≤ x.position) (w ∷ [])) (same_Some w v e) (omega arith, tt)
+ends_last (w ∷ []) v e = subst (λ (x : MatchState). Each (λ y. y.position ≤ x.position) (w ∷ [])) (same_Some w v e) (omega arith, tt)
 ends_last (w ∷ u ∷ us) v e =
-    let best : Way = farther u (first_longest us) in
+    let best : MatchState = farther u (first_longest us) in
     let rest : Each (λ y. y.position ≤ best.position) (u ∷ us) = ends_last (u ∷ us) best refl in
-    subst (λ (x : Way). Each (λ y. y.position ≤ x.position) (w ∷ u ∷ us)) (same_Some _ v e)
-    (cond_both (nat_lt w.position best.position) best w (λ (x : Way). Each (λ y. y.position ≤ x.position) (w ∷ u ∷ us))
+    subst (λ (x : MatchState). Each (λ y. y.position ≤ x.position) (w ∷ u ∷ us)) (same_Some _ v e)
+    (cond_both (nat_lt w.position best.position) best w (λ (x : MatchState). Each (λ y. y.position ≤ x.position) (w ∷ u ∷ us))
     (λ lt. (omega (arith, ltb-true _ _ lt), rest))
     (λ ge. let no_farther = ltb-false _ _ ge in
     (omega arith, Each-weaker _ _ (λ y h. omega (arith, h, no_farther)) (u ∷ us) rest)))
@@ -65,7 +65,7 @@ ends_last (w ∷ u ∷ us) v e =
 pub longest_ends_last : LongestEndsLast
 unfolding match_at
 longest_ends_last s pattern find p m e longest =
-    let ws : List Way = admitted_at s pattern find p in
+    let ws : List MatchState = admitted_at s pattern find p in
     let found = found_in_list match_of _ m e in
     let farthest : first_longest ws ≡ Some found.0 = subst (λ b. chosen b ws ≡ Some found.0) longest found.1 in
     subst (λ (x : Match). Each (λ w. w.position ≤ x.end) ws) found.2 (ends_last ws found.0 farthest)
@@ -80,17 +80,17 @@ no_pairs n k =
     no_pair : Option (ℕ × ℕ)
     no_pair = None
 
-starts_well : (text : List ℕ) (pattern : Pattern) (p : ℕ) → IsCharBoundary text p → CutsWell text (start_way pattern p)
+starts_well : (text : List ℕ) (pattern : Pattern) (p : ℕ) → IsCharBoundary text p → HasCharBoundaries text (start_way pattern p)
 starts_well text pattern p h = (h, λ k a b e. absurd (none-some _ (sym (no_pairs (length pattern.groups) k) ∙ e)), h)
 
-pub matches_cut_well : MatchesCutWell
+pub matches_cut_well : MatchesHaveCharBoundaries
 unfolding match_at
 matches_cut_well s pattern find p m utf8 h e =
     let found = found_in_list match_of _ m e in
     let lead = ways_cut_well s pattern.groups utf8 pattern.first_group pattern.tree (start_way pattern p) (starts_well s.text pattern p h) in
-    let all = Each-filter _ (is_admitted find) _ (Each-weaker _ (CutsWell s.text) (λ w o. o.1) _ lead) in
-    let well = chosen_holds (CutsWell s.text) find.options.longest _ all found.0 found.1 in
-    subst (MatchCutsWell s.text) found.2 (well.2, well.0, well.1)
+    let all = Each-filter _ (is_admitted find) _ (Each-weaker _ (HasCharBoundaries s.text) (λ w o. o.1) _ lead) in
+    let well = chosen_holds (HasCharBoundaries s.text) find.options.longest _ all found.0 found.1 in
+    subst (MatchHasCharBoundaries s.text) found.2 (well.2, well.0, well.1)
 
 starts_cut : (s : Setting) (pattern : Pattern) (find : Search) → IsCharBoundary s.text find.first → find.stop ≤ length s.text →
     Each (IsCharBoundary s.text) (starts s pattern find)
@@ -101,7 +101,7 @@ starts_cut s pattern find h inside =
 
 -- what is found by a search of a text
 abbrev FoundWell : List ℕ → ℕ → Match → Type 0
-FoundWell text stop m = MatchCutsWell text m × (m.end ≤ stop)
+FoundWell text stop m = MatchHasCharBoundaries text m × (m.end ≤ stop)
 
 first_cuts : (s : Setting) (pattern : Pattern) (find : Search) (m : Match) → IsUtf8 s.text → IsCharBoundary s.text find.first →
     find.stop ≤ length s.text → first_match s pattern find ≡ Some m → FoundWell s.text find.stop m
@@ -122,7 +122,7 @@ search_cuts : (s : Setting) (pattern : Pattern) (options : Options) (input : Inp
 unfolding search_from
 search_cuts s pattern options input utf8 fits q off m h e = first_cuts _ pattern _ m utf8 h fits.2 e
 
-pub found_cuts_well : FoundCutsWell
+pub found_cuts_well : FoundHasCharBoundaries
 unfolding find_input
 found_cuts_well s pattern options input utf8 fits m e =
     search_cuts s pattern options input utf8 fits (max input.start input.range_start) false m
@@ -142,7 +142,7 @@ character_there text p utf8 h lt =
     let first = a_character (drop p text) (IsUtf8-drop text p utf8 h) (omega (arith, lt, length-drop p text)) in
     (first.0, char_at_from text p first.0 first.1 first.2 first.3)
 
-cuts_after : (text : List ℕ) (p : ℕ) → IsUtf8 text → IsCharBoundary text p → p < length text → IsCharBoundary text (place_after text p)
+cuts_after : (text : List ℕ) (p : ℕ) → IsUtf8 text → IsCharBoundary text p → p < length text → IsCharBoundary text (position_after text p)
 cuts_after text p utf8 h lt =
     let there = character_there text p utf8 h lt in
     subst (λ o. IsCharBoundary text (p + unwrap_or (option_map len_utf8 o) 1)) (sym there.1)
@@ -163,11 +163,11 @@ module _ (text : List ℕ) (search : ℕ → Bool → Option Match) (range_start
       let well = finds q off m (later_of (IsCharBoundary text) p range_start (h (omega arith)) begins) is in
       let step = advances text m.end in
       let next =
-      items_cut n (place_after text m.end) (Some m.end) (m.end == q) (λ more. cuts_after text m.end utf8 well.0.1 (omega arith)) in
+      items_cut n (position_after text m.end) (Some m.end) (m.end == q) (λ more. cuts_after text m.end utf8 well.0.1 (omega arith)) in
       Each-cond _ (nat_lt m.start m.end) _ _ (well, items_cut n m.end (Some m.end) false (λ more. well.0.1))
       (Each-cond _ (is_last_end text search range_start range_end last m.end) _ _ next (well, next))))
 
-pub items_cut_well : ItemsCutWell
+pub items_cut_well : ItemsHaveCharBoundaries
 unfolding all_items
 items_cut_well s pattern options input utf8 fits =
     items_cut s.text (search_from s pattern options input) input.range_start input.range_end utf8 fits.2 fits.1

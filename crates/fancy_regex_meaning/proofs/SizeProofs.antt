@@ -7,14 +7,14 @@ use Rattle.std.proofs.lemmas.Option.{none-some, same_Some}
 use Rattle.std.proofs.lemmas.Nat.{mul-le}
 use Rattle.fancy_regex_tree.specs.Tree as tree
 use Rattle.fancy_regex_tree.specs.Tree.{Tree, Trees, empty, any, assertion, general_newline, literal, literal_bytes, concat, alt, group, look_around, delegate, backref, backref_with_level, atomic_group, keep_out, continue, backref_exists, conditional, subroutine_call, verb, absent_repeater, absent_expression, absent_stopper, absent_clear, define_group, ast_group, ast_backref, ast_call, ast_condition, no_trees, more_trees}
-use Rattle.fancy_regex_meaning.specs.Sizes.{Size, unbounded, times, endless_size, both_sizes, either_size, repeated_size, size_with, sum_size, branch_size, size_through, size, target, is_recursive}
-use Rattle.fancy_regex_meaning.specs.Ways.{Way, Moves, Setting, for_some, meaning, call_ways, ways, most_calls, is_full}
-use Rattle.fancy_regex_meaning.specs.Laws.{Each, GoesWell, CutsWell}
-use Rattle.fancy_regex_meaning.specs.SizeLaws.{EachRepeat, EachRepeatInRow, IsInOrder, LeastIsTaken, GreatestIsKept, AlwaysIsExact, NonEmptyMoves, EndlessHasNone}
+use Rattle.fancy_regex_meaning.specs.Sizes.{Size, unbounded, times, endless_size, both_sizes, either_size, repeated_size, size_with, concat_size, alternation_size, size_through, size, target, is_recursive}
+use Rattle.fancy_regex_meaning.specs.Ways.{MatchState, Moves, Setting, for_some, meaning, call_ways, ways, max_open_calls, is_at_call_limit}
+use Rattle.fancy_regex_meaning.specs.WayLaws.{Each, PreservesForward, HasCharBoundaries}
+use Rattle.fancy_regex_meaning.specs.SizeLaws.{EachRepeat, EachRepeatInRow, IsInOrder, LeastIsLowerBound, GreatestIsUpperBound, ConstSizeIsExact, NonEmptyMoves, UnboundedLeastHasNoWay}
 use Rattle.fancy_regex_meaning.proofs.EachLemmas.{Each-weaker}
 use Rattle.fancy_regex_meaning.proofs.CharacterLemmas.{between_fits}
-use Rattle.fancy_regex_meaning.proofs.LawProofs.{calls_onward}
-use Rattle.fancy_regex_meaning.proofs.OnwardProofs.{keeps_cuts}
+use Rattle.fancy_regex_meaning.proofs.WayProofs.{calls_onward}
+use Rattle.fancy_regex_meaning.proofs.ForwardProofs.{keeps_cuts}
 use Rattle.fancy_regex_meaning.proofs.SizedWays.{both_hold, Rounds, Bounds, Sized, sized_any, sized_weaker, sized}
 use Rattle.fancy_regex_meaning.proofs.LeastLemmas.{called, call_size, through_is, calls_of, least_through, size_is_least}
 
@@ -166,15 +166,15 @@ module _ (sizes : ℕ → Size) (calls : (k : ℕ) → IsExact (sizes k)) where
     exact (ast_call goal position) = λ e lt. absurd (false≢true e)
     exact _ = λ e lt. refl
 
-    exact_sum : (ts : Trees) → IsExact (sum_size sizes ts)
+    exact_sum : (ts : Trees) → IsExact (concat_size sizes ts)
     exact_sum no_trees = λ e lt. refl
-    exact_sum (more_trees t ts) = exact_both (size_with sizes t) (sum_size sizes ts) (exact t) (exact_sum ts)
+    exact_sum (more_trees t ts) = exact_both (size_with sizes t) (concat_size sizes ts) (exact t) (exact_sum ts)
 
-    exact_branches : (ts : Trees) → IsExact (branch_size sizes ts)
+    exact_branches : (ts : Trees) → IsExact (alternation_size sizes ts)
     exact_branches no_trees = λ e lt. refl
     exact_branches (more_trees t no_trees) = exact t
     exact_branches (more_trees t (more_trees u ts)) =
-        exact_either (size_with sizes t) (branch_size sizes (more_trees u ts)) (exact t) (exact_branches (more_trees u ts))
+        exact_either (size_with sizes t) (alternation_size sizes (more_trees u ts)) (exact t) (exact_branches (more_trees u ts))
 
 exact_called : (f : Tree → Size) (o : Option Tree) → ((body : Tree) → IsExact (f body)) → IsExact (called f o)
 exact_called f None h = λ e lt. absurd (false≢true e)
@@ -207,8 +207,8 @@ module _ (groups : List Tree) where
     abbrev Of : (Size → ℕ → Type 0) → Size → Moves → Type 0
     Of Fits z moves = Sized s utf8 (Fits z) moves
 
-    calls_well : (n : ℕ) (opened : List ℕ) (k : ℕ) → GoesWell (CutsWell s.text) (call_ways s groups n opened k)
-    calls_well n opened k = calls_onward s (CutsWell s.text) (keeps_cuts s utf8) groups n opened k
+    calls_well : (n : ℕ) (opened : List ℕ) (k : ℕ) → PreservesForward (HasCharBoundaries s.text) (call_ways s groups n opened k)
+    calls_well n opened k = calls_onward s (HasCharBoundaries s.text) (keeps_cuts s utf8) groups n opened k
 
     -- the ways of a call are those of its target
     of_target : (P : Size → ℕ → Type 0) (f : Tree → Size) (o : Option Tree) (full : Bool) (inside : Tree → Moves) →
@@ -225,11 +225,11 @@ module _ (groups : List Tree) where
     unfolding call_ways calls_of bodies_of
     least_calls zero opened k = λ w h. tt
     least_calls (suc n) opened k =
-        of_target IsAtLeast _ (target groups k) (is_full opened k) (bodies_of n opened k) (λ body e.
+        of_target IsAtLeast _ (target groups k) (is_at_call_limit opened k) (bodies_of n opened k) (λ body e.
         sized s utf8 IsAtLeast Anything least_bounds groups (least_through groups n) (call_ways s groups n (k ∷ opened))
         (least_calls n (k ∷ opened)) (k + 1) body (each_any body))
 
-    wide : (z : Size) (moves : Moves) → z.greatest ≡ unbounded → GoesWell (CutsWell s.text) moves → Sized s utf8 (IsAtMost z) moves
+    wide : (z : Size) (moves : Moves) → z.greatest ≡ unbounded → PreservesForward (HasCharBoundaries s.text) moves → Sized s utf8 (IsAtMost z) moves
     wide z moves e p = sized_any s utf8 (IsAtMost z) moves p (λ c lt. absurd (omega (arith, lt, e)))
 
     module _ (ordered : Each IsInOrder groups) where
@@ -249,7 +249,7 @@ module _ (groups : List Tree) where
           endless None = refl
           endless (Some body) = refl
       greatest_calls (suc n) (suc d) opened k =
-          of_target IsAtMost _ (target groups k) (is_full opened k) (bodies_of n opened k) (λ body e.
+          of_target IsAtMost _ (target groups k) (is_at_call_limit opened k) (bodies_of n opened k) (λ body e.
           recursive_most (is_recursive groups k body) (size_through groups d body) (bodies_of n opened k body)
           (subst (λ z. Sized s utf8 (IsAtMost z) (bodies_of n opened k body)) (sym (through_is groups d body))
           (sized s utf8 IsAtMost InOrder greatest_bounds groups (call_size groups d) (call_ways s groups n (k ∷ opened))
@@ -259,27 +259,27 @@ module _ (groups : List Tree) where
       unfolding ways size
       greatest_ways n t order =
           subst (λ z. Sized s utf8 (IsAtMost z) (ways s groups n t)) (sym (through_is groups (length groups) t))
-          (sized s utf8 IsAtMost InOrder greatest_bounds groups (call_size groups (length groups)) (call_ways s groups (most_calls groups) [])
-          (greatest_calls (most_calls groups) (length groups) []) n t order)
+          (sized s utf8 IsAtMost InOrder greatest_bounds groups (call_size groups (length groups)) (call_ways s groups (max_open_calls groups) [])
+          (greatest_calls (max_open_calls groups) (length groups) []) n t order)
 
     least_ways : (n : ℕ) (t : Tree) → Sized s utf8 (IsAtLeast (size groups t)) (ways s groups n t)
     unfolding ways
     least_ways n t =
-        let far = least_through groups (most_calls groups) in
+        let far = least_through groups (max_open_calls groups) in
         sized_weaker s utf8 (IsAtLeast (size_with far t)) (IsAtLeast (size groups t)) (ways s groups n t)
-        (λ c h. omega (arith, h, size_is_least groups (most_calls groups) t))
-        (sized s utf8 IsAtLeast Anything least_bounds groups far (call_ways s groups (most_calls groups) [])
-        (least_calls (most_calls groups) []) n t (each_any t))
+        (λ c h. omega (arith, h, size_is_least groups (max_open_calls groups) t))
+        (sized s utf8 IsAtLeast Anything least_bounds groups far (call_ways s groups (max_open_calls groups) [])
+        (least_calls (max_open_calls groups) []) n t (each_any t))
 
 module _ (s : Setting) (groups : List Tree) where
-  pub least_is_taken : LeastIsTaken s groups
+  pub least_is_taken : LeastIsLowerBound s groups
   least_is_taken utf8 n t w h = Each-weaker _ _ (λ v o. o.1) (ways s groups n t w) (least_ways groups s utf8 n t w h)
 
-  pub greatest_is_kept : GreatestIsKept s groups
+  pub greatest_is_kept : GreatestIsUpperBound s groups
   greatest_is_kept utf8 ordered n t w h order lt =
       Each-weaker _ _ (λ v o. o.1 lt) (ways s groups n t w) (greatest_ways groups s utf8 ordered n t order w h)
 
-  pub always_is_exact : AlwaysIsExact s groups
+  pub always_is_exact : ConstSizeIsExact s groups
   always_is_exact utf8 ordered n t w h order e lt =
       let same : (size groups t).greatest ≡ (size groups t).least = exact_size groups t e lt in
       let low = least_is_taken utf8 n t w h in
@@ -289,20 +289,20 @@ module _ (s : Setting) (groups : List Tree) where
   pub non_empty_moves : NonEmptyMoves s groups
   non_empty_moves utf8 n t w h e =
       let some : 0 < (size groups t).least = above_zero (size groups t).least e in
-      Each-weaker _ _ (λ (v : Way) o. omega (arith, o.0.0, o.1, some, between_fits s.text utf8 w.position v.position o.0.0 h.0 o.0.1.0))
+      Each-weaker _ _ (λ (v : MatchState) o. omega (arith, o.0.0, o.1, some, between_fits s.text utf8 w.position v.position o.0.0 h.0 o.0.1.0))
       (ways s groups n t w) (least_ways groups s utf8 n t w h)
     where
       above_zero : (n : ℕ) → (n == 0) ≡ false → 0 < n
       above_zero zero e = absurd (false≢true (sym e))
       above_zero (suc n) e = omega arith
 
-  pub endless_has_none : EndlessHasNone s groups
+  pub endless_has_none : UnboundedLeastHasNoWay s groups
   endless_has_none utf8 short n t w h e =
-      none_of _ (Each-weaker _ (λ (v : Way). ⊥) (λ (v : Way) o.
+      none_of _ (Each-weaker _ (λ (v : MatchState). ⊥) (λ (v : MatchState) o.
       let inside : v.position ≤ length s.text = o.0.1.0.0 in
       absurd (omega (arith, o.0.0, o.1, e, short, inside, between_fits s.text utf8 w.position v.position o.0.0 h.0 o.0.1.0)))
       (ways s groups n t w) (least_ways groups s utf8 n t w h))
     where
-      none_of : (vs : List Way) → Each (λ v. ⊥) vs → vs ≡ []
+      none_of : (vs : List MatchState) → Each (λ v. ⊥) vs → vs ≡ []
       none_of [] h = refl
       none_of (v ∷ vs) h = absurd h.0

@@ -9,20 +9,20 @@ use Rattle.std.proofs.lemmas.Str.{len_utf8_ascii}
 use Rattle.std.proofs.Math.Nat.{le_trans, le_refl}
 use Rattle.regex_hir.specs.Text.{char_at}
 use Rattle.regex_hir.proofs.TextLemmas.{char_at_ascii}
-use Rattle.fancy_regex_meaning.specs.Places.{is_before_byte}
-use Rattle.fancy_regex_meaning.specs.Sizes.{Size, unbounded, bound_of, always_size, any_size, both_sizes, either_size, repeated_size, size_with, sum_size, branch_size}
+use Rattle.fancy_regex_meaning.specs.Positions.{is_before_byte}
+use Rattle.fancy_regex_meaning.specs.Sizes.{Size, unbounded, bound_of, always_size, any_size, both_sizes, either_size, repeated_size, size_with, concat_size, alternation_size}
 use Rattle.fancy_regex_meaning.specs.Groups.{group_count}
 use Rattle.fancy_regex_tree.specs.declared.expr.LookAround.{LookAround}
 use Rattle.fancy_regex_tree.specs.declared.expr.LookAround.TheVariants.{LookAhead, LookAheadNeg, LookBehind, LookBehindNeg}
 use Rattle.fancy_regex_tree.specs.Tree as tree
 use Rattle.fancy_regex_tree.specs.Tree.{Tree, Trees, empty, any, assertion, general_newline, literal, literal_bytes, concat, alt, look_around, delegate, backref_with_level, atomic_group, keep_out, continue, backref_exists, subroutine_call, verb, absent_repeater, absent_expression, absent_stopper, absent_clear, define_group, ast_group, ast_backref, ast_call, ast_condition, no_trees, more_trees}
-use Rattle.fancy_regex_meaning.specs.Ways.{Way, Moves, Meaning, Setting, all_of, any_of, meaning, meanings, pairs_alone, first_of_all, at_place, stay, keep_here, look, stay_if, prefer, due, up_to, loop, conditional, character, group, repeat, general_newline_ways, is_newline}
-use Rattle.fancy_regex_meaning.specs.Laws.{Each, GoesWell, LeadsTo, CutsWell}
+use Rattle.fancy_regex_meaning.specs.Ways.{MatchState, Moves, Meaning, Setting, all_of, any_of, meaning, meanings, keep_only_pairs, first_only, with_position, match_empty, reset_match_start, look, match_empty_if, prefer, due, up_to, loop, conditional, character, group, repeat, general_newline_ways, is_newline}
+use Rattle.fancy_regex_meaning.specs.WayLaws.{Each, PreservesForward, IsForwardTo, HasCharBoundaries}
 use Rattle.fancy_regex_meaning.specs.SizeLaws.{characters_between, EachRepeat, EachRepeatInRow}
 use Rattle.fancy_regex_meaning.proofs.EachLemmas.{Each-weaker, Each-append, Each-map, Each-flat_map, Each-cond, Each-for_some}
 use Rattle.fancy_regex_meaning.proofs.CharacterLemmas.{between_splits, between_same, between_char}
-use Rattle.fancy_regex_meaning.proofs.LawProofs.{meaning_onward, byte_is}
-use Rattle.fancy_regex_meaning.proofs.OnwardProofs.{keeps_cuts}
+use Rattle.fancy_regex_meaning.proofs.WayProofs.{meaning_onward, byte_is}
+use Rattle.fancy_regex_meaning.proofs.ForwardProofs.{keeps_cuts}
 
 -- so many counts, each of which passes, one after another
 abbrev pub Rounds : (ℕ → Type 0) → ℕ → ℕ → Type 0
@@ -49,41 +49,41 @@ both_hold P Q [] h k = tt
 both_hold P Q (x ∷ xs) h k = ((h.0, k.0), both_hold P Q xs h.1 k.1)
 
 module _ (s : Setting) (utf8 : IsUtf8 s.text) where
-  abbrev taken : Way → Way → ℕ
+  abbrev taken : MatchState → MatchState → ℕ
   taken w v = characters_between s.text w.position v.position
 
-  abbrev Takes : (ℕ → Type 0) → Way → Way → Type 0
-  Takes P w v = LeadsTo (CutsWell s.text) w v × P (taken w v)
+  abbrev Takes : (ℕ → Type 0) → MatchState → MatchState → Type 0
+  Takes P w v = IsForwardTo (HasCharBoundaries s.text) w v × P (taken w v)
 
   -- from a way that cuts the text between characters, each way leads onward to such a one, and takes what passes
   abbrev pub Sized : (ℕ → Type 0) → Moves → Type 0
-  Sized P moves = (w : Way) → CutsWell s.text w → Each (Takes P w) (moves w)
+  Sized P moves = (w : MatchState) → HasCharBoundaries s.text w → Each (Takes P w) (moves w)
 
-  sized_of : (P : ℕ → Type 0) (moves : Moves) → GoesWell (CutsWell s.text) moves →
-      ((w : Way) → CutsWell s.text w → Each (λ v. P (taken w v)) (moves w)) → Sized P moves
+  sized_of : (P : ℕ → Type 0) (moves : Moves) → PreservesForward (HasCharBoundaries s.text) moves →
+      ((w : MatchState) → HasCharBoundaries s.text w → Each (λ v. P (taken w v)) (moves w)) → Sized P moves
   sized_of P moves p q w h = both_hold _ _ (moves w) (p w h) (q w h)
 
   -- what passes for every count
-  pub sized_any : (P : ℕ → Type 0) (moves : Moves) → GoesWell (CutsWell s.text) moves → ((c : ℕ) → P c) → Sized P moves
+  pub sized_any : (P : ℕ → Type 0) (moves : Moves) → PreservesForward (HasCharBoundaries s.text) moves → ((c : ℕ) → P c) → Sized P moves
   sized_any P moves p all w h = Each-weaker _ _ (λ v o. (o, all _)) (moves w) (p w h)
 
   pub sized_weaker : (P Q : ℕ → Type 0) (moves : Moves) → ((c : ℕ) → P c → Q c) → Sized P moves → Sized Q moves
   sized_weaker P Q moves f p w h = Each-weaker _ _ (λ v o. (o.0, f _ o.1)) (moves w) (p w h)
 
   -- nothing is taken
-  takes_none : (P : ℕ → Type 0) (w v : Way) → P 0 → CutsWell s.text w → v.position ≡ w.position → P (taken w v)
+  takes_none : (P : ℕ → Type 0) (w v : MatchState) → P 0 → HasCharBoundaries s.text w → v.position ≡ w.position → P (taken w v)
   takes_none P w v p h e =
       subst P (sym (ap (λ q. characters_between s.text w.position q) e ∙ between_same s.text utf8 w.position h.0)) p
 
-  sized_still : (P : ℕ → Type 0) (moves : Moves) → P 0 → GoesWell (CutsWell s.text) moves →
-      ((w : Way) → Each (λ v. v.position ≡ w.position) (moves w)) → Sized P moves
+  sized_still : (P : ℕ → Type 0) (moves : Moves) → P 0 → PreservesForward (HasCharBoundaries s.text) moves →
+      ((w : MatchState) → Each (λ v. v.position ≡ w.position) (moves w)) → Sized P moves
   sized_still P moves p well still = sized_of P moves well (λ w h. Each-weaker _ _ (λ v e. takes_none P w v p h e) (moves w) (still w))
 
   -- one after the other
-  follows : (P Q R : ℕ → Type 0) → ((x y : ℕ) → P x → Q y → R (x + y)) → (w v : Way) → CutsWell s.text w → Takes P w v →
-      (us : List Way) → Each (Takes Q v) us → Each (Takes R w) us
+  follows : (P Q R : ℕ → Type 0) → ((x y : ℕ) → P x → Q y → R (x + y)) → (w v : MatchState) → HasCharBoundaries s.text w → Takes P w v →
+      (us : List MatchState) → Each (Takes Q v) us → Each (Takes R w) us
   follows P Q R f w v h o us k =
-      Each-weaker _ _ (λ (u : Way) (i : Takes Q v u). (
+      Each-weaker _ _ (λ (u : MatchState) (i : Takes Q v u). (
         (le_trans o.0.0 i.0.0, i.0.1),
         subst R (sym (between_splits s.text utf8 w.position v.position u.position o.0.0 i.0.0 h.0 o.0.1.0 i.0.1.0)) (f _ _ o.1 i.1),
       )) us k
@@ -93,10 +93,10 @@ module _ (s : Setting) (utf8 : IsUtf8 s.text) where
   sized_then P Q R both f g p q w h =
       Each-flat_map (Takes P w) (Takes R w) g (λ v o. follows P Q R both w v h o (g v) (q v o.0.1)) (f w) (p w h)
 
-  takes_stay : (P : ℕ → Type 0) → P 0 → Sized P stay
+  takes_stay : (P : ℕ → Type 0) → P 0 → Sized P match_empty
   takes_stay P p w h = (((le_refl w.position, h), takes_none P w w p h refl), tt)
 
-  sized_prefer : (P : ℕ → Type 0) (greedy : Bool) (w : Way) (xs ys : List Way) → Each (Takes P w) xs → Each (Takes P w) ys →
+  sized_prefer : (P : ℕ → Type 0) (greedy : Bool) (w : MatchState) (xs ys : List MatchState) → Each (Takes P w) xs → Each (Takes P w) ys →
       Each (Takes P w) (prefer greedy xs ys)
   sized_prefer P true w xs ys h k = Each-append _ xs ys h k
   sized_prefer P false w xs ys h k = Each-append _ ys xs k h
@@ -144,44 +144,44 @@ module _ (s : Setting) (utf8 : IsUtf8 s.text) where
         (takes_stay (RoundsBetween P 0 (suc n)) (no_round (suc n)) w h)
 
   -- where a node stays
-  still_if : (b : Bool) (w : Way) → Each (λ v. v.position ≡ w.position) (stay_if b w)
+  still_if : (b : Bool) (w : MatchState) → Each (λ v. v.position ≡ w.position) (match_empty_if b w)
   still_if b w = Each-cond _ b (w ∷ []) [] (refl, tt) tt
 
-  still_pairs : (w : Way) (vs : List Way) → Each (λ v. v.position ≡ w.position) (pairs_alone w vs)
+  still_pairs : (w : MatchState) (vs : List MatchState) → Each (λ v. v.position ≡ w.position) (keep_only_pairs w vs)
   still_pairs w [] = tt
   still_pairs w (v ∷ vs) = (refl, still_pairs w vs)
 
-  still_look : (how : LookAround) (m : Meaning) (w : Way) → Each (λ v. v.position ≡ w.position) (look how m w)
+  still_look : (how : LookAround) (m : Meaning) (w : MatchState) → Each (λ v. v.position ≡ w.position) (look how m w)
   still_look LookAhead m w = still_pairs w (m.from w)
   still_look LookAheadNeg m w = still_if _ w
   still_look LookBehind m w = still_pairs w (m.behind w)
   still_look LookBehindNeg m w = still_if _ w
 
-  character_takes : (P : ℕ → Type 0) → P 1 → (test : ℕ → Bool) (w : Way) → CutsWell s.text w → Each (λ v. P (taken w v)) (character s test w)
+  character_takes : (P : ℕ → Type 0) → P 1 → (test : ℕ → Bool) (w : MatchState) → HasCharBoundaries s.text w → Each (λ v. P (taken w v)) (character s test w)
   character_takes P p test w h =
       Each-for_some _ _ (char_at s.text w.position) (λ c e.
-      Each-cond _ (test c) (at_place w (w.position + len_utf8 c) ∷ []) []
+      Each-cond _ (test c) (with_position w (w.position + len_utf8 c) ∷ []) []
       (subst P (sym (between_char s.text utf8 w.position c h.0 ((keeps_cuts s utf8).past_char w c h e).0 e)) p, tt) tt)
 
-  ascii_char : (w : Way) (x : ℕ) → x < 128 → is_before_byte s.text x w.position ≡ true → char_at s.text w.position ≡ Some x
+  ascii_char : (w : MatchState) (x : ℕ) → x < 128 → is_before_byte s.text x w.position ≡ true → char_at s.text w.position ≡ Some x
   ascii_char w x small e =
-      char_at_ascii s.text w.position x (byte_is s (CutsWell s.text) (keeps_cuts s utf8) _ x e) small
+      char_at_ascii s.text w.position x (byte_is s (HasCharBoundaries s.text) (keeps_cuts s utf8) _ x e) small
 
-  past_byte : (w : Way) (x : ℕ) → x < 128 → CutsWell s.text w → is_before_byte s.text x w.position ≡ true →
-      CutsWell s.text (at_place w (w.position + 1)) × (characters_between s.text w.position (w.position + 1) ≡ 1)
+  past_byte : (w : MatchState) (x : ℕ) → x < 128 → HasCharBoundaries s.text w → is_before_byte s.text x w.position ≡ true →
+      HasCharBoundaries s.text (with_position w (w.position + 1)) × (characters_between s.text w.position (w.position + 1) ≡ 1)
   past_byte w x small h e =
       let found = ascii_char w x small e in
       let one : len_utf8 x ≡ 1 = len_utf8_ascii x small in
       let next = (keeps_cuts s utf8).past_char w x h found in (
-        subst (λ n. CutsWell s.text (at_place w (w.position + n))) one next,
+        subst (λ n. HasCharBoundaries s.text (with_position w (w.position + n))) one next,
         subst (λ n. characters_between s.text w.position (w.position + n) ≡ 1) one (between_char s.text utf8 w.position x h.0 next.0 found),
       )
 
-  two_bytes : (w : Way) → CutsWell s.text w → is_before_byte s.text 13 w.position ≡ true → is_before_byte s.text 10 (w.position + 1) ≡ true →
+  two_bytes : (w : MatchState) → HasCharBoundaries s.text w → is_before_byte s.text 13 w.position ≡ true → is_before_byte s.text 10 (w.position + 1) ≡ true →
       characters_between s.text w.position (w.position + 2) ≡ 2
   two_bytes w h e f =
       let first = past_byte w 13 (omega arith) h e in
-      let second = past_byte (at_place w (w.position + 1)) 10 (omega arith) first.0 f in
+      let second = past_byte (with_position w (w.position + 1)) 10 (omega arith) first.0 f in
       let same : w.position + 1 + 1 ≡ w.position + 2 = omega arith in
       subst (λ q. characters_between s.text w.position q ≡ 2) same
       (omega (
@@ -195,20 +195,20 @@ module _ (s : Setting) (utf8 : IsUtf8 s.text) where
   sized_group P k body p w h =
       Each-map (Takes P w) (Takes P w) _ (λ v o. ((o.0.0, (keeps_cuts s utf8).pair k w v h o.0.1 o.0.0), o.1)) (body w) (p w h)
 
-  sized_first : (P : ℕ → Type 0) (w : Way) (vs : List Way) → Each (Takes P w) vs → Each (Takes P w) (first_of_all vs)
+  sized_first : (P : ℕ → Type 0) (w : MatchState) (vs : List MatchState) → Each (Takes P w) vs → Each (Takes P w) (first_only vs)
   sized_first P w [] h = tt
   sized_first P w (v ∷ vs) h = (h.0, tt)
 
-  sized_conditional : (P Q R : ℕ → Type 0) → ((x y : ℕ) → P x → Q y → R (x + y)) → (w : Way) → CutsWell s.text w → (vs : List Way) (a b : Moves) →
+  sized_conditional : (P Q R : ℕ → Type 0) → ((x y : ℕ) → P x → Q y → R (x + y)) → (w : MatchState) → HasCharBoundaries s.text w → (vs : List MatchState) (a b : Moves) →
       Each (Takes P w) vs → Sized Q a → Sized R b → Each (Takes R w) (conditional vs a b w)
   sized_conditional P Q R both w h [] a b e p q = q w h
   sized_conditional P Q R both w h (v ∷ vs) a b e p q = follows P Q R both w v h e.0 (a v) (p v e.0.0.1)
 
   module _ (Fits : Size → ℕ → Type 0) (Good : ℕ → ℕ → Type 0) (bounds : Bounds Fits Good) where
-    newline_takes : (unicode : Bool) (w : Way) → CutsWell s.text w →
+    newline_takes : (unicode : Bool) (w : MatchState) → HasCharBoundaries s.text w →
         Each (λ v. Fits (record { least = 1; greatest = 2; always = false }) (taken w v)) (general_newline_ways s unicode w)
     newline_takes unicode w h =
-        cond_both (is_before_byte s.text 13 w.position && is_before_byte s.text 10 (w.position + 1)) (at_place w (w.position + 2) ∷ [])
+        cond_both (is_before_byte s.text 13 w.position && is_before_byte s.text 10 (w.position + 1)) (with_position w (w.position + 2) ∷ [])
         (character s (is_newline s unicode) w) (Each (λ v. Fits (record { least = 1; greatest = 2; always = false }) (taken w v)))
         (λ e. let parts = and_parts _ _ e in
         let two = two_bytes w h parts.0 parts.1 in
@@ -227,11 +227,11 @@ module _ (s : Setting) (utf8 : IsUtf8 s.text) where
         (due_sized (Fits a) lo (hi - lo) body _ p (up_to_sized (Fits a) _ greedy body p)))
 
     module _ (groups : List Tree) (sizes : ℕ → Size) (call : ℕ → Moves) (calls_sized : (k : ℕ) → Sized (Fits (sizes k)) (call k)) where
-      calls_well : (k : ℕ) → GoesWell (CutsWell s.text) (call k)
+      calls_well : (k : ℕ) → PreservesForward (HasCharBoundaries s.text) (call k)
       calls_well k w h = Each-weaker _ _ (λ v o. o.0) (call k w) (calls_sized k w h)
 
-      well : (n : ℕ) (t : Tree) → GoesWell (CutsWell s.text) (meaning s groups call n t).from
-      well n t = (meaning_onward s (CutsWell s.text) (keeps_cuts s utf8) groups call calls_well n t).0
+      well : (n : ℕ) (t : Tree) → PreservesForward (HasCharBoundaries s.text) (meaning s groups call n t).from
+      well n t = (meaning_onward s (HasCharBoundaries s.text) (keeps_cuts s utf8) groups call calls_well n t).0
 
       mutual
         unfolding meaning size_with EachRepeat
@@ -239,7 +239,7 @@ module _ (s : Setting) (utf8 : IsUtf8 s.text) where
         pub sized : (n : ℕ) (t : Tree) → EachRepeat Good t → Sized (Fits (size_with sizes t)) (meaning s groups call n t).from
         sized n (alt ts) r = sized_branches n ts r
         sized n (concat ts) r = sized_row n ts r
-        sized n empty r = sized_still (Fits (always_size 0)) stay (bounds.fixed 0) (well n empty) (λ w. (refl, tt))
+        sized n empty r = sized_still (Fits (always_size 0)) match_empty (bounds.fixed 0) (well n empty) (λ w. (refl, tt))
         sized n (any newline crlf) r = sized_of (Fits (always_size 1)) _ (well n (any newline crlf)) (character_takes (Fits (always_size 1)) (bounds.fixed 1) _)
         sized n (assertion a) r = sized_still (Fits (always_size 0)) _ (bounds.fixed 0) (well n (assertion a)) (λ w. still_if _ w)
         sized n (general_newline unicode) r = sized_of (Fits (record { least = 1; greatest = 2; always = false })) _ (well n (general_newline unicode)) (newline_takes unicode)
@@ -258,11 +258,11 @@ module _ (s : Setting) (utf8 : IsUtf8 s.text) where
             (sized (n + group_count c) a r.1)
             (sized_weaker (Fits (size_with sizes b)) (Fits (either_size (both_sizes (size_with sizes c) (size_with sizes a)) (size_with sizes b))) _ (λ x i. bounds.right _ _ x i) (sized (n + group_count c + group_count a) b r.2))
         sized n (subroutine_call k) r = calls_sized k
-        sized n keep_out r = sized_still (Fits (always_size 0)) keep_here (bounds.fixed 0) (well n keep_out) (λ w. (refl, tt))
+        sized n keep_out r = sized_still (Fits (always_size 0)) reset_match_start (bounds.fixed 0) (well n keep_out) (λ w. (refl, tt))
         sized n continue r = sized_still (Fits (always_size 0)) _ (bounds.fixed 0) (well n continue) (λ w. still_if _ w)
         sized n (verb v) r = λ w h. tt
         sized n (absent_repeater t) r = sized_any (Fits any_size) _ (well n (absent_repeater t)) bounds.some
-        sized n (define_group t) r = sized_still (Fits (always_size 0)) stay (bounds.fixed 0) (well n (define_group t)) (λ w. (refl, tt))
+        sized n (define_group t) r = sized_still (Fits (always_size 0)) match_empty (bounds.fixed 0) (well n (define_group t)) (λ w. (refl, tt))
         sized n (literal_bytes bytes) r = λ w h. tt
         sized n (backref_with_level k level casei) r = λ w h. tt
         sized n (absent_expression a t) r = λ w h. tt
@@ -273,16 +273,16 @@ module _ (s : Setting) (utf8 : IsUtf8 s.text) where
         sized n (ast_call goal position) r = λ w h. tt
         sized n (ast_condition goal level position) r = λ w h. tt
 
-        sized_row : (n : ℕ) (ts : Trees) → EachRepeatInRow Good ts → Sized (Fits (sum_size sizes ts)) (all_of (meanings s groups call n ts))
+        sized_row : (n : ℕ) (ts : Trees) → EachRepeatInRow Good ts → Sized (Fits (concat_size sizes ts)) (all_of (meanings s groups call n ts))
         sized_row n no_trees r = takes_stay (Fits (always_size 0)) (bounds.fixed 0)
         sized_row n (more_trees t ts) r =
-            sized_then (Fits (size_with sizes t)) (Fits (sum_size sizes ts)) (Fits (both_sizes (size_with sizes t) (sum_size sizes ts))) (λ x y i j. bounds.both _ _ x y i j) _ _ (sized n t r.0) (sized_row (n + group_count t) ts r.1)
+            sized_then (Fits (size_with sizes t)) (Fits (concat_size sizes ts)) (Fits (both_sizes (size_with sizes t) (concat_size sizes ts))) (λ x y i j. bounds.both _ _ x y i j) _ _ (sized n t r.0) (sized_row (n + group_count t) ts r.1)
 
         sized_branches : (n : ℕ) (ts : Trees) → EachRepeatInRow Good ts →
-            Sized (Fits (branch_size sizes ts)) (any_of (meanings s groups call n ts)).from
+            Sized (Fits (alternation_size sizes ts)) (any_of (meanings s groups call n ts)).from
         sized_branches n no_trees r w h = tt
         sized_branches n (more_trees t no_trees) r w h = Each-append _ _ [] (sized n t r.0 w h) tt
         sized_branches n (more_trees t (more_trees u ts)) r w h =
             Each-append _ _ _
-            (sized_weaker (Fits (size_with sizes t)) (Fits (either_size (size_with sizes t) (branch_size sizes (more_trees u ts)))) _ (λ x i. bounds.left _ _ x i) (sized n t r.0) w h)
-            (sized_weaker (Fits (branch_size sizes (more_trees u ts))) (Fits (either_size (size_with sizes t) (branch_size sizes (more_trees u ts)))) _ (λ x i. bounds.right _ _ x i) (sized_branches (n + group_count t) (more_trees u ts) r.1) w h)
+            (sized_weaker (Fits (size_with sizes t)) (Fits (either_size (size_with sizes t) (alternation_size sizes (more_trees u ts)))) _ (λ x i. bounds.left _ _ x i) (sized n t r.0) w h)
+            (sized_weaker (Fits (alternation_size sizes (more_trees u ts))) (Fits (either_size (size_with sizes t) (alternation_size sizes (more_trees u ts)))) _ (λ x i. bounds.right _ _ x i) (sized_branches (n + group_count t) (more_trees u ts) r.1) w h)

@@ -1,23 +1,23 @@
--- Matches, and the lists that are made of them.
+-- Searches and their match, iteration, splitting, replacement, and pattern sets.
 use Rattle.std.specs.Prelude.{ℕ, zero, suc, ◌+◌, max, Bool, true, false, not, ◌&&◌, ◌||◌, List, [], ◌∷◌, ◌++◌, length, replicate, take, drop, Option, Some, None, option_map, ◌==◌, nat_le, nat_lt, slice_range, if◌then◌else◌}
 use Rattle.std.specs.List.{filter}
 use Rattle.fancy_regex_meaning.specs.Groups.{Pattern}
-use Rattle.fancy_regex_meaning.specs.Places.{boundaries, place_after}
-use Rattle.fancy_regex_meaning.specs.Ways.{Pairs, Way, Setting, ways, for_some}
+use Rattle.fancy_regex_meaning.specs.Positions.{boundaries, position_after}
+use Rattle.fancy_regex_meaning.specs.Ways.{Pairs, MatchState, Setting, ways, for_some}
 
--- What a regex asks of each of its searches.
+-- The options of a regex that affect which match is reported.
 pub record Options : Type 0 where
   pub find_not_empty : Bool
-  -- the longest way is wanted, and not the first
+  -- leftmost-longest instead of leftmost-first
   pub longest : Bool
 
 abbrev pub default_options : Options
 default_options = record { find_not_empty = false; longest = false }
 
--- Which matches are looked for.
+-- A search: its first start, its end, and its options.
 pub record Search : Type 0 where
   pub first : ℕ
-  -- no match ends past this place
+  -- no match ends after this position
   pub stop : ℕ
   pub anchored : Bool
   pub options : Options
@@ -37,41 +37,41 @@ abbrev pub first_item : {A : Type 0} → List A → Option A
 first_item [] = None
 first_item (x ∷ xs) = Some x
 
--- w, unless the other one ends farther
-abbrev pub farther : Way → Option Way → Way
+-- w, unless the other one ends later
+abbrev pub farther : MatchState → Option MatchState → MatchState
 farther w None = w
 farther w (Some v) = if nat_lt w.position v.position then v else w
 
--- the first of those that end farthest
-abbrev pub first_longest : List Way → Option Way
+-- the first of those that end last
+abbrev pub first_longest : List MatchState → Option MatchState
 first_longest [] = None
 first_longest (w ∷ ws) = Some (farther w (first_longest ws))
 
--- the way that is wanted
-abbrev pub chosen : Bool → List Way → Option Way
+-- the reported way: the first, or with `true` the longest
+abbrev pub chosen : Bool → List MatchState → Option MatchState
 chosen false ws = first_item ws
 chosen true ws = first_longest ws
 
-abbrev pub is_admitted : Search → Way → Bool
+abbrev pub is_admitted : Search → MatchState → Bool
 is_admitted find w = nat_le w.position find.stop && not (find.options.find_not_empty && w.kept == w.position)
 
-abbrev pub match_of : Way → Match
+abbrev pub match_of : MatchState → Match
 match_of w = record { start = w.kept; end = w.position; pairs = w.pairs }
 
--- where a search enters the pattern at this place
-abbrev pub start_way : Pattern → ℕ → Way
+-- the initial state of an attempt at this position
+abbrev pub start_way : Pattern → ℕ → MatchState
 start_way pattern p = record { position = p; pairs = replicate (length pattern.groups) None; kept = p }
 
 module _ (s : Setting) (pattern : Pattern) (find : Search) where
-  -- the ways of the whole pattern from this place
-  abbrev pub ways_at : ℕ → List Way
+  -- the ways of the whole pattern from this position
+  abbrev pub ways_at : ℕ → List MatchState
   ways_at p = ways s pattern.groups pattern.first_group pattern.tree (start_way pattern p)
 
-  -- the wanted one among the admitted ways from this place
+  -- the match of an attempt at this position: the reported one among the admitted ways
   unfoldable pub match_at : ℕ → Option Match
   match_at p = option_map match_of (chosen find.options.longest (filter (is_admitted find) (ways_at p)))
 
-  -- the places that are tried
+  -- the positions at which matches are attempted, in order
   abbrev pub starts : List ℕ
   starts =
       if nat_lt find.stop find.first then [] else if find.anchored then find.first ∷ [] else boundaries s.text find.first find.stop
@@ -79,13 +79,13 @@ module _ (s : Setting) (pattern : Pattern) (find : Search) where
   unfoldable pub first_match : Option Match
   first_match = first_some match_at starts
 
--- What a search is asked.
+-- The input of a search: where it starts, the range that it may match in, and its modes.
 pub record Input : Type 0 where
   pub start : ℕ
   pub range_start : ℕ
   pub range_end : ℕ
   pub anchored : Bool
-  -- `\G` holds nowhere
+  -- `\G` fails at every position
   pub no_continue : Bool
 
 -- the whole text from its start
@@ -93,7 +93,7 @@ abbrev pub input_of : List ℕ → Input
 input_of text = record { start = 0; range_start = 0; range_end = length text; anchored = false; no_continue = false }
 
 module _ (s : Setting) (pattern : Pattern) (options : Options) (input : Input) where
-  -- the first match from a place on, where `\G` holds there unless it is switched off
+  -- the first match from a position on; `\G` matches at that position unless it is switched off
   unfoldable pub search_from : ℕ → Bool → Option Match
   search_from q off =
       first_match (record s { continue_at = if off || input.no_continue then None else Some q }) pattern
@@ -102,20 +102,20 @@ module _ (s : Setting) (pattern : Pattern) (options : Options) (input : Input) w
   unfoldable pub find_input : Option Match
   find_input = search_from (max input.start input.range_start) false
 
--- Iteration, over a search from a place that may have `\G` switched off.
+-- Iteration, over a search from a position that may have `\G` switched off.
 module _ (text : List ℕ) (search : ℕ → Bool → Option Match) (range_start range_end : ℕ) where
   abbrev pub is_last_end : Option ℕ → ℕ → Bool
   is_last_end None e = false
   is_last_end (Some l) e = l == e
 
-  -- what an iterator gives from p on. Each search starts past the one before, so there are at most n.
+  -- the matches that an iterator yields from p on, at most n. An empty match at the end of the previous match is skipped.
   unfoldable pub items : ℕ → ℕ → Option ℕ → Bool → List Match
   items zero p last off = []
   items (suc n) p last off =
       let q = max p range_start in
       let found = for_some (λ m.
       let onward = m ∷ items n m.end (Some m.end) false in
-      let next = items n (place_after text m.end) (Some m.end) (m.end == q) in
+      let next = items n (position_after text m.end) (Some m.end) (m.end == q) in
       if nat_lt m.start m.end then onward else if is_last_end last m.end then next else m ∷ next) (search q off) in
       if nat_lt range_end q then [] else found
 
@@ -138,7 +138,7 @@ abbrev pub pieces_up_to : ℕ → List ℕ → List Match → List (List ℕ)
 pieces_up_to zero text ms = []
 pieces_up_to (suc n) text ms = pieces text (take n ms)
 
--- each gap and what stands for the match behind it, and then the rest
+-- each piece and the replacement of the match after it, and then the rest
 abbrev pub replaced_from : List ℕ → (Match → List ℕ) → ℕ → List Match → List ℕ
 replaced_from text by p [] = drop p text
 replaced_from text by p (m ∷ ms) = slice_range text p m.start ++ by m ++ replaced_from text by m.end ms
@@ -151,7 +151,7 @@ counted (suc n) ms = take (suc n) ms
 abbrev pub replaced : List ℕ → (Match → List ℕ) → ℕ → List Match → List ℕ
 replaced text by limit ms = replaced_from text by 0 (counted limit ms)
 
--- A member of a set: its pattern, what it asks of its searches, and what its ways depend on.
+-- A member of a pattern set: its pattern, its options, and its setting.
 pub record Member : Type 0 where
   pub pattern : Pattern
   pub options : Options

@@ -3,8 +3,8 @@ use Rattle.std.specs.Prelude.{◌≡◌, ℕ, ◌<◌, ◌≤◌, ⊤, true, fal
 use Rattle.std.specs.Str.{IsUtf8}
 use Rattle.fancy_regex_tree.specs.Tree.{Tree, Trees, concat, alt, group, look_around, repeat, atomic_group, conditional, absent_repeater, absent_expression, absent_stopper, define_group, ast_group, no_trees, more_trees}
 use Rattle.fancy_regex_meaning.specs.Sizes.{unbounded, size, may_be_empty}
-use Rattle.fancy_regex_meaning.specs.Ways.{Way, Setting, ways}
-use Rattle.fancy_regex_meaning.specs.Laws.{Each, CutsWell}
+use Rattle.fancy_regex_meaning.specs.Ways.{MatchState, Setting, ways}
+use Rattle.fancy_regex_meaning.specs.WayLaws.{Each, HasCharBoundaries}
 
 -- how many characters stand between two places
 abbrev pub characters_between : List ℕ → ℕ → ℕ → ℕ
@@ -37,30 +37,30 @@ IsInOrder = EachRepeat (λ lo hi. lo ≤ hi)
 
 module _ (s : Setting) (groups : List Tree) where
   -- each way of the tree from here takes a number of characters that passes
-  abbrev pub EachTakes : (ℕ → Type 0) → ℕ → Tree → Way → Type 0
+  abbrev pub EachTakes : (ℕ → Type 0) → ℕ → Tree → MatchState → Type 0
   EachTakes P n t w = Each (λ v. P (characters_between s.text w.position v.position)) (ways s groups n t w)
 
   -- In a text, from a way that cuts it between characters, each way takes at least as many as the least size says.
-  abbrev pub LeastIsTaken : Type 0
-  LeastIsTaken = IsUtf8 s.text → (n : ℕ) (t : Tree) (w : Way) → CutsWell s.text w →
+  abbrev pub LeastIsLowerBound : Type 0
+  LeastIsLowerBound = IsUtf8 s.text → (n : ℕ) (t : Tree) (w : MatchState) → HasCharBoundaries s.text w →
       EachTakes (λ c. (size groups t).least ≤ c) n t w
 
   -- and at most as many as the greatest, where that is a bound and no repeat is reversed
-  abbrev pub GreatestIsKept : Type 0
-  GreatestIsKept = IsUtf8 s.text → Each IsInOrder groups → (n : ℕ) (t : Tree) (w : Way) → CutsWell s.text w → IsInOrder t →
+  abbrev pub GreatestIsUpperBound : Type 0
+  GreatestIsUpperBound = IsUtf8 s.text → Each IsInOrder groups → (n : ℕ) (t : Tree) (w : MatchState) → HasCharBoundaries s.text w → IsInOrder t →
       (size groups t).greatest < unbounded → EachTakes (λ c. c ≤ (size groups t).greatest) n t w
 
   -- and exactly the least, where the size is always the same and ends
-  abbrev pub AlwaysIsExact : Type 0
-  AlwaysIsExact = IsUtf8 s.text → Each IsInOrder groups → (n : ℕ) (t : Tree) (w : Way) → CutsWell s.text w → IsInOrder t →
+  abbrev pub ConstSizeIsExact : Type 0
+  ConstSizeIsExact = IsUtf8 s.text → Each IsInOrder groups → (n : ℕ) (t : Tree) (w : MatchState) → HasCharBoundaries s.text w → IsInOrder t →
       (size groups t).always ≡ true → (size groups t).least < unbounded → EachTakes (λ c. c ≡ (size groups t).least) n t w
 
   -- What may not be empty moves on in the text on each way.
   abbrev pub NonEmptyMoves : Type 0
-  NonEmptyMoves = IsUtf8 s.text → (n : ℕ) (t : Tree) (w : Way) → CutsWell s.text w → may_be_empty groups t ≡ false →
+  NonEmptyMoves = IsUtf8 s.text → (n : ℕ) (t : Tree) (w : MatchState) → HasCharBoundaries s.text w → may_be_empty groups t ≡ false →
       Each (λ v. w.position < v.position) (ways s groups n t w)
 
   -- Where the least has no bound, there is no way, as no text is so long.
-  abbrev pub EndlessHasNone : Type 0
-  EndlessHasNone = IsUtf8 s.text → length s.text < unbounded → (n : ℕ) (t : Tree) (w : Way) → CutsWell s.text w →
+  abbrev pub UnboundedLeastHasNoWay : Type 0
+  UnboundedLeastHasNoWay = IsUtf8 s.text → length s.text < unbounded → (n : ℕ) (t : Tree) (w : MatchState) → HasCharBoundaries s.text w →
       (size groups t).least ≡ unbounded → ways s groups n t w ≡ []

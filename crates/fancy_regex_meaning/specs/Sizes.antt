@@ -66,8 +66,8 @@ unfoldable mutual
   size_with call (general_newline unicode) = record { least = 1; greatest = 2; always = false }
   size_with call (literal val casei) = always_size 1
   size_with call (literal_bytes bytes) = always_size 1
-  size_with call (concat ts) = sum_size call ts
-  size_with call (alt ts) = branch_size call ts
+  size_with call (concat ts) = concat_size call ts
+  size_with call (alt ts) = alternation_size call ts
   size_with call (group t) = size_with call t
   size_with call (look_around t how) = always_size 0
   size_with call (repeat t lo hi greedy) = repeated_size (size_with call t) lo hi
@@ -91,14 +91,14 @@ unfoldable mutual
   size_with call (ast_call target position) = any_size
   size_with call (ast_condition target level position) = always_size 0
 
-  pub sum_size : (ℕ → Size) → Trees → Size
-  sum_size call no_trees = always_size 0
-  sum_size call (more_trees t ts) = both_sizes (size_with call t) (sum_size call ts)
+  pub concat_size : (ℕ → Size) → Trees → Size
+  concat_size call no_trees = always_size 0
+  concat_size call (more_trees t ts) = both_sizes (size_with call t) (concat_size call ts)
 
-  pub branch_size : (ℕ → Size) → Trees → Size
-  branch_size call no_trees = always_size 0
-  branch_size call (more_trees t no_trees) = size_with call t
-  branch_size call (more_trees t (more_trees u ts)) = either_size (size_with call t) (branch_size call (more_trees u ts))
+  pub alternation_size : (ℕ → Size) → Trees → Size
+  alternation_size call no_trees = always_size 0
+  alternation_size call (more_trees t no_trees) = size_with call t
+  alternation_size call (more_trees t (more_trees u ts)) = either_size (size_with call t) (alternation_size call (more_trees u ts))
 
 -- the targets of the calls that are written in the tree
 unfoldable mutual

@@ -4,7 +4,7 @@ use Rattle.std.specs.List.{flat_map, filter, list_all}
 use Rattle.std.specs.Char.{len_utf8}
 use lib.Pointwise.{pointwise}
 use Rattle.regex_hir.specs.Text.{is_some_and, char_at, char_before, is_boundary}
-use Rattle.fancy_regex_meaning.specs.Places.{boundaries, place_before, is_at_end, is_after_byte, is_before_byte, is_line_start, is_line_end, are_newlines}
+use Rattle.fancy_regex_meaning.specs.Positions.{boundaries, position_before, is_at_end, is_after_byte, is_before_byte, is_line_start, is_line_end, are_newlines}
 use Rattle.fancy_regex_meaning.specs.Groups.{group_count}
 use Rattle.fancy_regex_meaning.specs.Sizes.{size, target, bound_of}
 use Rattle.fancy_regex_tree.specs.declared.expr.Assertion.{Assertion}
@@ -17,44 +17,45 @@ use Rattle.fancy_regex_tree.specs.Tree.{Tree, Trees, Text, empty, any, assertion
 abbrev pub Pairs : Type 0
 Pairs = List (Option (ℕ × ℕ))
 
--- Where a node is entered or left.
-pub record Way : Type 0 where
+-- The state of a backtracking matcher where a node is entered or left.
+pub record MatchState : Type 0 where
   pub position : ℕ
   -- the start and the end of each group that is set, by its number
   pub pairs : Pairs
-  -- where the match will be said to start
+  -- the reported start of the match, which `\K` moves
   pub kept : ℕ
 
--- from a way, the ways that go on from it
+-- from a state, the states that a node can lead to, the preferred one first
 abbrev pub Moves : Type 0
-Moves = Way → List Way
+Moves = MatchState → List MatchState
 
--- The ways of a node from here, and those from as far back as the node is long.
+-- The ways of a node that start at the current position, and, for look-behind, those that start as many characters before it
+-- as the node is long.
 pub record Meaning : Type 0 where
   pub from : Moves
   pub behind : Moves
 
--- What the ways depend on besides the pattern.
+-- The haystack and the options that matching depends on besides the pattern.
 pub record Setting : Type 0 where
   pub text : List ℕ
-  -- the assertion `StartText`, or `EndText`, holds nowhere
+  -- the assertion `StartText`, and `EndText`, fails at every position
   pub no_start_text : Bool
   pub no_end_text : Bool
-  -- where `\G` holds
+  -- the position at which `\G` matches, if there is one
   pub continue_at : Option ℕ
-  -- whether a class has the character: by the text of the class, and whether case is disregarded
+  -- whether a class contains a character: the text of the class, whether case is ignored, the character
   pub has_member : Text → Bool → ℕ → Bool
-  -- what two characters share that differ in case alone
+  -- case folding: equal for two characters that differ in case only
   pub fold : ℕ → ℕ
 
--- the same way at another place
-abbrev pub at_place : Way → ℕ → Way
-at_place w p = record w { position = p }
+-- the same state at another position
+abbrev pub with_position : MatchState → ℕ → MatchState
+with_position w p = record w { position = p }
 
-abbrev pub set_pair : ℕ → ℕ × ℕ → Way → Way
+abbrev pub set_pair : ℕ → ℕ × ℕ → MatchState → MatchState
 set_pair k pair w = record w { pairs = slice_set w.pairs k (Some pair) }
 
-abbrev pub pair_of : Way → ℕ → Option (ℕ × ℕ)
+abbrev pub pair_of : MatchState → ℕ → Option (ℕ × ℕ)
 pair_of w k = slice_index_or w.pairs k None
 
 -- the list for the value, and nothing where there is none
@@ -62,64 +63,65 @@ abbrev pub for_some : {A B : Type 0} → (A → List B) → Option A → List B
 for_some f None = []
 for_some f (Some x) = f x
 
--- stays where it is
-abbrev pub stay : Moves
-stay w = w ∷ []
+-- matches the empty string
+abbrev pub match_empty : Moves
+match_empty w = w ∷ []
 
-abbrev pub no_way : Moves
-no_way w = []
+abbrev pub never_match : Moves
+never_match w = []
 
--- the match will be said to start here
-abbrev pub keep_here : Moves
-keep_here w = record w { kept = w.position } ∷ []
+-- `\K`: the reported start of the match is the current position
+abbrev pub reset_match_start : Moves
+reset_match_start w = record w { kept = w.position } ∷ []
 
--- stays where it is, if the test holds
-abbrev pub stay_if : Bool → Moves
-stay_if test w = if test then w ∷ [] else []
+-- matches the empty string if the test holds, and else fails
+abbrev pub match_empty_if : Bool → Moves
+match_empty_if test w = if test then w ∷ [] else []
 
-abbrev pub is_none_of : List Way → Bool
+abbrev pub is_none_of : List MatchState → Bool
 is_none_of [] = true
 is_none_of (w ∷ ws) = false
 
--- in a row
+-- concatenation
 abbrev pub all_of : List Meaning → Moves
 all_of [] w = w ∷ []
 all_of (m ∷ ms) w = flat_map (all_of ms) (m.from w)
 
--- branch after branch
+-- alternation: the ways of the first branch, then those of the next
 abbrev pub any_of : List Meaning → Meaning
 any_of ms = record { from = λ w. flat_map (λ m. m.from w) ms; behind = λ w. flat_map (λ m. m.behind w) ms }
 
--- the group k round the body
+-- capture group k with this body
 abbrev pub group : ℕ → Moves → Moves
 group k body w = map (λ v. set_pair k (w.position, v.position) v) (body w)
 
--- the first way alone
-abbrev pub first_of_all : List Way → List Way
-first_of_all [] = []
-first_of_all (w ∷ ws) = w ∷ []
+-- only the first way: what an atomic group keeps
+abbrev pub first_only : List MatchState → List MatchState
+first_only [] = []
+first_only (w ∷ ws) = w ∷ []
 
--- each way leaves its pairs alone: no `\K` stands in a look-around of a pattern that is built
-abbrev pub pairs_alone : Way → List Way → List Way
-pairs_alone w = map (λ v. record w { pairs = v.pairs })
+-- the current position and match start, with the captures of each way: what a look-around leaves. `\K` inside of a look-around
+-- is refused by the compiler.
+abbrev pub keep_only_pairs : MatchState → List MatchState → List MatchState
+keep_only_pairs w = map (λ v. record w { pairs = v.pairs })
 
 abbrev pub look : LookAround → Meaning → Moves
-look LookAhead m w = pairs_alone w (m.from w)
-look LookAheadNeg m w = stay_if (is_none_of (m.from w)) w
-look LookBehind m w = pairs_alone w (m.behind w)
-look LookBehindNeg m w = stay_if (is_none_of (m.behind w)) w
+look LookAhead m w = keep_only_pairs w (m.from w)
+look LookAheadNeg m w = match_empty_if (is_none_of (m.from w)) w
+look LookBehind m w = keep_only_pairs w (m.behind w)
+look LookBehindNeg m w = match_empty_if (is_none_of (m.behind w)) w
 
 -- a greedy repeat goes on before it stops, a lazy one stops first
-abbrev pub prefer : Bool → List Way → List Way → List Way
+abbrev pub prefer : Bool → List MatchState → List MatchState → List MatchState
 prefer true on stop = on ++ stop
 prefer false on stop = stop ++ on
 
--- n iterations that are due, and then the rest
+-- n required iterations, and then the rest
 abbrev pub due : ℕ → Moves → Moves → Moves
 due zero body rest w = rest w
 due (suc n) body rest w = flat_map (due n body rest) (body w)
 
--- up to n iterations
+-- up to n optional iterations
 abbrev pub up_to : ℕ → Bool → Moves → Moves
 up_to zero greedy body w = w ∷ []
 up_to (suc n) greedy body w = prefer greedy (flat_map (up_to n greedy body) (body w)) (w ∷ [])
@@ -134,27 +136,27 @@ loop (suc n) greedy body w =
     (w ∷ [])
 
 -- from the first way of the condition the yes branch; where there is none the no branch
-abbrev pub conditional : List Way → Moves → Moves → Moves
+abbrev pub conditional : List MatchState → Moves → Moves → Moves
 conditional [] a b w = b w
 conditional (v ∷ vs) a b w = a v
 
--- A target is called so many times inside its own calls, and no more.
-abbrev pub open_calls_of_one : ℕ
-open_calls_of_one = 19
+-- The limit of recursion: a group may have this many open calls at once, and a further call of it fails.
+abbrev pub max_open_calls_per_group : ℕ
+max_open_calls_per_group = 19
 
--- the calls that are open hold the target so many times already
-abbrev pub is_full : List ℕ → ℕ → Bool
-is_full opened k = nat_le open_calls_of_one (count_by (λ j. j == k) opened)
+-- the open calls contain the group as often as the limit allows
+abbrev pub is_at_call_limit : List ℕ → ℕ → Bool
+is_at_call_limit opened k = nat_le max_open_calls_per_group (count_by (λ j. j == k) opened)
 
--- so many open calls fill each target
-abbrev pub most_calls : List Tree → ℕ
-most_calls groups = open_calls_of_one * length groups
+-- the number of open calls at which every group is at the limit
+abbrev pub max_open_calls : List Tree → ℕ
+max_open_calls groups = max_open_calls_per_group * length groups
 
 module _ (s : Setting) where
   -- one character that passes the test
   abbrev pub character : (ℕ → Bool) → Moves
   character test w =
-      for_some (λ c. if test c then at_place w (w.position + len_utf8 c) ∷ [] else []) (char_at s.text w.position)
+      for_some (λ c. if test c then with_position w (w.position + len_utf8 c) ∷ [] else []) (char_at s.text w.position)
 
   abbrev pub is_any : Bool → Bool → ℕ → Bool
   is_any newline crlf c = newline || not (c == 10 || (crlf && c == 13))
@@ -169,9 +171,9 @@ module _ (s : Setting) where
   abbrev pub general_newline_ways : Bool → Moves
   general_newline_ways unicode w =
       if is_before_byte s.text 13 w.position && is_before_byte s.text 10 (w.position + 1)
-      then at_place w (w.position + 2) ∷ [] else character (is_newline unicode) w
+      then with_position w (w.position + 2) ∷ [] else character (is_newline unicode) w
 
-  -- a character of `\w` stands before the place, and at it
+  -- the character before the position, and the one at it, matches `\w`
   abbrev pub is_after_word : ℕ → Bool
   is_after_word p = is_some_and (char_before s.text p) (s.has_member (codes "\\w") false)
 
@@ -193,7 +195,7 @@ module _ (s : Setting) where
       is_line_start s.text crlf p && not (is_at_end s.text p && is_after_byte s.text 10 p)
   holds (EndLine crlf) p = is_line_end s.text crlf p
 
-  -- the bytes from a to b and those from p to q spell the same, where case is disregarded
+  -- the text from a to b and the text from p to q are equal up to case
   abbrev pub spells_alike : ℕ → ℕ → ℕ → ℕ → Bool
   spells_alike a b p q =
       nat_le q (length s.text) && is_boundary s.text q
@@ -202,11 +204,11 @@ module _ (s : Setting) where
   abbrev pub same_bytes : ℕ → ℕ → ℕ → ℕ → Bool
   same_bytes a b p q = nat_le q (length s.text) && pointwise nat_eq (slice_range s.text a b) (slice_range s.text p q)
 
-  -- the text from a to b once more
+  -- matches the text from a to b again: a back reference to it
   abbrev pub again : Bool → ℕ → ℕ → Moves
   again casei a b w =
       let q = w.position + (b - a) in
-      if (if casei then spells_alike a b w.position q else same_bytes a b w.position q) then at_place w q ∷ [] else []
+      if (if casei then spells_alike a b w.position q else same_bytes a b w.position q) then with_position w q ∷ [] else []
 
   abbrev pub backref : Bool → Option (ℕ × ℕ) → Moves
   backref casei None w = []
@@ -216,26 +218,26 @@ module _ (s : Setting) where
   repeat lo None greedy body = due lo body (loop (length s.text + 1) greedy body)
   repeat lo (Some hi) greedy body = due lo body (up_to (hi - lo) greedy body)
 
-  -- no way of the body begins at or after p and ends at or before q
-  abbrev pub is_free : Moves → Way → ℕ → Bool
+  -- the body has no match that starts at or after the state's position and ends at or before q
+  abbrev pub is_free : Moves → MatchState → ℕ → Bool
   is_free body w q =
-      list_all (λ b. list_all (λ v. nat_lt q v.position) (body (at_place w b)))
+      list_all (λ b. list_all (λ v. nat_lt q v.position) (body (with_position w b)))
       (boundaries s.text w.position (length s.text))
 
   abbrev pub absent : Moves → Moves
   absent body w =
-      map (at_place w) (filter (is_free body w) (reverse (boundaries s.text w.position (length s.text))))
+      map (with_position w) (filter (is_free body w) (reverse (boundaries s.text w.position (length s.text))))
 
   -- over the bodies of all groups, by their numbers
   module _ (groups : List Tree) where
-    -- a node that is no alternation: all of it is as long
+    -- a node other than an alternation: behind, it starts its least size before the position
     abbrev pub node : Tree → Moves → Meaning
     node t moves = record {
       from = moves;
-      behind = λ w. for_some (λ p. moves (at_place w p)) (place_before s.text (size groups t).least w.position);
+      behind = λ w. for_some (λ p. moves (with_position w p)) (position_before s.text (size groups t).least w.position);
     }
 
-    -- An alternation whose branches are all as long is behind as any other node is; else each branch is from its own place.
+    -- An alternation of fixed length is behind like any other node; else each branch starts its own size before the position.
     abbrev pub branches : Tree → List Meaning → Meaning
     branches t ms = record {
       from = (any_of ms).from;
@@ -248,9 +250,9 @@ module _ (s : Setting) where
       pub meaning : (ℕ → Moves) → ℕ → Tree → Meaning
       meaning call n (alt ts) = branches (alt ts) (meanings call n ts)
       meaning call n (concat ts) = node (concat ts) (all_of (meanings call n ts))
-      meaning call n empty = node empty stay
+      meaning call n empty = node empty match_empty
       meaning call n (any newline crlf) = node (any newline crlf) (character (is_any newline crlf))
-      meaning call n (assertion a) = node (assertion a) (λ w. stay_if (holds a w.position) w)
+      meaning call n (assertion a) = node (assertion a) (λ w. match_empty_if (holds a w.position) w)
       meaning call n (general_newline unicode) = node (general_newline unicode) (general_newline_ways unicode)
       meaning call n (literal val casei) = node (literal val casei) (character (is_literal (slice_index val 0) casei))
       meaning call n (delegate class casei) = node (delegate class casei) (character (s.has_member class casei))
@@ -258,40 +260,40 @@ module _ (s : Setting) where
       meaning call n (look_around t how) = node (look_around t how) (look how (meaning call n t))
       meaning call n (tree.repeat t lo hi greedy) =
           node (tree.repeat t lo hi greedy) (repeat lo (bound_of hi) greedy (meaning call n t).from)
-      meaning call n (atomic_group t) = node (atomic_group t) (λ w. first_of_all ((meaning call n t).from w))
+      meaning call n (atomic_group t) = node (atomic_group t) (λ w. first_only ((meaning call n t).from w))
       meaning call n (tree.backref k casei) = node (tree.backref k casei) (λ w. backref casei (pair_of w k) w)
-      meaning call n (backref_exists k None) = node (backref_exists k None) (λ w. stay_if (is_some (pair_of w k)) w)
-      meaning call n (backref_exists k (Some level)) = node (backref_exists k (Some level)) no_way
+      meaning call n (backref_exists k None) = node (backref_exists k None) (λ w. match_empty_if (is_some (pair_of w k)) w)
+      meaning call n (backref_exists k (Some level)) = node (backref_exists k (Some level)) never_match
       meaning call n (tree.conditional c a b) = node (tree.conditional c a b)
           (λ w. conditional ((meaning call n c).from w) (meaning call (n + group_count c) a).from
           (meaning call (n + group_count c + group_count a) b).from w)
       meaning call n (subroutine_call k) = node (subroutine_call k) (call k)
-      meaning call n keep_out = node keep_out keep_here
-      meaning call n continue = node continue (λ w. stay_if (is_some_and s.continue_at (λ g. g == w.position)) w)
-      meaning call n (verb v) = node (verb v) no_way
+      meaning call n keep_out = node keep_out reset_match_start
+      meaning call n continue = node continue (λ w. match_empty_if (is_some_and s.continue_at (λ g. g == w.position)) w)
+      meaning call n (verb v) = node (verb v) never_match
       meaning call n (absent_repeater t) = node (absent_repeater t) (absent (meaning call n t).from)
-      meaning call n (define_group t) = node (define_group t) stay
-      meaning call n (literal_bytes bytes) = node (literal_bytes bytes) no_way
-      meaning call n (backref_with_level k level casei) = node (backref_with_level k level casei) no_way
-      meaning call n (absent_expression a t) = node (absent_expression a t) no_way
-      meaning call n (absent_stopper t) = node (absent_stopper t) no_way
-      meaning call n absent_clear = node absent_clear no_way
-      meaning call n (ast_group name t position) = node (ast_group name t position) no_way
-      meaning call n (ast_backref goal casei level position) = node (ast_backref goal casei level position) no_way
-      meaning call n (ast_call goal position) = node (ast_call goal position) no_way
-      meaning call n (ast_condition goal level position) = node (ast_condition goal level position) no_way
+      meaning call n (define_group t) = node (define_group t) match_empty
+      meaning call n (literal_bytes bytes) = node (literal_bytes bytes) never_match
+      meaning call n (backref_with_level k level casei) = node (backref_with_level k level casei) never_match
+      meaning call n (absent_expression a t) = node (absent_expression a t) never_match
+      meaning call n (absent_stopper t) = node (absent_stopper t) never_match
+      meaning call n absent_clear = node absent_clear never_match
+      meaning call n (ast_group name t position) = node (ast_group name t position) never_match
+      meaning call n (ast_backref goal casei level position) = node (ast_backref goal casei level position) never_match
+      meaning call n (ast_call goal position) = node (ast_call goal position) never_match
+      meaning call n (ast_condition goal level position) = node (ast_condition goal level position) never_match
 
       pub meanings : (ℕ → Moves) → ℕ → Trees → List Meaning
       meanings call n no_trees = []
       meanings call n (more_trees t ts) = meaning call n t ∷ meanings call (n + group_count t) ts
 
-    -- a call of the target k, where those targets are open and n more calls may open
+    -- a call of group k, where `opened` lists the groups of the open calls and n more calls may open
     unfoldable pub call_ways : ℕ → List ℕ → ℕ → Moves
     call_ways zero opened k w = []
     call_ways (suc n) opened k w =
         let inside = for_some (λ body. (meaning (call_ways n (k ∷ opened)) (k + 1) body).from w) (target groups k) in
-        if is_full opened k then [] else inside
+        if is_at_call_limit opened k then [] else inside
 
     -- the ways of a part of the pattern, whose first group has this number
     unfoldable pub ways : ℕ → Tree → Moves
-    ways n t = (meaning (call_ways (most_calls groups) []) n t).from
+    ways n t = (meaning (call_ways (max_open_calls groups) []) n t).from

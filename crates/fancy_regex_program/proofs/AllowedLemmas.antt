@@ -4,9 +4,9 @@ use Rattle.std.specs.Prelude.{slice_get}
 use Rattle.std.specs.List.{All}
 use Rattle.std.proofs.lemmas.List.{take_all, length-take, get_or-take}
 use Rattle.std.proofs.lemmas.List.Elements.{All-more}
-use Rattle.fancy_regex_meaning.specs.Ways.{is_full}
-use Rattle.fancy_regex_pattern.specs.Pats.{Pat, fail, cat, back}
-use Rattle.fancy_regex_pattern.specs.Unfolded.{Written, cat_all, alt_all, pat_for}
+use Rattle.fancy_regex_meaning.specs.Ways.{is_at_call_limit}
+use Rattle.fancy_regex_desugar.specs.CorePatterns.{CorePattern, fail, cat, back}
+use Rattle.fancy_regex_desugar.specs.Unfolded.{Written, cat_all, alt_all, pat_for}
 use Rattle.fancy_regex_info.specs.Infos.{InfoTree}
 use Rattle.fancy_regex_info.specs.declared.info.Info.{Info}
 use Rattle.fancy_regex_program.specs.Known.{info_written, info_call}
@@ -32,11 +32,11 @@ allowed_last P xs i x some least most is h this =
 
 module _ (unicode keeps : Bool) where
   -- another name of the same pattern
-  pub allowed_same : {X Y : Type 0} (r : Result X Y) {p q : Pat} → q ≡ p → IfOk r (λ _. IsAllowed unicode keeps p) → IfOk r (λ _. IsAllowed unicode keeps q)
+  pub allowed_same : {X Y : Type 0} (r : Result X Y) {p q : CorePattern} → q ≡ p → IfOk r (λ _. IsAllowed unicode keeps p) → IfOk r (λ _. IsAllowed unicode keeps q)
   allowed_same r is h = subst (λ x. IfOk r (λ _. IsAllowed unicode keeps x)) (sym is) h
 
   -- from as far back
-  pub allowed_behind : {X Y : Type 0} (r : Result X Y) {p q : Pat} (n : ℕ) → q ≡ cat (back n) p → IfOk r (λ _. IsAllowed unicode keeps p) → IfOk r (λ _. IsAllowed unicode keeps q)
+  pub allowed_behind : {X Y : Type 0} (r : Result X Y) {p q : CorePattern} (n : ℕ) → q ≡ cat (back n) p → IfOk r (λ _. IsAllowed unicode keeps p) → IfOk r (λ _. IsAllowed unicode keeps q)
   allowed_behind (Ok x) n is h = subst (IsAllowed unicode keeps) (sym is) (tt, h)
   allowed_behind (Err e) n is h = tt
 
@@ -46,13 +46,13 @@ module _ (unicode keeps : Bool) where
   allowed_row f (x ∷ xs) h = (h 0 x (omega arith), allowed_row f xs (λ k d below. h (suc k) d (omega arith)))
 
   -- branches
-  pub allowed_branches : (f : Info → Pat) (xs : List Info) → All (λ x. IsAllowed unicode keeps (f x)) xs → IsAllowed unicode keeps (alt_all (map f xs))
+  pub allowed_branches : (f : Info → CorePattern) (xs : List Info) → All (λ x. IsAllowed unicode keeps (f x)) xs → IsAllowed unicode keeps (alt_all (map f xs))
   allowed_branches f [] h = tt
   allowed_branches f (x ∷ []) h = h 0 x (omega arith)
   allowed_branches f (x ∷ y ∷ xs) h = (h 0 x (omega arith), allowed_branches f (y ∷ xs) (λ k d below. h (suc k) d (omega arith)))
 
   -- a call where no more may open
-  pub allowed_full : (groups : List InfoTree) (calls : ℕ) (opened : List ℕ) (k : ℕ) → is_full opened k ≡ true → IsAllowed unicode keeps (info_call groups calls opened k)
+  pub allowed_full : (groups : List InfoTree) (calls : ℕ) (opened : List ℕ) (k : ℕ) → is_at_call_limit opened k ≡ true → IsAllowed unicode keeps (info_call groups calls opened k)
   unfolding info_call
   allowed_full groups zero opened k full = tt
   allowed_full groups (suc m) opened k full =
@@ -65,7 +65,7 @@ module _ (unicode keeps : Bool) where
 
   -- A call is its target's body, with one call more open.
   pub allowed_call : (groups : List InfoTree) (calls m : ℕ) (opened : List ℕ) (k : ℕ) (x : InfoTree) → calls ≡ suc m → slice_get groups k ≡ Some x →
-      is_full opened k ≡ false → IsAllowed unicode keeps (info_written (info_call groups m (opened ++ k ∷ [])) x).front → IsAllowed unicode keeps (info_call groups calls opened k)
+      is_at_call_limit opened k ≡ false → IsAllowed unicode keeps (info_written (info_call groups m (opened ++ k ∷ [])) x).front → IsAllowed unicode keeps (info_call groups calls opened k)
   unfolding info_call
   allowed_call groups calls m opened k x more at free h =
       let body = λ (t : InfoTree). (info_written (info_call groups m (opened ++ k ∷ [])) t).front in

@@ -4,8 +4,8 @@ use Rattle.std.proofs.lemmas.List.{length-set, set-append_left}
 use Rattle.std.proofs.Math.Seq.{set-append_seam}
 use Rattle.fancy_regex_tree.specs.Tree.{Text}
 use Rattle.fancy_regex_class.specs.Classes.{in_class, folded}
-use Rattle.fancy_regex_pattern.specs.Pats.{Pat, cat, alt, conditional}
-use Rattle.fancy_regex_pattern.specs.Unfolded.{Written, cat_all, alt_all}
+use Rattle.fancy_regex_desugar.specs.CorePatterns.{CorePattern, cat, alt, conditional}
+use Rattle.fancy_regex_desugar.specs.Unfolded.{Written, cat_all, alt_all}
 use Rattle.fancy_regex_program.specs.Ops as op
 use Rattle.fancy_regex_program.specs.Ops.{Op}
 use Rattle.fancy_regex_program.specs.Code.{waits, flushed, slots_in, code_of}
@@ -28,14 +28,14 @@ flat_front : (xs f : List Op) (o i : Op) (t : List Op) (e : Op) (y : List Op) (j
 flat_front xs f o i t e y j n = simp append_assoc
 
 module _ (u w : Bool) where
-  abbrev C : Pat → Text → ℕ → ℕ → List Op
+  abbrev C : CorePattern → Text → ℕ → ℕ → List Op
   C = code_of (in_class u) (folded u) w
 
-  abbrev pub P : Pat → ℕ → Draft → Draft
+  abbrev pub P : CorePattern → ℕ → Draft → Draft
   P = with_pat u w
 
   -- a conditional, with its split and its jump still holes
-  module _ (c a b : Pat) (slot : ℕ) (d : Draft) where
+  module _ (c a b : CorePattern) (slot : ℕ) (d : Draft) where
     abbrev pub begun : Draft
     begun = added (op.begin_atomic slot) d
 
@@ -70,7 +70,7 @@ module _ (u w : Bool) where
     unfolding with_op closed_draft
     length_begun = omega (arith, length-append (d.ops ++ flushed d.text) (op.begin_atomic slot ∷ []), length-append d.ops (flushed d.text))
 
-    length_closed : (p : Pat) (s : ℕ) (e : Draft) → e.text ≡ [] →
+    length_closed : (p : CorePattern) (s : ℕ) (e : Draft) → e.text ≡ [] →
         length (closed_draft (P p s e)).ops ≡ length e.ops + length (C p [] (length e.ops) s ++ flushed (waits p []))
     unfolding with_pat closed_draft
     length_closed p s e none =
@@ -159,18 +159,18 @@ module _ (u w : Bool) where
   abbrev pub bare : List Op → Draft
   bare xs = record { ops = xs; text = [] }
 
-  abbrev choice_body : Pat → ℕ → ℕ → List Op
+  abbrev choice_body : CorePattern → ℕ → ℕ → List Op
   choice_body p slot n = C p [] (n + 1) slot ++ flushed (waits p [])
 
   -- the operations of a branch with its jump
-  abbrev choice_ops : ℕ → Pat → ℕ → ℕ → List Op
+  abbrev choice_ops : ℕ → CorePattern → ℕ → ℕ → List Op
   choice_ops end p slot n =
       op.split (n + 1) (n + 2 + length (choice_body p slot n)) ∷ (choice_body p slot n ++ op.jump end ∷ [])
 
   flat_choice : (xs : List Op) (x : Op) (c g : List Op) (j : Op) → (((xs ++ x ∷ []) ++ c) ++ g) ++ j ∷ [] ≡ xs ++ x ∷ ((c ++ g) ++ j ∷ [])
   flat_choice xs x c g j = simp append_assoc
 
-  choice_is : (end : ℕ) (p : Pat) (slot : ℕ) (xs : List Op) → with_choice u w end p slot (bare xs) ≡ bare (xs ++ choice_ops end p slot (length xs))
+  choice_is : (end : ℕ) (p : CorePattern) (slot : ℕ) (xs : List Op) → with_choice u w end p slot (bare xs) ≡ bare (xs ++ choice_ops end p slot (length xs))
   unfolding with_op closed_draft patched with_pat
   choice_is end p slot xs =
       let first = with_op (op.split 0 0) (bare xs) in
@@ -201,7 +201,7 @@ module _ (u w : Bool) where
   flat_alt xs f s a j c g = simp append_assoc
 
   -- two branches, where the jump of the first leads past the second
-  pub pat_alt : (a b : Pat) (slot end : ℕ) (d : Draft) →
+  pub pat_alt : (a b : CorePattern) (slot end : ℕ) (d : Draft) →
       end ≡ length (closed_draft (P b (slot + slots_in a) (with_choice u w end a slot (closed_draft d)))).ops →
       P (alt a b) slot d ≡ closed_draft (P b (slot + slots_in a) (with_choice u w end a slot (closed_draft d)))
   unfolding with_pat code_of closed_draft
@@ -238,23 +238,23 @@ module _ (u w : Bool) where
       ∙ sym made
 
   -- branches in front of others
-  abbrev pub choices : ℕ → List Pat → ℕ → Draft → Draft
+  abbrev pub choices : ℕ → List CorePattern → ℕ → Draft → Draft
   choices end [] slot d = d
   choices end (p ∷ ps) slot d = choices end ps (slot + slots_in p) (with_choice u w end p slot d)
 
   -- the slot behind them
-  abbrev pub slot_after : ℕ → List Pat → ℕ
+  abbrev pub slot_after : ℕ → List CorePattern → ℕ
   slot_after slot [] = slot
   slot_after slot (p ∷ ps) = slot_after (slot + slots_in p) ps
 
-  abbrev pub last_of : ℕ → List Pat → Pat → ℕ → Draft → Draft
+  abbrev pub last_of : ℕ → List CorePattern → CorePattern → ℕ → Draft → Draft
   last_of end ps q slot d = closed_draft (P q (slot_after slot ps) (choices end ps slot d))
 
-  choice_closed : (end : ℕ) (p : Pat) (slot : ℕ) (d : Draft) → closed_draft (with_choice u w end p slot d) ≡ with_choice u w end p slot d
+  choice_closed : (end : ℕ) (p : CorePattern) (slot : ℕ) (d : Draft) → closed_draft (with_choice u w end p slot d) ≡ with_choice u w end p slot d
   unfolding with_op closed_draft patched
   choice_closed end p slot d = same_draft (append-nil (with_choice u w end p slot d).ops) refl
 
-  pub pats_alt : (p : Pat) (ps : List Pat) (q : Pat) (slot end : ℕ) (d : Draft) →
+  pub pats_alt : (p : CorePattern) (ps : List CorePattern) (q : CorePattern) (slot end : ℕ) (d : Draft) →
       end ≡ length (last_of end (p ∷ ps) q slot (closed_draft d)).ops →
       P (alt_all (p ∷ (ps ++ q ∷ []))) slot d ≡ last_of end (p ∷ ps) q slot (closed_draft d)
   pats_alt p [] q slot end d is = pat_alt p q slot end d is
@@ -270,21 +270,21 @@ module _ (u w : Bool) where
       ∙ ap (λ f. last_of end (r ∷ ps) q s f) same in
       pat_alt p b slot end d (is ∙ ap (λ (f : Draft). length f.ops) (sym shut)) ∙ shut
 
-  pub slots_alt : (p : Pat) (ps : List Pat) (q : Pat) (slot : ℕ) →
+  pub slots_alt : (p : CorePattern) (ps : List CorePattern) (q : CorePattern) (slot : ℕ) →
       slot_after slot (p ∷ ps) + slots_in q ≡ slot + slots_in (alt_all (p ∷ (ps ++ q ∷ [])))
   slots_alt p [] q slot = omega arith
   slots_alt p (r ∷ ps) q slot = slots_alt r ps q (slot + slots_in p) ∙ omega arith
 
-  pub choices_more : (end : ℕ) (ps : List Pat) (p : Pat) (slot : ℕ) (d : Draft) →
+  pub choices_more : (end : ℕ) (ps : List CorePattern) (p : CorePattern) (slot : ℕ) (d : Draft) →
       choices end (ps ++ p ∷ []) slot d ≡ with_choice u w end p (slot_after slot ps) (choices end ps slot d)
   choices_more end [] p slot d = refl
   choices_more end (q ∷ ps) p slot d = choices_more end ps p (slot + slots_in q) (with_choice u w end q slot d)
 
-  pub slot_more : (ps : List Pat) (p : Pat) (slot : ℕ) → slot_after slot (ps ++ p ∷ []) ≡ slot_after slot ps + slots_in p
+  pub slot_more : (ps : List CorePattern) (p : CorePattern) (slot : ℕ) → slot_after slot (ps ++ p ∷ []) ≡ slot_after slot ps + slots_in p
   slot_more [] p slot = refl
   slot_more (q ∷ ps) p slot = slot_more ps p (slot + slots_in q)
 
-  -- jumps that are put right
+  -- jumps that are patched
   abbrev pub set_right : ℕ → List ℕ → Draft → Draft
   set_right end [] d = d
   set_right end (j ∷ js) d = set_right end js (patched j (op.jump end) d)
@@ -330,8 +330,8 @@ module _ (u w : Bool) where
       subst_below [] n m e k = tt
       subst_below (i ∷ ks) n m e k = (omega (arith, e, k.0), subst_below ks n m e k.1)
 
-  -- A branch more, whose jump is put right with those before it.
-  pub choice_goes_on : (end : ℕ) (js : List ℕ) (xs : List Op) (p : Pat) (slot j : ℕ) → AllBelow (length xs) js →
+  -- A branch more, whose jump is patched with those before it.
+  pub choice_goes_on : (end : ℕ) (js : List ℕ) (xs : List Op) (p : CorePattern) (slot j : ℕ) → AllBelow (length xs) js →
       j + 1 ≡ length (with_choice u w 0 p slot (bare xs)).ops →
       set_right end (js ++ j ∷ []) (with_choice u w 0 p slot (bare xs)) ≡ with_choice u w end p slot (set_right end js (bare xs))
   unfolding patched
@@ -364,11 +364,11 @@ module _ (u w : Bool) where
       ∙ sym (choice_is end p slot ys)
       ∙ ap (with_choice u w end p slot) (sym (set_bare end js xs))
 
-  pub choice_bare : (end : ℕ) (p : Pat) (slot : ℕ) (d : Draft) → (with_choice u w end p slot d).text ≡ []
+  pub choice_bare : (end : ℕ) (p : CorePattern) (slot : ℕ) (d : Draft) → (with_choice u w end p slot d).text ≡ []
   unfolding with_op closed_draft patched
   choice_bare end p slot d = refl
 
-  pub choice_longer : (p : Pat) (slot : ℕ) (xs : List Op) → length xs < length (with_choice u w 0 p slot (bare xs)).ops
+  pub choice_longer : (p : CorePattern) (slot : ℕ) (xs : List Op) → length xs < length (with_choice u w 0 p slot (bare xs)).ops
   choice_longer p slot xs =
       omega (arith, ap (λ (e : Draft). length e.ops) (choice_is 0 p slot xs), length-append xs (choice_ops 0 p slot (length xs)))
 
@@ -377,8 +377,8 @@ module _ (u w : Bool) where
   right_long end [] d = refl
   right_long end (j ∷ js) d = right_long end js (patched j (op.jump end) d) ∙ length-set d.ops j (op.jump end)
 
-  -- The last branch, behind jumps that are put right later.
-  pub last_goes_on : (end : ℕ) (js : List ℕ) (xs : List Op) (q : Pat) (slot : ℕ) → AllBelow (length xs) js →
+  -- The last branch, behind jumps that are patched later.
+  pub last_goes_on : (end : ℕ) (js : List ℕ) (xs : List Op) (q : CorePattern) (slot : ℕ) → AllBelow (length xs) js →
       set_right end js (closed_draft (P q slot (bare xs))) ≡ closed_draft (P q slot (set_right end js (bare xs)))
   unfolding with_pat closed_draft
   last_goes_on end js xs q slot below =

@@ -11,17 +11,17 @@ use Rattle.fancy_regex_tree.specs.declared.expr.LookAround.{LookAround}
 use Rattle.fancy_regex_tree.specs.declared.expr.LookAround.TheVariants.{LookAhead, LookAheadNeg, LookBehind, LookBehindNeg}
 use Rattle.fancy_regex_tree.specs.Tree as tree
 use Rattle.fancy_regex_tree.specs.Tree.{Text, Tree, Trees, no_trees, more_trees}
-use Rattle.fancy_regex_tree.specs.Walks.{children, listed}
+use Rattle.fancy_regex_tree.specs.Traversal.{children, listed}
 use Rattle.fancy_regex_meaning.specs.Groups.{group_count}
 use Rattle.fancy_regex_meaning.specs.Sizes.{size, target}
-use Rattle.fancy_regex_meaning.specs.Ways.{is_full, most_calls}
+use Rattle.fancy_regex_meaning.specs.Ways.{is_at_call_limit, max_open_calls}
 use Rattle.fancy_regex_class.specs.Classes.{class_text, is_read}
-use Rattle.fancy_regex_pattern.specs.Pats.{class, Pat, nothing, read, general_newline, check, continue, keep_out, fail, cat, alt, group, ahead, never, back, atomic, repeat, backref, exists, conditional, absent}
-use Rattle.fancy_regex_pattern.specs.Unfolded.{Written, pat_for, cat_all, alt_all, fronts, behinds, repeated, look, node, branches, written, written_all, written_call, pat_of}
-use Rattle.fancy_regex_sizes.specs.NodeCauses.{is_faulty}
-use Rattle.fancy_regex_sizes.specs.PartCauses.{is_stopped}
+use Rattle.fancy_regex_desugar.specs.CorePatterns.{class, CorePattern, nothing, read, general_newline, check, continue, keep_out, fail, cat, alt, group, ahead, never, back, atomic, repeat, backref, exists, conditional, absent}
+use Rattle.fancy_regex_desugar.specs.Unfolded.{Written, pat_for, cat_all, alt_all, fronts, behinds, repeated, look, node, branches, written, written_all, written_call, core_pattern_of}
+use Rattle.fancy_regex_sizes.specs.NodeErrors.{is_invalid_node}
+use Rattle.fancy_regex_sizes.specs.UnsupportedParts.{is_unsupported}
 use Rattle.fancy_regex_info.specs.Views.{pattern_in}
-use Rattle.fancy_regex_sizes.specs.Written.{hides_children, IsWritten, the_root, child, body, SomePart}
+use Rattle.fancy_regex_sizes.specs.EmittedParts.{skips_children, IsEmitted, the_root, child, body, SomeEmittedPart}
 use Rattle.fancy_regex_program.specs.Refusals.{Inside, is_class, IsClear, ReadsClasses}
 use Rattle.fancy_regex_program.specs.Shapes.{IsReadable, IsAllowed}
 use Rattle.fancy_regex_program.proofs.ClearLemmas.{part_node}
@@ -55,7 +55,7 @@ is_built t = true
 
 module _ (unicode : Bool) where
   -- The grammar of `regex` reads each class in it.
-  abbrev Reads : Pat → Type 0
+  abbrev Reads : CorePattern → Type 0
   Reads (read leaf) = IsReadable unicode leaf
   Reads (cat a b) = Reads a × Reads b
   Reads (alt a b) = Reads a × Reads b
@@ -68,7 +68,7 @@ module _ (unicode : Bool) where
   Reads (absent a) = Reads a
   Reads _ = Unit {0}
 
-  allowed_reads : (keeps : Bool) (p : Pat) → IsAllowed unicode keeps p → Reads p
+  allowed_reads : (keeps : Bool) (p : CorePattern) → IsAllowed unicode keeps p → Reads p
   allowed_reads keeps nothing h = tt
   allowed_reads keeps (read leaf) h = h
   allowed_reads keeps (general_newline crlf) h = tt
@@ -93,15 +93,15 @@ module _ (unicode : Bool) where
   abbrev HasSide : Written → Type 0
   HasSide u = Reads u.front ⊎ Reads u.behind
 
-  alt_first : (p : Pat) (ps : List Pat) → Reads (alt_all (p ∷ ps)) → Reads p
+  alt_first : (p : CorePattern) (ps : List CorePattern) → Reads (alt_all (p ∷ ps)) → Reads p
   alt_first p [] h = h
   alt_first p (q ∷ ps) h = h.0
 
-  alt_later : (p : Pat) (ps : List Pat) → Reads (alt_all (p ∷ ps)) → Reads (alt_all ps)
+  alt_later : (p : CorePattern) (ps : List CorePattern) → Reads (alt_all (p ∷ ps)) → Reads (alt_all ps)
   alt_later p [] h = tt
   alt_later p (q ∷ ps) h = h.1
 
-  either_reads : (b : Bool) (n : ℕ) (p q : Pat) → Reads (cond b (cat (back n) p) q) → Reads p ⊎ Reads q
+  either_reads : (b : Bool) (n : ℕ) (p q : CorePattern) → Reads (cond b (cat (back n) p) q) → Reads p ⊎ Reads q
   either_reads true n p q h = inl h.1
   either_reads false n p q h = inr h
 
@@ -111,17 +111,17 @@ module _ (unicode : Bool) where
   look_reads LookBehind u h = inr h
   look_reads LookBehindNeg u h = inr h
 
-  repeated_reads : (p : Pat) (lo hi : ℕ) (greedy : Bool) → (hi == 0) ≡ false → Reads (repeated p lo hi greedy) → Reads p
+  repeated_reads : (p : CorePattern) (lo hi : ℕ) (greedy : Bool) → (hi == 0) ≡ false → Reads (repeated p lo hi greedy) → Reads p
   repeated_reads p zero zero greedy seen h = absurd (true≢false seen)
   repeated_reads p zero (suc hi) greedy seen h = h
   repeated_reads p (suc lo) hi greedy seen h = h
 
   module _ (groups : List Tree) where
-    node_reads : (t : Tree) (p : Pat) → HasSide (node groups t p) → Reads p
+    node_reads : (t : Tree) (p : CorePattern) → HasSide (node groups t p) → Reads p
     node_reads t p h = ⊎_elim (λ (e : Reads p). e) (λ (e : Unit {0} × Reads p). e.1) h
 
     -- over the patterns of all calls
-    module _ (call : ℕ → Pat) where
+    module _ (call : ℕ → CorePattern) where
       -- The grammar reads each class in one side of what the tree is written out to.
       record At (t : Tree) : Type 0 where
         first : ℕ
@@ -167,7 +167,7 @@ module _ (unicode : Bool) where
       from_side n t u is h = subst At is (record { first = n; side = h })
 
       -- What is so of a node is so of each of its children.
-      child_at : (n : ℕ) (t u : Tree) → HasSide (written groups call n t) → hides_children t ≡ false → is_built t ≡ true →
+      child_at : (n : ℕ) (t u : Tree) → HasSide (written groups call n t) → skips_children t ≡ false → is_built t ≡ true →
           Contains (children t) u → At u
       unfolding written
       child_at n (tree.alt ts) u h seen built m = in_branches n ts u h m
@@ -211,7 +211,7 @@ module _ (unicode : Bool) where
       class_at t text casei h e = absurd (true≢false (sym e))
 
     -- A call is its target's body, with one call more open.
-    call_at : (m : ℕ) (opened : List ℕ) (n k : ℕ) (u : Tree) → target groups k ≡ Some u → is_full opened k ≡ false →
+    call_at : (m : ℕ) (opened : List ℕ) (n k : ℕ) (u : Tree) → target groups k ≡ Some u → is_at_call_limit opened k ≡ false →
         HasSide (written groups (written_call groups (suc m) opened) n (tree.subroutine_call k)) → At (written_call groups m (k ∷ opened)) u
     unfolding written written_call
     call_at m opened n k u found free h =
@@ -254,14 +254,14 @@ unfolding left
 left_most zero opened = omega arith
 left_most (suc n) opened = grind (arith, nat_tests, left_most n opened)
 
-not_full : (opened : List ℕ) (k : ℕ) → opens k opened ≡ 0 → is_full opened k ≡ false
+not_full : (opened : List ℕ) (k : ℕ) → opens k opened ≡ 0 → is_at_call_limit opened k ≡ false
 not_full opened k none = ap (nat_le 19) none
 
 module _ (groups : List Tree) (root : Tree) where
   -- A part that is written out, and the targets of the calls that are open round it, each of them once.
   data Reached : List ℕ → Tree → Type 0 where
     at_root : Reached [] root
-    at_child : (opened : List ℕ) (t u : Tree) → Reached opened t → hides_children t ≡ false → is_built t ≡ true → Contains (children t) u →
+    at_child : (opened : List ℕ) (t u : Tree) → Reached opened t → skips_children t ≡ false → is_built t ≡ true → Contains (children t) u →
         Reached opened u
     at_body : (opened : List ℕ) (k : ℕ) (u : Tree) → Reached opened (tree.subroutine_call k) → target groups k ≡ Some u →
         opens k opened ≡ 0 → Reached (k ∷ opened) u
@@ -287,14 +287,14 @@ module _ (groups : List Tree) (root : Tree) where
       (cases_eq (opens k opened) 0)
 
   -- where the tree is clear
-  module _ (parts : SomePart groups root (is_stopped (size groups)) → ⊥) (nodes : SomePart groups root (λ _. is_faulty (length groups)) → ⊥) where
-    built : (i : Inside) (t : Tree) → IsWritten groups root i t → is_built t ≡ true
+  module _ (parts : SomeEmittedPart groups root (is_unsupported (size groups)) → ⊥) (nodes : SomeEmittedPart groups root (λ _. is_invalid_node (length groups)) → ⊥) where
+    built : (i : Inside) (t : Tree) → IsEmitted groups root i t → is_built t ≡ true
     built i (tree.absent_expression a t) w = absurd (parts (i, tree.absent_expression a t, w, refl))
     built i (tree.absent_stopper t) w = absurd (parts (i, tree.absent_stopper t, w, refl))
     built i (tree.ast_group name t position) w = absurd (nodes (i, tree.ast_group name t position, w, refl))
     built i t w = refl
 
-    reached : (i : Inside) (t : Tree) → IsWritten groups root i t → IsReached t
+    reached : (i : Inside) (t : Tree) → IsEmitted groups root i t → IsReached t
     reached i t the_root = ([], at_root)
     reached i u (child j t _ w seen m) = let r = reached j t w in (r.0, at_child r.0 t u r.1 seen (built j t w) m)
     reached i u (body _ k _ w found) = let r = reached i (tree.subroutine_call k) w in body_reached r.0 k u r.1 found
@@ -316,8 +316,8 @@ module _ (groups : List Tree) (root : Tree) where
       place = call_at unicode groups m opened a.first k u found (not_full opened k none) a.side;
     }
 
-    walked : (At unicode groups (written_call groups (most_calls groups) []) root) → (opened : List ℕ) (t : Tree) → Reached opened t → Walked opened t
-    walked whole opened t at_root = record { calls = most_calls groups; enough = omega (arith, left_most (length groups) []); place = whole }
+    walked : (At unicode groups (written_call groups (max_open_calls groups) []) root) → (opened : List ℕ) (t : Tree) → Reached opened t → Walked opened t
+    walked whole opened t at_root = record { calls = max_open_calls groups; enough = omega (arith, left_most (length groups) []); place = whole }
     walked whole opened u (at_child _ t _ r seen built m) =
         let w = walked whole opened t r in
         record { calls = w.calls; enough = w.enough; place = child_at unicode groups _ w.place.first t u w.place.side seen built m }
@@ -325,18 +325,18 @@ module _ (groups : List Tree) (root : Tree) where
         let w = walked whole opened (tree.subroutine_call k) r in
         walk_body opened k u w.calls w.enough found none w.place
 
-whole_at : (unicode explicit : Bool) (t : Tree) → IsAllowed unicode true (pat_of (pattern_in explicit t)) →
-    At unicode (pattern_in explicit t).groups (written_call (pattern_in explicit t).groups (most_calls (pattern_in explicit t).groups) []) t
-unfolding pat_of
-whole_at unicode true t h = record { first = 0; side = inl (allowed_reads unicode true (pat_of (pattern_in true t)) h) }
-whole_at unicode false t h = record { first = 1; side = inl (allowed_reads unicode true (pat_of (pattern_in false t)) h) }
+whole_at : (unicode explicit : Bool) (t : Tree) → IsAllowed unicode true (core_pattern_of (pattern_in explicit t)) →
+    At unicode (pattern_in explicit t).groups (written_call (pattern_in explicit t).groups (max_open_calls (pattern_in explicit t).groups) []) t
+unfolding core_pattern_of
+whole_at unicode true t h = record { first = 0; side = inl (allowed_reads unicode true (core_pattern_of (pattern_in true t)) h) }
+whole_at unicode false t h = record { first = 1; side = inl (allowed_reads unicode true (core_pattern_of (pattern_in false t)) h) }
 
 pub classes_are_read : (unicode explicit : Bool) (t : Tree) → IsClear (pattern_in explicit t).groups t →
-    IsAllowed unicode true (pat_of (pattern_in explicit t)) → ReadsClasses unicode (pattern_in explicit t).groups t
+    IsAllowed unicode true (core_pattern_of (pattern_in explicit t)) → ReadsClasses unicode (pattern_in explicit t).groups t
 classes_are_read unicode explicit t clear allowed casei text part =
     let groups = (pattern_in explicit t).groups in
-    let nodes : SomePart groups t (λ _. is_faulty (length groups)) → ⊥ =
-    λ p. absurd (let never : true ≡ false = sym (part_node (is_faulty (length groups)) explicit t p) ∙ clear.nodes in cc) in
+    let nodes : SomeEmittedPart groups t (λ _. is_invalid_node (length groups)) → ⊥ =
+    λ p. absurd (let never : true ≡ false = sym (part_node (is_invalid_node (length groups)) explicit t p) ∙ clear.nodes in cc) in
     let r = reached groups t clear.parts nodes part.0 part.1 part.2 in
     let w = walked groups t unicode (whole_at unicode explicit t allowed) r.0 part.1 r.1 in
     class_at unicode groups _ part.1 text casei w.place part.3

@@ -5,10 +5,10 @@ use Rattle.std.proofs.lemmas.Option.{none-some}
 use Rattle.fancy_regex_tree.specs.Tree as tree
 use Rattle.fancy_regex_tree.specs.Tree.{Tree, Trees, no_trees, more_trees}
 use Rattle.fancy_regex_meaning.specs.Groups.{bodies, row_bodies}
-use Rattle.fancy_regex_sizes.specs.NodeCauses.{some_node, some_node_of}
+use Rattle.fancy_regex_sizes.specs.NodeErrors.{some_node, some_node_of}
 use Rattle.fancy_regex_info.specs.Views.{pattern_in}
-use Rattle.fancy_regex_sizes.specs.Written.{some_below, some_of_row, some_written, IsWhole, itself, called, SomePart}
-use Rattle.fancy_regex_sizes.proofs.PlaceLemmas.{whole_found}
+use Rattle.fancy_regex_sizes.specs.EmittedParts.{some_descendant, some_of_row, some_emitted, IsWhole, itself, called, SomeEmittedPart}
+use Rattle.fancy_regex_sizes.proofs.EmittedPartLemmas.{whole_found}
 use Rattle.fancy_regex_program.specs.Refusals.{Inside}
 
 or_left : (a b : Bool) → a ≡ true → (a || b) ≡ true
@@ -51,40 +51,40 @@ module _ (test : Tree → Bool) where
   at i t = test t
 
   mutual
-    unfolding some_node some_node_of some_below some_of_row
+    unfolding some_node some_node_of some_descendant some_of_row
 
-    below_node : (i : Inside) (t : Tree) → some_below at i t ≡ true → N t ≡ true
+    below_node : (i : Inside) (t : Tree) → some_descendant at i t ≡ true → N t ≡ true
     below_node i (tree.concat ts) h = or_right (test (tree.concat ts)) (some_node_of test ts) (row_node i ts h)
     below_node i (tree.alt ts) h = or_right (test (tree.alt ts)) (some_node_of test ts) (row_node i ts h)
-    below_node i (tree.group t) h = or_right (test (tree.group t)) (N t) (or_either (test t) (some_below at i t) (N t) (own_node t) (below_node i t) h)
-    below_node i (tree.look_around t how) h = or_right (test (tree.look_around t how)) (N t) (or_either (test t) (some_below at _ t) (N t) (own_node t) (below_node _ t) h)
+    below_node i (tree.group t) h = or_right (test (tree.group t)) (N t) (or_either (test t) (some_descendant at i t) (N t) (own_node t) (below_node i t) h)
+    below_node i (tree.look_around t how) h = or_right (test (tree.look_around t how)) (N t) (or_either (test t) (some_descendant at _ t) (N t) (own_node t) (below_node _ t) h)
     below_node i (tree.repeat t lo hi greedy) h = or_right (test (tree.repeat t lo hi greedy)) (N t)
-        (run_at_all (hi == 0) (test t || some_below at i t) (N t) (or_either (test t) (some_below at i t) (N t) (own_node t) (below_node i t)) h)
-    below_node i (tree.atomic_group t) h = or_right (test (tree.atomic_group t)) (N t) (or_either (test t) (some_below at i t) (N t) (own_node t) (below_node i t) h)
+        (run_at_all (hi == 0) (test t || some_descendant at i t) (N t) (or_either (test t) (some_descendant at i t) (N t) (own_node t) (below_node i t)) h)
+    below_node i (tree.atomic_group t) h = or_right (test (tree.atomic_group t)) (N t) (or_either (test t) (some_descendant at i t) (N t) (own_node t) (below_node i t) h)
     below_node i (tree.conditional c a b) h =
         let all = N c || (N a || N b) in
         or_right (test (tree.conditional c a b)) all
-        (or_either (some_written at i c) (some_written at i a || some_written at i b) all
-        (λ e. or_left (N c) (N a || N b) (or_either (test c) (some_below at i c) (N c) (own_node c) (below_node i c) e))
-        (or_either (some_written at i a) (some_written at i b) all
-        (λ e. or_right (N c) (N a || N b) (or_left (N a) (N b) (or_either (test a) (some_below at i a) (N a) (own_node a) (below_node i a) e)))
-        (λ e. or_right (N c) (N a || N b) (or_right (N a) (N b) (or_either (test b) (some_below at i b) (N b) (own_node b) (below_node i b) e)))) h)
-    below_node i (tree.absent_repeater t) h = or_right (test (tree.absent_repeater t)) (N t) (or_either (test t) (some_below at _ t) (N t) (own_node t) (below_node _ t) h)
+        (or_either (some_emitted at i c) (some_emitted at i a || some_emitted at i b) all
+        (λ e. or_left (N c) (N a || N b) (or_either (test c) (some_descendant at i c) (N c) (own_node c) (below_node i c) e))
+        (or_either (some_emitted at i a) (some_emitted at i b) all
+        (λ e. or_right (N c) (N a || N b) (or_left (N a) (N b) (or_either (test a) (some_descendant at i a) (N a) (own_node a) (below_node i a) e)))
+        (λ e. or_right (N c) (N a || N b) (or_right (N a) (N b) (or_either (test b) (some_descendant at i b) (N b) (own_node b) (below_node i b) e)))) h)
+    below_node i (tree.absent_repeater t) h = or_right (test (tree.absent_repeater t)) (N t) (or_either (test t) (some_descendant at _ t) (N t) (own_node t) (below_node _ t) h)
     below_node i (tree.absent_expression a t) h =
         or_right (test (tree.absent_expression a t)) (N a || N t)
-        (or_either (some_written at _ a) (some_written at _ t) (N a || N t)
-        (λ e. or_left (N a) (N t) (or_either (test a) (some_below at _ a) (N a) (own_node a) (below_node _ a) e))
-        (λ e. or_right (N a) (N t) (or_either (test t) (some_below at _ t) (N t) (own_node t) (below_node _ t) e)) h)
-    below_node i (tree.absent_stopper t) h = or_right (test (tree.absent_stopper t)) (N t) (or_either (test t) (some_below at _ t) (N t) (own_node t) (below_node _ t) h)
+        (or_either (some_emitted at _ a) (some_emitted at _ t) (N a || N t)
+        (λ e. or_left (N a) (N t) (or_either (test a) (some_descendant at _ a) (N a) (own_node a) (below_node _ a) e))
+        (λ e. or_right (N a) (N t) (or_either (test t) (some_descendant at _ t) (N t) (own_node t) (below_node _ t) e)) h)
+    below_node i (tree.absent_stopper t) h = or_right (test (tree.absent_stopper t)) (N t) (or_either (test t) (some_descendant at _ t) (N t) (own_node t) (below_node _ t) h)
     below_node i (tree.ast_group name t position) h =
-        or_right (test (tree.ast_group name t position)) (N t) (or_either (test t) (some_below at i t) (N t) (own_node t) (below_node i t) h)
+        or_right (test (tree.ast_group name t position)) (N t) (or_either (test t) (some_descendant at i t) (N t) (own_node t) (below_node i t) h)
     below_node i t h = absurd (let never : false ≡ true = h in cc)
 
     row_node : (i : Inside) (ts : Trees) → some_of_row at i ts ≡ true → some_node_of test ts ≡ true
     row_node i no_trees h = h
     row_node i (more_trees t ts) h =
-        or_either (some_written at i t) (some_of_row at i ts) (N t || some_node_of test ts)
-        (λ e. or_left (N t) (some_node_of test ts) (or_either (test t) (some_below at i t) (N t) (own_node t) (below_node i t) e))
+        or_either (some_emitted at i t) (some_of_row at i ts) (N t || some_node_of test ts)
+        (λ e. or_left (N t) (some_node_of test ts) (or_either (test t) (some_descendant at i t) (N t) (own_node t) (below_node i t) e))
         (λ e. or_right (N t) (some_node_of test ts) (row_node i ts e)) h
 
   -- in some tree of a list
@@ -145,7 +145,7 @@ module _ (test : Tree → Bool) where
   whole_node explicit root i body (called j t _ call whole has found) h =
       group_node explicit root (in_list (pattern_in explicit root).groups call.group body found h)
 
-  pub part_node : (explicit : Bool) (root : Tree) → SomePart (pattern_in explicit root).groups root at → N root ≡ true
+  pub part_node : (explicit : Bool) (root : Tree) → SomeEmittedPart (pattern_in explicit root).groups root at → N root ≡ true
   part_node explicit root p =
       let a = whole_found (pattern_in explicit root).groups root at p in
-      whole_node explicit root a.0 a.1 a.2 (or_either (test a.1) (some_below at a.0 a.1) (N a.1) (own_node a.1) (below_node a.0 a.1) a.3)
+      whole_node explicit root a.0 a.1 a.2 (or_either (test a.1) (some_descendant at a.0 a.1) (N a.1) (own_node a.1) (below_node a.0 a.1) a.3)

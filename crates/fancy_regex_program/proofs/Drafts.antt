@@ -3,7 +3,7 @@ use Rattle.std.proofs.Common.{◌≡◌, ℕ, ◌+◌, ◌*◌, ◌-◌, ◌<◌
 use Rattle.std.proofs.Math.Seq.{set-append_seam}
 use Rattle.fancy_regex_tree.specs.Tree.{Text}
 use Rattle.fancy_regex_class.specs.Classes.{in_class, folded}
-use Rattle.fancy_regex_pattern.specs.Pats.{Pat, literal, nothing, read, keep_out, fail, cat, alt, group, ahead, never, back, atomic, repeat, conditional, absent}
+use Rattle.fancy_regex_desugar.specs.CorePatterns.{CorePattern, literal, nothing, read, keep_out, fail, cat, alt, group, ahead, never, back, atomic, repeat, conditional, absent}
 use Rattle.fancy_regex_program.specs.Ops as op
 use Rattle.fancy_regex_program.specs.Ops.{Op}
 use Rattle.fancy_regex_program.specs.Code.{waits, flushed, slots_in, code_of}
@@ -37,17 +37,17 @@ unfolding with_op
 length_with_op o d = length-append d.ops (o ∷ [])
 
 module _ (u w : Bool) where
-  abbrev C : Pat → Text → ℕ → ℕ → List Op
+  abbrev C : CorePattern → Text → ℕ → ℕ → List Op
   C = code_of (in_class u) (folded u) w
 
-  abbrev P : Pat → ℕ → Draft → Draft
+  abbrev P : CorePattern → ℕ → Draft → Draft
   P = with_pat u w
 
   pub pat_nothing : (slot : ℕ) (d : Draft) → P nothing slot d ≡ d
   unfolding with_pat code_of
   pat_nothing slot d = same_draft (append-nil d.ops) refl
 
-  pub pat_cat : (a b : Pat) (slot : ℕ) (d : Draft) → P (cat a b) slot d ≡ P b (slot + slots_in a) (P a slot d)
+  pub pat_cat : (a b : CorePattern) (slot : ℕ) (d : Draft) → P (cat a b) slot d ≡ P b (slot + slots_in a) (P a slot d)
   unfolding with_pat code_of
   pat_cat a b slot d =
       let first = C a d.text (length d.ops) slot in
@@ -84,7 +84,7 @@ module _ (u w : Bool) where
   pat_keep slot d = kept w d
 
   -- a part with its own rest, behind one operation
-  after_one : (d : Draft) (o : Op) (a : Pat) (s : ℕ) (rest : List Op) →
+  after_one : (d : Draft) (o : Op) (a : CorePattern) (s : ℕ) (rest : List Op) →
       d.ops ++ (flushed d.text ++ (o ∷ ((C a [] (length d.ops + length (flushed d.text) + 1) s ++ flushed (waits a [])) ++ rest)))
       ≡ (closed_draft (P a s (added o d))).ops ++ rest
   unfolding with_pat with_op closed_draft
@@ -96,7 +96,7 @@ module _ (u w : Bool) where
       ap (λ k. d.ops ++ (f ++ (o ∷ ((C a [] k s ++ g) ++ rest)))) (sym long)
       ∙ sym (flat_one d.ops f o (C a [] n s) g rest)
 
-  pub pat_group : (k : ℕ) (a : Pat) (slot : ℕ) (d : Draft) → P (group k a) slot d
+  pub pat_group : (k : ℕ) (a : CorePattern) (slot : ℕ) (d : Draft) → P (group k a) slot d
       ≡ with_op (op.save (2 * k + 1)) (with_op (op.copy slot (2 * k)) (closed_draft (P a (slot + 1) (added (op.save slot) d))))
   unfolding with_pat code_of with_op closed_draft
   pat_group k a slot d =
@@ -105,18 +105,18 @@ module _ (u w : Bool) where
       ∙ sym (append_assoc (closed_draft (P a (slot + 1) (added (op.save slot) d))).ops (op.copy slot (2 * k) ∷ []) (op.save (2 * k + 1) ∷ [])))
       refl
 
-  pub pat_ahead : (a : Pat) (slot : ℕ) (d : Draft) → P (ahead a) slot d
+  pub pat_ahead : (a : CorePattern) (slot : ℕ) (d : Draft) → P (ahead a) slot d
       ≡ with_op (op.restore slot) (closed_draft (P a (slot + 1) (added (op.save slot) d)))
   unfolding with_pat code_of with_op closed_draft
   pat_ahead a slot d = same_draft (after_one d (op.save slot) a (slot + 1) (op.restore slot ∷ [])) refl
 
-  pub pat_atomic : (a : Pat) (slot : ℕ) (d : Draft) → P (atomic a) slot d
+  pub pat_atomic : (a : CorePattern) (slot : ℕ) (d : Draft) → P (atomic a) slot d
       ≡ with_op (op.end_atomic slot) (closed_draft (P a (slot + 1) (added (op.begin_atomic slot) d)))
   unfolding with_pat code_of with_op closed_draft
   pat_atomic a slot d = same_draft (after_one d (op.begin_atomic slot) a (slot + 1) (op.end_atomic slot ∷ [])) refl
 
   -- A part with its own rest, behind two operations, of which the second was a hole.
-  module _ (d : Draft) (o x : Op) (a : Pat) (s : ℕ) where
+  module _ (d : Draft) (o x : Op) (a : CorePattern) (s : ℕ) where
     abbrev pc : ℕ
     pc = length d.ops + length (flushed d.text)
 
@@ -154,7 +154,7 @@ module _ (u w : Bool) where
         ∙ sym (flat_two d.ops (flushed d.text) o y ((C a [] (length l) s ++ g) ++ rest))
         ∙ sym (fill before.ops x y (C a [] (length l) s) g rest)
 
-  pub pat_never : (a : Pat) (slot : ℕ) (d : Draft) → P (never a) slot d
+  pub pat_never : (a : CorePattern) (slot : ℕ) (d : Draft) → P (never a) slot d
       ≡ (let b = added (op.begin_atomic slot) d in
       let e = with_op (op.fail_negative slot) (closed_draft (P a (slot + 1) (with_op (op.split 0 0) b))) in
       patched (length b.ops) (op.split (length (with_op (op.split 0 0) b).ops) (length e.ops)) e)
@@ -173,7 +173,7 @@ module _ (u w : Bool) where
       same_draft (filled d o x a (slot + 1) (op.split (n + 2) (n + 3 + long)) (last ∷ [])) refl in
       step ∙ ap₂ (λ j k. patched at (op.split j k) e) (sym (past_hole d o x a (slot + 1))) second
 
-  pub pat_counted : (a : Pat) (lo hi : ℕ) (greedy : Bool) (slot : ℕ) (d : Draft) → P (repeat a lo (Some hi) greedy) slot d
+  pub pat_counted : (a : CorePattern) (lo hi : ℕ) (greedy : Bool) (slot : ℕ) (d : Draft) → P (repeat a lo (Some hi) greedy) slot d
       ≡ (let b = added (op.begin_repeat slot) d in
       let e = with_op (op.jump (length b.ops)) (closed_draft (P a (slot + 1) (with_op op.fail b))) in
       patched (length b.ops) (op.repeat greedy lo hi (length e.ops) slot) e)
@@ -192,7 +192,7 @@ module _ (u w : Bool) where
       step
       ∙ ap₂ (λ j k. patched at (op.repeat greedy lo hi j slot) (with_op (op.jump k) i)) past (sym (at_hole d o x a (slot + 1)))
 
-  pub pat_loop : (a : Pat) (lo : ℕ) (greedy : Bool) (slot : ℕ) (d : Draft) → P (repeat a lo None greedy) slot d
+  pub pat_loop : (a : CorePattern) (lo : ℕ) (greedy : Bool) (slot : ℕ) (d : Draft) → P (repeat a lo None greedy) slot d
       ≡ (let b = added (op.begin_repeat slot) d in
       let e = with_op (op.jump (length b.ops)) (closed_draft (P a (slot + 2) (with_op op.fail b))) in
       patched (length b.ops) (op.repeat_epsilon greedy lo (length e.ops) slot (slot + 1)) e)
@@ -211,7 +211,7 @@ module _ (u w : Bool) where
       step
       ∙ ap₂ (λ j k. patched at (op.repeat_epsilon greedy lo j slot (slot + 1)) (with_op (op.jump k) i)) past (sym (at_hole d o x a (slot + 2)))
 
-  pub pat_absent : (a : Pat) (slot : ℕ) (d : Draft) → P (absent a) slot d
+  pub pat_absent : (a : CorePattern) (slot : ℕ) (d : Draft) → P (absent a) slot d
       ≡ (let b = added (op.absent_begin slot (slot + 1)) d in
       let e = with_op (op.absent_limit (slot + 1)) (closed_draft (P a (slot + 2) (with_op op.fail b))) in
       patched (length b.ops) (op.absent_scan (length e.ops) (slot + 1)) (with_op (op.absent_end slot (slot + 1)) e))

@@ -1,7 +1,7 @@
 -- What the functions of the emitter have written.
 use Rattle.std.proofs.Common.{◌≡◌, ℕ, ◌+◌, ◌*◌, ◌<◌, Bool, true, false, cond, List, [], ◌∷◌, ◌++◌, length, Option, Some, None, refl, sym, ap, ap₂, ◌∙◌, arith}
-use Rattle.fancy_regex_pattern.specs.Pats.{Pat, literal, nothing, read, keep_out, fail, cat, group, ahead, never, back, atomic, repeat, conditional, absent}
-use Rattle.fancy_regex_pattern.specs.Unfolded.{Written, cat_all, alt_all}
+use Rattle.fancy_regex_desugar.specs.CorePatterns.{CorePattern, literal, nothing, read, keep_out, fail, cat, group, ahead, never, back, atomic, repeat, conditional, absent}
+use Rattle.fancy_regex_desugar.specs.Unfolded.{Written, cat_all, alt_all}
 use Rattle.fancy_regex_program.specs.Ops as op
 use Rattle.fancy_regex_program.specs.Ops.{Op}
 use Rattle.fancy_regex_program.specs.Code.{slots_in}
@@ -11,46 +11,46 @@ use Rattle.fancy_regex_program.proofs.Drafts.{same_draft, pat_nothing, pat_cat, 
 use Rattle.fancy_regex_program.proofs.Branches.{bare, begun, split_there, tested, chosen, jump_there, all_there, pat_conditional, choices, slot_after, last_of, pats_alt, slots_alt, choices_more, slot_more, set_right, AllBelow, below_later, below_one_more, choice_goes_on, choice_bare, choice_longer, right_long, last_goes_on, row_more, slots_row}
 
 module _ (u w : Bool) where
-  abbrev P : Pat → ℕ → Draft → Draft
+  abbrev P : CorePattern → ℕ → Draft → Draft
   P = with_pat u w
 
   -- Each construct, by the drafts between its parts.
-  pub drew_group : (k : ℕ) (a : Pat) (slot inside start end : ℕ) (d0 d1 d2 d3 d4 : Draft) → inside ≡ slot + 1 → start ≡ 2 * k → end ≡ start + 1 →
+  pub drew_group : (k : ℕ) (a : CorePattern) (slot inside start end : ℕ) (d0 d1 d2 d3 d4 : Draft) → inside ≡ slot + 1 → start ≡ 2 * k → end ≡ start + 1 →
       d1 ≡ added (op.save slot) d0 → d2 ≡ closed_draft (P a inside d1) → d3 ≡ with_op (op.copy slot start) d2 → d4 ≡ with_op (op.save end) d3 →
       d4 ≡ P (group k a) slot d0
   drew_group k a slot inside start end d0 d1 d2 d3 d4 ei es ee e1 e2 e3 e4 =
       rw (e4, e3, e2, e1, ee, es, ei) (sym (pat_group u w k a slot d0))
 
-  pub drew_ahead : (a : Pat) (slot inside : ℕ) (d0 d1 d2 d3 : Draft) → inside ≡ slot + 1 →
+  pub drew_ahead : (a : CorePattern) (slot inside : ℕ) (d0 d1 d2 d3 : Draft) → inside ≡ slot + 1 →
       d1 ≡ added (op.save slot) d0 → d2 ≡ closed_draft (P a inside d1) → d3 ≡ with_op (op.restore slot) d2 → d3 ≡ P (ahead a) slot d0
   drew_ahead a slot inside d0 d1 d2 d3 ei e1 e2 e3 = rw (e3, e2, e1, ei) (sym (pat_ahead u w a slot d0))
 
-  pub drew_atomic : (a : Pat) (slot inside : ℕ) (d0 d1 d2 d3 : Draft) → inside ≡ slot + 1 →
+  pub drew_atomic : (a : CorePattern) (slot inside : ℕ) (d0 d1 d2 d3 : Draft) → inside ≡ slot + 1 →
       d1 ≡ added (op.begin_atomic slot) d0 → d2 ≡ closed_draft (P a inside d1) → d3 ≡ with_op (op.end_atomic slot) d2 → d3 ≡ P (atomic a) slot d0
   drew_atomic a slot inside d0 d1 d2 d3 ei e1 e2 e3 = rw (e3, e2, e1, ei) (sym (pat_atomic u w a slot d0))
 
-  pub drew_never : (a : Pat) (slot inside at first second : ℕ) (d0 d1 d2 d3 d4 d5 : Draft) → inside ≡ slot + 1 →
+  pub drew_never : (a : CorePattern) (slot inside at first second : ℕ) (d0 d1 d2 d3 d4 d5 : Draft) → inside ≡ slot + 1 →
       d1 ≡ added (op.begin_atomic slot) d0 → at ≡ length d1.ops → d2 ≡ with_op (op.split 0 0) d1 → first ≡ length d2.ops →
       d3 ≡ closed_draft (P a inside d2) → d4 ≡ with_op (op.fail_negative slot) d3 → second ≡ length d4.ops →
       d5 ≡ patched at (op.split first second) d4 → d5 ≡ P (never a) slot d0
   drew_never a slot inside at first second d0 d1 d2 d3 d4 d5 ei e1 ea e2 ef e3 e4 es e5 =
       rw (e5, es, e4, e3, ef, e2, ea, e1, ei) (sym (pat_never u w a slot d0))
 
-  pub drew_counted : (a : Pat) (lo hi : ℕ) (greedy : Bool) (slot inside at next : ℕ) (d0 d1 d2 d3 d4 d5 : Draft) → inside ≡ slot + 1 →
+  pub drew_counted : (a : CorePattern) (lo hi : ℕ) (greedy : Bool) (slot inside at next : ℕ) (d0 d1 d2 d3 d4 d5 : Draft) → inside ≡ slot + 1 →
       d1 ≡ added (op.begin_repeat slot) d0 → at ≡ length d1.ops → d2 ≡ with_op op.fail d1 →
       d3 ≡ closed_draft (P a inside d2) → d4 ≡ with_op (op.jump at) d3 → next ≡ length d4.ops →
       d5 ≡ patched at (op.repeat greedy lo hi next slot) d4 → d5 ≡ P (repeat a lo (Some hi) greedy) slot d0
   drew_counted a lo hi greedy slot inside at next d0 d1 d2 d3 d4 d5 ei e1 ea e2 e3 e4 es e5 =
       rw (e5, es, e4, e3, e2, ea, e1, ei) (sym (pat_counted u w a lo hi greedy slot d0))
 
-  pub drew_loop : (a : Pat) (lo : ℕ) (greedy : Bool) (slot inside last at next : ℕ) (d0 d1 d2 d3 d4 d5 : Draft) → last ≡ slot + 1 → inside ≡ slot + 2 →
+  pub drew_loop : (a : CorePattern) (lo : ℕ) (greedy : Bool) (slot inside last at next : ℕ) (d0 d1 d2 d3 d4 d5 : Draft) → last ≡ slot + 1 → inside ≡ slot + 2 →
       d1 ≡ added (op.begin_repeat slot) d0 → at ≡ length d1.ops → d2 ≡ with_op op.fail d1 →
       d3 ≡ closed_draft (P a inside d2) → d4 ≡ with_op (op.jump at) d3 → next ≡ length d4.ops →
       d5 ≡ patched at (op.repeat_epsilon greedy lo next slot last) d4 → d5 ≡ P (repeat a lo None greedy) slot d0
   drew_loop a lo greedy slot inside last at next d0 d1 d2 d3 d4 d5 el ei e1 ea e2 e3 e4 es e5 =
       rw (e5, es, e4, e3, e2, ea, e1, ei, el) (sym (pat_loop u w a lo greedy slot d0))
 
-  pub drew_absent : (a : Pat) (slot inside limit at end : ℕ) (d0 d1 d2 d3 d4 d5 d6 : Draft) → limit ≡ slot + 1 → inside ≡ slot + 2 →
+  pub drew_absent : (a : CorePattern) (slot inside limit at end : ℕ) (d0 d1 d2 d3 d4 d5 d6 : Draft) → limit ≡ slot + 1 → inside ≡ slot + 2 →
       d1 ≡ added (op.absent_begin slot limit) d0 → at ≡ length d1.ops → d2 ≡ with_op op.fail d1 →
       d3 ≡ closed_draft (P a inside d2) → d4 ≡ with_op (op.absent_limit limit) d3 → end ≡ length d4.ops →
       d5 ≡ with_op (op.absent_end slot limit) d4 →
@@ -58,7 +58,7 @@ module _ (u w : Bool) where
   drew_absent a slot inside limit at end d0 d1 d2 d3 d4 d5 d6 el ei e1 ea e2 e3 e4 ee e5 e6 =
       rw (e6, e5, ee, e4, e3, e2, ea, e1, ei, el) (sym (pat_absent u w a slot d0))
 
-  pub drew_conditional : (c a b : Pat) (slot inside after_c after_a at first there second end : ℕ) (d0 d1 d2 d3 d4 d5 d6 d7 d8 d9 : Draft) →
+  pub drew_conditional : (c a b : CorePattern) (slot inside after_c after_a at first there second end : ℕ) (d0 d1 d2 d3 d4 d5 d6 d7 d8 d9 : Draft) →
       inside ≡ slot + 1 → d1 ≡ added (op.begin_atomic slot) d0 → at ≡ length d1.ops → d2 ≡ with_op (op.split 0 0) d1 → first ≡ length d2.ops →
       d3 ≡ closed_draft (P c inside d2) → after_c ≡ inside + slots_in c → d4 ≡ with_op (op.end_atomic slot) d3 →
       d5 ≡ closed_draft (P a after_c d4) → after_a ≡ after_c + slots_in a → there ≡ length d5.ops → d6 ≡ with_op (op.jump 0) d5 → second ≡ length d6.ops →
@@ -67,13 +67,13 @@ module _ (u w : Bool) where
   drew_conditional c a b slot inside after_c after_a at first there second end d0 d1 d2 d3 d4 d5 d6 d7 d8 d9 ei e1 ea e2 ef e3 ec e4 e5 eb et e6 es e7 ee e8 e9 =
       rw (e9, e8, ee, e7, es, e6, et, e5, eb, e4, ec, e3, ef, e2, ea, e1, ei) (sym (pat_conditional u w c a b slot d0))
 
-  pub drew_choice : (p : Pat) (slot at first second : ℕ) (d0 d1 d2 d3 d4 : Draft) → at ≡ length d0.ops → d1 ≡ with_op (op.split 0 0) d0 → first ≡ length d1.ops →
+  pub drew_choice : (p : CorePattern) (slot at first second : ℕ) (d0 d1 d2 d3 d4 : Draft) → at ≡ length d0.ops → d1 ≡ with_op (op.split 0 0) d0 → first ≡ length d1.ops →
       d2 ≡ closed_draft (P p slot d1) → d3 ≡ with_op (op.jump 0) d2 → second ≡ length d3.ops → d4 ≡ patched at (op.split first second) d3 →
       d4 ≡ with_choice u w 0 p slot d0
   drew_choice p slot at first second d0 d1 d2 d3 d4 ea e1 ef e2 e3 es e4 = rw (e4, es, e3, e2, ef, e1, ea) refl
 
-  -- branches so far, whose jumps are still to be put right
-  pub record Chosen (old now : Emitter) (jumps : List ℕ) (slot next : ℕ) (ps : List Pat) : Type 0 where
+  -- branches so far, whose jumps are still to be patched
+  pub record Chosen (old now : Emitter) (jumps : List ℕ) (slot next : ℕ) (ps : List CorePattern) : Type 0 where
     pub draft : (end : ℕ) → set_right u w end jumps (draft_of now.body) ≡ choices u w end ps slot (closed_draft (draft_of old.body))
     pub bare : (draft_of now.body).text ≡ []
     pub below : AllBelow u w (length (draft_of now.body).ops) jumps
@@ -94,7 +94,7 @@ module _ (u w : Bool) where
     opened = o;
   }
 
-  pub chosen_goes_on : (old now new : Emitter) (jumps : List ℕ) (slot next after j : ℕ) (ps : List Pat) (p : Pat) → Chosen old now jumps slot next ps →
+  pub chosen_goes_on : (old now new : Emitter) (jumps : List ℕ) (slot next after j : ℕ) (ps : List CorePattern) (p : CorePattern) → Chosen old now jumps slot next ps →
       WroteChoice u w now new next after p → j + 1 ≡ length (draft_of new.body).ops → Chosen old new (jumps ++ j ∷ []) slot after (ps ++ p ∷ [])
   chosen_goes_on old now new jumps slot next after j ps p h c last =
       let xs = (draft_of now.body).ops in
@@ -115,8 +115,8 @@ module _ (u w : Bool) where
         opened = c.opened ∙ h.opened;
       }
 
-  -- the last branch behind them, and the jumps put right
-  pub chosen_ends : (old now new : Emitter) (final : Draft) (jumps : List ℕ) (slot next after end : ℕ) (r : Pat) (ps : List Pat) (q : Pat) →
+  -- the last branch behind them, and the jumps patched
+  pub chosen_ends : (old now new : Emitter) (final : Draft) (jumps : List ℕ) (slot next after end : ℕ) (r : CorePattern) (ps : List CorePattern) (q : CorePattern) →
       Chosen old now jumps slot next (r ∷ ps) → WroteClosed u w now new next after q → end ≡ length (draft_of new.body).ops →
       final ≡ set_right u w end jumps (draft_of new.body) → final ≡ P (alt_all (r ∷ (ps ++ q ∷ []))) slot (draft_of old.body)
   chosen_ends old now new final jumps slot next after end r ps q h c at e =
@@ -131,7 +131,7 @@ module _ (u w : Bool) where
       at ∙ sym (right_long u w end jumps (draft_of new.body)) ∙ ap (λ (d : Draft). length d.ops) (sym e ∙ made) in
       made ∙ sym (pats_alt u w r ps q slot end (draft_of old.body) long)
 
-  pub chosen_slots : (old now new : Emitter) (jumps : List ℕ) (slot next after : ℕ) (r : Pat) (ps : List Pat) (q : Pat) →
+  pub chosen_slots : (old now new : Emitter) (jumps : List ℕ) (slot next after : ℕ) (r : CorePattern) (ps : List CorePattern) (q : CorePattern) →
       Chosen old now jumps slot next (r ∷ ps) → WroteClosed u w now new next after q → after ≡ slot + slots_in (alt_all (r ∷ (ps ++ q ∷ [])))
   chosen_slots old now new jumps slot next after r ps q h c =
       c.slots ∙ ap (λ s. s + slots_in q) h.slots ∙ slots_alt u w r ps q slot

@@ -11,7 +11,7 @@ use Rattle.fancy_regex_tree.specs.declared.expr.Expr.{Expr}
 use Rattle.fancy_regex_tree.specs.declared.expr.Expr.TheVariants as view
 use Rattle.fancy_regex_tree.specs.declared.expr.LookAround.{LookAround}
 use Rattle.fancy_regex_tree.specs.Tree.{Tree, absent_tree, ast_tree, node_tree, tree_of, absent_tree_of, ast_tree_of}
-use Rattle.fancy_regex_sizes.specs.NodeCauses.{is_faulty}
+use Rattle.fancy_regex_sizes.specs.NodeErrors.{is_invalid_node}
 use Rattle.fancy_regex_program.specs.Refusals.{is_single, is_leaf}
 
 never : (P : Type 0) → true ≡ false → P
@@ -76,14 +76,14 @@ ast_leaf_layer (AstNode-F.AstNode::BackrefExistsCondition goal level) position =
 ast_leaf : (a : AstNode) (position : ℕ) → is_leaf (ast_tree_of a position) ≡ false
 ast_leaf = ast_all is_leaf false ast_leaf_layer
 
-ast_faulty_layer : (count : ℕ) (x : AstNode-F Tree (ℕ → Tree) Tree) (position : ℕ) → is_faulty count (ast_tree x position) ≡ true
+ast_faulty_layer : (count : ℕ) (x : AstNode-F Tree (ℕ → Tree) Tree) (position : ℕ) → is_invalid_node count (ast_tree x position) ≡ true
 ast_faulty_layer count (AstNode-F.AstGroup name t) position = refl
 ast_faulty_layer count (AstNode-F.AstNode::Backref goal casei level) position = refl
 ast_faulty_layer count (AstNode-F.AstNode::SubroutineCall goal) position = refl
 ast_faulty_layer count (AstNode-F.AstNode::BackrefExistsCondition goal level) position = refl
 
-ast_faulty : (count : ℕ) (a : AstNode) (position : ℕ) → is_faulty count (ast_tree_of a position) ≡ true
-ast_faulty count = ast_all (is_faulty count) true (ast_faulty_layer count)
+ast_faulty : (count : ℕ) (a : AstNode) (position : ℕ) → is_invalid_node count (ast_tree_of a position) ≡ true
+ast_faulty count = ast_all (is_invalid_node count) true (ast_faulty_layer count)
 
 absent_single_layer : (x : Absent-F Tree (ℕ → Tree) Tree) → is_single (absent_tree x) ≡ false
 absent_single_layer (Absent-F.Repeater t) = refl
@@ -145,7 +145,7 @@ no_leaf e h none =
     subst (λ b. is_leaf (tree_of b) ≡ is_single (tree_of b)) back (leaf_rolled (out-Expr e) (subst NoText (sym back) h)) ∙ none
 
 module _ (count : ℕ) where
-  faulty_rolled : (x : Expr-F Absent AstNode Expr) → NoParts (roll-Expr x) → is_leaf (tree_of (roll-Expr x)) ≡ false → is_faulty count (tree_of (roll-Expr x)) ≡ true
+  faulty_rolled : (x : Expr-F Absent AstNode Expr) → NoParts (roll-Expr x) → is_leaf (tree_of (roll-Expr x)) ≡ false → is_invalid_node count (tree_of (roll-Expr x)) ≡ true
   faulty_rolled Expr-F.Empty h none = absurd (h.empty view.rolls-Empty)
   faulty_rolled (Expr-F.Concat ts) h none = absurd (h.concat ts (view.rolls-Concat ts))
   faulty_rolled (Expr-F.Alt ts) h none = absurd (h.alt ts (view.rolls-Alt ts))
@@ -157,10 +157,10 @@ module _ (count : ℕ) where
   faulty_rolled (Expr-F.Expr::SubroutineCall k) h none = absurd (h.call k (view.rolls-SubroutineCall k))
   faulty_rolled (Expr-F.Absent a) h none = absurd (h.absent a (view.rolls-Absent a))
   faulty_rolled (Expr-F.DefineGroup t) h none = absurd (h.define t (view.rolls-DefineGroup t))
-  faulty_rolled (Expr-F.AstNode a position) h none = ap (is_faulty count) (fold-roll-Expr Tree (ℕ → Tree) Tree absent_tree ast_tree node_tree (Expr-F.AstNode a position)) ∙ ast_faulty count a position
+  faulty_rolled (Expr-F.AstNode a position) h none = ap (is_invalid_node count) (fold-roll-Expr Tree (ℕ → Tree) Tree absent_tree ast_tree node_tree (Expr-F.AstNode a position)) ∙ ast_faulty count a position
   faulty_rolled x h none = never _ (sym (ap is_leaf (fold-roll-Expr Tree (ℕ → Tree) Tree absent_tree ast_tree node_tree x)) ∙ none)
 
-  pub faulty : (e : Expr) → NoParts e → is_leaf (tree_of e) ≡ false → is_faulty count (tree_of e) ≡ true
+  pub faulty : (e : Expr) → NoParts e → is_leaf (tree_of e) ≡ false → is_invalid_node count (tree_of e) ≡ true
   faulty e h none =
       let back = roll-out-Expr e in
-      subst (λ b. is_leaf (tree_of b) ≡ false → is_faulty count (tree_of b) ≡ true) back (faulty_rolled (out-Expr e) (subst NoParts (sym back) h)) none
+      subst (λ b. is_leaf (tree_of b) ≡ false → is_invalid_node count (tree_of b) ≡ true) back (faulty_rolled (out-Expr e) (subst NoParts (sym back) h)) none

@@ -7,27 +7,27 @@ use Rattle.fancy_regex_tree.specs.Tree as tree
 use Rattle.fancy_regex_tree.specs.Tree.{Tree, Trees, no_trees, more_trees}
 use Rattle.fancy_regex_meaning.specs.Groups.{Pattern, bodies, row_bodies, group_count, row_group_count, pattern_of, explicit_pattern_of}
 use Rattle.fancy_regex_meaning.specs.Sizes.{size, target}
-use Rattle.fancy_regex_meaning.specs.Ways.{is_full, open_calls_of_one, most_calls}
-use Rattle.fancy_regex_pattern.specs.Pats.{Pat, any, literal, class, nothing, read, general_newline, check, continue, keep_out, fail, group, atomic, repeat, backref, exists, conditional, absent}
-use Rattle.fancy_regex_pattern.specs.Unfolded.{Written, pat_for, cat_all, alt_all, look, node, branches, written, written_all, written_call, pat_of}
+use Rattle.fancy_regex_meaning.specs.Ways.{is_at_call_limit, max_open_calls_per_group, max_open_calls}
+use Rattle.fancy_regex_desugar.specs.CorePatterns.{CorePattern, any, literal, class, nothing, read, general_newline, check, continue, keep_out, fail, group, atomic, repeat, backref, exists, conditional, absent}
+use Rattle.fancy_regex_desugar.specs.Unfolded.{Written, pat_for, cat_all, alt_all, look, node, branches, written, written_all, written_call, core_pattern_of}
 use Rattle.fancy_regex_info.specs.Analysis.{analysis}
 use Rattle.fancy_regex_info.specs.References.{is_read}
-use Rattle.fancy_regex_info.specs.Infos.{Facts, InfoTree, InfoTrees, known, no_infos, more_infos, facts_in, facts, described, described_row}
+use Rattle.fancy_regex_info.specs.Infos.{NodeProperties, InfoTree, InfoTrees, known, no_infos, more_infos, properties_in, properties, expected_info, expected_infos}
 use Rattle.fancy_regex_info.specs.Views.{pattern_in}
 use Rattle.fancy_regex_program.specs.Known.{front_of, behind_of, layer, info_written, info_written_all, info_call, listed, bodies_in, row_bodies_in, groups_in, most_calls_in, pat_in}
 
 module _ (groups : List Tree) (reads : ℕ → Bool) where
   abbrev D : ℕ → Tree → InfoTree
-  D = described groups reads
+  D = expected_info groups reads
 
-  own : (n : ℕ) (t : Tree) → facts_in (D n t) ≡ facts groups reads n t
-  unfolding described
+  own : (n : ℕ) (t : Tree) → properties_in (D n t) ≡ properties groups reads n t
+  unfolding expected_info
   own n (tree.concat ts) = refl
   own n _ = refl
 
-  module _ (call : ℕ → Pat) where
+  module _ (call : ℕ → CorePattern) where
     mutual
-      unfolding described described_row info_written info_written_all front_of behind_of written written_all
+      unfolding expected_info expected_infos info_written info_written_all front_of behind_of written written_all
 
       known_is : (n : ℕ) (t : Tree) → info_written call (D n t) ≡ written groups call n t
       known_is n (tree.alt ts) = ap (branches groups (tree.alt ts)) (known_all n ts)
@@ -46,7 +46,7 @@ module _ (groups : List Tree) (reads : ℕ → Bool) where
       known_is n (tree.backref_exists k (Some level)) = refl
       known_is n _ = refl
 
-      known_all : (n : ℕ) (ts : Trees) → info_written_all call (described_row groups reads n ts) ≡ written_all groups call n ts
+      known_all : (n : ℕ) (ts : Trees) → info_written_all call (expected_infos groups reads n ts) ≡ written_all groups call n ts
       known_all n no_trees = refl
       known_all n (more_trees t ts) = ap₂ (λ v vs. v ∷ vs) (known_is n t) (known_all (n + group_count t) ts)
 
@@ -103,7 +103,7 @@ module _ (groups : List Tree) (reads : ℕ → Bool) where
       ap₂ (λ l m. l ++ m) e (f ∙ ap (λ k. bodies_from (n + k) us) (sym (counted t))) ∙ sym (from_append n (bodies t) us)
 
   mutual
-    unfolding described described_row bodies row_bodies bodies_in row_bodies_in
+    unfolding expected_info expected_infos bodies row_bodies bodies_in row_bodies_in
 
     bodies_are : (n : ℕ) (t : Tree) → bodies_in (D n t) ≡ bodies_from n (bodies t)
     bodies_are n (tree.group t) = ap (λ l. D (n + 1) t ∷ l) (one_body (n + 1) t (bodies_are (n + 1) t))
@@ -124,7 +124,7 @@ module _ (groups : List Tree) (reads : ℕ → Bool) where
     bodies_are n (tree.ast_group name t position) = one_body n t (bodies_are n t)
     bodies_are n _ = refl
 
-    row_bodies_are : (n : ℕ) (ts : Trees) → row_bodies_in (described_row groups reads n ts) ≡ bodies_from n (row_bodies ts)
+    row_bodies_are : (n : ℕ) (ts : Trees) → row_bodies_in (expected_infos groups reads n ts) ≡ bodies_from n (row_bodies ts)
     row_bodies_are n no_trees = refl
     row_bodies_are n (more_trees t ts) = behind_bodies n t (row_bodies ts) _ (bodies_are n t) (row_bodies_are (n + group_count t) ts)
 
@@ -137,7 +137,7 @@ module _ (groups : List Tree) (reads : ℕ → Bool) where
       let f : ℕ → ℕ = λ i. cond (i == j) 1 0 in
       omega (arith, sum_by-append f xs (k ∷ []), sum_by-cons f k [], sum_by-cons f k ys, same j)
 
-  picked : (f : InfoTree → Pat) (g : Tree → Pat) (d : Tree → InfoTree) → ((t : Tree) → f (d t) ≡ g t) → (o : Option Tree) →
+  picked : (f : InfoTree → CorePattern) (g : Tree → CorePattern) (d : Tree → InfoTree) → ((t : Tree) → f (d t) ≡ g t) → (o : Option Tree) →
       pat_for f (option_map d o) ≡ pat_for g o
   picked f g d same None = refl
   picked f g d same (Some t) = same t
@@ -149,13 +149,13 @@ module _ (groups : List Tree) (reads : ℕ → Bool) where
       let inner = info_call (bodies_from 0 groups) m (xs ++ k ∷ []) in
       let next : 0 + k + 1 ≡ k + 1 = omega arith in
       let calls : inner ≡ written_call groups m (k ∷ ys) = fun_ext (call_is m (xs ++ k ∷ []) (k ∷ ys) (one_more_open xs ys k same)) in
-      ap₂ (λ b p. cond b fail p) (ap (λ c. nat_le open_calls_of_one c) (same k))
+      ap₂ (λ b p. cond b fail p) (ap (λ c. nat_le max_open_calls_per_group c) (same k))
       (ap (pat_for (λ x. (info_written inner x).front)) (get_from 0 groups k ∙ ap (λ j. option_map (D j) (slice_get groups k)) next)
       ∙ picked (λ x. (info_written inner x).front) (λ body. (written groups (written_call groups m (k ∷ ys)) (k + 1) body).front) (D (k + 1))
       (λ body. ap (λ v. v.front) (known_is inner (k + 1) body) ∙ ap (λ c. (written groups c (k + 1) body).front) calls)
       (slice_get groups k))
 
-pub start_is : (explicit : Bool) (t : Tree) → (facts_in (analysis explicit t)).start ≡ (pattern_in explicit t).first_group
+pub start_is : (explicit : Bool) (t : Tree) → (properties_in (analysis explicit t)).start ≡ (pattern_in explicit t).first_group
 start_is explicit t =
     let pattern = pattern_in explicit t in
     ap (λ f. f.start) (own pattern.groups (is_read (length pattern.groups) t) pattern.first_group t)
@@ -173,12 +173,12 @@ count_is explicit t =
     ap length (groups_are explicit t) ∙ length_from pattern.groups (is_read (length pattern.groups) t) 0 pattern.groups
 
 pat_of_groups : (whole : Bool) (x : InfoTree) →
-    pat_in whole x ≡ (info_written (info_call (groups_in whole x) (open_calls_of_one * length (groups_in whole x)) []) x).front
+    pat_in whole x ≡ (info_written (info_call (groups_in whole x) (max_open_calls_per_group * length (groups_in whole x)) []) x).front
 unfolding pat_in
 pat_of_groups whole x = refl
 
-pat_of_written : (p : Pattern) → (written p.groups (written_call p.groups (most_calls p.groups) []) p.first_group p.tree).front ≡ pat_of p
-unfolding pat_of
+pat_of_written : (p : Pattern) → (written p.groups (written_call p.groups (max_open_calls p.groups) []) p.first_group p.tree).front ≡ core_pattern_of p
+unfolding core_pattern_of
 pat_of_written p = refl
 
 tree_is : (explicit : Bool) (t : Tree) → (pattern_in explicit t).tree ≡ t
@@ -186,16 +186,16 @@ tree_is true t = refl
 tree_is false t = refl
 
 -- The whole pattern is that of the definitions.
-pub pat_is : (explicit : Bool) (t : Tree) → pat_in (not explicit) (analysis explicit t) ≡ pat_of (pattern_in explicit t)
+pub pat_is : (explicit : Bool) (t : Tree) → pat_in (not explicit) (analysis explicit t) ≡ core_pattern_of (pattern_in explicit t)
 pat_is explicit t =
     let pattern = pattern_in explicit t in
     let reads = is_read (length pattern.groups) t in
-    let n = most_calls pattern.groups in
+    let n = max_open_calls pattern.groups in
     let x = analysis explicit t in
-    let front : List InfoTree → ℕ → Pat = λ gs m. (info_written (info_call gs (open_calls_of_one * m) []) x).front in
+    let front : List InfoTree → ℕ → CorePattern = λ gs m. (info_written (info_call gs (max_open_calls_per_group * m) []) x).front in
     pat_of_groups (not explicit) x
     ∙ ap₂ front (groups_are explicit t) (count_is explicit t)
-    ∙ ap (λ (c : ℕ → Pat). (info_written c x).front) (fun_ext (call_is pattern.groups reads n [] [] (λ j. refl)))
+    ∙ ap (λ (c : ℕ → CorePattern). (info_written c x).front) (fun_ext (call_is pattern.groups reads n [] [] (λ j. refl)))
     ∙ ap (λ (v : Written). v.front) (known_is pattern.groups reads (written_call pattern.groups n []) pattern.first_group t)
     ∙ ap (λ r. (written pattern.groups (written_call pattern.groups n []) pattern.first_group r).front) (sym (tree_is explicit t))
     ∙ pat_of_written pattern

@@ -10,11 +10,11 @@ use Rattle.fancy_regex_tree.specs.declared.expr.BacktrackingControlVerb.{Backtra
 use Rattle.fancy_regex_tree.specs.Tree as tree
 use Rattle.fancy_regex_tree.specs.Tree.{Tree, Text}
 use Rattle.fancy_regex_class.specs.Classes.{is_class, in_class, folded}
-use Rattle.fancy_regex_class.specs.Matchers.{has, is_alike, IsMatcherOf}
+use Rattle.fancy_regex_class.specs.Matchers.{has, equals_ignoring_case, IsMatcherOf}
 use Rattle.fancy_regex_class.specs.declared.class.CharClassMatcher.{CharClassMatcher}
 use Rattle.fancy_regex_class.specs.declared.folding.CaseiLiteral.{CaseiLiteral}
-use Rattle.fancy_regex_pattern.specs.Pats.{Pat, any, literal, class, read, general_newline, check, continue, fail, backref, exists}
-use Rattle.fancy_regex_pattern.specs.Unfolded.{Written}
+use Rattle.fancy_regex_desugar.specs.CorePatterns.{CorePattern, any, literal, class, read, general_newline, check, continue, fail, backref, exists}
+use Rattle.fancy_regex_desugar.specs.Unfolded.{Written}
 use Rattle.fancy_regex_info.specs.declared.error.CompileError.{CompileError}
 use Rattle.fancy_regex_info.specs.declared.error.CompileError.TheVariants.{InnerError, InvalidBackref, FeatureNotYetSupported, UnresolvedAstNode}
 use Rattle.fancy_regex_program.specs.Ops as op
@@ -29,7 +29,7 @@ use Rattle.fancy_regex_program.specs.declared.insn.Insn.TheVariants as insn
 use Rattle.fancy_regex_program.proofs.Drafts.{alone}
 
 module _ (u : Bool) where
-  is_insn : (i : Insn) (t : Tree) (o : Op) (p : Pat) → op_of i ≡ o → ((call : ℕ → Pat) (n : ℕ) (us : List Written) → front_of call n t us ≡ p) →
+  is_insn : (i : Insn) (t : Tree) (o : Op) (p : CorePattern) → op_of i ≡ o → ((call : ℕ → CorePattern) (n : ℕ) (us : List Written) → front_of call n t us ≡ p) →
       ((w : Bool) (slot : ℕ) (d : Draft) → with_pat u w p slot d ≡ added o d) → slots_in p ≡ 0 → ((keeps : Bool) → IsAllowed u keeps p) → IsInsn u i t
   is_insn i t o p same is one none allowed = record {
     draft = λ w call n slot us d. ap (λ q. with_pat u w q slot d) (is call n us) ∙ one w slot d ∙ ap (λ x. added x d) (sym same);
@@ -78,7 +78,7 @@ module _ (u : Bool) where
       (λ w slot d. alone u w (op.exists (2 * k)) d) refl (λ _. tt)
 
   pub leaf_caseless : (l : CaseiLiteral) (t : Tree) (val : Text) (c : ℕ) → t ≡ tree.literal val true → c ≡ slice_index val 0 →
-      ((d : ℕ) → is_alike l d ≡ (folded u d == folded u c)) → IsInsn u (insn.LitCasei l) t
+      ((d : ℕ) → equals_ignoring_case l d ≡ (folded u d == folded u c)) → IsInsn u (insn.LitCasei l) t
   unfolding front_of with_pat code_of
   leaf_caseless l t val c is first alike =
       let o = op.test (λ d. folded u d == folded u (slice_index val 0)) in

@@ -4,10 +4,10 @@ use Rattle.std.proofs.lemmas.List.{length-map}
 use Rattle.fancy_regex_tree.specs.Tree.{Text, Tree}
 use Rattle.fancy_regex_class.specs.Classes.{in_class, folded}
 use Rattle.fancy_regex_meaning.specs.Choices.{program_nodes}
-use Rattle.fancy_regex_pattern.specs.Pats.{Pat}
-use Rattle.fancy_regex_pattern.specs.Rooms.{room}
-use Rattle.fancy_regex_pattern.specs.Unfolded.{pat_of}
-use Rattle.fancy_regex_pattern.proofs.RoomProofs.{pattern_has_room}
+use Rattle.fancy_regex_desugar.specs.CorePatterns.{CorePattern}
+use Rattle.fancy_regex_desugar.specs.ProgramSizes.{room}
+use Rattle.fancy_regex_desugar.specs.Unfolded.{core_pattern_of}
+use Rattle.fancy_regex_desugar.proofs.ProgramSizeProofs.{pattern_size_is_bounded}
 use Rattle.fancy_regex_info.specs.Views.{pattern_in}
 use Rattle.fancy_regex_program.specs.Code.{waits, flushed, code_of, opening, closing, program_of}
 use Rattle.fancy_regex_program.specs.Ops.{op_of}
@@ -25,7 +25,7 @@ closing_long : (has_member : Text → Bool → ℕ → Bool) (fold : ℕ → ℕ
 closing_long has_member fold true = omega arith
 closing_long has_member fold false = omega arith
 
-program_fits : (u w anchored : Bool) (groups : ℕ) (p : Pat) → length (program_of (in_class u) (folded u) w anchored groups p) ≤ room p + 4
+program_fits : (u w anchored : Bool) (groups : ℕ) (p : CorePattern) → length (program_of (in_class u) (folded u) w anchored groups p) ≤ room p + 4
 unfolding program_of
 program_fits u w anchored groups p =
     let o = opening (in_class u) (folded u) w anchored in
@@ -51,6 +51,6 @@ made_short prog anchored explicit t made =
       arith,
       length-map prog.body.items op_of,
       ap length made.program.body,
-      program_fits prog.unicode prog.whole anchored prog.groups (pat_of pattern),
-      pattern_has_room pattern,
+      program_fits prog.unicode prog.whole anchored prog.groups (core_pattern_of pattern),
+      pattern_size_is_bounded pattern,
     )

@@ -9,7 +9,7 @@ mod NodeLemmas
 mod EndLemmas
 mod RefusalLemmas
 mod ClearLemmas
-mod PlanLemmas
+mod TreeContextLemmas
 mod TextLemmas
 mod GroupLemmas
 mod RowLemmas

@@ -9,9 +9,9 @@ use Rattle.fancy_regex_tree.specs.declared.expr.Absent.TheVariants as absents
 use Rattle.fancy_regex_tree.specs.declared.expr.Absent.{Absent}
 use Rattle.fancy_regex_tree.specs.Tree as tree
 use Rattle.fancy_regex_tree.specs.Tree.{Tree, tree_of, trees}
-use Rattle.fancy_regex_pattern.specs.Pats.{Pat, nothing, cat, group, back, atomic, conditional, absent}
-use Rattle.fancy_regex_pattern.specs.Unfolded.{Written, cat_all, alt_all, repeated, look, fronts, behinds}
-use Rattle.fancy_regex_info.specs.Infos.{Facts, InfoTree, InfoTrees, known, infos, info_of, info_layer, facts_in}
+use Rattle.fancy_regex_desugar.specs.CorePatterns.{CorePattern, nothing, cat, group, back, atomic, conditional, absent}
+use Rattle.fancy_regex_desugar.specs.Unfolded.{Written, cat_all, alt_all, repeated, look, fronts, behinds}
+use Rattle.fancy_regex_info.specs.Infos.{NodeProperties, InfoTree, InfoTrees, known, infos, info_of, info_layer, properties_in}
 use Rattle.fancy_regex_info.specs.declared.info.Info.{Info}
 use Rattle.fancy_regex_info.specs.declared.info.Info.TheFolds.{fold_out-Info}
 use Rattle.fancy_regex_info.specs.declared.info.Info.TheViews.{out-Info}
@@ -19,7 +19,7 @@ use Rattle.fancy_regex_program.specs.Known.{child, or_fails, front_of, behind_of
 use Rattle.fancy_regex_program.proofs.TreeLemmas.{tree_concat, tree_alt, tree_group, tree_look_around, tree_repeat, tree_atomic, tree_conditional, tree_define, tree_absent, tree_repeater}
 
 -- what is known of a node
-abbrev pub facts_at : Info → Facts
+abbrev pub facts_at : Info → NodeProperties
 facts_at i = record {
   size = record { least = (out-Info i).min_size; greatest = (out-Info i).max_size; always = (out-Info i).const_size };
   weight = (out-Info i).weight;
@@ -31,7 +31,7 @@ facts_at i = record {
 pub info_known : (i : Info) → info_of i ≡ known (facts_at i) (tree_of (out-Info i).expr.now) (infos (map info_of (out-Info i).children.items))
 info_known i = fold_out-Info InfoTree info_layer i
 
-module _ (call : ℕ → Pat) where
+module _ (call : ℕ → CorePattern) where
   abbrev pub W : Info → Written
   W i = info_written call (info_of i)
 
@@ -46,8 +46,8 @@ module _ (call : ℕ → Pat) where
       ap (info_written call) (info_known i)
       ∙ ap₂ (λ us v. layer call (facts_at i) v us) (written_listed (out-Info i).children.items) is
 
-  start_at : (i : Info) → (facts_in (info_of i)).start ≡ (out-Info i).start_group
-  start_at i = ap (λ x. (facts_in x).start) (info_known i)
+  start_at : (i : Info) → (properties_in (info_of i)).start ≡ (out-Info i).start_group
+  start_at i = ap (λ x. (properties_in x).start) (info_known i)
 
   child_is : (xs : List Info) (k : ℕ) (x : Info) → slice_get xs k ≡ Some x → child (map W xs) k ≡ W x
   child_is xs k x at = ap or_fails (slice_get-map W xs k ∙ ap (option_map W) at)
@@ -128,7 +128,7 @@ module _ (call : ℕ → Pat) where
       front_is i (tree.absent_repeater (tree_of t.value)) (ap tree_of (is ∙ ap view.Absent repeats) ∙ tree_absent (absents.Repeater t) ∙ tree_repeater t)
       ∙ ap (λ v. absent v.front) (child_is (out-Info i).children.items 0 x at)
 
-  behind_fixed : (f : Facts) (t : Tree) (p : Pat) (us : List Written) → f.size.always ≡ true → behind_of f t p us ≡ cat (back f.size.least) p
+  behind_fixed : (f : NodeProperties) (t : Tree) (p : CorePattern) (us : List Written) → f.size.always ≡ true → behind_of f t p us ≡ cat (back f.size.least) p
   unfolding behind_of
   behind_fixed f (tree.alt ts) p us same = ap (λ b. cond b (cat (back f.size.least) p) (alt_all (behinds us))) same
   behind_fixed f _ p us same = refl

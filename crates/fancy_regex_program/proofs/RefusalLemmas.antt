@@ -21,18 +21,18 @@ use Rattle.fancy_regex_tree.specs.Tree as tree
 use Rattle.fancy_regex_tree.specs.Tree.{Text, Tree, Trees, absent_tree, ast_tree, node_tree, tree_of, absent_tree_of, ast_tree_of, trees, no_trees, more_trees}
 use Rattle.fancy_regex_meaning.specs.Groups.{group_count}
 use Rattle.fancy_regex_meaning.specs.Sizes.{Size, size}
-use Rattle.fancy_regex_info.specs.Infos.{InfoTree, InfoTrees, known, info_of, described, described_row, facts_in}
-use Rattle.fancy_regex_sizes.specs.NodeCauses.{is_faulty}
-use Rattle.fancy_regex_sizes.specs.PartCauses.{is_steady, are_steady, is_unsteady, is_stopped, missing_in}
-use Rattle.fancy_regex_sizes.specs.Written.{in_look_around, some_below, some_of_row, some_written, written_calls, written_calls_in_row, IsWhole, called}
+use Rattle.fancy_regex_info.specs.Infos.{InfoTree, InfoTrees, known, info_of, expected_info, expected_infos, properties_in}
+use Rattle.fancy_regex_sizes.specs.NodeErrors.{is_invalid_node}
+use Rattle.fancy_regex_sizes.specs.UnsupportedParts.{is_fixed_length, are_fixed_length, is_variable_look_behind, is_unsupported, unsupported_feature_in}
+use Rattle.fancy_regex_sizes.specs.EmittedParts.{in_look_around, some_descendant, some_of_row, some_emitted, emitted_calls, emitted_calls_in_row, IsWhole, called}
 use Rattle.fancy_regex_sizes.proofs.InsideLemmas.{no_keep_around, no_absent_around}
-use Rattle.fancy_regex_sizes.proofs.PlaceLemmas.{part_found}
+use Rattle.fancy_regex_sizes.proofs.EmittedPartLemmas.{part_found}
 use Rattle.fancy_regex_info.specs.declared.error.CompileError.{CompileError}
 use Rattle.fancy_regex_info.specs.declared.error.CompileError.TheVariants.{InnerError, InvalidBackref, FeatureNotYetSupported, UnresolvedAstNode, Memory}
 use Rattle.fancy_regex_info.specs.declared.info.Info.{Info}
 use Rattle.fancy_regex_info.specs.declared.info.Info.TheViews.{out-Info}
 use Rattle.fancy_regex_program.specs.Known.{listed}
-use Rattle.fancy_regex_program.specs.Refusals.{Inside, Call, is_class, IsMissing, KeepsNone, NoneAbsent, IsNoLeaf, IsReason, Plan, Serves, Seat, tree_in, Stands, EachStands, RepeatStands, AbsentStands, PartsStand, TargetStands, looks_behind, IsTold}
+use Rattle.fancy_regex_program.specs.Refusals.{Inside, Call, is_class, IsMissing, KeepsNone, NoneAbsent, IsNoLeaf, IsReason, TreeContext, IsAnalyzed, ExpandedPart, tree_in, IsExpandedPart, AreExpandedParts, IsExpandedRepeat, IsExpandedAbsent, IsExpandedConditional, IsExpandedTarget, looks_behind, IsReasonWhere}
 use Rattle.fancy_regex_program.proofs.KindLemmas.{NoParts, faulty}
 use Rattle.fancy_regex_program.proofs.NodeLemmas.{info_known}
 use Rattle.fancy_regex_program.proofs.GroupLemmas.{listed_infos}
@@ -65,8 +65,8 @@ turned false fails = absurd (fails refl)
 wrong : (P : Type 0) → false ≡ true → P
 wrong P h = absurd (let never : false ≡ true = h in cc)
 
-unsteady_stops : (S : Tree → Size) (j : Inside) (t : Tree) → is_unsteady S t ≡ true → is_stopped S j t ≡ true
-unsteady_stops S j t bad = or_right (is_some (missing_in j t)) (is_unsteady S t) bad
+unsteady_stops : (S : Tree → Size) (j : Inside) (t : Tree) → is_variable_look_behind S t ≡ true → is_unsupported S j t ≡ true
+unsteady_stops S j t bad = or_right (is_some (unsupported_feature_in j t)) (is_variable_look_behind S t) bad
 
 not_above : (hi lo : ℕ) → (nat_lt hi lo ≡ true → ⊥) → lo ≤ hi
 not_above hi lo fails = (let is : nat_lt hi lo ≡ false = same_or_not (nat_lt hi lo) fails in grind (arith, nat_tests))
@@ -88,24 +88,24 @@ item_at xs n k x inside is =
     slice_get_read xs (length xs) k x refl (omega (arith, long)) (is ∙ get_or-take n xs k x (omega (arith, long)))
 
 -- what is said of an error, where it follows from what is known elsewhere
-pub told_by : {T : Type 0} (r : Result T CompileError) (u : Bool) (gs : List InfoTree) (A B : Plan → Type 0) →
-    ((plan : Plan) → Serves plan gs → B plan → A plan) → IfErr r (IsTold u gs A) → IfErr r (IsTold u gs B)
-told_by r u gs A B f h = IfErr-weaker r (IsTold u gs A) (IsTold u gs B) (λ e told plan s b. told plan s (f plan s b)) h
+pub told_by : {T : Type 0} (r : Result T CompileError) (u : Bool) (gs : List InfoTree) (A B : TreeContext → Type 0) →
+    ((tree_context : TreeContext) → IsAnalyzed tree_context gs → B tree_context → A tree_context) → IfErr r (IsReasonWhere u gs A) → IfErr r (IsReasonWhere u gs B)
+told_by r u gs A B f h = IfErr-weaker r (IsReasonWhere u gs A) (IsReasonWhere u gs B) (λ e told tree_context s b. told tree_context s (f tree_context s b)) h
 
 -- a tree that is no alternation is steady where it is always as long
 module _ (S : Tree → Size) where
   abbrev IsFixed : Tree → Type 0
-  IsFixed t = is_steady S t ≡ (S t).always
+  IsFixed t = is_fixed_length S t ≡ (S t).always
 
   absent_layer : (x : Absent-F Tree (ℕ → Tree) Tree) → IsFixed (absent_tree x)
-  unfolding is_steady are_steady
+  unfolding is_fixed_length are_fixed_length
   absent_layer (Absent-F.Repeater t) = refl
   absent_layer (Absent-F.Expression a t) = refl
   absent_layer (Absent-F.Stopper t) = refl
   absent_layer Absent-F.Clear = refl
 
   ast_layer : (x : AstNode-F Tree (ℕ → Tree) Tree) (position : ℕ) → IsFixed (ast_tree x position)
-  unfolding is_steady are_steady
+  unfolding is_fixed_length are_fixed_length
   ast_layer (AstNode-F.AstGroup name t) position = refl
   ast_layer (AstNode-F.AstNode::Backref goal casei level) position = refl
   ast_layer (AstNode-F.AstNode::SubroutineCall goal) position = refl
@@ -128,7 +128,7 @@ module _ (S : Tree → Size) where
   IsNoAlt e = (ts : Vec Expr Global) → e ≡ view.Alt ts → ⊥
 
   rolled_fixed : (x : Expr-F Absent AstNode Expr) → IsNoAlt (roll-Expr x) → IsFixed (tree_of (roll-Expr x))
-  unfolding is_steady are_steady
+  unfolding is_fixed_length are_fixed_length
   rolled_fixed (Expr-F.Alt ts) h = absurd (h ts (view.rolls-Alt ts))
   rolled_fixed (Expr-F.Absent a) h =
       subst IsFixed (sym (fold-roll-Expr Tree (ℕ → Tree) Tree absent_tree ast_tree node_tree (Expr-F.Absent a))) (absent_fixed a)
@@ -136,7 +136,7 @@ module _ (S : Tree → Size) where
       subst IsFixed (sym (fold-roll-Expr Tree (ℕ → Tree) Tree absent_tree ast_tree node_tree (Expr-F.AstNode a position))) (ast_fixed a position)
   rolled_fixed x h =
       let same = fold-roll-Expr Tree (ℕ → Tree) Tree absent_tree ast_tree node_tree x in
-      ap (is_steady S) same ∙ sym (ap (λ t. (S t).always) same)
+      ap (is_fixed_length S) same ∙ sym (ap (λ t. (S t).always) same)
 
   no_alt_fixed : (e : Expr) → IsNoAlt e → IsFixed (tree_of e)
   no_alt_fixed e h =
@@ -146,12 +146,12 @@ module _ (S : Tree → Size) where
 -- an absent operator that is no repeater is missing wherever it stands
 module _ (j : Inside) where
   abbrev IsGone : Absent → Type 0
-  IsGone a = is_some (missing_in j (absent_tree_of a)) ≡ true
+  IsGone a = is_some (unsupported_feature_in j (absent_tree_of a)) ≡ true
 
   gone_rolled : (x : Absent-F Absent AstNode Expr) → ((t : Box Expr Global) → roll-Absent x ≡ variants.Repeater t → ⊥) → IsGone (roll-Absent x)
   gone_rolled (Absent-F.Repeater t) other = absurd (other t (variants.rolls-Repeater t))
   gone_rolled x other =
-      subst (λ t. is_some (missing_in j t) ≡ true) (sym (fold-roll-Absent Tree (ℕ → Tree) Tree absent_tree ast_tree node_tree x)) refl
+      subst (λ t. is_some (unsupported_feature_in j t) ≡ true) (sym (fold-roll-Absent Tree (ℕ → Tree) Tree absent_tree ast_tree node_tree x)) refl
 
   absent_missing : (a : Absent) → ((t : Box Expr Global) → a ≡ variants.Repeater t → ⊥) → IsGone a
   absent_missing a other =
@@ -178,42 +178,42 @@ none_at i k none =
     ap (λ y. slice_get (listed (row_in y)) k) (info_known i) ∙ ap (λ ys. slice_get ys k) (listed_infos (map info_of xs))
     ∙ slice_get-map info_of xs k ∙ ap (option_map info_of) none
 
-module _ (plan : Plan) (keeps absents : Bool) where
+module _ (tree_context : TreeContext) (keeps absents : Bool) where
   abbrev D : ℕ → Tree → InfoTree
-  D = described plan.groups plan.reads
+  D = expected_info tree_context.groups tree_context.reads
 
   own_tree : (n : ℕ) (t : Tree) → tree_in (D n t) ≡ t
-  unfolding described
+  unfolding expected_info
   own_tree n (tree.concat ts) = refl
   own_tree n _ = refl
 
-  sit : (b : Bool) (i : Info) (t : Tree) → tree_of (out-Info i).expr.now ≡ t → Stands plan keeps absents b (info_of i) → Seat plan keeps absents b (info_of i) t
-  sit b i t is h = subst (Seat plan keeps absents b (info_of i)) (ap tree_in (info_known i) ∙ is) h
+  sit : (b : Bool) (i : Info) (t : Tree) → tree_of (out-Info i).expr.now ≡ t → IsExpandedPart tree_context keeps absents b (info_of i) → ExpandedPart tree_context keeps absents b (info_of i) t
+  sit b i t is h = subst (ExpandedPart tree_context keeps absents b (info_of i)) (ap tree_in (info_known i) ∙ is) h
 
-  stand : (k a b : Bool) (x : InfoTree) (n : ℕ) (t : Tree) → x ≡ D n t → Seat plan k a b x t → Stands plan k a b x
-  stand k a b x n t is h = subst (Seat plan k a b x) (sym (ap tree_in is ∙ own_tree n t)) h
+  stand : (k a b : Bool) (x : InfoTree) (n : ℕ) (t : Tree) → x ≡ D n t → ExpandedPart tree_context k a b x t → IsExpandedPart tree_context k a b x
+  stand k a b x n t is h = subst (ExpandedPart tree_context k a b x) (sym (ap tree_in is ∙ own_tree n t)) h
 
   -- what holds of a node that stands in a clear tree
-  made : (gs : List InfoTree) (b : Bool) (x : InfoTree) (t : Tree) → Serves plan gs → (h : Seat plan keeps absents b x t) → is_stopped (size plan.groups) h.inside t ≡ true → ⊥
+  made : (gs : List InfoTree) (b : Bool) (x : InfoTree) (t : Tree) → IsAnalyzed tree_context gs → (h : ExpandedPart tree_context keeps absents b x t) → is_unsupported (size tree_context.groups) h.inside t ≡ true → ⊥
   made gs b x t s h bad =
-      let test = is_stopped (size plan.groups) in
-      s.parts (h.parts test (or_left (test h.inside t) (some_below test h.inside t) bad))
+      let test = is_unsupported (size tree_context.groups) in
+      s.parts (h.parts test (or_left (test h.inside t) (some_descendant test h.inside t) bad))
 
-  sound : (gs : List InfoTree) (b : Bool) (x : InfoTree) (t : Tree) → Serves plan gs → Seat plan keeps absents b x t → is_faulty (length plan.groups) t ≡ true → ⊥
+  sound : (gs : List InfoTree) (b : Bool) (x : InfoTree) (t : Tree) → IsAnalyzed tree_context gs → ExpandedPart tree_context keeps absents b x t → is_invalid_node (length tree_context.groups) t ≡ true → ⊥
   sound gs b x t s h bad =
-      let test = λ (_ : Inside). is_faulty (length plan.groups) in
-      s.nodes (h.parts test (or_left (test h.inside t) (some_below test h.inside t) bad))
+      let test = λ (_ : Inside). is_invalid_node (length tree_context.groups) in
+      s.nodes (h.parts test (or_left (test h.inside t) (some_descendant test h.inside t) bad))
 
-  pub in_front : (b : Bool) (x : InfoTree) → Stands plan keeps absents b x → Stands plan keeps absents false x
+  pub in_front : (b : Bool) (x : InfoTree) → IsExpandedPart tree_context keeps absents b x → IsExpandedPart tree_context keeps absents false x
   in_front b x h = record { inside = h.inside; enclosed = h.enclosed; excluded = h.excluded; first = h.first; is = h.is; parts = h.parts; calls = h.calls; steady = wrong _ }
 
   -- a child at that place, by how it is written out with its node
   below : (k2 a2 b b2 : Bool) (i x : Info) (k : ℕ) (t u : Tree) (o : Inside → Inside) (m : ℕ → ℕ) → ((j : Inside) → (keeps ≡ false → KeepsNone j) → k2 ≡ false → KeepsNone (o j)) →
       ((j : Inside) → (absents ≡ false → NoneAbsent j) → a2 ≡ false → NoneAbsent (o j)) → slice_get (out-Info i).children.items k ≡ Some x →
       ((n : ℕ) → slice_get (listed (row_in (D n t))) k ≡ Some (D (m n) u)) →
-      ((test : Inside → Tree → Bool) (j : Inside) → some_written test (o j) u ≡ true → some_written test j t ≡ true) →
-      ((j : Inside) (call : Call) → Contains (written_calls (o j) u) call → Contains (written_calls j t) call) →
-      (h : Seat plan keeps absents b (info_of i) t) → (b2 ≡ true → is_steady (size plan.groups) u ≡ true) → Stands plan k2 a2 b2 (info_of x)
+      ((test : Inside → Tree → Bool) (j : Inside) → some_emitted test (o j) u ≡ true → some_emitted test j t ≡ true) →
+      ((j : Inside) (call : Call) → Contains (emitted_calls (o j) u) call → Contains (emitted_calls j t) call) →
+      (h : ExpandedPart tree_context keeps absents b (info_of i) t) → (b2 ≡ true → is_fixed_length (size tree_context.groups) u ≡ true) → IsExpandedPart tree_context k2 a2 b2 (info_of x)
   below k2 a2 b b2 i x k t u o m keep absent at kid part calling h steady =
       let found = sym (kid_at i x k at) ∙ ap (λ y. slice_get (listed (row_in y)) k) h.is ∙ kid h.first in
       let is : info_of x ≡ D (m h.first) u = ap (λ y. unwrap_or y (info_of x)) found in
@@ -230,60 +230,60 @@ module _ (plan : Plan) (keeps absents : Bool) where
 
   -- a child that is there
   lacks : (i : Info) (k : ℕ) (t u : Tree) (m : ℕ → ℕ) → ((n : ℕ) → slice_get (listed (row_in (D n t))) k ≡ Some (D (m n) u)) →
-      tree_of (out-Info i).expr.now ≡ t → Stands plan keeps absents false (info_of i) → slice_get (out-Info i).children.items k ≡ None → ⊥
+      tree_of (out-Info i).expr.now ≡ t → IsExpandedPart tree_context keeps absents false (info_of i) → slice_get (out-Info i).children.items k ≡ None → ⊥
   lacks i k t u m kid is h none =
       let seat = sit false i t is h in
       none-some _ (sym (none_at i k none) ∙ ap (λ y. slice_get (listed (row_in y)) k) seat.is ∙ kid seat.first)
 
-  pub lacks_group : (i : Info) (t : Box Expr Global) → (out-Info i).expr.now ≡ view.Group t → Stands plan keeps absents false (info_of i) →
+  pub lacks_group : (i : Info) (t : Box Expr Global) → (out-Info i).expr.now ≡ view.Group t → IsExpandedPart tree_context keeps absents false (info_of i) →
       slice_get (out-Info i).children.items 0 ≡ None → ⊥
-  unfolding described
+  unfolding expected_info
   lacks_group i t is h none = lacks i 0 (tree.group (tree_of t.value)) (tree_of t.value) (λ n. n + 1) (λ n. refl) (ap tree_of is ∙ tree_group t) h none
 
-  pub lacks_atomic : (i : Info) (t : Box Expr Global) → (out-Info i).expr.now ≡ view.AtomicGroup t → Stands plan keeps absents false (info_of i) →
+  pub lacks_atomic : (i : Info) (t : Box Expr Global) → (out-Info i).expr.now ≡ view.AtomicGroup t → IsExpandedPart tree_context keeps absents false (info_of i) →
       slice_get (out-Info i).children.items 0 ≡ None → ⊥
-  unfolding described
+  unfolding expected_info
   lacks_atomic i t is h none = lacks i 0 (tree.atomic_group (tree_of t.value)) (tree_of t.value) (λ n. n) (λ n. refl) (ap tree_of is ∙ tree_atomic t) h none
 
-  pub lacks_look : (i : Info) (t : Box Expr Global) (how : LookAround) → (out-Info i).expr.now ≡ view.LookAround t how → Stands plan keeps absents false (info_of i) →
+  pub lacks_look : (i : Info) (t : Box Expr Global) (how : LookAround) → (out-Info i).expr.now ≡ view.LookAround t how → IsExpandedPart tree_context keeps absents false (info_of i) →
       slice_get (out-Info i).children.items 0 ≡ None → ⊥
-  unfolding described
+  unfolding expected_info
   lacks_look i t how is h none = lacks i 0 (tree.look_around (tree_of t.value) how) (tree_of t.value) (λ n. n) (λ n. refl) (ap tree_of is ∙ tree_look_around t how) h none
 
   pub lacks_repeat : (i : Info) (t : Box Expr Global) (lo hi : ℕ) (greedy : Bool) → (out-Info i).expr.now ≡ view.Repeat t lo hi greedy →
-      Stands plan keeps absents false (info_of i) → slice_get (out-Info i).children.items 0 ≡ None → ⊥
-  unfolding described
+      IsExpandedPart tree_context keeps absents false (info_of i) → slice_get (out-Info i).children.items 0 ≡ None → ⊥
+  unfolding expected_info
   lacks_repeat i t lo hi greedy is h none =
       lacks i 0 (tree.repeat (tree_of t.value) lo hi greedy) (tree_of t.value) (λ n. n) (λ n. refl) (ap tree_of is ∙ tree_repeat t lo hi greedy) h none
 
   pub lacks_absent : (i : Info) (a : Absent) (t : Box Expr Global) → (out-Info i).expr.now ≡ view.Absent a → a ≡ variants.Repeater t →
-      Stands plan keeps absents false (info_of i) → slice_get (out-Info i).children.items 0 ≡ None → ⊥
-  unfolding described
+      IsExpandedPart tree_context keeps absents false (info_of i) → slice_get (out-Info i).children.items 0 ≡ None → ⊥
+  unfolding expected_info
   lacks_absent i a t is repeats h none =
       lacks i 0 (tree.absent_repeater (tree_of t.value)) (tree_of t.value) (λ n. n) (λ n. refl)
       (ap tree_of (is ∙ ap view.Absent repeats) ∙ tree_absent (variants.Repeater t) ∙ tree_repeater t) h none
 
-  pub lacks_condition : (i : Info) (c a b : Box Expr Global) → (out-Info i).expr.now ≡ view.Conditional c a b → Stands plan keeps absents false (info_of i) →
+  pub lacks_condition : (i : Info) (c a b : Box Expr Global) → (out-Info i).expr.now ≡ view.Conditional c a b → IsExpandedPart tree_context keeps absents false (info_of i) →
       slice_get (out-Info i).children.items 0 ≡ None → ⊥
-  unfolding described
+  unfolding expected_info
   lacks_condition i c a b is h none =
       let p = tree_of c.value in
       let q = tree_of a.value in
       let r = tree_of b.value in
       lacks i 0 (tree.conditional p q r) p (λ n. n) (λ n. refl) (ap tree_of is ∙ tree_conditional c a b) h none
 
-  pub lacks_yes : (i : Info) (c a b : Box Expr Global) → (out-Info i).expr.now ≡ view.Conditional c a b → Stands plan keeps absents false (info_of i) →
+  pub lacks_yes : (i : Info) (c a b : Box Expr Global) → (out-Info i).expr.now ≡ view.Conditional c a b → IsExpandedPart tree_context keeps absents false (info_of i) →
       slice_get (out-Info i).children.items 1 ≡ None → ⊥
-  unfolding described
+  unfolding expected_info
   lacks_yes i c a b is h none =
       let p = tree_of c.value in
       let q = tree_of a.value in
       let r = tree_of b.value in
       lacks i 1 (tree.conditional p q r) q (λ n. n + group_count p) (λ n. refl) (ap tree_of is ∙ tree_conditional c a b) h none
 
-  pub lacks_no : (i : Info) (c a b : Box Expr Global) → (out-Info i).expr.now ≡ view.Conditional c a b → Stands plan keeps absents false (info_of i) →
+  pub lacks_no : (i : Info) (c a b : Box Expr Global) → (out-Info i).expr.now ≡ view.Conditional c a b → IsExpandedPart tree_context keeps absents false (info_of i) →
       slice_get (out-Info i).children.items 2 ≡ None → ⊥
-  unfolding described
+  unfolding expected_info
   lacks_no i c a b is h none =
       let p = tree_of c.value in
       let q = tree_of a.value in
@@ -291,60 +291,60 @@ module _ (plan : Plan) (keeps absents : Bool) where
       lacks i 2 (tree.conditional p q r) r (λ n. n + group_count p + group_count q) (λ n. refl) (ap tree_of is ∙ tree_conditional c a b) h none
 
   pub kid_group : (i x : Info) (t : Box Expr Global) → (out-Info i).expr.now ≡ view.Group t → slice_get (out-Info i).children.items 0 ≡ Some x →
-      Stands plan keeps absents false (info_of i) → Stands plan keeps absents false (info_of x)
-  unfolding described some_below written_calls
+      IsExpandedPart tree_context keeps absents false (info_of i) → IsExpandedPart tree_context keeps absents false (info_of x)
+  unfolding expected_info some_descendant emitted_calls
   kid_group i x t is at h =
       let u = tree_of t.value in
       below keeps absents false false i x 0 (tree.group u) u (λ j. j) (λ n. n + 1) (λ j h. h) (λ j h. h) at (λ n. refl)
-      (λ test j some. or_right (test j (tree.group u)) (some_written test j u) some) (λ j call has. has)
+      (λ test j some. or_right (test j (tree.group u)) (some_emitted test j u) some) (λ j call has. has)
       (sit false i (tree.group u) (ap tree_of is ∙ tree_group t) h) (wrong _)
 
   pub kid_atomic : (i x : Info) (t : Box Expr Global) → (out-Info i).expr.now ≡ view.AtomicGroup t → slice_get (out-Info i).children.items 0 ≡ Some x →
-      Stands plan keeps absents false (info_of i) → Stands plan keeps absents false (info_of x)
-  unfolding described some_below written_calls
+      IsExpandedPart tree_context keeps absents false (info_of i) → IsExpandedPart tree_context keeps absents false (info_of x)
+  unfolding expected_info some_descendant emitted_calls
   kid_atomic i x t is at h =
       let u = tree_of t.value in
       below keeps absents false false i x 0 (tree.atomic_group u) u (λ j. j) (λ n. n) (λ j h. h) (λ j h. h) at (λ n. refl)
-      (λ test j some. or_right (test j (tree.atomic_group u)) (some_written test j u) some) (λ j call has. has)
+      (λ test j some. or_right (test j (tree.atomic_group u)) (some_emitted test j u) some) (λ j call has. has)
       (sit false i (tree.atomic_group u) (ap tree_of is ∙ tree_atomic t) h) (wrong _)
 
   pub kid_absent : (gs : List InfoTree) (i x : Info) (a : Absent) (t : Box Expr Global) → (out-Info i).expr.now ≡ view.Absent a → a ≡ variants.Repeater t →
-      slice_get (out-Info i).children.items 0 ≡ Some x → Serves plan gs → Stands plan keeps absents false (info_of i) → AbsentStands plan absents (info_of x)
-  unfolding described some_below written_calls
+      slice_get (out-Info i).children.items 0 ≡ Some x → IsAnalyzed tree_context gs → IsExpandedPart tree_context keeps absents false (info_of i) → IsExpandedAbsent tree_context absents (info_of x)
+  unfolding expected_info some_descendant emitted_calls
   kid_absent gs i x a t is repeats at s h =
       let u = tree_of t.value in
       let root = tree.absent_repeater u in
       let seat = sit false i root (ap tree_of (is ∙ ap view.Absent repeats) ∙ tree_absent (variants.Repeater t) ∙ tree_repeater t) h in
-      let S = size plan.groups in
+      let S = size tree_context.groups in
       record {
         fits = λ none. made gs false (info_of i) root s seat
-            (or_left (is_some (missing_in seat.inside root)) (is_unsteady S root) (seat.excluded none u));
+            (or_left (is_some (unsupported_feature_in seat.inside root)) (is_variable_look_behind S root) (seat.excluded none u));
         child = below false false false false i x 0 root u (λ j. _) (λ n. n) (λ j _ _. refl) (λ j _ _ _. refl) at (λ n. refl)
-            (λ test j some. or_right (test j root) (some_written test _ u) some) (λ j call has. has) seat (wrong _);
+            (λ test j some. or_right (test j root) (some_emitted test _ u) some) (λ j call has. has) seat (wrong _);
       }
 
-  steady_of : (how : LookAround) (u : Tree) → (is_unsteady (size plan.groups) (tree.look_around u how) ≡ true → ⊥) →
-      looks_behind how ≡ true → is_steady (size plan.groups) u ≡ true
+  steady_of : (how : LookAround) (u : Tree) → (is_variable_look_behind (size tree_context.groups) (tree.look_around u how) ≡ true → ⊥) →
+      looks_behind how ≡ true → is_fixed_length (size tree_context.groups) u ≡ true
   steady_of LookAhead u ok behind = wrong _ behind
   steady_of LookAheadNeg u ok behind = wrong _ behind
-  steady_of LookBehind u ok behind = turned (is_steady (size plan.groups) u) ok
-  steady_of LookBehindNeg u ok behind = turned (is_steady (size plan.groups) u) ok
+  steady_of LookBehind u ok behind = turned (is_fixed_length (size tree_context.groups) u) ok
+  steady_of LookBehindNeg u ok behind = turned (is_fixed_length (size tree_context.groups) u) ok
 
   pub kid_look : (gs : List InfoTree) (i x : Info) (t : Box Expr Global) (how : LookAround) → (out-Info i).expr.now ≡ view.LookAround t how →
-      slice_get (out-Info i).children.items 0 ≡ Some x → Serves plan gs → Stands plan keeps absents false (info_of i) → Stands plan false absents (looks_behind how) (info_of x)
-  unfolding described some_below written_calls
+      slice_get (out-Info i).children.items 0 ≡ Some x → IsAnalyzed tree_context gs → IsExpandedPart tree_context keeps absents false (info_of i) → IsExpandedPart tree_context false absents (looks_behind how) (info_of x)
+  unfolding expected_info some_descendant emitted_calls
   kid_look gs i x t how is at s h =
       let u = tree_of t.value in
       let root = tree.look_around u how in
       let seat = sit false i root (ap tree_of is ∙ tree_look_around t how) h in
-      let S = size plan.groups in
+      let S = size tree_context.groups in
       below false absents false (looks_behind how) i x 0 root u in_look_around (λ n. n) (λ j _ _. no_keep_around j) (λ j h e t. no_absent_around j t (h e t)) at (λ n. refl)
-      (λ test j some. or_right (test j root) (some_written test (in_look_around j) u) some) (λ j call has. has) seat
+      (λ test j some. or_right (test j root) (some_emitted test (in_look_around j) u) some) (λ j call has. has) seat
       (steady_of how u (λ bad. made gs false (info_of i) root s seat (unsteady_stops S seat.inside root bad)))
 
   pub kid_repeat : (gs : List InfoTree) (i x : Info) (t : Box Expr Global) (lo hi : ℕ) (greedy : Bool) → (out-Info i).expr.now ≡ view.Repeat t lo hi greedy →
-      slice_get (out-Info i).children.items 0 ≡ Some x → Serves plan gs → Stands plan keeps absents false (info_of i) → RepeatStands plan keeps absents lo hi (info_of x)
-  unfolding described some_below written_calls
+      slice_get (out-Info i).children.items 0 ≡ Some x → IsAnalyzed tree_context gs → IsExpandedPart tree_context keeps absents false (info_of i) → IsExpandedRepeat tree_context keeps absents lo hi (info_of x)
+  unfolding expected_info some_descendant emitted_calls
   kid_repeat gs i x t lo hi greedy is at s h =
       let u = tree_of t.value in
       let root = tree.repeat u lo hi greedy in
@@ -354,14 +354,14 @@ module _ (plan : Plan) (keeps absents : Bool) where
         child = λ some.
             let runs : (hi == 0) ≡ false = same_or_not (hi == 0) (λ z. some (is_zero hi z)) in
             below keeps absents false false i x 0 root u (λ j. j) (λ n. n) (λ j h. h) (λ j h. h) at (λ n. refl)
-            (λ test j h2. or_right (test j root) _ (ap (λ b. cond b false (some_written test j u)) runs ∙ h2))
-            (λ j call has. subst (λ b. Contains (cond b [] (written_calls j u)) call) (sym runs) has) seat (wrong _);
+            (λ test j h2. or_right (test j root) _ (ap (λ b. cond b false (some_emitted test j u)) runs ∙ h2))
+            (λ j call has. subst (λ b. Contains (cond b [] (emitted_calls j u)) call) (sym runs) has) seat (wrong _);
       }
 
   pub kids_conditional : (i x y z : Info) (c a b : Box Expr Global) → (out-Info i).expr.now ≡ view.Conditional c a b → slice_get (out-Info i).children.items 0 ≡ Some x →
-      slice_get (out-Info i).children.items 1 ≡ Some y → slice_get (out-Info i).children.items 2 ≡ Some z → Stands plan keeps absents false (info_of i) →
-      PartsStand plan keeps absents (info_of x) (info_of y) (info_of z)
-  unfolding described some_below written_calls
+      slice_get (out-Info i).children.items 1 ≡ Some y → slice_get (out-Info i).children.items 2 ≡ Some z → IsExpandedPart tree_context keeps absents false (info_of i) →
+      IsExpandedConditional tree_context keeps absents (info_of x) (info_of y) (info_of z)
+  unfolding expected_info some_descendant emitted_calls
   kids_conditional i x y z c a b is one two three h =
       let p = tree_of c.value in
       let q = tree_of a.value in
@@ -370,18 +370,18 @@ module _ (plan : Plan) (keeps absents : Bool) where
       let seat = sit false i root (ap tree_of is ∙ tree_conditional c a b) h in
       record {
         condition = below keeps absents false false i x 0 root p (λ j. j) (λ n. n) (λ j h. h) (λ j h. h) one (λ n. refl)
-            (λ test j some. or_right (test j root) _ (or_left (some_written test j p) (some_written test j q || some_written test j r) some))
-            (λ j call has. Contains-append_left (written_calls j p) (written_calls j q ++ written_calls j r) call has) seat (wrong _);
+            (λ test j some. or_right (test j root) _ (or_left (some_emitted test j p) (some_emitted test j q || some_emitted test j r) some))
+            (λ j call has. Contains-append_left (emitted_calls j p) (emitted_calls j q ++ emitted_calls j r) call has) seat (wrong _);
         yes = below keeps absents false false i y 1 root q (λ j. j) (λ n. n + group_count p) (λ j h. h) (λ j h. h) two (λ n. refl)
-            (λ test j some. or_right (test j root) _ (or_right (some_written test j p) (some_written test j q || some_written test j r)
-            (or_left (some_written test j q) (some_written test j r) some)))
-            (λ j call has. Contains-append_right (written_calls j p) (written_calls j q ++ written_calls j r) call
-            (Contains-append_left (written_calls j q) (written_calls j r) call has)) seat (wrong _);
+            (λ test j some. or_right (test j root) _ (or_right (some_emitted test j p) (some_emitted test j q || some_emitted test j r)
+            (or_left (some_emitted test j q) (some_emitted test j r) some)))
+            (λ j call has. Contains-append_right (emitted_calls j p) (emitted_calls j q ++ emitted_calls j r) call
+            (Contains-append_left (emitted_calls j q) (emitted_calls j r) call has)) seat (wrong _);
         no = below keeps absents false false i z 2 root r (λ j. j) (λ n. n + group_count p + group_count q) (λ j h. h) (λ j h. h) three (λ n. refl)
-            (λ test j some. or_right (test j root) _ (or_right (some_written test j p) (some_written test j q || some_written test j r)
-            (or_right (some_written test j q) (some_written test j r) some)))
-            (λ j call has. Contains-append_right (written_calls j p) (written_calls j q ++ written_calls j r) call
-            (Contains-append_right (written_calls j q) (written_calls j r) call has)) seat (wrong _);
+            (λ test j some. or_right (test j root) _ (or_right (some_emitted test j p) (some_emitted test j q || some_emitted test j r)
+            (or_right (some_emitted test j q) (some_emitted test j r) some)))
+            (λ j call has. Contains-append_right (emitted_calls j p) (emitted_calls j q ++ emitted_calls j r) call
+            (Contains-append_right (emitted_calls j q) (emitted_calls j r) call has)) seat (wrong _);
       }
 
   -- the tree at a place of a row, and what passes from it to the row
@@ -389,20 +389,20 @@ module _ (plan : Plan) (keeps absents : Bool) where
     u : Tree
     first : ℕ
     is : x ≡ D first u
-    part : (test : Inside → Tree → Bool) (j : Inside) → some_written test j u ≡ true → some_of_row test j ts ≡ true
-    calling : (j : Inside) (call : Call) → Contains (written_calls j u) call → Contains (written_calls_in_row j ts) call
-    steady : are_steady (size plan.groups) ts ≡ true → is_steady (size plan.groups) u ≡ true
+    part : (test : Inside → Tree → Bool) (j : Inside) → some_emitted test j u ≡ true → some_of_row test j ts ≡ true
+    calling : (j : Inside) (call : Call) → Contains (emitted_calls j u) call → Contains (emitted_calls_in_row j ts) call
+    steady : are_fixed_length (size tree_context.groups) ts ≡ true → is_fixed_length (size tree_context.groups) u ≡ true
 
-  row_kid : (n : ℕ) (ts : Trees) (k : ℕ) (x : InfoTree) → slice_get (listed (described_row plan.groups plan.reads n ts)) k ≡ Some x → RowKid ts x
-  unfolding described described_row some_below some_of_row written_calls written_calls_in_row is_steady are_steady
+  row_kid : (n : ℕ) (ts : Trees) (k : ℕ) (x : InfoTree) → slice_get (listed (expected_infos tree_context.groups tree_context.reads n ts)) k ≡ Some x → RowKid ts x
+  unfolding expected_info expected_infos some_descendant some_of_row emitted_calls emitted_calls_in_row is_fixed_length are_fixed_length
   row_kid n no_trees k x at = absurd (none-some _ at)
   row_kid n (more_trees t ts) zero x at = record {
     u = t;
     first = n;
     is = sym (ap (λ o. unwrap_or o (D n t)) at);
-    part = λ test j some. or_left (some_written test j t) (some_of_row test j ts) some;
-    calling = λ j call has. Contains-append_left (written_calls j t) (written_calls_in_row j ts) call has;
-    steady = λ all. and_first (is_steady (size plan.groups) t) (are_steady (size plan.groups) ts) all;
+    part = λ test j some. or_left (some_emitted test j t) (some_of_row test j ts) some;
+    calling = λ j call has. Contains-append_left (emitted_calls j t) (emitted_calls_in_row j ts) call has;
+    steady = λ all. and_first (is_fixed_length (size tree_context.groups) t) (are_fixed_length (size tree_context.groups) ts) all;
   }
   row_kid n (more_trees t ts) (suc k) x at =
       let rest = row_kid (n + group_count t) ts k x at in
@@ -410,16 +410,16 @@ module _ (plan : Plan) (keeps absents : Bool) where
         u = rest.u;
         first = rest.first;
         is = rest.is;
-        part = λ test j some. or_right (some_written test j t) (some_of_row test j ts) (rest.part test j some);
-        calling = λ j call has. Contains-append_right (written_calls j t) (written_calls_in_row j ts) call (rest.calling j call has);
-        steady = λ all. rest.steady (and_second (is_steady (size plan.groups) t) (are_steady (size plan.groups) ts) all);
+        part = λ test j some. or_right (some_emitted test j t) (some_of_row test j ts) (rest.part test j some);
+        calling = λ j call has. Contains-append_right (emitted_calls j t) (emitted_calls_in_row j ts) call (rest.calling j call has);
+        steady = λ all. rest.steady (and_second (is_fixed_length (size tree_context.groups) t) (are_fixed_length (size tree_context.groups) ts) all);
       }
 
   -- each child of a row, by how it is written out with its node
-  in_row : (b b2 : Bool) (i : Info) (t : Tree) (ts : Trees) → ((n : ℕ) → row_in (D n t) ≡ described_row plan.groups plan.reads n ts) →
-      ((test : Inside → Tree → Bool) (j : Inside) → some_of_row test j ts ≡ true → some_below test j t ≡ true) →
-      ((j : Inside) (call : Call) → Contains (written_calls_in_row j ts) call → Contains (written_calls j t) call) →
-      Seat plan keeps absents b (info_of i) t → (b2 ≡ true → are_steady (size plan.groups) ts ≡ true) → EachStands plan keeps absents b2 (out-Info i).children.items
+  in_row : (b b2 : Bool) (i : Info) (t : Tree) (ts : Trees) → ((n : ℕ) → row_in (D n t) ≡ expected_infos tree_context.groups tree_context.reads n ts) →
+      ((test : Inside → Tree → Bool) (j : Inside) → some_of_row test j ts ≡ true → some_descendant test j t ≡ true) →
+      ((j : Inside) (call : Call) → Contains (emitted_calls_in_row j ts) call → Contains (emitted_calls j t) call) →
+      ExpandedPart tree_context keeps absents b (info_of i) t → (b2 ≡ true → are_fixed_length (size tree_context.groups) ts ≡ true) → AreExpandedParts tree_context keeps absents b2 (out-Info i).children.items
   in_row b b2 i t ts row part calling h steady k x at =
       let kid = row_kid h.first ts k (info_of x)
       (sym (ap (λ y. slice_get (listed y) k) (ap row_in h.is ∙ row h.first)) ∙ kid_at i x k at) in
@@ -429,58 +429,58 @@ module _ (plan : Plan) (keeps absents : Bool) where
         excluded = h.excluded;
         first = kid.first;
         is = kid.is;
-        parts = λ test some. h.parts test (or_right (test h.inside t) (some_below test h.inside t) (part test h.inside (kid.part test h.inside some)));
+        parts = λ test some. h.parts test (or_right (test h.inside t) (some_descendant test h.inside t) (part test h.inside (kid.part test h.inside some)));
         calls = λ call body has there. h.calls call body (calling h.inside call (kid.calling h.inside call has)) there;
         steady = λ behind. kid.steady (steady behind);
       })
 
-  pub kids_concat : (i : Info) (ts : Vec Expr Global) → (out-Info i).expr.now ≡ view.Concat ts → Stands plan keeps absents false (info_of i) → EachStands plan keeps absents false (out-Info i).children.items
-  unfolding described some_below written_calls
+  pub kids_concat : (i : Info) (ts : Vec Expr Global) → (out-Info i).expr.now ≡ view.Concat ts → IsExpandedPart tree_context keeps absents false (info_of i) → AreExpandedParts tree_context keeps absents false (out-Info i).children.items
+  unfolding expected_info some_descendant emitted_calls
   kids_concat i ts is h =
       let us = trees (map tree_of ts.items) in
       in_row false false i (tree.concat us) us (λ n. refl) (λ test j some. some) (λ j call has. has)
       (sit false i (tree.concat us) (ap tree_of is ∙ tree_concat ts) h) (wrong _)
 
-  pub kids_alt : (i : Info) (ts : Vec Expr Global) → (out-Info i).expr.now ≡ view.Alt ts → Stands plan keeps absents false (info_of i) → EachStands plan keeps absents false (out-Info i).children.items
-  unfolding described some_below written_calls
+  pub kids_alt : (i : Info) (ts : Vec Expr Global) → (out-Info i).expr.now ≡ view.Alt ts → IsExpandedPart tree_context keeps absents false (info_of i) → AreExpandedParts tree_context keeps absents false (out-Info i).children.items
+  unfolding expected_info some_descendant emitted_calls
   kids_alt i ts is h =
       let us = trees (map tree_of ts.items) in
       in_row false false i (tree.alt us) us (λ n. refl) (λ test j some. some) (λ j call has. has)
       (sit false i (tree.alt us) (ap tree_of is ∙ tree_alt ts) h) (wrong _)
 
-  own_size : (n : ℕ) (t : Tree) → (facts_in (D n t)).size ≡ size plan.groups t
-  unfolding described
+  own_size : (n : ℕ) (t : Tree) → (properties_in (D n t)).size ≡ size tree_context.groups t
+  unfolding expected_info
   own_size n (tree.concat ts) = refl
   own_size n _ = refl
 
-  always_is : (i : Info) (b : Bool) (t : Tree) → Seat plan keeps absents b (info_of i) t → (size plan.groups t).always ≡ (out-Info i).const_size
-  always_is i b t h = ap (λ z. z.always) (sym (own_size h.first t)) ∙ ap (λ y. (facts_in y).size.always) (sym h.is) ∙ ap (λ y. (facts_in y).size.always) (info_known i)
+  always_is : (i : Info) (b : Bool) (t : Tree) → ExpandedPart tree_context keeps absents b (info_of i) t → (size tree_context.groups t).always ≡ (out-Info i).const_size
+  always_is i b t h = ap (λ z. z.always) (sym (own_size h.first t)) ∙ ap (λ y. (properties_in y).size.always) (sym h.is) ∙ ap (λ y. (properties_in y).size.always) (info_known i)
 
-  pub kids_behind : (i : Info) (ts : Vec Expr Global) → (out-Info i).const_size ≡ false → (out-Info i).expr.now ≡ view.Alt ts → Stands plan keeps absents true (info_of i) →
-      EachStands plan keeps absents true (out-Info i).children.items
-  unfolding described some_below written_calls is_steady are_steady
+  pub kids_behind : (i : Info) (ts : Vec Expr Global) → (out-Info i).const_size ≡ false → (out-Info i).expr.now ≡ view.Alt ts → IsExpandedPart tree_context keeps absents true (info_of i) →
+      AreExpandedParts tree_context keeps absents true (out-Info i).children.items
+  unfolding expected_info some_descendant emitted_calls is_fixed_length are_fixed_length
   kids_behind i ts differs is h =
       let us = trees (map tree_of ts.items) in
       let seat = sit true i (tree.alt us) (ap tree_of is ∙ tree_alt ts) h in
-      let all = ap (λ b. b || are_steady (size plan.groups) us) (sym (always_is i true (tree.alt us) seat ∙ differs)) ∙ seat.steady refl in
+      let all = ap (λ b. b || are_fixed_length (size tree_context.groups) us) (sym (always_is i true (tree.alt us) seat ∙ differs)) ∙ seat.steady refl in
       in_row true true i (tree.alt us) us (λ n. refl) (λ test j some. some) (λ j call has. has) seat (λ _. all)
 
   -- behind a place, what is not always as long is an alternation
-  pub has_branches : (i : Info) → (out-Info i).const_size ≡ false → IsNoAlt (size plan.groups) (out-Info i).expr.now → Stands plan keeps absents true (info_of i) → ⊥
+  pub has_branches : (i : Info) → (out-Info i).const_size ≡ false → IsNoAlt (size tree_context.groups) (out-Info i).expr.now → IsExpandedPart tree_context keeps absents true (info_of i) → ⊥
   has_branches i differs other h =
       let t = tree_of (out-Info i).expr.now in
       let seat = sit true i t refl h in
-      wrong ⊥ (sym differs ∙ sym (always_is i true t seat) ∙ sym (no_alt_fixed (size plan.groups) (out-Info i).expr.now other) ∙ seat.steady refl)
+      wrong ⊥ (sym differs ∙ sym (always_is i true t seat) ∙ sym (no_alt_fixed (size tree_context.groups) (out-Info i).expr.now other) ∙ seat.steady refl)
 
-  pub target_stands : (gs : List InfoTree) (i : Info) (k : ℕ) → tree_of (out-Info i).expr.now ≡ tree.subroutine_call k → Serves plan gs → Stands plan keeps absents false (info_of i) →
-      TargetStands plan keeps absents gs k
-  unfolding written_calls
+  pub target_stands : (gs : List InfoTree) (i : Info) (k : ℕ) → tree_of (out-Info i).expr.now ≡ tree.subroutine_call k → IsAnalyzed tree_context gs → IsExpandedPart tree_context keeps absents false (info_of i) →
+      IsExpandedTarget tree_context keeps absents gs k
+  unfolding emitted_calls
   target_stands gs i k is s h =
       let root = tree.subroutine_call k in
       let seat = sit false i root is h in
-      let known = turned (nat_lt k (length plan.groups)) (λ bad. sound gs false (info_of i) root s seat bad) in
+      let known = turned (nat_lt k (length tree_context.groups)) (λ bad. sound gs false (info_of i) root s seat bad) in
       record {
-        is_there = (let there : k < length plan.groups = grind (arith, nat_tests) in omega (arith, there, s.count));
+        is_there = (let there : k < length tree_context.groups = grind (arith, nat_tests) in omega (arith, there, s.count));
         body = λ x at.
             let b = s.bodies k x at in
             let whole = seat.calls _ b.body (one_only _) b.found in
@@ -490,54 +490,54 @@ module _ (plan : Plan) (keeps absents : Bool) where
               excluded = seat.excluded;
               first = b.first;
               is = b.is;
-              parts = λ test some. part_found plan.groups plan.root test _ b.body whole some;
+              parts = λ test some. part_found tree_context.groups tree_context.root test _ b.body whole some;
               calls = λ call body has found. called _ b.body body call whole has found;
               steady = wrong _;
             });
       }
 
   -- a node without children
-  pub leaf_reason : (u : Bool) (gs : List InfoTree) (i : Info) (m : ℕ) (e : CompileError) → m ≡ length gs → NoParts (out-Info i).expr.now → Serves plan gs →
-      Stands plan keeps absents false (info_of i) → IsNoLeaf u m keeps (tree_of (out-Info i).expr.now) e → IsReason u plan.groups plan.root e
+  pub leaf_reason : (u : Bool) (gs : List InfoTree) (i : Info) (m : ℕ) (e : CompileError) → m ≡ length gs → NoParts (out-Info i).expr.now → IsAnalyzed tree_context gs →
+      IsExpandedPart tree_context keeps absents false (info_of i) → IsNoLeaf u m keeps (tree_of (out-Info i).expr.now) e → IsReason u tree_context.groups tree_context.root e
   leaf_reason u gs i m (InnerError shown) count other s h bad =
       let t = tree_of (out-Info i).expr.now in
       let seat = sit false i t refl h in
       let test = λ (_ : Inside) (v : Tree). is_class (chars (string_bytes shown)) bad.casei v in
       record {
         casei = bad.casei;
-        is_there = seat.parts test (or_left (test seat.inside t) (some_below test seat.inside t) bad.is_it);
+        is_there = seat.parts test (or_left (test seat.inside t) (some_descendant test seat.inside t) bad.is_it);
         refused = bad.refused;
       }
   leaf_reason u gs i m (InvalidBackref n) count other s h bad =
       let t = tree_of (out-Info i).expr.now in
-      sound gs false (info_of i) t s (sit false i t refl h) (ap (λ k. is_faulty k t) (sym (count ∙ s.count)) ∙ bad)
+      sound gs false (info_of i) t s (sit false i t refl h) (ap (λ k. is_invalid_node k t) (sym (count ∙ s.count)) ∙ bad)
   leaf_reason u gs i m (FeatureNotYetSupported feature) count other s h bad =
       let t = tree_of (out-Info i).expr.now in
       let seat = sit false i t refl h in
       made gs false (info_of i) t s seat
-      (or_left (is_some (missing_in seat.inside t)) (is_unsteady (size plan.groups) t) (bad seat.inside seat.enclosed))
+      (or_left (is_some (unsupported_feature_in seat.inside t)) (is_variable_look_behind (size tree_context.groups) t) (bad seat.inside seat.enclosed))
   leaf_reason u gs i m UnresolvedAstNode count other s h bad =
       let t = tree_of (out-Info i).expr.now in
-      sound gs false (info_of i) t s (sit false i t refl h) (faulty (length plan.groups) (out-Info i).expr.now other bad)
+      sound gs false (info_of i) t s (sit false i t refl h) (faulty (length tree_context.groups) (out-Info i).expr.now other bad)
   leaf_reason u gs i m e count other s h bad = bad
 
   -- an absent operator that is no repeater
   pub absent_stops : (gs : List InfoTree) (i : Info) (a : Absent) → (out-Info i).expr.now ≡ view.Absent a → ((t : Box Expr Global) → a ≡ variants.Repeater t → ⊥) →
-      Serves plan gs → Stands plan keeps absents false (info_of i) → ⊥
+      IsAnalyzed tree_context gs → IsExpandedPart tree_context keeps absents false (info_of i) → ⊥
   absent_stops gs i a is other s h =
       let t = absent_tree_of a in
       let seat = sit false i t (ap tree_of is ∙ tree_absent a) h in
       made gs false (info_of i) t s seat
-      (or_left (is_some (missing_in seat.inside t)) (is_unsteady (size plan.groups) t) (absent_missing seat.inside a other))
+      (or_left (is_some (unsupported_feature_in seat.inside t)) (is_variable_look_behind (size tree_context.groups) t) (absent_missing seat.inside a other))
 
-  pub root_stands : (j : Inside) (x : InfoTree) (n : ℕ) → x ≡ D n plan.root → IsWhole plan.groups plan.root j plan.root → Stands plan true true false x
-  root_stands j x n is whole = stand true true false x n plan.root is (record {
+  pub root_stands : (j : Inside) (x : InfoTree) (n : ℕ) → x ≡ D n tree_context.root → IsWhole tree_context.groups tree_context.root j tree_context.root → IsExpandedPart tree_context true true false x
+  root_stands j x n is whole = stand true true false x n tree_context.root is (record {
     inside = j;
     enclosed = λ e. wrong _ (sym e);
     excluded = λ e. wrong _ (sym e);
     first = n;
     is = is;
-    parts = λ test some. part_found plan.groups plan.root test _ plan.root whole some;
-    calls = λ call body has found. called _ plan.root body call whole has found;
+    parts = λ test some. part_found tree_context.groups tree_context.root test _ tree_context.root whole some;
+    calls = λ call body has found. called _ tree_context.root body call whole has found;
     steady = wrong _;
   })

@@ -6,22 +6,22 @@ use Rattle.std.proofs.lemmas.Option.{slice_get_read, none-some}
 use Rattle.std.proofs.lemmas.Result.{IfErr-weaker}
 use Rattle.fancy_regex_tree.specs.Tree.{Text, Tree}
 use Rattle.fancy_regex_class.specs.Classes.{in_class, folded}
-use Rattle.fancy_regex_meaning.specs.Ways.{is_full}
-use Rattle.fancy_regex_pattern.specs.Pats.{Pat, any, literal, class, nothing, read, general_newline, check, continue, keep_out, fail, cat, alt, group, ahead, never, back, atomic, repeat, backref, exists, conditional, absent}
-use Rattle.fancy_regex_pattern.specs.Rooms.{room}
-use Rattle.fancy_regex_pattern.specs.Unfolded.{Written, cat_all, alt_all}
-use Rattle.fancy_regex_sizes.specs.Causes.{is_too_complex}
+use Rattle.fancy_regex_meaning.specs.Ways.{is_at_call_limit}
+use Rattle.fancy_regex_desugar.specs.CorePatterns.{CorePattern, any, literal, class, nothing, read, general_newline, check, continue, keep_out, fail, cat, alt, group, ahead, never, back, atomic, repeat, backref, exists, conditional, absent}
+use Rattle.fancy_regex_desugar.specs.ProgramSizes.{room}
+use Rattle.fancy_regex_desugar.specs.Unfolded.{Written, cat_all, alt_all}
+use Rattle.fancy_regex_sizes.specs.AnalysisErrors.{is_too_complex}
 use Rattle.fancy_regex_info.specs.Infos.{InfoTree}
 use Rattle.fancy_regex_info.specs.declared.error.CompileError.{CompileError}
 use Rattle.fancy_regex_info.specs.declared.info.Info.{Info}
-use Rattle.fancy_regex_sizes.proofs.TellLemmas.{gives}
+use Rattle.fancy_regex_sizes.proofs.PartErrorLemmas.{gives}
 use Rattle.fancy_regex_program.specs.Ops as op
 use Rattle.fancy_regex_program.specs.Ops.{Op, op_of}
 use Rattle.fancy_regex_program.specs.Code.{Code, waits, flushed, slots_in, one, behind, closed, alt_code, group_code, ahead_code, never_code, atomic_code, repeat_code, loop_code, conditional_code, absent_code, leaf_op, code_of}
 use Rattle.fancy_regex_program.specs.Extents.{extent, IsFull}
 use Rattle.fancy_regex_program.specs.Known.{front_of, info_written, info_call}
 use Rattle.fancy_regex_program.specs.Writing.{Draft, draft_of, with_op, closed_draft, added, patched, with_pat, with_choice, Wrote, WroteClosed, WroteChoice, IsInsn}
-use Rattle.fancy_regex_program.specs.declared.body.Body.{Body}
+use Rattle.fancy_regex_program.specs.declared.program_builder.ProgramBuilder.{ProgramBuilder}
 use Rattle.fancy_regex_program.specs.declared.emitter.Emitter.{Emitter}
 use Rattle.fancy_regex_program.specs.declared.insn.Insn.{Insn}
 use Rattle.fancy_regex_program.proofs.Branches.{choices, set_right}
@@ -99,19 +99,19 @@ conditional_long c a b c_slots a_slots pc slot l m n hc ha hb =
     )
 
 module _ (u w : Bool) where
-  abbrev C : Pat → Text → ℕ → ℕ → List Op
+  abbrev C : CorePattern → Text → ℕ → ℕ → List Op
   C = code_of (in_class u) (folded u) w
 
   -- a part with what waits behind it
-  abbrev shut : Pat → Code
+  abbrev shut : CorePattern → Code
   shut p = closed (C p []) (waits p [])
 
-  shut_long : (p : Pat) → ((pc slot : ℕ) → length (C p [] pc slot) + length (flushed (waits p [])) ≤ room p + 0) →
+  shut_long : (p : CorePattern) → ((pc slot : ℕ) → length (C p [] pc slot) + length (flushed (waits p [])) ≤ room p + 0) →
       (pc slot : ℕ) → length (shut p pc slot) ≤ room p
   shut_long p h pc slot = omega (arith, h pc slot, length-append (C p [] pc slot) (flushed (waits p [])))
 
   -- the program with what waits behind it, against the room with what waited before it
-  pub code_fits : (p : Pat) (text : Text) (pc slot : ℕ) →
+  pub code_fits : (p : CorePattern) (text : Text) (pc slot : ℕ) →
       length (C p text pc slot) + length (flushed (waits p text)) ≤ room p + length (flushed text)
   unfolding code_of room
   code_fits nothing text pc slot = omega arith
@@ -192,13 +192,13 @@ pub extent_nothing : (d : Draft) → d ≡ record { ops = []; text = [] } → ex
 unfolding extent
 extent_nothing d none = ap (λ (e : Draft). length e.ops + length (flushed e.text)) none
 
-pub extent_pat : (u w : Bool) (p : Pat) (slot : ℕ) (d : Draft) → extent (with_pat u w p slot d) ≤ extent d + room p
+pub extent_pat : (u w : Bool) (p : CorePattern) (slot : ℕ) (d : Draft) → extent (with_pat u w p slot d) ≤ extent d + room p
 unfolding extent with_pat
 extent_pat u w p slot d =
     let code = code_of (in_class u) (folded u) w p d.text (length d.ops) slot in
     omega (arith, code_fits u w p d.text (length d.ops) slot, length-append d.ops code)
 
-pub extent_choice : (u w : Bool) (end : ℕ) (p : Pat) (slot : ℕ) (d : Draft) → extent (with_choice u w end p slot d) ≤ extent d + (room p + 2)
+pub extent_choice : (u w : Bool) (end : ℕ) (p : CorePattern) (slot : ℕ) (d : Draft) → extent (with_choice u w end p slot d) ≤ extent d + (room p + 2)
 extent_choice u w end p slot d =
     let first = with_op (op.split 0 0) d in
     let body = with_pat u w p slot first in
@@ -207,29 +207,29 @@ extent_choice u w end p slot d =
     omega (arith, filled, extent_op (op.jump end) (closed_draft body), extent_closed body, extent_pat u w p slot first, extent_op (op.split 0 0) d)
 
 -- what was written fits into the pattern's room
-pub took : {u w : Bool} {old new : Emitter} {slot after : ℕ} {p : Pat} → Wrote u w old new slot after p →
+pub took : {u w : Bool} {old new : Emitter} {slot after : ℕ} {p : CorePattern} → Wrote u w old new slot after p →
     extent (draft_of new.body) ≤ extent (draft_of old.body) + room p
 took {u = u} {w = w} {old = old} {slot = slot} {p = p} h =
     subst (λ d. extent d ≤ extent (draft_of old.body) + room p) (sym h.draft) (extent_pat u w p slot (draft_of old.body))
 
-pub took_closed : {u w : Bool} {old new : Emitter} {slot after : ℕ} {p : Pat} → WroteClosed u w old new slot after p →
+pub took_closed : {u w : Bool} {old new : Emitter} {slot after : ℕ} {p : CorePattern} → WroteClosed u w old new slot after p →
     extent (draft_of new.body) ≤ extent (draft_of old.body) + room p
 took_closed {u = u} {w = w} {old = old} {slot = slot} {p = p} h =
     let d = with_pat u w p slot (draft_of old.body) in
     subst (λ e. extent e ≤ extent (draft_of old.body) + room p) (sym h.draft)
     (omega (arith, extent_closed d, extent_pat u w p slot (draft_of old.body)))
 
-pub took_choice : {u w : Bool} {old new : Emitter} {slot after : ℕ} {p : Pat} → WroteChoice u w old new slot after p →
+pub took_choice : {u w : Bool} {old new : Emitter} {slot after : ℕ} {p : CorePattern} → WroteChoice u w old new slot after p →
     extent (draft_of new.body) ≤ extent (draft_of old.body) + (room p + 2)
 took_choice {u = u} {w = w} {old = old} {slot = slot} {p = p} h =
     subst (λ d. extent d ≤ extent (draft_of old.body) + (room p + 2)) (sym h.draft) (extent_choice u w 0 p slot (draft_of old.body))
 
 -- Branches so far, each with its split and its jump.
-abbrev pub choices_room : List Pat → ℕ
+abbrev pub choices_room : List CorePattern → ℕ
 choices_room [] = 0
 choices_room (p ∷ ps) = (room p + 2) + choices_room ps
 
-extent_choices : (u w : Bool) (end : ℕ) (ps : List Pat) (slot : ℕ) (d : Draft) → extent (choices u w end ps slot d) ≤ extent d + choices_room ps
+extent_choices : (u w : Bool) (end : ℕ) (ps : List CorePattern) (slot : ℕ) (d : Draft) → extent (choices u w end ps slot d) ≤ extent d + choices_room ps
 extent_choices u w end [] slot d = omega arith
 extent_choices u w end (p ∷ ps) slot d =
     let first = with_choice u w end p slot d in
@@ -239,7 +239,7 @@ extent_right : (u w : Bool) (end : ℕ) (js : List ℕ) (d : Draft) → extent (
 extent_right u w end [] d = refl
 extent_right u w end (j ∷ js) d = extent_right u w end js (patched j (op.jump end) d) ∙ extent_patched j (op.jump end) d
 
-pub chosen_took : {u w : Bool} {old now : Emitter} {jumps : List ℕ} {slot next : ℕ} {ps : List Pat} → Chosen u w old now jumps slot next ps →
+pub chosen_took : {u w : Bool} {old now : Emitter} {jumps : List ℕ} {slot next : ℕ} {ps : List CorePattern} → Chosen u w old now jumps slot next ps →
     extent (draft_of now.body) ≤ extent (draft_of old.body) + choices_room ps
 chosen_took {u = u} {w = w} {old = old} {now = now} {jumps = jumps} {slot = slot} {ps = ps} h =
     let begun = closed_draft (draft_of old.body) in
@@ -252,7 +252,7 @@ chosen_took {u = u} {w = w} {old = old} {now = now} {jumps = jumps} {slot = slot
     )
 
 -- a branch behind others, and more behind it
-branch_fits : (f : Info → Pat) (xs : List Info) (i : ℕ) (x : Info) → slice_get xs i ≡ Some x → i + 1 < length xs →
+branch_fits : (f : Info → CorePattern) (xs : List Info) (i : ℕ) (x : Info) → slice_get xs i ≡ Some x → i + 1 < length xs →
     choices_room (map f (take i xs)) + (room (f x) + 2) ≤ room (alt_all (map f xs))
 unfolding room
 branch_fits f [] i x at below = absurd (none-some _ at)
@@ -263,7 +263,7 @@ branch_fits f (y ∷ z ∷ zs) zero x at below =
 branch_fits f (y ∷ z ∷ zs) (suc i) x at below = omega (arith, branch_fits f (z ∷ zs) i x at (omega (arith, below)))
 
 -- the last branch
-last_fits : (f : Info → Pat) (xs : List Info) (i : ℕ) (x : Info) → slice_get xs i ≡ Some x → i + 1 ≡ length xs →
+last_fits : (f : Info → CorePattern) (xs : List Info) (i : ℕ) (x : Info) → slice_get xs i ≡ Some x → i + 1 ≡ length xs →
     choices_room (map f (take i xs)) + room (f x) ≤ room (alt_all (map f xs))
 unfolding room
 last_fits f [] i x at end = absurd (none-some _ at)
@@ -284,7 +284,7 @@ row_fits f (y ∷ ys) zero x at =
 row_fits f (y ∷ ys) (suc i) x at = omega (arith, row_fits f ys i x at)
 
 -- the same, as the loops read their items
-pub branch_read : (f : Info → Pat) (xs : List Info) (i : ℕ) (x : Info) → i < length (take (length xs - 1) xs) → x ≡ get_or (take (length xs - 1) xs) i x →
+pub branch_read : (f : Info → CorePattern) (xs : List Info) (i : ℕ) (x : Info) → i < length (take (length xs - 1) xs) → x ≡ get_or (take (length xs - 1) xs) i x →
     choices_room (map f (take i xs)) + (room (f x) + 2) ≤ room (alt_all (map f xs))
 branch_read f xs i x inside is =
     let long = length-take (length xs - 1) xs in
@@ -292,7 +292,7 @@ branch_read f xs i x inside is =
     let here = is ∙ get_or-take (length xs - 1) xs i x (omega (arith, long, inside)) in
     branch_fits f xs i x (slice_get_read xs (length xs) i x refl (omega (arith, below)) here) below
 
-pub last_read : (f : Info → Pat) (xs : List Info) (i : ℕ) (x : Info) → 2 ≤ length xs → i ≤ length (take (length xs - 1) xs) →
+pub last_read : (f : Info → CorePattern) (xs : List Info) (i : ℕ) (x : Info) → 2 ≤ length xs → i ≤ length (take (length xs - 1) xs) →
     length (take (length xs - 1) xs) ≤ i → x ≡ get_or xs (length xs - 1) x → choices_room (map f (take i xs)) + room (f x) ≤ room (alt_all (map f xs))
 last_read f xs i x two most least is =
     let long = length-take (length xs - 1) xs in
@@ -313,40 +313,40 @@ pub room_fail : room fail ≡ 12
 unfolding room
 room_fail = refl
 
-pub room_behind : (n : ℕ) (p : Pat) → room (cat (back n) p) ≡ 1 + room p
+pub room_behind : (n : ℕ) (p : CorePattern) → room (cat (back n) p) ≡ 1 + room p
 unfolding room
 room_behind n p = refl
 
-pub room_group : (k : ℕ) (p : Pat) → room (group k p) ≡ 12 + room p
+pub room_group : (k : ℕ) (p : CorePattern) → room (group k p) ≡ 12 + room p
 unfolding room
 room_group k p = refl
 
-pub room_ahead : (p : Pat) → room (ahead p) ≡ 12 + room p
+pub room_ahead : (p : CorePattern) → room (ahead p) ≡ 12 + room p
 unfolding room
 room_ahead p = refl
 
-pub room_never : (p : Pat) → room (never p) ≡ 12 + room p
+pub room_never : (p : CorePattern) → room (never p) ≡ 12 + room p
 unfolding room
 room_never p = refl
 
-pub room_atomic : (p : Pat) → room (atomic p) ≡ 12 + room p
+pub room_atomic : (p : CorePattern) → room (atomic p) ≡ 12 + room p
 unfolding room
 room_atomic p = refl
 
-pub room_repeat : (p : Pat) (lo : ℕ) (hi : Option ℕ) (greedy : Bool) → room (repeat p lo hi greedy) ≡ 12 + room p
+pub room_repeat : (p : CorePattern) (lo : ℕ) (hi : Option ℕ) (greedy : Bool) → room (repeat p lo hi greedy) ≡ 12 + room p
 unfolding room
 room_repeat p lo hi greedy = refl
 
-pub room_conditional : (c a b : Pat) → room (conditional c a b) ≡ 12 + (room c + (room a + room b))
+pub room_conditional : (c a b : CorePattern) → room (conditional c a b) ≡ 12 + (room c + (room a + room b))
 unfolding room
 room_conditional c a b = refl
 
-pub room_absent : (p : Pat) → room (absent p) ≡ 12 + room p
+pub room_absent : (p : CorePattern) → room (absent p) ≡ 12 + room p
 unfolding room
 room_absent p = refl
 
 -- a node without children that is an instruction
-pub room_leaf : (u : Bool) (insn : Insn) (t : Tree) → IsInsn u insn t → (call : ℕ → Pat) (n : ℕ) (us : List Written) → 1 ≤ room (front_of call n t us)
+pub room_leaf : (u : Bool) (insn : Insn) (t : Tree) → IsInsn u insn t → (call : ℕ → CorePattern) (n : ℕ) (us : List Written) → 1 ≤ room (front_of call n t us)
 room_leaf u insn t is call n us =
     let d : Draft = record { ops = []; text = [] } in
     let p = front_of call n t us in
@@ -354,7 +354,7 @@ room_leaf u insn t is call n us =
 
 -- a call that opens
 pub call_is : (groups : List InfoTree) (calls m : ℕ) (opened pushed : List ℕ) (k : ℕ) (x : InfoTree) → calls ≡ suc m → slice_get groups k ≡ Some x →
-    is_full opened k ≡ false → pushed ≡ opened ++ k ∷ [] → info_call groups calls opened k ≡ (info_written (info_call groups m pushed) x).front
+    is_at_call_limit opened k ≡ false → pushed ≡ opened ++ k ∷ [] → info_call groups calls opened k ≡ (info_written (info_call groups m pushed) x).front
 call_is groups calls m opened pushed k x more at free is =
     ap (λ n. info_call groups n opened k) more ∙ call_opens groups m opened k x free at
     ∙ ap (λ l. (info_written (info_call groups m l) x).front) (sym is)
@@ -365,11 +365,11 @@ pub late : {T P : Type 0} (r : Result T CompileError) (e : CompileError) (low hi
 late r e low high is h step = gives r e (λ f. is_too_complex f ≡ true → low < high) is (λ too. step (h too))
 
 -- the same answer, where the pattern has another name
-pub full_same : {T : Type 0} (r : Result T CompileError) (old : Body) {p q : Pat} → q ≡ p → IfErr r (IsFull old (room p)) → IfErr r (IsFull old (room q))
+pub full_same : {T : Type 0} (r : Result T CompileError) (old : ProgramBuilder) {p q : CorePattern} → q ≡ p → IfErr r (IsFull old (room p)) → IfErr r (IsFull old (room q))
 full_same r old is h = subst (λ x. IfErr r (IsFull old (room x))) (sym is) h
 
 -- from as far back
-pub full_behind : {T : Type 0} (r : Result T CompileError) (old mid : Body) (n : ℕ) {p q : Pat} → q ≡ cat (back n) p → mid.cap ≡ old.cap →
+pub full_behind : {T : Type 0} (r : Result T CompileError) (old mid : ProgramBuilder) (n : ℕ) {p q : CorePattern} → q ≡ cat (back n) p → mid.cap ≡ old.cap →
     extent (draft_of mid) ≡ extent (draft_of old) + 1 → IfErr r (IsFull mid (room p)) → IfErr r (IsFull old (room q))
 full_behind r old mid n {p = p} {q = q} is cap long h =
     IfErr-weaker r (IsFull mid (room p)) (IsFull old (room q))

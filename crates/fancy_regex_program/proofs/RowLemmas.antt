@@ -9,9 +9,9 @@ use borrow.Enum.Total.{values_d, values_d_at}
 use Rattle.fancy_regex_tree.specs.contracts.expr.Expr.{enum}
 use Rattle.fancy_regex_tree.specs.declared.expr.Absent.{Absent}
 use Rattle.fancy_regex_tree.specs.declared.expr.Expr.TheVariants as view
-use Rattle.fancy_regex_meaning.specs.Ways.{is_full}
-use Rattle.fancy_regex_pattern.specs.Pats.{Pat, nothing, fail, cat, back}
-use Rattle.fancy_regex_pattern.specs.Unfolded.{Written, cat_all, alt_all, repeated, pat_for}
+use Rattle.fancy_regex_meaning.specs.Ways.{is_at_call_limit}
+use Rattle.fancy_regex_desugar.specs.CorePatterns.{CorePattern, nothing, fail, cat, back}
+use Rattle.fancy_regex_desugar.specs.Unfolded.{Written, cat_all, alt_all, repeated, pat_for}
 use Rattle.fancy_regex_info.specs.Infos.{InfoTree}
 use Rattle.fancy_regex_info.specs.declared.info.Info.{Info}
 use Rattle.fancy_regex_info.specs.declared.info.Info.TheViews.{out-Info}
@@ -24,28 +24,28 @@ use Rattle.fancy_regex_program.proofs.Branches.{bare, choice_longer, set_right, 
 use Rattle.fancy_regex_program.proofs.EmitLemmas.{Chosen, chosen_goes_on, chosen_ends, chosen_slots, row_goes_on}
 
 -- What is repeated no times is nothing.
-pub repeated_never : (p : Pat) (lo hi : ℕ) (greedy : Bool) → lo ≤ hi → hi ≡ 0 → repeated p lo hi greedy ≡ nothing
+pub repeated_never : (p : CorePattern) (lo hi : ℕ) (greedy : Bool) → lo ≤ hi → hi ≡ 0 → repeated p lo hi greedy ≡ nothing
 repeated_never p zero zero greedy le is = refl
 repeated_never p zero (suc hi) greedy le is = absurd (omega (arith, is))
 repeated_never p (suc lo) hi greedy le is = absurd (omega (arith, le, is))
 
 module _ (u w : Bool) where
-  abbrev P : Pat → ℕ → Draft → Draft
+  abbrev P : CorePattern → ℕ → Draft → Draft
   P = with_pat u w
 
   -- The same, where the pattern is another's name.
-  pub wrote_as : {E : Type 0} (r : Result ℕ E) (old new : Emitter) (slot : ℕ) (p q : Pat) → q ≡ p →
+  pub wrote_as : {E : Type 0} (r : Result ℕ E) (old new : Emitter) (slot : ℕ) (p q : CorePattern) → q ≡ p →
       IfOk r (λ after. Wrote u w old new slot after p) → IfOk r (λ after. Wrote u w old new slot after q)
   wrote_as r old new slot p q e h = subst (λ x. IfOk r (λ after. Wrote u w old new slot after x)) (sym e) h
 
-  pub wrote_nothing : (e : Emitter) (slot : ℕ) (p : Pat) → p ≡ nothing → Wrote u w e e slot slot p
+  pub wrote_nothing : (e : Emitter) (slot : ℕ) (p : CorePattern) → p ≡ nothing → Wrote u w e e slot slot p
   wrote_nothing e slot p is = subst (λ x. Wrote u w e e slot slot x) (sym is) (record {
     draft = sym (pat_nothing u w slot (draft_of e.body));
     slots = omega arith;
     opened = refl;
   })
 
-  pub wrote_fail : (old new : Emitter) (slot : ℕ) (p : Pat) → p ≡ fail → draft_of new.body ≡ added op.fail (draft_of old.body) →
+  pub wrote_fail : (old new : Emitter) (slot : ℕ) (p : CorePattern) → p ≡ fail → draft_of new.body ≡ added op.fail (draft_of old.body) →
       new.opened.items ≡ old.opened.items → Wrote u w old new slot slot p
   wrote_fail old new slot p is drew opened = subst (λ x. Wrote u w old new slot slot x) (sym is) (record {
     draft = drew ∙ sym (pat_fail u w slot (draft_of old.body));
@@ -54,7 +54,7 @@ module _ (u w : Bool) where
   })
 
   -- a part, from as far back as it is long
-  wrote_back_one : (old mid new : Emitter) (slot after n : ℕ) (p : Pat) → draft_of mid.body ≡ added (op.go_back n) (draft_of old.body) →
+  wrote_back_one : (old mid new : Emitter) (slot after n : ℕ) (p : CorePattern) → draft_of mid.body ≡ added (op.go_back n) (draft_of old.body) →
       mid.opened.items ≡ old.opened.items → Wrote u w mid new slot after p → Wrote u w old new slot after (cat (back n) p)
   wrote_back_one old mid new slot after n p drew opened h =
       let none : slot ≡ slot + 0 = omega arith in
@@ -65,7 +65,7 @@ module _ (u w : Bool) where
         opened = h.opened ∙ opened;
       }
 
-  pub wrote_back : {E : Type 0} (r : Result ℕ E) (old mid new : Emitter) (slot n : ℕ) (p : Pat) → draft_of mid.body ≡ added (op.go_back n) (draft_of old.body) →
+  pub wrote_back : {E : Type 0} (r : Result ℕ E) (old mid new : Emitter) (slot n : ℕ) (p : CorePattern) → draft_of mid.body ≡ added (op.go_back n) (draft_of old.body) →
       mid.opened.items ≡ old.opened.items → IfOk r (λ after. Wrote u w mid new slot after p) → IfOk r (λ after. Wrote u w old new slot after (cat (back n) p))
   wrote_back r old mid new slot n p drew opened h =
       IfOk-weaker r (λ after. Wrote u w mid new slot after p) (λ after. Wrote u w old new slot after (cat (back n) p))
@@ -86,7 +86,7 @@ module _ (u w : Bool) where
   row_walked old new slot after g xs i all h = subst (λ ys. Wrote u w old new slot after (cat_all (map g ys))) (take_all i xs all) h
 
   -- where the jump of a branch stands
-  last_is_there : (old now new : Emitter) (jumps : List ℕ) (slot next after j n : ℕ) (ps : List Pat) (p : Pat) → Chosen u w old now jumps slot next ps →
+  last_is_there : (old now new : Emitter) (jumps : List ℕ) (slot next after j n : ℕ) (ps : List CorePattern) (p : CorePattern) → Chosen u w old now jumps slot next ps →
       WroteChoice u w now new next after p → n ≡ length (draft_of new.body).ops → j ≡ n - 1 → j + 1 ≡ length (draft_of new.body).ops
   last_is_there old now new jumps slot next after j n ps p h c long at =
       let xs = (draft_of now.body).ops in
@@ -96,7 +96,7 @@ module _ (u w : Bool) where
       omega (arith, choice_longer u w p next xs, made)
 
   -- branches so far, over the nodes walked
-  pub choices_walk : (old now new : Emitter) (jumps after_jumps : List ℕ) (slot next after j n last : ℕ) (f : List ℕ → Info → Pat) (xs : List Info) (i : ℕ) (x : Info) →
+  pub choices_walk : (old now new : Emitter) (jumps after_jumps : List ℕ) (slot next after j n last : ℕ) (f : List ℕ → Info → CorePattern) (xs : List Info) (i : ℕ) (x : Info) →
       i < length (take last xs) → last ≤ length xs → x ≡ get_or (take last xs) i x →
       Chosen u w old now jumps slot next (map (f old.opened.items) (take i xs)) → WroteChoice u w now new next after (f now.opened.items x) →
       n ≡ length (draft_of new.body).ops → j ≡ n - 1 → after_jumps ≡ jumps ++ j ∷ [] →
@@ -113,7 +113,7 @@ module _ (u w : Bool) where
       (subst (λ ps. Chosen u w old new (jumps ++ j ∷ []) slot after ps) (sym more)
       (chosen_goes_on u w old now new jumps slot next after j (map g (take i xs)) (g x) h here there))
 
-  -- jumps that are put right, so far
+  -- jumps that are patched, so far
   pub rights_walk : (end : ℕ) (js : List ℕ) (i j : ℕ) (d now next : Draft) → i < length js → j ≡ get_or js i j →
       now ≡ set_right u w end (take i js) d → next ≡ patched j (op.jump end) now → next ≡ set_right u w end (take (i + 1) js) d
   rights_walk end js i j d now next inside is was step =
@@ -122,7 +122,7 @@ module _ (u w : Bool) where
       ∙ ap (λ ks. set_right u w end ks d) (sym (take_more js i j inside))
 
   -- one branch or more, and the last of them
-  ends : (old now new final : Emitter) (jumps : List ℕ) (slot next after end : ℕ) (ps : List Pat) (q : Pat) → 1 ≤ length ps →
+  ends : (old now new final : Emitter) (jumps : List ℕ) (slot next after end : ℕ) (ps : List CorePattern) (q : CorePattern) → 1 ≤ length ps →
       Chosen u w old now jumps slot next ps → WroteClosed u w now new next after q → end ≡ length (draft_of new.body).ops →
       draft_of final.body ≡ set_right u w end jumps (draft_of new.body) → final.opened.items ≡ new.opened.items →
       Wrote u w old final slot after (alt_all (ps ++ q ∷ []))
@@ -133,7 +133,7 @@ module _ (u w : Bool) where
     opened = opened ∙ c.opened ∙ h.opened;
   }
 
-  pub choices_walked : (old now new final : Emitter) (jumps right : List ℕ) (slot next after end last walked : ℕ) (f : List ℕ → Info → Pat) (xs : List Info) (i : ℕ) (x : Info) →
+  pub choices_walked : (old now new final : Emitter) (jumps right : List ℕ) (slot next after end last walked : ℕ) (f : List ℕ → Info → CorePattern) (xs : List Info) (i : ℕ) (x : Info) →
       2 ≤ length xs → last ≡ length xs - 1 → i ≤ length (take last xs) → length (take last xs) ≤ i → x ≡ get_or xs last x →
       Chosen u w old now jumps slot next (map (f old.opened.items) (take i xs)) → WroteClosed u w now new next after (f now.opened.items x) →
       end ≡ length (draft_of new.body).ops → right ≡ jumps → length right ≤ walked →
@@ -155,7 +155,7 @@ module _ (u w : Bool) where
       (ends old now new final jumps slot next after end (map g (take i xs)) (g x) some h here at rights opened)
 
 -- a call past the limit of open calls, and one that opens
-pub call_full : (groups : List InfoTree) (m : ℕ) (opened : List ℕ) (k : ℕ) → is_full opened k ≡ true → info_call groups m opened k ≡ fail
+pub call_full : (groups : List InfoTree) (m : ℕ) (opened : List ℕ) (k : ℕ) → is_at_call_limit opened k ≡ true → info_call groups m opened k ≡ fail
 unfolding info_call
 call_full groups zero opened k full = refl
 call_full groups (suc m) opened k full =
@@ -165,7 +165,7 @@ pub call_none : (groups : List InfoTree) (m : ℕ) (opened : List ℕ) (k : ℕ)
 unfolding info_call
 call_none groups m opened k none = ap (λ n. info_call groups n opened k) none
 
-pub call_opens : (groups : List InfoTree) (m : ℕ) (opened : List ℕ) (k : ℕ) (x : InfoTree) → is_full opened k ≡ false → slice_get groups k ≡ Some x →
+pub call_opens : (groups : List InfoTree) (m : ℕ) (opened : List ℕ) (k : ℕ) (x : InfoTree) → is_at_call_limit opened k ≡ false → slice_get groups k ≡ Some x →
     info_call groups (suc m) opened k ≡ (info_written (info_call groups m (opened ++ k ∷ [])) x).front
 unfolding info_call
 call_opens groups m opened k x free at =
@@ -175,7 +175,7 @@ call_opens groups m opened k x free at =
 module _ (u w : Bool) where
   -- what a call writes, whose target is closed again
   pub wrote_call : (old mid new final : Emitter) (slot after m n k long : ℕ) (groups : List InfoTree) (x : InfoTree) →
-      n ≡ m - 1 → (m ≡ 0 → ⊥) → is_full old.opened.items k ≡ false → slice_get groups k ≡ Some x →
+      n ≡ m - 1 → (m ≡ 0 → ⊥) → is_at_call_limit old.opened.items k ≡ false → slice_get groups k ≡ Some x →
       draft_of mid.body ≡ draft_of old.body → mid.opened.items ≡ old.opened.items ++ k ∷ [] →
       Wrote u w mid new slot after (info_written (info_call groups n mid.opened.items) x).front →
       draft_of final.body ≡ draft_of new.body → long ≡ length new.opened.items → final.opened.items ≡ take (long - 1) new.opened.items →

@@ -2,8 +2,8 @@
 use Rattle.std.proofs.Common.{◌≡◌, ℕ, ◌+◌, ◌*◌, Bool, true, not, List, [], ◌++◌, length, map, refl, sym, ap, ap₂, subst, ◌∙◌, append_assoc}
 use Rattle.fancy_regex_tree.specs.Tree.{Tree}
 use Rattle.fancy_regex_class.specs.Classes.{in_class, folded}
-use Rattle.fancy_regex_pattern.specs.Pats.{Pat}
-use Rattle.fancy_regex_pattern.specs.Unfolded.{pat_of}
+use Rattle.fancy_regex_desugar.specs.CorePatterns.{CorePattern}
+use Rattle.fancy_regex_desugar.specs.Unfolded.{core_pattern_of}
 use Rattle.fancy_regex_info.specs.Analysis.{analysis}
 use Rattle.fancy_regex_info.specs.Infos.{InfoTree}
 use Rattle.fancy_regex_program.specs.Ops.{Op}
@@ -21,7 +21,7 @@ flat : (o c f e : List Op) → ((o ++ c) ++ f) ++ e ≡ o ++ ((c ++ f) ++ e)
 flat o c f e = simp append_assoc
 
 -- what stands once the body is closed and the end is written
-pub program_is : (u w anchored : Bool) (p : Pat) (groups slot : ℕ) (d1 d2 : Draft) (ops : List Op) → slot ≡ 2 * groups →
+pub program_is : (u w anchored : Bool) (p : CorePattern) (groups slot : ℕ) (d1 d2 : Draft) (ops : List Op) → slot ≡ 2 * groups →
     d1 ≡ record { ops = opening (in_class u) (folded u) w anchored; text = [] } → d2 ≡ with_pat u w p slot d1 →
     ops ≡ (closed_draft d2).ops ++ closing (in_class u) (folded u) w → ops ≡ program_of (in_class u) (folded u) w anchored groups p
 unfolding closed_draft with_pat program_of
@@ -43,13 +43,13 @@ in_is_with whole x = refl
 
 -- the pattern of the tree, by the groups that were gathered
 pub pat_gathered : (groups : List InfoTree) (x : InfoTree) (whole explicit : Bool) (t : Tree) → groups ≡ groups_in whole x → whole ≡ not explicit →
-    x ≡ analysis explicit t → pat_with groups x ≡ pat_of (pattern_in explicit t)
+    x ≡ analysis explicit t → pat_with groups x ≡ core_pattern_of (pattern_in explicit t)
 pat_gathered groups x whole explicit t eg ew ex =
     ap (λ gs. pat_with gs x) eg ∙ sym (in_is_with whole x) ∙ ap₂ pat_in ew ex ∙ pat_is explicit t
 
 -- what is written of the tree's pattern is the tree's program
-pub made_from : (prog : Prog) (anchored explicit : Bool) (t : Tree) (p : Pat) →
-    IsWhole prog.unicode prog.whole anchored prog.groups p prog.body.items prog.slots → p ≡ pat_of (pattern_in explicit t) →
+pub made_from : (prog : Prog) (anchored explicit : Bool) (t : Tree) (p : CorePattern) →
+    IsWhole prog.unicode prog.whole anchored prog.groups p prog.body.items prog.slots → p ≡ core_pattern_of (pattern_in explicit t) →
     prog.groups ≡ length (pattern_in explicit t).groups → prog.whole ≡ not explicit → IsAllowed prog.unicode true p → IsMadeFrom prog anchored explicit t
 made_from prog anchored explicit t p wrote is groups whole allowed =
     let all = subst (λ q. IsWhole prog.unicode prog.whole anchored prog.groups q prog.body.items prog.slots) is wrote in

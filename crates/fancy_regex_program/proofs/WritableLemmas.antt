@@ -9,20 +9,20 @@ use Rattle.fancy_regex_tree.specs.Tree as tree
 use Rattle.fancy_regex_tree.specs.Tree.{Tree, Trees, no_trees, more_trees}
 use Rattle.fancy_regex_meaning.specs.Groups.{Pattern, bodies, row_bodies, group_count}
 use Rattle.fancy_regex_meaning.specs.Sizes.{size, target}
-use Rattle.fancy_regex_meaning.specs.Ways.{is_full, most_calls}
-use Rattle.fancy_regex_pattern.specs.Pats.{any, literal, class, Pat, nothing, read, general_newline, check, continue, keep_out, fail, cat, alt, group, ahead, never, back, atomic, repeat, backref, exists, conditional, absent}
-use Rattle.fancy_regex_pattern.specs.Shapes.{IsPlaced, HasGroups}
-use Rattle.fancy_regex_pattern.specs.Unfolded.{Written, pat_for, cat_all, alt_all, repeated, look, node, branches, written, written_all, written_call, pat_of}
-use Rattle.fancy_regex_pattern.proofs.GroupProofs.{pattern_has_its_groups}
-use Rattle.fancy_regex_pattern.proofs.PlaceProofs.{unfolded_is_placed}
-use Rattle.fancy_regex_sizes.specs.NodeCauses.{some_node, some_node_of, shows, is_no_group}
+use Rattle.fancy_regex_meaning.specs.Ways.{is_at_call_limit, max_open_calls}
+use Rattle.fancy_regex_desugar.specs.CorePatterns.{any, literal, class, CorePattern, nothing, read, general_newline, check, continue, keep_out, fail, cat, alt, group, ahead, never, back, atomic, repeat, backref, exists, conditional, absent}
+use Rattle.fancy_regex_desugar.specs.Shapes.{StepsBackOnlyFirst, HasGroups}
+use Rattle.fancy_regex_desugar.specs.Unfolded.{Written, pat_for, cat_all, alt_all, repeated, look, node, branches, written, written_all, written_call, core_pattern_of}
+use Rattle.fancy_regex_desugar.proofs.GroupProofs.{pattern_groups_are_in_range}
+use Rattle.fancy_regex_desugar.proofs.StepBackProofs.{unfolded_steps_back_only_first}
+use Rattle.fancy_regex_sizes.specs.NodeErrors.{some_node, some_node_of, shows, is_no_group}
 use Rattle.fancy_regex_info.specs.Views.{pattern_in}
 use Rattle.fancy_regex_info.specs.declared.error.CompileError.TheVariants.{InvalidBackref}
 use Rattle.fancy_regex_program.specs.Programs.{RefersToGroups, CanBeWritten}
 use Rattle.fancy_regex_program.specs.Shapes.{KeepsNothing, IsAllowed, IsWritable}
 
 -- where the kept start may not be set, it stays as it is
-keeps_nothing : (unicode : Bool) (p : Pat) → IsAllowed unicode false p → KeepsNothing p
+keeps_nothing : (unicode : Bool) (p : CorePattern) → IsAllowed unicode false p → KeepsNothing p
 keeps_nothing unicode nothing h = tt
 keeps_nothing unicode (read leaf) h = tt
 keeps_nothing unicode (general_newline crlf) h = tt
@@ -45,7 +45,7 @@ keeps_nothing unicode (absent a) h = tt
 
 module _ (first end : ℕ) where
   -- Each group that it reads has a number from `first` on, below `end`.
-  abbrev ReadsGroups : Pat → Type 0
+  abbrev ReadsGroups : CorePattern → Type 0
   ReadsGroups (backref k casei) = (first ≤ k) × (k < end)
   ReadsGroups (exists k) = (first ≤ k) × (k < end)
   ReadsGroups (cat a b) = ReadsGroups a × ReadsGroups b
@@ -59,7 +59,7 @@ module _ (first end : ℕ) where
   ReadsGroups (absent a) = ReadsGroups a
   ReadsGroups _ = Unit {0}
 
-  can_write : (unicode keeps free : Bool) (p : Pat) → HasGroups first end p → ReadsGroups p → IsAllowed unicode keeps p → IsPlaced free p → IsWritable first end p
+  can_write : (unicode keeps free : Bool) (p : CorePattern) → HasGroups first end p → ReadsGroups p → IsAllowed unicode keeps p → StepsBackOnlyFirst free p → IsWritable first end p
   can_write unicode keeps free nothing g r a l = tt
   can_write unicode keeps free (read leaf) g r a l = tt
   can_write unicode keeps free (general_newline crlf) g r a l = tt
@@ -84,7 +84,7 @@ module _ (first end : ℕ) where
   )
   can_write unicode keeps free (absent p) g r a l = (l, can_write unicode false false p g r a l)
 
-  record Read (p : Pat) : Type 0 where
+  record Read (p : CorePattern) : Type 0 where
     is : ReadsGroups p
 
   record BothRead (u : Written) : Type 0 where
@@ -101,7 +101,7 @@ module _ (first end : ℕ) where
   all_read_more u [] h k = record { row = (h.front, k.row); fronts = h.front; behinds = h.behind }
   all_read_more u (v ∷ us) h k = record { row = (h.front, k.row); fronts = (h.front, k.fronts); behinds = (h.behind, k.behinds) }
 
-  either_read : (b : Bool) (p q : Pat) → ReadsGroups p → ReadsGroups q → ReadsGroups (cond b p q)
+  either_read : (b : Bool) (p q : CorePattern) → ReadsGroups p → ReadsGroups q → ReadsGroups (cond b p q)
   either_read true p q h k = h
   either_read false p q h k = k
 
@@ -111,7 +111,7 @@ module _ (first end : ℕ) where
   read_look LookBehind u h = record { is = h.behind }
   read_look LookBehindNeg u h = record { is = h.behind }
 
-  read_repeated : (p : Pat) (lo hi : ℕ) (greedy : Bool) → ReadsGroups p → ReadsGroups (repeated p lo hi greedy)
+  read_repeated : (p : CorePattern) (lo hi : ℕ) (greedy : Bool) → ReadsGroups p → ReadsGroups (repeated p lo hi greedy)
   read_repeated p zero zero greedy h = tt
   read_repeated p zero (suc hi) greedy h = h
   read_repeated p (suc lo) hi greedy h = h
@@ -196,7 +196,7 @@ module _ (count : ℕ) where
     abbrev Both : Written → Type 0
     Both = BothRead first count
 
-    read_node : (t : Tree) (p : Pat) → ReadsGroups first count p → Both (node groups t p)
+    read_node : (t : Tree) (p : CorePattern) → ReadsGroups first count p → Both (node groups t p)
     read_node t p h = record { front = h; behind = (tt, h) }
 
     read_branches : (t : Tree) (us : List Written) → AllRead first count us → Both (branches groups t us)
@@ -205,7 +205,7 @@ module _ (count : ℕ) where
       behind = either_read first count (size groups t).always (cat (back (size groups t).least) (alt_all (map (λ u. u.front) us))) _ (tt, h.fronts) h.behinds;
     }
 
-    module _ (pat : ℕ → Pat) (read_call : (k : ℕ) → Read first count (pat k)) where
+    module _ (pat : ℕ → CorePattern) (read_call : (k : ℕ) → Read first count (pat k)) where
       mutual
         unfolding written some_node some_node_of
 
@@ -257,7 +257,7 @@ module _ (count : ℕ) where
             (reads_all (n + group_count t) ts (λ k e. h k (or_right (some_node (shows count (InvalidBackref k)) t) _ e)))
 
     module _ (refer : AllRefer groups) where
-      reads_target : (b : Bool) (o : Option Tree) (p : Tree → Pat) → ((t : Tree) → o ≡ Some t → Read first count (p t)) →
+      reads_target : (b : Bool) (o : Option Tree) (p : Tree → CorePattern) → ((t : Tree) → o ≡ Some t → Read first count (p t)) →
           Read first count (cond b fail (pat_for p o))
       reads_target true o p h = record { is = tt }
       reads_target false None p h = record { is = tt }
@@ -267,36 +267,36 @@ module _ (count : ℕ) where
       unfolding written_call
       reads_calls zero opened k = record { is = tt }
       reads_calls (suc m) opened k =
-          reads_target (is_full opened k) (target groups k)
+          reads_target (is_at_call_limit opened k) (target groups k)
           (λ body. (written groups (written_call groups m (k ∷ opened)) (k + 1) body).front)
           (λ body e. record { is = (reads _ (reads_calls m (k ∷ opened)) (k + 1) body (one_refers groups k body refer e)).front })
 
-pattern_is_placed : (p : Pattern) → IsPlaced false (pat_of p)
-unfolding pat_of
-pattern_is_placed p = (unfolded_is_placed p.groups (most_calls p.groups) [] p.first_group p.tree).0
+pattern_is_placed : (p : Pattern) → StepsBackOnlyFirst false (core_pattern_of p)
+unfolding core_pattern_of
+pattern_is_placed p = (unfolded_steps_back_only_first p.groups (max_open_calls p.groups) [] p.first_group p.tree).0
 
 pattern_reads : (explicit : Bool) (t : Tree) → RefersToGroups explicit t →
-    ReadsGroups (pattern_in explicit t).first_group (length (pattern_in explicit t).groups) (pat_of (pattern_in explicit t))
-unfolding pat_of
+    ReadsGroups (pattern_in explicit t).first_group (length (pattern_in explicit t).groups) (core_pattern_of (pattern_in explicit t))
+unfolding core_pattern_of
 pattern_reads true t h =
     let gs = bodies t in
     let count = length gs in
-    (reads count 0 (omega arith) gs _ (reads_calls count 0 (omega arith) gs (bodies_refer count t h) (most_calls gs) []) 0 t h).front
+    (reads count 0 (omega arith) gs _ (reads_calls count 0 (omega arith) gs (bodies_refer count t h) (max_open_calls gs) []) 0 t h).front
 pattern_reads false t h =
     let gs = t ∷ bodies t in
     let count = length gs in
-    (reads count 1 (omega arith) gs _ (reads_calls count 1 (omega arith) gs (h, bodies_refer count t h) (most_calls gs) []) 1 t h).front
+    (reads count 1 (omega arith) gs _ (reads_calls count 1 (omega arith) gs (h, bodies_refer count t h) (max_open_calls gs) []) 1 t h).front
 
 pattern_has_groups : (explicit : Bool) (t : Tree) →
-    HasGroups (pattern_in explicit t).first_group (length (pattern_in explicit t).groups) (pat_of (pattern_in explicit t))
-pattern_has_groups true t = (pattern_has_its_groups t).1
-pattern_has_groups false t = (pattern_has_its_groups t).0
+    HasGroups (pattern_in explicit t).first_group (length (pattern_in explicit t).groups) (core_pattern_of (pattern_in explicit t))
+pattern_has_groups true t = (pattern_groups_are_in_range t).1
+pattern_has_groups false t = (pattern_groups_are_in_range t).0
 
-pub can_be_written : (unicode explicit : Bool) (t : Tree) → IsAllowed unicode true (pat_of (pattern_in explicit t)) → CanBeWritten explicit t
+pub can_be_written : (unicode explicit : Bool) (t : Tree) → IsAllowed unicode true (core_pattern_of (pattern_in explicit t)) → CanBeWritten explicit t
 can_be_written unicode explicit t allowed =
     let p = pattern_in explicit t in
     record {
       placed = pattern_is_placed p;
-      writable = λ refers. can_write p.first_group (length p.groups) unicode true false (pat_of p) (pattern_has_groups explicit t)
+      writable = λ refers. can_write p.first_group (length p.groups) unicode true false (core_pattern_of p) (pattern_has_groups explicit t)
           (pattern_reads explicit t refers) allowed (pattern_is_placed p);
     }

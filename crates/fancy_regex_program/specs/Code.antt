@@ -1,12 +1,12 @@
 -- The program of a pattern.
 use Rattle.std.specs.Prelude.{ℕ, ◌+◌, ◌*◌, Bool, true, false, not, ◌&&◌, List, [], ◌∷◌, ◌++◌, length, Some, None, ◌==◌, if◌then◌else◌}
 use Rattle.fancy_regex_tree.specs.Tree.{Text}
-use Rattle.fancy_regex_pattern.specs.Pats.{Leaf, any, literal, class, Pat, nothing, read, general_newline, check, continue, keep_out, fail, cat, alt, group, ahead, never, back, atomic, repeat, backref, exists, conditional, absent}
+use Rattle.fancy_regex_desugar.specs.CorePatterns.{CharacterTest, any, literal, class, CorePattern, nothing, read, general_newline, check, continue, keep_out, fail, cat, alt, group, ahead, never, back, atomic, repeat, backref, exists, conditional, absent}
 use Rattle.fancy_regex_program.specs.Ops as op
 use Rattle.fancy_regex_program.specs.Ops.{Op, among_scalars}
 
 -- how many slots of its own a pattern has
-abbrev pub slots_in : Pat → ℕ
+abbrev pub slots_in : CorePattern → ℕ
 slots_in (cat a b) = slots_in a + slots_in b
 slots_in (alt a b) = slots_in a + slots_in b
 slots_in (group k a) = 1 + slots_in a
@@ -21,7 +21,7 @@ slots_in _ = 0
 
 -- Literals that stand side by side are one text, so a literal waits until something else comes: what waits behind a
 -- pattern, where that text waited before it.
-abbrev pub waits : Pat → Text → Text
+abbrev pub waits : CorePattern → Text → Text
 waits nothing text = text
 waits (read (literal c false)) text = text ++ c ∷ []
 waits (cat a b) text = waits b (waits a text)
@@ -102,13 +102,13 @@ absent_code body pc slot =
 
 -- over the members of classes, the foldings of characters, and whether group 0 is the whole
 module _ (has_member : Text → Bool → ℕ → Bool) (fold : ℕ → ℕ) (whole : Bool) where
-  abbrev pub leaf_op : Leaf → Op
+  abbrev pub leaf_op : CharacterTest → Op
   leaf_op (any newline crlf) = op.any newline (crlf && not newline)
   leaf_op (literal c casei) = op.test (λ d. fold d == fold c)
   leaf_op (class text casei) = op.test (among_scalars (has_member text casei))
 
   -- The program of a pattern, which begins at that operation and with that slot; the text waits before it.
-  unfoldable pub code_of : Pat → Text → ℕ → ℕ → List Op
+  unfoldable pub code_of : CorePattern → Text → ℕ → ℕ → List Op
   code_of nothing text = none
   code_of (read (literal c false)) text = none
   code_of (cat a b) text = row_code (code_of a text) (code_of b (waits a text)) (slots_in a)
@@ -143,6 +143,6 @@ module _ (has_member : Text → Bool → ℕ → Bool) (fold : ℕ → ℕ) (who
   abbrev pub closing : List Op
   closing = (if whole then op.save 1 ∷ [] else []) ++ op.finish ∷ []
 
-  unfoldable pub program_of : Bool → ℕ → Pat → List Op
+  unfoldable pub program_of : Bool → ℕ → CorePattern → List Op
   program_of anchored group_count p =
       opening anchored ++ (closed (code_of p []) (waits p []) (length (opening anchored)) (2 * group_count) ++ closing)

@@ -2,10 +2,10 @@
 use Rattle.std.specs.Prelude.{ℕ, zero, suc, ◌*◌, length, Bool, true, false, List, [], ◌∷◌, ◌++◌, slice_index, slice_get, Option, Some, None, map, if◌then◌else◌}
 use Rattle.fancy_regex_tree.specs.Tree as tree
 use Rattle.fancy_regex_tree.specs.Tree.{Tree}
-use Rattle.fancy_regex_meaning.specs.Ways.{is_full, open_calls_of_one}
-use Rattle.fancy_regex_pattern.specs.Pats.{any, literal, class, Pat, nothing, read, general_newline, check, continue, keep_out, fail, cat, alt, group, ahead, never, back, atomic, backref, exists, conditional, absent}
-use Rattle.fancy_regex_pattern.specs.Unfolded.{Written, cat_all, alt_all, fronts, behinds, repeated, look, pat_for}
-use Rattle.fancy_regex_info.specs.Infos.{Facts, InfoTree, InfoTrees, known, no_infos, more_infos}
+use Rattle.fancy_regex_meaning.specs.Ways.{is_at_call_limit, max_open_calls_per_group}
+use Rattle.fancy_regex_desugar.specs.CorePatterns.{any, literal, class, CorePattern, nothing, read, general_newline, check, continue, keep_out, fail, cat, alt, group, ahead, never, back, atomic, backref, exists, conditional, absent}
+use Rattle.fancy_regex_desugar.specs.Unfolded.{Written, cat_all, alt_all, fronts, behinds, repeated, look, pat_for}
+use Rattle.fancy_regex_info.specs.Infos.{NodeProperties, InfoTree, InfoTrees, known, no_infos, more_infos}
 
 -- what fails, from here and from as far back as it is long
 abbrev pub fails : Written
@@ -21,7 +21,7 @@ child us k = or_fails (slice_get us k)
 
 -- The pattern from here, by the pattern of each call, the number of the group that opens first, the tree, and what its
 -- children are.
-unfoldable pub front_of : (ℕ → Pat) → ℕ → Tree → List Written → Pat
+unfoldable pub front_of : (ℕ → CorePattern) → ℕ → Tree → List Written → CorePattern
 front_of call n (tree.concat ts) us = cat_all us
 front_of call n (tree.alt ts) us = alt_all (fronts us)
 front_of call n tree.empty us = nothing
@@ -46,29 +46,29 @@ front_of call n (tree.define_group t) us = nothing
 front_of call n _ us = fail
 
 -- The pattern from as far back as the node is long: branches of unequal lengths each go back for themselves.
-unfoldable pub behind_of : Facts → Tree → Pat → List Written → Pat
+unfoldable pub behind_of : NodeProperties → Tree → CorePattern → List Written → CorePattern
 behind_of f (tree.alt ts) p us = if f.size.always then cat (back f.size.least) p else alt_all (behinds us)
 behind_of f t p us = cat (back f.size.least) p
 
-abbrev pub layer : (ℕ → Pat) → Facts → Tree → List Written → Written
+abbrev pub layer : (ℕ → CorePattern) → NodeProperties → Tree → List Written → Written
 layer call f t us =
     let p = front_of call f.start t us in
     record { front = p; behind = behind_of f t p us }
 
 unfoldable mutual
-  pub info_written : (ℕ → Pat) → InfoTree → Written
+  pub info_written : (ℕ → CorePattern) → InfoTree → Written
   info_written call (known f t xs) = layer call f t (info_written_all call xs)
 
-  pub info_written_all : (ℕ → Pat) → InfoTrees → List Written
+  pub info_written_all : (ℕ → CorePattern) → InfoTrees → List Written
   info_written_all call no_infos = []
   info_written_all call (more_infos x xs) = info_written call x ∷ info_written_all call xs
 
 -- a call of the target k, where those targets are open, the last of them at the end, and m more calls may open
-unfoldable pub info_call : List InfoTree → ℕ → List ℕ → ℕ → Pat
+unfoldable pub info_call : List InfoTree → ℕ → List ℕ → ℕ → CorePattern
 info_call groups zero opened k = fail
 info_call groups (suc m) opened k =
     let inside = pat_for (λ x. (info_written (info_call groups m (opened ++ k ∷ [])) x).front) (slice_get groups k) in
-    if is_full opened k then fail else inside
+    if is_at_call_limit opened k then fail else inside
 
 abbrev pub is_group : Tree → Bool
 is_group (tree.group t) = true
@@ -96,12 +96,12 @@ groups_in whole x = if whole then x ∷ bodies_in x else bodies_in x
 
 -- so many open calls fill each of the groups
 abbrev pub most_calls_in : List InfoTree → ℕ
-most_calls_in groups = open_calls_of_one * length groups
+most_calls_in groups = max_open_calls_per_group * length groups
 
 -- the whole pattern, where these are its groups
-abbrev pub pat_with : List InfoTree → InfoTree → Pat
+abbrev pub pat_with : List InfoTree → InfoTree → CorePattern
 pat_with groups x = (info_written (info_call groups (most_calls_in groups) []) x).front
 
 -- the whole pattern
-unfoldable pub pat_in : Bool → InfoTree → Pat
+unfoldable pub pat_in : Bool → InfoTree → CorePattern
 pat_in whole x = pat_with (groups_in whole x) x

@@ -1,7 +1,7 @@
 pub mod Ops
 pub mod Machine
 pub mod Code
-pub mod Places
+pub mod SlotLayout
 pub mod Shapes
 pub mod Caps
 pub mod Known

@@ -4,13 +4,13 @@ use Rattle.fancy_regex_tree.specs.Tree.{Tree}
 use Rattle.fancy_regex_meaning.specs.Choices.{program_nodes}
 use Rattle.fancy_regex_meaning.specs.Groups.{Pattern}
 use Rattle.fancy_regex_class.specs.Classes.{in_class, folded}
-use Rattle.fancy_regex_pattern.specs.Pats.{Pat}
-use Rattle.fancy_regex_pattern.specs.Shapes.{IsPlaced}
-use Rattle.fancy_regex_pattern.specs.Unfolded.{pat_of}
+use Rattle.fancy_regex_desugar.specs.CorePatterns.{CorePattern}
+use Rattle.fancy_regex_desugar.specs.Shapes.{StepsBackOnlyFirst}
+use Rattle.fancy_regex_desugar.specs.Unfolded.{core_pattern_of}
 use Rattle.fancy_regex_info.specs.Analysis.{analysis}
-use Rattle.fancy_regex_sizes.specs.Causes.{is_too_complex}
+use Rattle.fancy_regex_sizes.specs.AnalysisErrors.{is_too_complex}
 use Rattle.fancy_regex_info.specs.Infos.{InfoTree}
-use Rattle.fancy_regex_sizes.specs.NodeCauses.{some_node, shows}
+use Rattle.fancy_regex_sizes.specs.NodeErrors.{some_node, shows}
 use Rattle.fancy_regex_info.specs.Views.{pattern_in}
 use Rattle.fancy_regex_info.specs.declared.error.CompileError.{CompileError}
 use Rattle.fancy_regex_info.specs.declared.error.CompileError.TheVariants.{InvalidBackref}
@@ -22,14 +22,14 @@ use Rattle.fancy_regex_program.specs.declared.insn.Insn.{Insn}
 use Rattle.fancy_regex_program.specs.declared.prog.Prog.{Prog}
 
 -- These are the instructions of a pattern with so many groups, and the slots that they need.
-pub record IsWhole (unicode whole anchored : Bool) (groups : ℕ) (p : Pat) (insns : List Insn) (slots : ℕ) : Type 0 where
+pub record IsWhole (unicode whole anchored : Bool) (groups : ℕ) (p : CorePattern) (insns : List Insn) (slots : ℕ) : Type 0 where
   pub ops : ops_of insns ≡ program_of (in_class unicode) (folded unicode) whole anchored groups p
   pub slots_are : slots ≡ 2 * groups + slots_in p
 
 -- The program is that of the pattern, and begins at the first start alone where it is anchored.
 pub record IsProgramOf (prog : Prog) (pattern : Pattern) (anchored : Bool) : Type 0 where
-  pub body : ops_of prog.body.items ≡ program_of (in_class prog.unicode) (folded prog.unicode) prog.whole anchored prog.groups (pat_of pattern)
-  pub slots : prog.slots ≡ 2 * prog.groups + slots_in (pat_of pattern)
+  pub body : ops_of prog.body.items ≡ program_of (in_class prog.unicode) (folded prog.unicode) prog.whole anchored prog.groups (core_pattern_of pattern)
+  pub slots : prog.slots ≡ 2 * prog.groups + slots_in (core_pattern_of pattern)
   pub groups : prog.groups ≡ length pattern.groups
 
 -- Each back reference and each condition of the tree goes to a group.
@@ -39,9 +39,9 @@ RefersToGroups explicit t = (k : ℕ) → some_node (shows (length (pattern_in e
 -- The tree's pattern, where it is written out, is one that programs are made of: it goes back only where a look-around
 -- begins, and where the tree refers to groups alone, it can be written.
 pub record CanBeWritten (explicit : Bool) (t : Tree) : Type 0 where
-  pub placed : IsPlaced false (pat_of (pattern_in explicit t))
+  pub placed : StepsBackOnlyFirst false (core_pattern_of (pattern_in explicit t))
   pub writable : RefersToGroups explicit t →
-      IsWritable (pattern_in explicit t).first_group (length (pattern_in explicit t).groups) (pat_of (pattern_in explicit t))
+      IsWritable (pattern_in explicit t).first_group (length (pattern_in explicit t).groups) (core_pattern_of (pattern_in explicit t))
 
 -- Where this is what the analysis says of a tree, the program is that of the tree's pattern, which can be written; and
 -- group 0 is the whole unless groups count from 0.

@@ -3,8 +3,8 @@ use Rattle.std.specs.Prelude.{◌≡◌, ℕ, ◌+◌, Bool, List, [], ◌∷◌
 use Rattle.std.specs.Borrow.{Bor}
 use Rattle.fancy_regex_tree.specs.Tree.{Text, Tree}
 use Rattle.fancy_regex_class.specs.Classes.{in_class, folded}
-use Rattle.fancy_regex_pattern.specs.Pats.{Pat}
-use Rattle.fancy_regex_pattern.specs.Unfolded.{Written}
+use Rattle.fancy_regex_desugar.specs.CorePatterns.{CorePattern}
+use Rattle.fancy_regex_desugar.specs.Unfolded.{Written}
 use Rattle.fancy_regex_info.specs.Infos.{InfoTree, info_of}
 use Rattle.fancy_regex_info.specs.declared.info.Info.{Info}
 use Rattle.fancy_regex_program.specs.Ops.{Op, op_of, ops_of, split, jump}
@@ -12,9 +12,9 @@ use Rattle.fancy_regex_program.specs.Code.{flushed, waits, slots_in, code_of}
 use Rattle.fancy_regex_program.specs.Known.{front_of, info_written, info_call}
 use Rattle.fancy_regex_program.specs.Shapes.{IsAllowed}
 use Rattle.fancy_regex_program.specs.declared.insn.Insn.{Insn}
-use Rattle.fancy_regex_program.specs.declared.body.Body.{Body}
+use Rattle.fancy_regex_program.specs.declared.program_builder.ProgramBuilder.{ProgramBuilder}
 use Rattle.fancy_regex_program.specs.declared.emitter.Emitter.{Emitter}
-use Rattle.fancy_regex_program.specs.declared.emitter.Task.{Task}
+use Rattle.fancy_regex_program.specs.declared.emitter.CompileContext.{CompileContext}
 use Rattle.fancy_regex_program.specs.declared.emitter.Scope.{Scope}
 
 -- the operations so far, and the text of literals that waits behind them
@@ -22,8 +22,8 @@ pub record Draft : Type 0 where
   pub ops : List Op
   pub text : Text
 
-abbrev pub draft_of : Body → Draft
-draft_of b = record { ops = ops_of b.insns.items; text = chars (string_bytes b.waiting) }
+abbrev pub draft_of : ProgramBuilder → Draft
+draft_of b = record { ops = ops_of b.insns.items; text = chars (string_bytes b.pending_literal) }
 
 -- one operation more, in front of what waits
 unfoldable pub with_op : Op → Draft → Draft
@@ -46,55 +46,55 @@ unfoldable pub patched : ℕ → Op → Draft → Draft
 patched at o d = record { ops = slice_set d.ops at o; text = d.text }
 
 -- with the program of a pattern behind it
-unfoldable pub with_pat : Bool → Bool → Pat → ℕ → Draft → Draft
+unfoldable pub with_pat : Bool → Bool → CorePattern → ℕ → Draft → Draft
 with_pat unicode whole p slot d = record {
   ops = d.ops ++ code_of (in_class unicode) (folded unicode) whole p d.text (length d.ops) slot;
   text = waits p d.text;
 }
 
 -- The program of the pattern was written, with its slots from the one number on up to the other.
-pub record Wrote (unicode whole : Bool) (old new : Emitter) (slot after : ℕ) (p : Pat) : Type 0 where
+pub record Wrote (unicode whole : Bool) (old new : Emitter) (slot after : ℕ) (p : CorePattern) : Type 0 where
   pub draft : draft_of new.body ≡ with_pat unicode whole p slot (draft_of old.body)
   pub slots : after ≡ slot + slots_in p
   pub opened : new.opened.items ≡ old.opened.items
 
 -- The same, with what waits behind it.
-pub record WroteClosed (unicode whole : Bool) (old new : Emitter) (slot after : ℕ) (p : Pat) : Type 0 where
+pub record WroteClosed (unicode whole : Bool) (old new : Emitter) (slot after : ℕ) (p : CorePattern) : Type 0 where
   pub draft : draft_of new.body ≡ closed_draft (with_pat unicode whole p slot (draft_of old.body))
   pub slots : after ≡ slot + slots_in p
   pub opened : new.opened.items ≡ old.opened.items
 
 -- A branch with a jump behind it to that place; the text that waited before it is an operation already.
-abbrev pub with_choice : Bool → Bool → ℕ → Pat → ℕ → Draft → Draft
+abbrev pub with_choice : Bool → Bool → ℕ → CorePattern → ℕ → Draft → Draft
 with_choice unicode whole end p slot d =
     let first = with_op (split 0 0) d in
     let all = with_op (jump end) (closed_draft (with_pat unicode whole p slot first)) in
     patched (length d.ops) (split (length first.ops) (length all.ops)) all
 
 -- A branch was written, and its jump leads nowhere yet.
-pub record WroteChoice (unicode whole : Bool) (old new : Emitter) (slot after : ℕ) (p : Pat) : Type 0 where
+pub record WroteChoice (unicode whole : Bool) (old new : Emitter) (slot after : ℕ) (p : CorePattern) : Type 0 where
   pub draft : draft_of new.body ≡ with_choice unicode whole 0 p slot (draft_of old.body)
   pub slots : after ≡ slot + slots_in p
   pub opened : new.opened.items ≡ old.opened.items
 
 -- The instruction is all that the node without children is.
 pub record IsInsn (unicode : Bool) (insn : Insn) (t : Tree) : Type 0 where
-  pub draft : (whole : Bool) (call : ℕ → Pat) (n slot : ℕ) (us : List Written) (d : Draft) →
+  pub draft : (whole : Bool) (call : ℕ → CorePattern) (n slot : ℕ) (us : List Written) (d : Draft) →
       with_pat unicode whole (front_of call n t us) slot d ≡ added (op_of insn) d
-  pub slots : (call : ℕ → Pat) (n : ℕ) (us : List Written) → slots_in (front_of call n t us) ≡ 0
-  pub allowed : (keeps : Bool) (call : ℕ → Pat) (n : ℕ) (us : List Written) → IsAllowed unicode keeps (front_of call n t us)
+  pub slots : (call : ℕ → CorePattern) (n : ℕ) (us : List Written) → slots_in (front_of call n t us) ≡ 0
+  pub allowed : (keeps : Bool) (call : ℕ → CorePattern) (n : ℕ) (us : List Written) → IsAllowed unicode keeps (front_of call n t us)
 
 -- what the analysis says of the groups, by their numbers
 abbrev pub info_at : Bor Info → InfoTree
 info_at i = info_of i.now
 
-abbrev pub infos_of : Task → List InfoTree
-infos_of task = map info_at task.groups.now.items
+abbrev pub infos_of : CompileContext → List InfoTree
+infos_of context = map info_at context.groups.now.items
 
 -- what the node is at this place, where those targets are open
-abbrev pub part : Task → Scope → List ℕ → Info → Written
-part task scope opened info = info_written (info_call (infos_of task) scope.calls_left opened) (info_of info)
+abbrev pub part : CompileContext → Scope → List ℕ → Info → Written
+part context scope opened info = info_written (info_call (infos_of context) scope.calls_left opened) (info_of info)
 
 -- what it is from here, or from as far back as it is long
-abbrev pub side : Bool → Written → Pat
+abbrev pub side : Bool → Written → CorePattern
 side behind u = if behind then u.behind else u.front

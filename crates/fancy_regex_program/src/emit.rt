@@ -1,94 +1,95 @@
-// From what is known of a tree to instructions.
+//! Instructions of the nodes of an analyzed tree. Each function takes the first free slot and returns the next one; the
+//! errors are those of `compile`.
 
 ghost use Rattle.std.specs.Prelude.{◌≡◌, ◌≤◌, ◌+◌, false, length, slice_get, map, IfOk, IfErr, Some, None, true};
-ghost use Rattle.fancy_regex_meaning.specs.Ways.{is_full as is_full_of};
-ghost use Rattle.fancy_regex_pattern.specs.Pats as pat;
-ghost use Rattle.fancy_regex_pattern.specs.Rooms.{room};
-ghost use Rattle.fancy_regex_pattern.specs.Unfolded.{cat_all, alt_all, repeated, look};
-ghost use Rattle.fancy_regex_sizes.specs.Causes.{is_too_complex};
+ghost use Rattle.fancy_regex_meaning.specs.Ways.{is_at_call_limit as is_full_of};
+ghost use Rattle.fancy_regex_desugar.specs.CorePatterns as pat;
+ghost use Rattle.fancy_regex_desugar.specs.ProgramSizes.{room};
+ghost use Rattle.fancy_regex_desugar.specs.Unfolded.{cat_all, alt_all, repeated, look};
+ghost use Rattle.fancy_regex_sizes.specs.AnalysisErrors.{is_too_complex};
 ghost use Rattle.fancy_regex_info.specs.Infos.{info_of};
 ghost use Rattle.fancy_regex_info.specs.declared.info.Info.TheViews.{out-Info};
 ghost use Rattle.fancy_regex_program.specs.Extents.{IsFull};
 ghost use Rattle.fancy_regex_program.specs.Known.{info_call};
 ghost use Rattle.fancy_regex_program.specs.Ops as op;
 ghost use Rattle.fancy_regex_program.specs.Ops.{op_of};
-ghost use Rattle.fancy_regex_program.specs.Refusals.{IsTold, Stands, EachStands, RepeatStands, AbsentStands, PartsStand, TargetStands, looks_behind};
+ghost use Rattle.fancy_regex_program.specs.Refusals.{IsReasonWhere, IsExpandedPart, AreExpandedParts, IsExpandedRepeat, IsExpandedAbsent, IsExpandedConditional, IsExpandedTarget, looks_behind};
 ghost use Rattle.fancy_regex_program.specs.Shapes.{IsAllowed};
 ghost use Rattle.fancy_regex_program.specs.Writing.{Wrote, WroteClosed, WroteChoice, infos_of, part, side};
 
-use crate::emitter::{Emitter, Scope, Task, deeper, first_slot, past_slots};
+use crate::emitter::{CompileContext, Emitter, Scope, descend, first_slot, past_slots};
 use crate::insn::{AbsentRepeater, Insn, Repeat, RepeatEpsilon};
 use crate::leaf::{emit_leaf, not_supported};
 use fancy_regex_info::{CompileError, Info};
 use fancy_regex_tree::{Absent, Expr, LookAround};
 
-/// How often a target may be open.
+/// How often one group may be inlined inside of itself.
 pub(crate) const OPEN_CALLS_OF_ONE: usize = 19;
 
-/// Adds the instructions of a part of the pattern, and says which slot is free behind it.
+/// Emits a node; `slot` is the first free slot. Returns the first free slot after it.
 #[cycle(emit)]
 pub(crate) fn emit(
-    task: &Task<'_, '_, '_>,
+    context: &CompileContext<'_, '_, '_>,
     emitter: &mut Emitter,
     info: &Info<'_>,
     scope: Scope,
     slot: usize,
 ) -> Result<usize, CompileError>
     ensures cap { emitter.new.body.cap ≡ emitter.old.body.cap }
-    ensures full { IfErr result (IsFull emitter.old.body (room (part task.now scope emitter.old.opened.items info.now).front)) }
-    ensures wrote { IfOk result (λ after. Wrote task.now.unicode task.now.whole emitter.old emitter.new slot after
-        (part task.now scope emitter.old.opened.items info.now).front) }
-    ensures allowed { IfOk result (λ after. IsAllowed task.now.unicode scope.may_keep
-        (part task.now scope emitter.old.opened.items info.now).front) }
-    ensures refused { IfErr result (IsTold task.now.unicode (infos_of task.now) (λ plan. Stands plan scope.may_keep scope.may_be_absent false (info_of info.now))) }
+    ensures full { IfErr result (IsFull emitter.old.body (room (part context.now scope emitter.old.opened.items info.now).front)) }
+    ensures wrote { IfOk result (λ after. Wrote context.now.unicode context.now.whole emitter.old emitter.new slot after
+        (part context.now scope emitter.old.opened.items info.now).front) }
+    ensures allowed { IfOk result (λ after. IsAllowed context.now.unicode scope.may_keep
+        (part context.now scope emitter.old.opened.items info.now).front) }
+    ensures refused { IfErr result (IsReasonWhere context.now.unicode (infos_of context.now) (λ tree_context. IsExpandedPart tree_context scope.may_keep scope.may_be_absent false (info_of info.now))) }
 {
-    let depth_left = deeper(scope.depth_left)?;
+    let depth_left = descend(scope.depth_left)?;
     let inside = Scope {
         depth_left,
         ..scope
     };
     match info.expr {
         Expr::Empty => Ok(slot),
-        Expr::Concat(_) => emit_row(task, emitter, &info.children, inside, slot),
-        Expr::Alt(_) => emit_branches(task, emitter, &info.children, false, inside, slot),
+        Expr::Concat(_) => emit_row(context, emitter, &info.children, inside, slot),
+        Expr::Alt(_) => emit_branches(context, emitter, &info.children, false, inside, slot),
         Expr::Group(_) => {
             let child = child_at(info, 0)?;
-            emit_group(task, emitter, child, info.start_group(), inside, slot)
+            emit_group(context, emitter, child, info.start_group(), inside, slot)
         }
         Expr::LookAround(_, how) => {
             let child = child_at(info, 0)?;
-            emit_look_around(task, emitter, child, *how, inside, slot)
+            emit_look_around(context, emitter, child, *how, inside, slot)
         }
         Expr::Repeat { lo, hi, greedy, .. } => {
             let child = child_at(info, 0)?;
-            emit_repeat(task, emitter, child, (*lo, *hi), *greedy, inside, slot)
+            emit_repeat(context, emitter, child, (*lo, *hi), *greedy, inside, slot)
         }
         Expr::AtomicGroup(_) => {
             let child = child_at(info, 0)?;
-            emit_atomic(task, emitter, child, inside, slot)
+            emit_atomic(context, emitter, child, inside, slot)
         }
         Expr::Conditional { .. } => {
             let condition = child_at(info, 0)?;
             let branches = (child_at(info, 1)?, child_at(info, 2)?);
-            emit_conditional(task, emitter, condition, branches, inside, slot)
+            emit_conditional(context, emitter, condition, branches, inside, slot)
         }
-        Expr::SubroutineCall(target) => emit_call(task, emitter, *target, inside, slot),
+        Expr::SubroutineCall(target) => emit_call(context, emitter, *target, inside, slot),
         Expr::Absent(absent) => match absent {
             Absent::Repeater(_) => {
                 let child = child_at(info, 0)?;
-                emit_absent(task, emitter, child, inside, slot)
+                emit_absent(context, emitter, child, inside, slot)
             }
-            _ => Err(not_supported(task.alloc, "absent operator")),
+            _ => Err(not_supported(context.alloc, "absent operator")),
         },
         Expr::DefineGroup { .. } => Ok(slot),
         leaf => {
-            emit_leaf(task, emitter, leaf, inside)?;
+            emit_leaf(context, emitter, leaf, inside)?;
             Ok(slot)
         }
     }
 }
 
-/// The child at that place. A node that the reader made has it.
+/// The child at this index. The error is `UnresolvedAstNode` if there is none; a parsed tree has it.
 fn child_at<'i, 'e>(info: &'i Info<'e>, place: usize) -> Result<&'i Info<'e>, CompileError>
     ensures value { IfOk result (λ child. slice_get (out-Info info.now).children.items place ≡ Some child.now) }
     ensures full { IfErr result (λ e. is_too_complex e ≡ false) }
@@ -100,34 +101,34 @@ fn child_at<'i, 'e>(info: &'i Info<'e>, place: usize) -> Result<&'i Info<'e>, Co
     }
 }
 
-/// Adds parts one behind the other.
+/// Emits a concatenation.
 #[cycle(emit)]
 fn emit_row(
-    task: &Task<'_, '_, '_>,
+    context: &CompileContext<'_, '_, '_>,
     emitter: &mut Emitter,
     parts: &[Info<'_>],
     scope: Scope,
     slot: usize,
 ) -> Result<usize, CompileError>
     ensures cap { emitter.new.body.cap ≡ emitter.old.body.cap }
-    ensures full { IfErr result (IsFull emitter.old.body (room (cat_all (map (part task.now scope emitter.old.opened.items) parts.now)))) }
-    ensures wrote { IfOk result (λ after. Wrote task.now.unicode task.now.whole emitter.old emitter.new slot after
-        (cat_all (map (part task.now scope emitter.old.opened.items) parts.now))) }
-    ensures allowed { IfOk result (λ after. IsAllowed task.now.unicode scope.may_keep
-        (cat_all (map (part task.now scope emitter.old.opened.items) parts.now))) }
-    ensures refused { IfErr result (IsTold task.now.unicode (infos_of task.now) (λ plan. EachStands plan scope.may_keep scope.may_be_absent false parts.now)) }
+    ensures full { IfErr result (IsFull emitter.old.body (room (cat_all (map (part context.now scope emitter.old.opened.items) parts.now)))) }
+    ensures wrote { IfOk result (λ after. Wrote context.now.unicode context.now.whole emitter.old emitter.new slot after
+        (cat_all (map (part context.now scope emitter.old.opened.items) parts.now))) }
+    ensures allowed { IfOk result (λ after. IsAllowed context.now.unicode scope.may_keep
+        (cat_all (map (part context.now scope emitter.old.opened.items) parts.now))) }
+    ensures refused { IfErr result (IsReasonWhere context.now.unicode (infos_of context.now) (λ tree_context. AreExpandedParts tree_context scope.may_keep scope.may_be_absent false parts.now)) }
 {
     let mut next = slot;
     for info in parts {
-        next = emit(task, emitter, info, scope, next)?;
+        next = emit(context, emitter, info, scope, next)?;
     }
     Ok(next)
 }
 
-/// Adds branches, each perhaps from as far back as it is long.
+/// Emits an alternation; with `behind` each branch first goes back by its own length.
 #[cycle(emit)]
 fn emit_branches(
-    task: &Task<'_, '_, '_>,
+    context: &CompileContext<'_, '_, '_>,
     emitter: &mut Emitter,
     branches: &[Info<'_>],
     behind: bool,
@@ -135,27 +136,27 @@ fn emit_branches(
     slot: usize,
 ) -> Result<usize, CompileError>
     ensures cap { emitter.new.body.cap ≡ emitter.old.body.cap }
-    ensures full { IfErr result (IsFull emitter.old.body (room (alt_all (map (λ x. side behind (part task.now scope emitter.old.opened.items x)) branches.now)))) }
-    ensures wrote { IfOk result (λ after. Wrote task.now.unicode task.now.whole emitter.old emitter.new slot after
-        (alt_all (map (λ x. side behind (part task.now scope emitter.old.opened.items x)) branches.now))) }
-    ensures allowed { IfOk result (λ after. IsAllowed task.now.unicode scope.may_keep
-        (alt_all (map (λ x. side behind (part task.now scope emitter.old.opened.items x)) branches.now))) }
-    ensures refused { IfErr result (IsTold task.now.unicode (infos_of task.now) (λ plan. EachStands plan scope.may_keep scope.may_be_absent behind branches.now)) }
+    ensures full { IfErr result (IsFull emitter.old.body (room (alt_all (map (λ x. side behind (part context.now scope emitter.old.opened.items x)) branches.now)))) }
+    ensures wrote { IfOk result (λ after. Wrote context.now.unicode context.now.whole emitter.old emitter.new slot after
+        (alt_all (map (λ x. side behind (part context.now scope emitter.old.opened.items x)) branches.now))) }
+    ensures allowed { IfOk result (λ after. IsAllowed context.now.unicode scope.may_keep
+        (alt_all (map (λ x. side behind (part context.now scope emitter.old.opened.items x)) branches.now))) }
+    ensures refused { IfErr result (IsReasonWhere context.now.unicode (infos_of context.now) (λ tree_context. AreExpandedParts tree_context scope.may_keep scope.may_be_absent behind branches.now)) }
 {
     if branches.is_empty() {
-        emitter.body.add(Insn::Fail)?;
+        emitter.body.flush_and_push(Insn::Fail)?;
         return Ok(slot);
     }
     if branches.len() == 1 {
-        return emit_side(task, emitter, &branches[0], behind, scope, slot);
+        return emit_ahead_or_behind(context, emitter, &branches[0], behind, scope, slot);
     }
-    emit_choices(task, emitter, branches, behind, scope, slot)
+    emit_alternatives(context, emitter, branches, behind, scope, slot)
 }
 
-/// Adds two branches or more.
+/// Emits an alternation of two branches or more.
 #[cycle(emit)]
-fn emit_choices(
-    task: &Task<'_, '_, '_>,
+fn emit_alternatives(
+    context: &CompileContext<'_, '_, '_>,
     emitter: &mut Emitter,
     branches: &[Info<'_>],
     behind: bool,
@@ -164,22 +165,22 @@ fn emit_choices(
 ) -> Result<usize, CompileError>
     requires { 2 ≤ length branches.now }
     ensures cap { emitter.new.body.cap ≡ emitter.old.body.cap }
-    ensures full { IfErr result (IsFull emitter.old.body (room (alt_all (map (λ x. side behind (part task.now scope emitter.old.opened.items x)) branches.now)))) }
-    ensures wrote { IfOk result (λ after. Wrote task.now.unicode task.now.whole emitter.old emitter.new slot after
-        (alt_all (map (λ x. side behind (part task.now scope emitter.old.opened.items x)) branches.now))) }
-    ensures allowed { IfOk result (λ after. IsAllowed task.now.unicode scope.may_keep
-        (alt_all (map (λ x. side behind (part task.now scope emitter.old.opened.items x)) branches.now))) }
-    ensures refused { IfErr result (IsTold task.now.unicode (infos_of task.now) (λ plan. EachStands plan scope.may_keep scope.may_be_absent behind branches.now)) }
+    ensures full { IfErr result (IsFull emitter.old.body (room (alt_all (map (λ x. side behind (part context.now scope emitter.old.opened.items x)) branches.now)))) }
+    ensures wrote { IfOk result (λ after. Wrote context.now.unicode context.now.whole emitter.old emitter.new slot after
+        (alt_all (map (λ x. side behind (part context.now scope emitter.old.opened.items x)) branches.now))) }
+    ensures allowed { IfOk result (λ after. IsAllowed context.now.unicode scope.may_keep
+        (alt_all (map (λ x. side behind (part context.now scope emitter.old.opened.items x)) branches.now))) }
+    ensures refused { IfErr result (IsReasonWhere context.now.unicode (infos_of context.now) (λ tree_context. AreExpandedParts tree_context scope.may_keep scope.may_be_absent behind branches.now)) }
 {
     emitter.body.flush()?;
     let last = branches.len() - 1;
-    let mut jumps = Vec::new(task.alloc);
+    let mut jumps = Vec::new(context.alloc);
     let mut next = slot;
     for info in &branches[..last] {
-        next = emit_choice(task, emitter, info, behind, scope, next)?;
+        next = emit_alternative(context, emitter, info, behind, scope, next)?;
         jumps.push(emitter.body.len().saturating_sub(1))?;
     }
-    next = emit_closed(task, emitter, &branches[last], behind, scope, next)?;
+    next = emit_flushed(context, emitter, &branches[last], behind, scope, next)?;
     let end = emitter.body.len();
     for jump in &jumps {
         emitter.body.patch(*jump, Insn::Jmp(end));
@@ -187,10 +188,10 @@ fn emit_choices(
     Ok(next)
 }
 
-/// Adds a part, from here or from as far back as it is long.
+/// Emits a node; with `behind` it first goes back by its own length.
 #[cycle(emit)]
-fn emit_side(
-    task: &Task<'_, '_, '_>,
+fn emit_ahead_or_behind(
+    context: &CompileContext<'_, '_, '_>,
     emitter: &mut Emitter,
     info: &Info<'_>,
     behind: bool,
@@ -198,24 +199,24 @@ fn emit_side(
     slot: usize,
 ) -> Result<usize, CompileError>
     ensures cap { emitter.new.body.cap ≡ emitter.old.body.cap }
-    ensures full { IfErr result (IsFull emitter.old.body (room (side behind (part task.now scope emitter.old.opened.items info.now)))) }
-    ensures wrote { IfOk result (λ after. Wrote task.now.unicode task.now.whole emitter.old emitter.new slot after
-        (side behind (part task.now scope emitter.old.opened.items info.now))) }
-    ensures allowed { IfOk result (λ after. IsAllowed task.now.unicode scope.may_keep
-        (side behind (part task.now scope emitter.old.opened.items info.now))) }
-    ensures refused { IfErr result (IsTold task.now.unicode (infos_of task.now) (λ plan. Stands plan scope.may_keep scope.may_be_absent behind (info_of info.now))) }
+    ensures full { IfErr result (IsFull emitter.old.body (room (side behind (part context.now scope emitter.old.opened.items info.now)))) }
+    ensures wrote { IfOk result (λ after. Wrote context.now.unicode context.now.whole emitter.old emitter.new slot after
+        (side behind (part context.now scope emitter.old.opened.items info.now))) }
+    ensures allowed { IfOk result (λ after. IsAllowed context.now.unicode scope.may_keep
+        (side behind (part context.now scope emitter.old.opened.items info.now))) }
+    ensures refused { IfErr result (IsReasonWhere context.now.unicode (infos_of context.now) (λ tree_context. IsExpandedPart tree_context scope.may_keep scope.may_be_absent behind (info_of info.now))) }
 {
     if behind {
-        emit_behind(task, emitter, info, scope, slot)
+        emit_look_behind_body(context, emitter, info, scope, slot)
     } else {
-        emit(task, emitter, info, scope, slot)
+        emit(context, emitter, info, scope, slot)
     }
 }
 
-/// Adds the same, with what waits behind it.
+/// Emits a node like `emit_ahead_or_behind`, and makes its pending literal text an instruction.
 #[cycle(emit)]
-fn emit_closed(
-    task: &Task<'_, '_, '_>,
+fn emit_flushed(
+    context: &CompileContext<'_, '_, '_>,
     emitter: &mut Emitter,
     info: &Info<'_>,
     behind: bool,
@@ -223,54 +224,55 @@ fn emit_closed(
     slot: usize,
 ) -> Result<usize, CompileError>
     ensures cap { emitter.new.body.cap ≡ emitter.old.body.cap }
-    ensures full { IfErr result (IsFull emitter.old.body (room (side behind (part task.now scope emitter.old.opened.items info.now)))) }
-    ensures wrote { IfOk result (λ after. WroteClosed task.now.unicode task.now.whole emitter.old emitter.new slot after
-        (side behind (part task.now scope emitter.old.opened.items info.now))) }
-    ensures allowed { IfOk result (λ after. IsAllowed task.now.unicode scope.may_keep
-        (side behind (part task.now scope emitter.old.opened.items info.now))) }
-    ensures refused { IfErr result (IsTold task.now.unicode (infos_of task.now) (λ plan. Stands plan scope.may_keep scope.may_be_absent behind (info_of info.now))) }
+    ensures full { IfErr result (IsFull emitter.old.body (room (side behind (part context.now scope emitter.old.opened.items info.now)))) }
+    ensures wrote { IfOk result (λ after. WroteClosed context.now.unicode context.now.whole emitter.old emitter.new slot after
+        (side behind (part context.now scope emitter.old.opened.items info.now))) }
+    ensures allowed { IfOk result (λ after. IsAllowed context.now.unicode scope.may_keep
+        (side behind (part context.now scope emitter.old.opened.items info.now))) }
+    ensures refused { IfErr result (IsReasonWhere context.now.unicode (infos_of context.now) (λ tree_context. IsExpandedPart tree_context scope.may_keep scope.may_be_absent behind (info_of info.now))) }
 {
-    let after = emit_side(task, emitter, info, behind, scope, slot)?;
+    let after = emit_ahead_or_behind(context, emitter, info, behind, scope, slot)?;
     emitter.body.flush()?;
     Ok(after)
 }
 
-/// Adds a part from as far back as it is long. Branches that are not as long go back each for itself.
+/// Emits the body of a look-behind: goes back by its length, then matches it. In an alternation of unequal lengths each branch
+/// goes back by its own. The error is `LookBehindNotConst` for a body of variable length.
 #[cycle(emit)]
-fn emit_behind(
-    task: &Task<'_, '_, '_>,
+fn emit_look_behind_body(
+    context: &CompileContext<'_, '_, '_>,
     emitter: &mut Emitter,
     info: &Info<'_>,
     scope: Scope,
     slot: usize,
 ) -> Result<usize, CompileError>
     ensures cap { emitter.new.body.cap ≡ emitter.old.body.cap }
-    ensures full { IfErr result (IsFull emitter.old.body (room (part task.now scope emitter.old.opened.items info.now).behind)) }
-    ensures wrote { IfOk result (λ after. Wrote task.now.unicode task.now.whole emitter.old emitter.new slot after
-        (part task.now scope emitter.old.opened.items info.now).behind) }
-    ensures allowed { IfOk result (λ after. IsAllowed task.now.unicode scope.may_keep
-        (part task.now scope emitter.old.opened.items info.now).behind) }
-    ensures refused { IfErr result (IsTold task.now.unicode (infos_of task.now) (λ plan. Stands plan scope.may_keep scope.may_be_absent true (info_of info.now))) }
+    ensures full { IfErr result (IsFull emitter.old.body (room (part context.now scope emitter.old.opened.items info.now).behind)) }
+    ensures wrote { IfOk result (λ after. Wrote context.now.unicode context.now.whole emitter.old emitter.new slot after
+        (part context.now scope emitter.old.opened.items info.now).behind) }
+    ensures allowed { IfOk result (λ after. IsAllowed context.now.unicode scope.may_keep
+        (part context.now scope emitter.old.opened.items info.now).behind) }
+    ensures refused { IfErr result (IsReasonWhere context.now.unicode (infos_of context.now) (λ tree_context. IsExpandedPart tree_context scope.may_keep scope.may_be_absent true (info_of info.now))) }
 {
     if info.const_size {
-        emitter.body.add(Insn::GoBack(info.min_size))?;
-        return emit(task, emitter, info, scope, slot);
+        emitter.body.flush_and_push(Insn::GoBack(info.min_size))?;
+        return emit(context, emitter, info, scope, slot);
     }
-    let depth_left = deeper(scope.depth_left)?;
+    let depth_left = descend(scope.depth_left)?;
     let inside = Scope {
         depth_left,
         ..scope
     };
     match info.expr {
-        Expr::Alt(_) => emit_branches(task, emitter, &info.children, true, inside, slot),
+        Expr::Alt(_) => emit_branches(context, emitter, &info.children, true, inside, slot),
         _ => Err(CompileError::LookBehindNotConst),
     }
 }
 
-/// Adds a capturing group with that number.
+/// Emits the capture group of this number.
 #[cycle(emit)]
 fn emit_group(
-    task: &Task<'_, '_, '_>,
+    context: &CompileContext<'_, '_, '_>,
     emitter: &mut Emitter,
     child: &Info<'_>,
     number: usize,
@@ -278,54 +280,54 @@ fn emit_group(
     slot: usize,
 ) -> Result<usize, CompileError>
     ensures cap { emitter.new.body.cap ≡ emitter.old.body.cap }
-    ensures full { IfErr result (IsFull emitter.old.body (room (pat.group number (part task.now scope emitter.old.opened.items child.now).front))) }
-    ensures wrote { IfOk result (λ after. Wrote task.now.unicode task.now.whole emitter.old emitter.new slot after
-        (pat.group number (part task.now scope emitter.old.opened.items child.now).front)) }
-    ensures allowed { IfOk result (λ after. IsAllowed task.now.unicode scope.may_keep
-        (pat.group number (part task.now scope emitter.old.opened.items child.now).front)) }
-    ensures refused { IfErr result (IsTold task.now.unicode (infos_of task.now) (λ plan. Stands plan scope.may_keep scope.may_be_absent false (info_of child.now))) }
+    ensures full { IfErr result (IsFull emitter.old.body (room (pat.group number (part context.now scope emitter.old.opened.items child.now).front))) }
+    ensures wrote { IfOk result (λ after. Wrote context.now.unicode context.now.whole emitter.old emitter.new slot after
+        (pat.group number (part context.now scope emitter.old.opened.items child.now).front)) }
+    ensures allowed { IfOk result (λ after. IsAllowed context.now.unicode scope.may_keep
+        (pat.group number (part context.now scope emitter.old.opened.items child.now).front)) }
+    ensures refused { IfErr result (IsReasonWhere context.now.unicode (infos_of context.now) (λ tree_context. IsExpandedPart tree_context scope.may_keep scope.may_be_absent false (info_of child.now))) }
 {
     let inside = past_slots(slot, 1)?;
     let start = first_slot(number)?;
     let end = past_slots(start, 1)?;
-    emitter.body.add(Insn::Save(slot))?;
-    let after = emit_closed(task, emitter, child, false, scope, inside)?;
-    emitter.body.put(Insn::SaveCaptureGroupStart {
+    emitter.body.flush_and_push(Insn::Save(slot))?;
+    let after = emit_flushed(context, emitter, child, false, scope, inside)?;
+    emitter.body.push_insn(Insn::SaveCaptureGroupStart {
         kept: slot,
         slot: start,
     })?;
-    emitter.body.put(Insn::Save(end))?;
+    emitter.body.push_insn(Insn::Save(end))?;
     Ok(after)
 }
 
-/// Adds an atomic group.
+/// Emits an atomic group.
 #[cycle(emit)]
 fn emit_atomic(
-    task: &Task<'_, '_, '_>,
+    context: &CompileContext<'_, '_, '_>,
     emitter: &mut Emitter,
     child: &Info<'_>,
     scope: Scope,
     slot: usize,
 ) -> Result<usize, CompileError>
     ensures cap { emitter.new.body.cap ≡ emitter.old.body.cap }
-    ensures full { IfErr result (IsFull emitter.old.body (room (pat.atomic (part task.now scope emitter.old.opened.items child.now).front))) }
-    ensures wrote { IfOk result (λ after. Wrote task.now.unicode task.now.whole emitter.old emitter.new slot after
-        (pat.atomic (part task.now scope emitter.old.opened.items child.now).front)) }
-    ensures allowed { IfOk result (λ after. IsAllowed task.now.unicode scope.may_keep
-        (pat.atomic (part task.now scope emitter.old.opened.items child.now).front)) }
-    ensures refused { IfErr result (IsTold task.now.unicode (infos_of task.now) (λ plan. Stands plan scope.may_keep scope.may_be_absent false (info_of child.now))) }
+    ensures full { IfErr result (IsFull emitter.old.body (room (pat.atomic (part context.now scope emitter.old.opened.items child.now).front))) }
+    ensures wrote { IfOk result (λ after. Wrote context.now.unicode context.now.whole emitter.old emitter.new slot after
+        (pat.atomic (part context.now scope emitter.old.opened.items child.now).front)) }
+    ensures allowed { IfOk result (λ after. IsAllowed context.now.unicode scope.may_keep
+        (pat.atomic (part context.now scope emitter.old.opened.items child.now).front)) }
+    ensures refused { IfErr result (IsReasonWhere context.now.unicode (infos_of context.now) (λ tree_context. IsExpandedPart tree_context scope.may_keep scope.may_be_absent false (info_of child.now))) }
 {
     let inside = past_slots(slot, 1)?;
-    emitter.body.add(Insn::BeginAtomic(slot))?;
-    let after = emit_closed(task, emitter, child, false, scope, inside)?;
-    emitter.body.put(Insn::EndAtomic(slot))?;
+    emitter.body.flush_and_push(Insn::BeginAtomic(slot))?;
+    let after = emit_flushed(context, emitter, child, false, scope, inside)?;
+    emitter.body.push_insn(Insn::EndAtomic(slot))?;
     Ok(after)
 }
 
-/// Adds a look-around.
+/// Emits a look-around.
 #[cycle(emit)]
 fn emit_look_around(
-    task: &Task<'_, '_, '_>,
+    context: &CompileContext<'_, '_, '_>,
     emitter: &mut Emitter,
     child: &Info<'_>,
     how: LookAround,
@@ -333,29 +335,37 @@ fn emit_look_around(
     slot: usize,
 ) -> Result<usize, CompileError>
     ensures cap { emitter.new.body.cap ≡ emitter.old.body.cap }
-    ensures full { IfErr result (IsFull emitter.old.body (room (look how (part task.now scope emitter.old.opened.items child.now)))) }
-    ensures wrote { IfOk result (λ after. Wrote task.now.unicode task.now.whole emitter.old emitter.new slot after
-        (look how (part task.now scope emitter.old.opened.items child.now))) }
-    ensures allowed { IfOk result (λ after. IsAllowed task.now.unicode scope.may_keep
-        (look how (part task.now scope emitter.old.opened.items child.now))) }
-    ensures refused { IfErr result (IsTold task.now.unicode (infos_of task.now) (λ plan. Stands plan false scope.may_be_absent (looks_behind how) (info_of child.now))) }
+    ensures full { IfErr result (IsFull emitter.old.body (room (look how (part context.now scope emitter.old.opened.items child.now)))) }
+    ensures wrote { IfOk result (λ after. Wrote context.now.unicode context.now.whole emitter.old emitter.new slot after
+        (look how (part context.now scope emitter.old.opened.items child.now))) }
+    ensures allowed { IfOk result (λ after. IsAllowed context.now.unicode scope.may_keep
+        (look how (part context.now scope emitter.old.opened.items child.now))) }
+    ensures refused { IfErr result (IsReasonWhere context.now.unicode (infos_of context.now) (λ tree_context. IsExpandedPart tree_context false scope.may_be_absent (looks_behind how) (info_of child.now))) }
 {
     let looking = Scope {
         may_keep: false,
         ..scope
     };
     match how {
-        LookAround::LookAhead => emit_found(task, emitter, child, false, looking, slot),
-        LookAround::LookAheadNeg => emit_not_found(task, emitter, child, false, looking, slot),
-        LookAround::LookBehind => emit_found(task, emitter, child, true, looking, slot),
-        LookAround::LookBehindNeg => emit_not_found(task, emitter, child, true, looking, slot),
+        LookAround::LookAhead => emit_positive_look_around(
+            context, emitter, child, false, looking, slot,
+        ),
+        LookAround::LookAheadNeg => emit_negative_look_around(
+            context, emitter, child, false, looking, slot,
+        ),
+        LookAround::LookBehind => emit_positive_look_around(
+            context, emitter, child, true, looking, slot,
+        ),
+        LookAround::LookBehindNeg => emit_negative_look_around(
+            context, emitter, child, true, looking, slot,
+        ),
     }
 }
 
-/// Adds a look-around whose body is to be found.
+/// Emits a positive look-around.
 #[cycle(emit)]
-fn emit_found(
-    task: &Task<'_, '_, '_>,
+fn emit_positive_look_around(
+    context: &CompileContext<'_, '_, '_>,
     emitter: &mut Emitter,
     child: &Info<'_>,
     behind: bool,
@@ -363,24 +373,24 @@ fn emit_found(
     slot: usize,
 ) -> Result<usize, CompileError>
     ensures cap { emitter.new.body.cap ≡ emitter.old.body.cap }
-    ensures full { IfErr result (IsFull emitter.old.body (room (pat.ahead (side behind (part task.now scope emitter.old.opened.items child.now))))) }
-    ensures wrote { IfOk result (λ after. Wrote task.now.unicode task.now.whole emitter.old emitter.new slot after
-        (pat.ahead (side behind (part task.now scope emitter.old.opened.items child.now)))) }
-    ensures allowed { IfOk result (λ after. IsAllowed task.now.unicode scope.may_keep
-        (side behind (part task.now scope emitter.old.opened.items child.now))) }
-    ensures refused { IfErr result (IsTold task.now.unicode (infos_of task.now) (λ plan. Stands plan scope.may_keep scope.may_be_absent behind (info_of child.now))) }
+    ensures full { IfErr result (IsFull emitter.old.body (room (pat.ahead (side behind (part context.now scope emitter.old.opened.items child.now))))) }
+    ensures wrote { IfOk result (λ after. Wrote context.now.unicode context.now.whole emitter.old emitter.new slot after
+        (pat.ahead (side behind (part context.now scope emitter.old.opened.items child.now)))) }
+    ensures allowed { IfOk result (λ after. IsAllowed context.now.unicode scope.may_keep
+        (side behind (part context.now scope emitter.old.opened.items child.now))) }
+    ensures refused { IfErr result (IsReasonWhere context.now.unicode (infos_of context.now) (λ tree_context. IsExpandedPart tree_context scope.may_keep scope.may_be_absent behind (info_of child.now))) }
 {
     let inside = past_slots(slot, 1)?;
-    emitter.body.add(Insn::Save(slot))?;
-    let after = emit_closed(task, emitter, child, behind, scope, inside)?;
-    emitter.body.put(Insn::Restore(slot))?;
+    emitter.body.flush_and_push(Insn::Save(slot))?;
+    let after = emit_flushed(context, emitter, child, behind, scope, inside)?;
+    emitter.body.push_insn(Insn::Restore(slot))?;
     Ok(after)
 }
 
-/// Adds a look-around whose body is not to be found.
+/// Emits a negative look-around.
 #[cycle(emit)]
-fn emit_not_found(
-    task: &Task<'_, '_, '_>,
+fn emit_negative_look_around(
+    context: &CompileContext<'_, '_, '_>,
     emitter: &mut Emitter,
     child: &Info<'_>,
     behind: bool,
@@ -388,29 +398,29 @@ fn emit_not_found(
     slot: usize,
 ) -> Result<usize, CompileError>
     ensures cap { emitter.new.body.cap ≡ emitter.old.body.cap }
-    ensures full { IfErr result (IsFull emitter.old.body (room (pat.never (side behind (part task.now scope emitter.old.opened.items child.now))))) }
-    ensures wrote { IfOk result (λ after. Wrote task.now.unicode task.now.whole emitter.old emitter.new slot after
-        (pat.never (side behind (part task.now scope emitter.old.opened.items child.now)))) }
-    ensures allowed { IfOk result (λ after. IsAllowed task.now.unicode scope.may_keep
-        (side behind (part task.now scope emitter.old.opened.items child.now))) }
-    ensures refused { IfErr result (IsTold task.now.unicode (infos_of task.now) (λ plan. Stands plan scope.may_keep scope.may_be_absent behind (info_of child.now))) }
+    ensures full { IfErr result (IsFull emitter.old.body (room (pat.never (side behind (part context.now scope emitter.old.opened.items child.now))))) }
+    ensures wrote { IfOk result (λ after. Wrote context.now.unicode context.now.whole emitter.old emitter.new slot after
+        (pat.never (side behind (part context.now scope emitter.old.opened.items child.now)))) }
+    ensures allowed { IfOk result (λ after. IsAllowed context.now.unicode scope.may_keep
+        (side behind (part context.now scope emitter.old.opened.items child.now))) }
+    ensures refused { IfErr result (IsReasonWhere context.now.unicode (infos_of context.now) (λ tree_context. IsExpandedPart tree_context scope.may_keep scope.may_be_absent behind (info_of child.now))) }
 {
     let inside = past_slots(slot, 1)?;
-    emitter.body.add(Insn::BeginAtomic(slot))?;
+    emitter.body.flush_and_push(Insn::BeginAtomic(slot))?;
     let split = emitter.body.len();
-    emitter.body.put(Insn::Split(0, 0))?;
+    emitter.body.push_insn(Insn::Split(0, 0))?;
     let first = emitter.body.len();
-    let after = emit_closed(task, emitter, child, behind, scope, inside)?;
-    emitter.body.put(Insn::FailNegativeLookAround(slot))?;
+    let after = emit_flushed(context, emitter, child, behind, scope, inside)?;
+    emitter.body.push_insn(Insn::FailNegativeLookAround(slot))?;
     let second = emitter.body.len();
     emitter.body.patch(split, Insn::Split(first, second));
     Ok(after)
 }
 
-/// Adds a branch in front of others: a jump behind it leads past these, and is still to be put right.
+/// Emits a branch that others follow. The jump after it, over the others, is patched later.
 #[cycle(emit)]
-fn emit_choice(
-    task: &Task<'_, '_, '_>,
+fn emit_alternative(
+    context: &CompileContext<'_, '_, '_>,
     emitter: &mut Emitter,
     info: &Info<'_>,
     behind: bool,
@@ -418,28 +428,28 @@ fn emit_choice(
     slot: usize,
 ) -> Result<usize, CompileError>
     ensures cap { emitter.new.body.cap ≡ emitter.old.body.cap }
-    ensures full { IfErr result (IsFull emitter.old.body (room (side behind (part task.now scope emitter.old.opened.items info.now)) + 2)) }
-    ensures wrote { IfOk result (λ after. WroteChoice task.now.unicode task.now.whole emitter.old emitter.new slot after
-        (side behind (part task.now scope emitter.old.opened.items info.now))) }
-    ensures allowed { IfOk result (λ after. IsAllowed task.now.unicode scope.may_keep
-        (side behind (part task.now scope emitter.old.opened.items info.now))) }
-    ensures refused { IfErr result (IsTold task.now.unicode (infos_of task.now) (λ plan. Stands plan scope.may_keep scope.may_be_absent behind (info_of info.now))) }
+    ensures full { IfErr result (IsFull emitter.old.body (room (side behind (part context.now scope emitter.old.opened.items info.now)) + 2)) }
+    ensures wrote { IfOk result (λ after. WroteChoice context.now.unicode context.now.whole emitter.old emitter.new slot after
+        (side behind (part context.now scope emitter.old.opened.items info.now))) }
+    ensures allowed { IfOk result (λ after. IsAllowed context.now.unicode scope.may_keep
+        (side behind (part context.now scope emitter.old.opened.items info.now))) }
+    ensures refused { IfErr result (IsReasonWhere context.now.unicode (infos_of context.now) (λ tree_context. IsExpandedPart tree_context scope.may_keep scope.may_be_absent behind (info_of info.now))) }
 {
     let split = emitter.body.len();
-    emitter.body.put(Insn::Split(0, 0))?;
+    emitter.body.push_insn(Insn::Split(0, 0))?;
     let first = emitter.body.len();
-    let after = emit_closed(task, emitter, info, behind, scope, slot)?;
-    emitter.body.put(Insn::Jmp(0))?;
+    let after = emit_flushed(context, emitter, info, behind, scope, slot)?;
+    emitter.body.push_insn(Insn::Jmp(0))?;
     let second = emitter.body.len();
     emitter.body.patch(split, Insn::Split(first, second));
     Ok(after)
 }
 
-/// Adds a repeat; the greatest count `usize::MAX` stands for none. What is repeated no times is not written out. There is
-/// no memory for more rounds than can be numbered.
+/// Emits a quantifier; the greatest count `usize::MAX` is no bound. A body that is repeated zero times is left out. The error
+/// is `RepeatBoundsReversed` if the least count exceeds the greatest, and `Memory` for a least count of `usize::MAX`.
 #[cycle(emit)]
 fn emit_repeat(
-    task: &Task<'_, '_, '_>,
+    context: &CompileContext<'_, '_, '_>,
     emitter: &mut Emitter,
     child: &Info<'_>,
     bounds: (usize, usize),
@@ -448,12 +458,12 @@ fn emit_repeat(
     slot: usize,
 ) -> Result<usize, CompileError>
     ensures cap { emitter.new.body.cap ≡ emitter.old.body.cap }
-    ensures full { IfErr result (IsFull emitter.old.body (room (repeated (part task.now scope emitter.old.opened.items child.now).front bounds.0 bounds.1 greedy))) }
-    ensures wrote { IfOk result (λ after. Wrote task.now.unicode task.now.whole emitter.old emitter.new slot after
-        (repeated (part task.now scope emitter.old.opened.items child.now).front bounds.0 bounds.1 greedy)) }
-    ensures allowed { IfOk result (λ after. IsAllowed task.now.unicode scope.may_keep
-        (repeated (part task.now scope emitter.old.opened.items child.now).front bounds.0 bounds.1 greedy)) }
-    ensures refused { IfErr result (IsTold task.now.unicode (infos_of task.now) (λ plan. RepeatStands plan scope.may_keep scope.may_be_absent bounds.0 bounds.1 (info_of child.now))) }
+    ensures full { IfErr result (IsFull emitter.old.body (room (repeated (part context.now scope emitter.old.opened.items child.now).front bounds.0 bounds.1 greedy))) }
+    ensures wrote { IfOk result (λ after. Wrote context.now.unicode context.now.whole emitter.old emitter.new slot after
+        (repeated (part context.now scope emitter.old.opened.items child.now).front bounds.0 bounds.1 greedy)) }
+    ensures allowed { IfOk result (λ after. IsAllowed context.now.unicode scope.may_keep
+        (repeated (part context.now scope emitter.old.opened.items child.now).front bounds.0 bounds.1 greedy)) }
+    ensures refused { IfErr result (IsReasonWhere context.now.unicode (infos_of context.now) (λ tree_context. IsExpandedRepeat tree_context scope.may_keep scope.may_be_absent bounds.0 bounds.1 (info_of child.now))) }
 {
     let (lo, hi) = bounds;
     if lo > hi {
@@ -466,16 +476,16 @@ fn emit_repeat(
         return Err(CompileError::Memory);
     }
     if hi == usize::MAX {
-        emit_loop(task, emitter, child, lo, greedy, scope, slot)
+        emit_unbounded_repeat(context, emitter, child, lo, greedy, scope, slot)
     } else {
-        emit_counted(task, emitter, child, (lo, hi), greedy, scope, slot)
+        emit_bounded_repeat(context, emitter, child, (lo, hi), greedy, scope, slot)
     }
 }
 
-/// Adds a repeat with a greatest count.
+/// Emits a bounded repeat.
 #[cycle(emit)]
-fn emit_counted(
-    task: &Task<'_, '_, '_>,
+fn emit_bounded_repeat(
+    context: &CompileContext<'_, '_, '_>,
     emitter: &mut Emitter,
     child: &Info<'_>,
     bounds: (usize, usize),
@@ -484,19 +494,19 @@ fn emit_counted(
     slot: usize,
 ) -> Result<usize, CompileError>
     ensures cap { emitter.new.body.cap ≡ emitter.old.body.cap }
-    ensures full { IfErr result (IsFull emitter.old.body (room (pat.repeat (part task.now scope emitter.old.opened.items child.now).front bounds.0 (Some bounds.1) greedy))) }
-    ensures wrote { IfOk result (λ after. Wrote task.now.unicode task.now.whole emitter.old emitter.new slot after
-        (pat.repeat (part task.now scope emitter.old.opened.items child.now).front bounds.0 (Some bounds.1) greedy)) }
-    ensures allowed { IfOk result (λ after. IsAllowed task.now.unicode scope.may_keep
-        (pat.repeat (part task.now scope emitter.old.opened.items child.now).front bounds.0 (Some bounds.1) greedy)) }
-    ensures refused { IfErr result (IsTold task.now.unicode (infos_of task.now) (λ plan. Stands plan scope.may_keep scope.may_be_absent false (info_of child.now))) }
+    ensures full { IfErr result (IsFull emitter.old.body (room (pat.repeat (part context.now scope emitter.old.opened.items child.now).front bounds.0 (Some bounds.1) greedy))) }
+    ensures wrote { IfOk result (λ after. Wrote context.now.unicode context.now.whole emitter.old emitter.new slot after
+        (pat.repeat (part context.now scope emitter.old.opened.items child.now).front bounds.0 (Some bounds.1) greedy)) }
+    ensures allowed { IfOk result (λ after. IsAllowed context.now.unicode scope.may_keep
+        (pat.repeat (part context.now scope emitter.old.opened.items child.now).front bounds.0 (Some bounds.1) greedy)) }
+    ensures refused { IfErr result (IsReasonWhere context.now.unicode (infos_of context.now) (λ tree_context. IsExpandedPart tree_context scope.may_keep scope.may_be_absent false (info_of child.now))) }
 {
     let inside = past_slots(slot, 1)?;
-    emitter.body.add(Insn::BeginRepeat(slot))?;
+    emitter.body.flush_and_push(Insn::BeginRepeat(slot))?;
     let head = emitter.body.len();
-    emitter.body.put(Insn::Fail)?;
-    let after = emit_closed(task, emitter, child, false, scope, inside)?;
-    emitter.body.put(Insn::Jmp(head))?;
+    emitter.body.push_insn(Insn::Fail)?;
+    let after = emit_flushed(context, emitter, child, false, scope, inside)?;
+    emitter.body.push_insn(Insn::Jmp(head))?;
     let (lo, hi) = bounds;
     let counted = Repeat {
         lo,
@@ -504,12 +514,14 @@ fn emit_counted(
         next: emitter.body.len(),
         repeat: slot,
     };
-    emitter.body.patch(head, head_of_counted(counted, greedy));
+    emitter
+        .body
+        .patch(head, bounded_repeat_head(counted, greedy));
     Ok(after)
 }
 
-/// The head of a repeat with a greatest count.
-fn head_of_counted(repeat: Repeat, greedy: bool) -> Insn
+/// The head of a bounded repeat.
+fn bounded_repeat_head(repeat: Repeat, greedy: bool) -> Insn
     ensures { op_of result ≡ op.repeat greedy repeat.lo repeat.hi repeat.next repeat.repeat }
 {
     if greedy {
@@ -519,10 +531,10 @@ fn head_of_counted(repeat: Repeat, greedy: bool) -> Insn
     }
 }
 
-/// Adds a repeat without a greatest count.
+/// Emits an unbounded repeat.
 #[cycle(emit)]
-fn emit_loop(
-    task: &Task<'_, '_, '_>,
+fn emit_unbounded_repeat(
+    context: &CompileContext<'_, '_, '_>,
     emitter: &mut Emitter,
     child: &Info<'_>,
     lo: usize,
@@ -531,31 +543,33 @@ fn emit_loop(
     slot: usize,
 ) -> Result<usize, CompileError>
     ensures cap { emitter.new.body.cap ≡ emitter.old.body.cap }
-    ensures full { IfErr result (IsFull emitter.old.body (room (pat.repeat (part task.now scope emitter.old.opened.items child.now).front lo None greedy))) }
-    ensures wrote { IfOk result (λ after. Wrote task.now.unicode task.now.whole emitter.old emitter.new slot after
-        (pat.repeat (part task.now scope emitter.old.opened.items child.now).front lo None greedy)) }
-    ensures allowed { IfOk result (λ after. IsAllowed task.now.unicode scope.may_keep (part task.now scope emitter.old.opened.items child.now).front) }
-    ensures refused { IfErr result (IsTold task.now.unicode (infos_of task.now) (λ plan. Stands plan scope.may_keep scope.may_be_absent false (info_of child.now))) }
+    ensures full { IfErr result (IsFull emitter.old.body (room (pat.repeat (part context.now scope emitter.old.opened.items child.now).front lo None greedy))) }
+    ensures wrote { IfOk result (λ after. Wrote context.now.unicode context.now.whole emitter.old emitter.new slot after
+        (pat.repeat (part context.now scope emitter.old.opened.items child.now).front lo None greedy)) }
+    ensures allowed { IfOk result (λ after. IsAllowed context.now.unicode scope.may_keep (part context.now scope emitter.old.opened.items child.now).front) }
+    ensures refused { IfErr result (IsReasonWhere context.now.unicode (infos_of context.now) (λ tree_context. IsExpandedPart tree_context scope.may_keep scope.may_be_absent false (info_of child.now))) }
 {
     let check = past_slots(slot, 1)?;
     let inside = past_slots(slot, 2)?;
-    emitter.body.add(Insn::BeginRepeat(slot))?;
+    emitter.body.flush_and_push(Insn::BeginRepeat(slot))?;
     let head = emitter.body.len();
-    emitter.body.put(Insn::Fail)?;
-    let after = emit_closed(task, emitter, child, false, scope, inside)?;
-    emitter.body.put(Insn::Jmp(head))?;
+    emitter.body.push_insn(Insn::Fail)?;
+    let after = emit_flushed(context, emitter, child, false, scope, inside)?;
+    emitter.body.push_insn(Insn::Jmp(head))?;
     let endless = RepeatEpsilon {
         lo,
         next: emitter.body.len(),
         repeat: slot,
         check,
     };
-    emitter.body.patch(head, head_of_loop(endless, greedy));
+    emitter
+        .body
+        .patch(head, unbounded_repeat_head(endless, greedy));
     Ok(after)
 }
 
-/// The head of a repeat without a greatest count.
-fn head_of_loop(repeat: RepeatEpsilon, greedy: bool) -> Insn
+/// The head of an unbounded repeat.
+fn unbounded_repeat_head(repeat: RepeatEpsilon, greedy: bool) -> Insn
     ensures { op_of result ≡ op.repeat_epsilon greedy repeat.lo repeat.next repeat.repeat repeat.check }
 {
     if greedy {
@@ -565,10 +579,10 @@ fn head_of_loop(repeat: RepeatEpsilon, greedy: bool) -> Insn
     }
 }
 
-/// Adds a conditional, with its branches: the first where the condition has a way, the second where it has none.
+/// Emits a conditional: the first branch if the condition matches, the second if it does not.
 #[cycle(emit)]
 fn emit_conditional(
-    task: &Task<'_, '_, '_>,
+    context: &CompileContext<'_, '_, '_>,
     emitter: &mut Emitter,
     condition: &Info<'_>,
     branches: (&Info<'_>, &Info<'_>),
@@ -576,56 +590,58 @@ fn emit_conditional(
     slot: usize,
 ) -> Result<usize, CompileError>
     ensures cap { emitter.new.body.cap ≡ emitter.old.body.cap }
-    ensures full { IfErr result (IsFull emitter.old.body (room (pat.conditional (part task.now scope emitter.old.opened.items condition.now).front (part task.now scope emitter.old.opened.items branches.entry.0.now).front (part task.now scope emitter.old.opened.items branches.entry.1.now).front))) }
-    ensures wrote { IfOk result (λ after. Wrote task.now.unicode task.now.whole emitter.old emitter.new slot after
-        (pat.conditional (part task.now scope emitter.old.opened.items condition.now).front (part task.now scope emitter.old.opened.items branches.entry.0.now).front (part task.now scope emitter.old.opened.items branches.entry.1.now).front)) }
-    ensures allowed { IfOk result (λ after. IsAllowed task.now.unicode scope.may_keep
-        (pat.conditional (part task.now scope emitter.old.opened.items condition.now).front (part task.now scope emitter.old.opened.items branches.entry.0.now).front (part task.now scope emitter.old.opened.items branches.entry.1.now).front)) }
-    ensures refused { IfErr result (IsTold task.now.unicode (infos_of task.now) (λ plan. PartsStand plan scope.may_keep scope.may_be_absent (info_of condition.now) (info_of branches.entry.0.now) (info_of branches.entry.1.now))) }
+    ensures full { IfErr result (IsFull emitter.old.body (room (pat.conditional (part context.now scope emitter.old.opened.items condition.now).front (part context.now scope emitter.old.opened.items branches.entry.0.now).front (part context.now scope emitter.old.opened.items branches.entry.1.now).front))) }
+    ensures wrote { IfOk result (λ after. Wrote context.now.unicode context.now.whole emitter.old emitter.new slot after
+        (pat.conditional (part context.now scope emitter.old.opened.items condition.now).front (part context.now scope emitter.old.opened.items branches.entry.0.now).front (part context.now scope emitter.old.opened.items branches.entry.1.now).front)) }
+    ensures allowed { IfOk result (λ after. IsAllowed context.now.unicode scope.may_keep
+        (pat.conditional (part context.now scope emitter.old.opened.items condition.now).front (part context.now scope emitter.old.opened.items branches.entry.0.now).front (part context.now scope emitter.old.opened.items branches.entry.1.now).front)) }
+    ensures refused { IfErr result (IsReasonWhere context.now.unicode (infos_of context.now) (λ tree_context. IsExpandedConditional tree_context scope.may_keep scope.may_be_absent (info_of condition.now) (info_of branches.entry.0.now) (info_of branches.entry.1.now))) }
 {
     let (yes, no) = branches;
     let inside = past_slots(slot, 1)?;
-    emitter.body.add(Insn::BeginAtomic(slot))?;
+    emitter.body.flush_and_push(Insn::BeginAtomic(slot))?;
     let split = emitter.body.len();
-    emitter.body.put(Insn::Split(0, 0))?;
+    emitter.body.push_insn(Insn::Split(0, 0))?;
     let first = emitter.body.len();
-    let tested = emit_closed(task, emitter, condition, false, scope, inside)?;
-    emitter.body.put(Insn::EndAtomic(slot))?;
-    let chosen = emit_closed(task, emitter, yes, false, scope, tested)?;
+    let tested = emit_flushed(context, emitter, condition, false, scope, inside)?;
+    emitter.body.push_insn(Insn::EndAtomic(slot))?;
+    let chosen = emit_flushed(context, emitter, yes, false, scope, tested)?;
     let jump = emitter.body.len();
-    emitter.body.put(Insn::Jmp(0))?;
+    emitter.body.push_insn(Insn::Jmp(0))?;
     let second = emitter.body.len();
-    let after = emit_closed(task, emitter, no, false, scope, chosen)?;
+    let after = emit_flushed(context, emitter, no, false, scope, chosen)?;
     let end = emitter.body.len();
     emitter.body.patch(split, Insn::Split(first, second));
     emitter.body.patch(jump, Insn::Jmp(end));
     Ok(after)
 }
 
-/// Adds the body of the target of a call, or a failing instruction where the open calls hold the target as often as they
-/// may.
+/// Emits a subroutine call by inlining the body of its target, or `Fail` where the target is inlined inside of itself as often
+/// as is allowed. The error is `SubroutineCallTargetNotFound` if there is no such group.
 #[cycle(emit)]
 fn emit_call(
-    task: &Task<'_, '_, '_>,
+    context: &CompileContext<'_, '_, '_>,
     emitter: &mut Emitter,
     target: usize,
     scope: Scope,
     slot: usize,
 ) -> Result<usize, CompileError>
     ensures cap { emitter.new.body.cap ≡ emitter.old.body.cap }
-    ensures full { IfErr result (IsFull emitter.old.body (room (info_call (infos_of task.now) scope.calls_left emitter.old.opened.items target))) }
-    ensures wrote { IfOk result (λ after. Wrote task.now.unicode task.now.whole emitter.old emitter.new slot after
-        (info_call (infos_of task.now) scope.calls_left emitter.old.opened.items target)) }
-    ensures allowed { IfOk result (λ after. IsAllowed task.now.unicode scope.may_keep
-        (info_call (infos_of task.now) scope.calls_left emitter.old.opened.items target)) }
-    ensures refused { IfErr result (IsTold task.now.unicode (infos_of task.now) (λ plan. TargetStands plan scope.may_keep scope.may_be_absent (infos_of task.now) target)) }
+    ensures full { IfErr result (IsFull emitter.old.body (room (info_call (infos_of context.now) scope.calls_left emitter.old.opened.items target))) }
+    ensures wrote { IfOk result (λ after. Wrote context.now.unicode context.now.whole emitter.old emitter.new slot after
+        (info_call (infos_of context.now) scope.calls_left emitter.old.opened.items target)) }
+    ensures allowed { IfOk result (λ after. IsAllowed context.now.unicode scope.may_keep
+        (info_call (infos_of context.now) scope.calls_left emitter.old.opened.items target)) }
+    ensures refused { IfErr result (IsReasonWhere context.now.unicode (infos_of context.now) (λ tree_context. IsExpandedTarget tree_context scope.may_keep scope.may_be_absent (infos_of context.now) target)) }
 {
-    if target >= task.groups.len() {
-        return Err(CompileError::SubroutineCallTargetNotFound(format!(in task.alloc; "{target}")?));
+    if target >= context.groups.len() {
+        return Err(CompileError::SubroutineCallTargetNotFound(format!(in context.alloc;
+            "{target}"
+        )?));
     }
-    let body = task.groups[target];
-    if is_full(&emitter.opened, target) || scope.calls_left == 0 {
-        emitter.body.add(Insn::Fail)?;
+    let body = context.groups[target];
+    if is_at_call_limit(&emitter.opened, target) || scope.calls_left == 0 {
+        emitter.body.flush_and_push(Insn::Fail)?;
         return Ok(slot);
     }
     emitter.opened.push(target)?;
@@ -633,37 +649,37 @@ fn emit_call(
         calls_left: scope.calls_left - 1,
         ..scope
     };
-    let after = emit(task, emitter, body, called, slot)?;
+    let after = emit(context, emitter, body, called, slot)?;
     emitter.opened.pop();
     Ok(after)
 }
 
-/// Whether the target is open as often as it may be.
-fn is_full(opened: &[usize], target: usize) -> bool
+/// Whether the target is inlined as often as is allowed.
+fn is_at_call_limit(opened: &[usize], target: usize) -> bool
     ensures { result ≡ is_full_of opened.now target }
 {
     opened.iter().filter(|k| **k == target).count() >= OPEN_CALLS_OF_ONE
 }
 
-/// Adds an absent repeater.
+/// Emits an absent repeater. The error is `FeatureNotYetSupported` inside of another one.
 #[cycle(emit)]
 fn emit_absent(
-    task: &Task<'_, '_, '_>,
+    context: &CompileContext<'_, '_, '_>,
     emitter: &mut Emitter,
     child: &Info<'_>,
     scope: Scope,
     slot: usize,
 ) -> Result<usize, CompileError>
     ensures cap { emitter.new.body.cap ≡ emitter.old.body.cap }
-    ensures full { IfErr result (IsFull emitter.old.body (room (pat.absent (part task.now scope emitter.old.opened.items child.now).front))) }
-    ensures wrote { IfOk result (λ after. Wrote task.now.unicode task.now.whole emitter.old emitter.new slot after
-        (pat.absent (part task.now scope emitter.old.opened.items child.now).front)) }
-    ensures allowed { IfOk result (λ after. IsAllowed task.now.unicode scope.may_keep
-        (pat.absent (part task.now scope emitter.old.opened.items child.now).front)) }
-    ensures refused { IfErr result (IsTold task.now.unicode (infos_of task.now) (λ plan. AbsentStands plan scope.may_be_absent (info_of child.now))) }
+    ensures full { IfErr result (IsFull emitter.old.body (room (pat.absent (part context.now scope emitter.old.opened.items child.now).front))) }
+    ensures wrote { IfOk result (λ after. Wrote context.now.unicode context.now.whole emitter.old emitter.new slot after
+        (pat.absent (part context.now scope emitter.old.opened.items child.now).front)) }
+    ensures allowed { IfOk result (λ after. IsAllowed context.now.unicode scope.may_keep
+        (pat.absent (part context.now scope emitter.old.opened.items child.now).front)) }
+    ensures refused { IfErr result (IsReasonWhere context.now.unicode (infos_of context.now) (λ tree_context. IsExpandedAbsent tree_context scope.may_be_absent (info_of child.now))) }
 {
     if !scope.may_be_absent {
-        return Err(not_supported(task.alloc, "absent operator"));
+        return Err(not_supported(context.alloc, "absent operator"));
     }
     let limit = past_slots(slot, 1)?;
     let inside = past_slots(slot, 2)?;
@@ -673,15 +689,15 @@ fn emit_absent(
         ..scope
     };
     let begin = AbsentRepeater::Begin { start: slot, limit };
-    emitter.body.add(Insn::AbsentRepeater(begin))?;
+    emitter.body.flush_and_push(Insn::AbsentRepeater(begin))?;
     let scan = emitter.body.len();
-    emitter.body.put(Insn::Fail)?;
-    let after = emit_closed(task, emitter, child, false, within, inside)?;
+    emitter.body.push_insn(Insn::Fail)?;
+    let after = emit_flushed(context, emitter, child, false, within, inside)?;
     let limits = AbsentRepeater::Limit { limit };
-    emitter.body.put(Insn::AbsentRepeater(limits))?;
+    emitter.body.push_insn(Insn::AbsentRepeater(limits))?;
     let end = emitter.body.len();
     let ends = AbsentRepeater::End { start: slot, limit };
-    emitter.body.put(Insn::AbsentRepeater(ends))?;
+    emitter.body.push_insn(Insn::AbsentRepeater(ends))?;
     let scans = AbsentRepeater::Scan { limit, end };
     emitter.body.patch(scan, Insn::AbsentRepeater(scans));
     Ok(after)

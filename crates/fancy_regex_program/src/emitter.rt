@@ -1,49 +1,53 @@
-// What the compiler knows while it writes a program.
+//! The state of the compiler while it emits a program.
 
 ghost use Rattle.std.specs.Prelude.{◌≡◌, ◌+◌, ◌*◌, false, IfOk, IfErr};
-ghost use Rattle.fancy_regex_sizes.specs.Causes.{is_too_complex};
-ghost use Rattle.fancy_regex_program.specs.Refusals.{IsPlain};
+ghost use Rattle.fancy_regex_sizes.specs.AnalysisErrors.{is_too_complex};
+ghost use Rattle.fancy_regex_program.specs.Refusals.{IsMemoryOrTooComplex};
 
-use crate::body::Body;
+use crate::program_builder::ProgramBuilder;
 use fancy_regex_info::{CompileError, Info};
 use std::alloc::Global;
 
-/// The pattern's groups, and what is asked for.
+/// What is fixed for one compilation.
 #[derive(Clone, Copy)]
-pub(crate) struct Task<'g, 'i, 'e> {
+pub(crate) struct CompileContext<'g, 'i, 'e> {
+    /// Where the program is allocated.
     pub alloc: Global,
-    /// The body of each group by its number, or the whole pattern.
+    /// The body of each group by its number; the whole pattern for group 0 if that is the whole match.
     pub groups: &'g Vec<&'i Info<'e>>,
-    /// Group 0 is the whole.
+    /// Whether group 0 is the whole match.
     pub whole: bool,
+    /// Whether classes and case folding follow Unicode.
     pub unicode: bool,
 }
 
-/// The program so far, and the groups whose calls are open.
+/// The program so far, and the calls that are being inlined.
 #[derive(Drop)]
 pub(crate) struct Emitter {
-    pub body: Body,
+    /// The instructions so far.
+    pub body: ProgramBuilder,
+    /// The targets of the open calls, the innermost last.
     pub opened: Vec<usize>,
 }
 
-/// Where a part stands.
+/// The context of a subexpression.
 #[derive(Clone, Copy)]
 pub(crate) struct Scope {
-    /// How many more calls may open.
+    /// How many more calls may be inlined inside of each other here.
     pub calls_left: usize,
-    /// How many more parts may be written inside each other.
+    /// How many more levels of nesting are allowed, inlined calls included.
     pub depth_left: usize,
-    /// No look-around and no absent repeater is round it.
+    /// Whether `\K` is allowed: no look-around and no absent repeater encloses this.
     pub may_keep: bool,
-    /// No absent repeater is round it.
+    /// Whether an absent repeater is allowed: no other one encloses this.
     pub may_be_absent: bool,
 }
 
-/// One part further inside. There is no memory on the stack for more than so many.
-pub(crate) fn deeper(depth_left: usize) -> Result<usize, CompileError>
+/// One level of nesting descend. The error is `Memory` at the limit, since the call stack is limited too.
+pub(crate) fn descend(depth_left: usize) -> Result<usize, CompileError>
     ensures left { IfOk result (λ left. left + 1 ≡ depth_left) }
     ensures full { IfErr result (λ e. is_too_complex e ≡ false) }
-    ensures refused { IfErr result IsPlain }
+    ensures refused { IfErr result IsMemoryOrTooComplex }
 {
     match depth_left.checked_sub(1) {
         Some(left) => Ok(left),
@@ -51,11 +55,11 @@ pub(crate) fn deeper(depth_left: usize) -> Result<usize, CompileError>
     }
 }
 
-/// The slot so many slots further on. There is no memory for more than can be numbered.
+/// The slot `count` slots after this one. The error is `Memory` if it exceeds `usize`.
 pub(crate) fn past_slots(slot: usize, count: usize) -> Result<usize, CompileError>
     ensures value { IfOk result (λ after. after ≡ slot + count) }
     ensures full { IfErr result (λ e. is_too_complex e ≡ false) }
-    ensures refused { IfErr result IsPlain }
+    ensures refused { IfErr result IsMemoryOrTooComplex }
 {
     match slot.checked_add(count) {
         Some(after) => Ok(after),
@@ -63,11 +67,11 @@ pub(crate) fn past_slots(slot: usize, count: usize) -> Result<usize, CompileErro
     }
 }
 
-/// The first of the two slots of a group. There is no memory for more than can be numbered.
+/// The first of the two slots of a group. The error is `Memory` if it exceeds `usize`.
 pub(crate) fn first_slot(group: usize) -> Result<usize, CompileError>
     ensures value { IfOk result (λ slot. slot ≡ 2 * group) }
     ensures full { IfErr result (λ e. is_too_complex e ≡ false) }
-    ensures refused { IfErr result IsPlain }
+    ensures refused { IfErr result IsMemoryOrTooComplex }
 {
     match group.checked_mul(2) {
         Some(slot) => Ok(slot),

@@ -1,4 +1,4 @@
-// The groups of a tree.
+//! The capture groups of an analyzed tree, which subroutine calls refer to.
 
 ghost use Rattle.std.specs.Prelude.{◌≡◌, ◌++◌, map, IfOk};
 ghost use Rattle.fancy_regex_info.specs.Infos.{info_of};
@@ -10,7 +10,8 @@ use fancy_regex_info::Info;
 use fancy_regex_tree::Expr;
 use std::alloc::AllocError;
 
-/// Adds the bodies of the groups by their numbers. Where group 0 is the whole, the whole tree comes first.
+/// Appends the bodies of the groups in the order of their numbers; first the whole tree if group 0 is the whole match. The
+/// error is want of memory.
 pub(crate) fn add_groups<'i, 'e>(
     info: &'i Info<'e>,
     whole: bool,
@@ -25,7 +26,7 @@ pub(crate) fn add_groups<'i, 'e>(
     Ok(())
 }
 
-/// Adds the body of each group of the tree, in the order in which the groups open.
+/// Appends the body of each group of the tree, in the order of their opening parentheses.
 #[cycle(bodies)]
 fn add_bodies<'i, 'e>(info: &'i Info<'e>, groups: &mut Vec<&'i Info<'e>>) -> Result<(), AllocError>
     ensures { IfOk result (λ _. map info_at groups.new.items ≡ map info_at groups.old.items ++ bodies_in (info_of info.now)) }
@@ -35,7 +36,7 @@ fn add_bodies<'i, 'e>(info: &'i Info<'e>, groups: &mut Vec<&'i Info<'e>>) -> Res
     Ok(())
 }
 
-/// Adds the bodies of the groups in a row of nodes.
+/// Appends the bodies of the groups in a list of nodes.
 #[cycle(bodies)]
 fn add_row_bodies<'i, 'e>(
     children: &'i [Info<'e>],
@@ -49,7 +50,7 @@ fn add_row_bodies<'i, 'e>(
     Ok(())
 }
 
-/// Adds the body of a group, which is its only child.
+/// Appends the body of the node if it is a group.
 fn add_own_body<'i, 'e>(
     info: &'i Info<'e>,
     groups: &mut Vec<&'i Info<'e>>,
@@ -65,7 +66,7 @@ fn add_own_body<'i, 'e>(
     }
 }
 
-/// Adds the children of a node.
+/// Appends the children of a node.
 fn add_children<'i, 'e>(
     children: &'i [Info<'e>],
     groups: &mut Vec<&'i Info<'e>>,

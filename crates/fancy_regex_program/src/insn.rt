@@ -1,93 +1,93 @@
-// Instructions.
+//! The instructions of programs.
 
 use fancy_regex_class::{CaseiLiteral, CharClassMatcher};
 use fancy_regex_tree::Assertion;
 
-/// One instruction of a program. It is named by its index in the program. Slots are numbered from 0, and each holds a
-/// place of the text in bytes, a count, or nothing; the slots 2k and 2k + 1 are those of the group k.
+/// One instruction of a program. Jump targets are indices of instructions. Slots are numbered from 0; each holds a byte
+/// offset, a count, a height of the backtrack stack, or nothing. The slots 2k and 2k + 1 are the start and the end of group k.
 #[derive(Debug, Drop)]
 pub enum Insn {
-    /// A way of the whole pattern ends here.
+    /// The whole pattern has matched.
     End,
-    /// One character.
+    /// Matches one character.
     Any,
-    /// One character, but not `\n`.
+    /// Matches one character other than `\n`.
     AnyNoNL,
-    /// One character, but neither `\n` nor `\r`.
+    /// Matches one character other than `\n` and `\r`.
     AnyNoCRLF,
-    /// Goes on where the assertion holds.
+    /// Continues if the assertion holds here.
     Assertion(Assertion),
-    /// This text.
+    /// Matches this literal text.
     Lit(String),
-    /// One character that differs from this one in case at most.
+    /// Matches one character that equals this one under case folding.
     LitCasei(CaseiLiteral),
-    /// One character of the class.
+    /// Matches one character of the class.
     CharClass(CharClassMatcher),
-    /// `\r\n`, or one character that ends a line.
+    /// Matches `\r\n`, or one newline character.
     GeneralNewline {
-        /// The line ends of Unicode are among them.
+        /// Whether the newlines of Unicode are included.
         unicode: bool,
     },
-    /// Goes on at the first instruction, and later at the second.
+    /// Continues at the first instruction, and pushes a branch to the second.
     Split(usize, usize),
-    /// Goes on, and later comes here again at the next place where a search may start.
+    /// Continues, and pushes a branch back here for the next offset at which a match may start.
     SplitUnanchored,
-    /// Goes on at this instruction.
+    /// Continues at this instruction.
     Jmp(usize),
     /// Writes the position to the slot.
     Save(usize),
-    /// Writes the position to the slot 0: the match is said to start here.
+    /// Writes the position to slot 0: the start of the match.
     Save0,
-    /// Writes the start of a group, which was kept while its body was read, to the group's first slot.
+    /// Copies the start of a group, saved while its body was matched, to the group's first slot.
     SaveCaptureGroupStart {
-        /// The slot that kept it.
+        /// The slot in which the start was saved.
         kept: usize,
         /// The group's first slot.
         slot: usize,
     },
-    /// Goes back to the position that the slot holds.
+    /// Sets the position to the one in the slot.
     Restore(usize),
     /// Writes the count 0 to the slot.
     BeginRepeat(usize),
-    /// The head of a repeat with a greatest count that goes on before it stops.
+    /// The head of a bounded greedy repeat.
     RepeatGr(Repeat),
-    /// The head of a repeat with a greatest count that stops before it goes on.
+    /// The head of a bounded lazy repeat.
     RepeatNg(Repeat),
-    /// The head of a repeat without a greatest count that goes on before it stops.
+    /// The head of an unbounded greedy repeat. An iteration that matched the empty string is the last.
     RepeatEpsilonGr(RepeatEpsilon),
-    /// The head of a repeat without a greatest count that stops before it goes on.
+    /// The head of an unbounded lazy repeat. An iteration that matched the empty string is the last.
     RepeatEpsilonNg(RepeatEpsilon),
-    /// Drops the branches above the height that the slot holds, and fails.
+    /// Drops the branches above the height in the slot, and fails.
     FailNegativeLookAround(usize),
-    /// So many characters back.
+    /// Moves so many characters back; fails if there are fewer.
     GoBack(usize),
-    /// The text of a group once more.
+    /// Matches the text of a group again; fails if the group is unset.
     Backref {
         /// The group's first slot.
         slot: usize,
-        /// The case is disregarded.
+        /// Whether case is ignored.
         casei: bool,
     },
-    /// Writes the number of branches to the slot.
+    /// Writes the height of the backtrack stack to the slot.
     BeginAtomic(usize),
-    /// Drops the branches above the height that the slot holds.
+    /// Drops the branches above the height in the slot.
     EndAtomic(usize),
-    /// Goes on where the search continues.
+    /// Continues if this is the offset at which `\G` holds.
     ContinueFromPreviousMatchEnd,
-    /// Goes on where the group with this first slot is set.
+    /// Continues if the group with this first slot is set.
     BackrefExistsCondition(usize),
-    /// No way leads on from here.
+    /// Fails.
     Fail,
-    /// A part of an absent repeater.
+    /// A step of an absent repeater.
     AbsentRepeater(AbsentRepeater),
 }
 
-/// The payload of the head of a repeat with a greatest count.
+/// The operands of the head of a bounded repeat.
 #[derive(Clone, Copy, Debug, PartialEq, Eq)]
 pub struct Repeat {
     /// The least count of iterations.
     pub lo: usize,
-    /// The greatest count.
+    /// The greatest count of iterations.
     pub hi: usize,
     /// The instruction behind the repeat.
     pub next: usize,
@@ -95,7 +95,7 @@ pub struct Repeat {
     pub repeat: usize,
 }
 
-/// The payload of the head of a repeat without a greatest count.
+/// The operands of the head of an unbounded repeat.
 #[derive(Clone, Copy, Debug, PartialEq, Eq)]
 pub struct RepeatEpsilon {
     /// The least count of iterations, below `usize::MAX`.
@@ -104,23 +104,23 @@ pub struct RepeatEpsilon {
     pub next: usize,
     /// The slot that counts the iterations, up to one past the least count.
     pub repeat: usize,
-    /// The slot of the position at which the last iteration past the least count began.
+    /// The slot of the byte offset at which the last iteration past the least count began.
     pub check: usize,
 }
 
-/// What an absent repeater does at this instruction. The body is tried at each place from the start on, as far as the
-/// lowest place at which a way of it was found to end; the run holds that limit, and going back does not undo it. Then the
-/// repeater ends below the limit, and later one character before, until it is back at its start.
+/// A step of an absent repeater, `(?~body)`. The body is run at each offset from the start on, up to the lowest offset at
+/// which a match of it ends; the run holds that limit, and backtracking does not undo it. Then the repeater ends at the last
+/// offset below the limit, and on backtracking one character earlier, down to its start.
 #[derive(Clone, Copy, Debug, PartialEq, Eq)]
 pub enum AbsentRepeater {
-    /// Writes the position to the slot `start`, and the limit that the run holds to the slot `limit`; then the run holds
-    /// none. Goes on behind the next instruction, and later at it.
+    /// Writes the position to the slot `start`, and the limit of the run to the slot `limit`, and clears the limit of the run.
+    /// Continues after the next instruction, and pushes a branch to it.
     Begin { start: usize, limit: usize },
-    /// Where the next place is below the limit, tries the body there, and later comes here again; else writes the limit to
-    /// the slot `limit`, holds the one that was there, and goes to `end`.
+    /// If the next offset is below the limit, runs the body there, and pushes a branch back here; else exchanges the limit of
+    /// the run and the slot `limit`, and continues at `end`.
     Scan { limit: usize, end: usize },
-    /// A way of the body ends here: lowers the limit that the run holds to the position, if it is above, and goes back.
+    /// The body has matched: lowers the limit of the run to the position, if it is above, and fails.
     Limit { limit: usize },
-    /// Ends the repeater here, if this lies before the limit, and later one character before, down to the start.
+    /// Ends the repeater here if this is before the limit, and on backtracking one character earlier, down to the start.
     End { start: usize, limit: usize },
 }

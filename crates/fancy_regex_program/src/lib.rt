@@ -1,7 +1,8 @@
-//! Programs of patterns: their instructions, and the compiler that makes them.
+//! Programs of the backtracking machine: their instructions, and the compiler from an analyzed pattern. Subroutine calls are
+//! inlined, so the length of a program is bounded by sixteen instructions for each node with calls inlined, and sixteen more;
+//! a cap on the length is kept.
 #![tactic(auto)]
 
-mod body;
 mod compiler;
 mod emit;
 mod emitter;
@@ -9,9 +10,8 @@ mod groups;
 mod insn;
 mod leaf;
 mod prog;
+mod program_builder;
 mod range;
-#[cfg(test)]
-mod tests;
 mod writing;
 
 pub use compiler::compile;

@@ -1,47 +1,47 @@
-// How a program is written.
+//! Appending instructions to a program. The errors are `PatternTooComplex` where the cap is reached, and `Memory`.
 
 ghost use Rattle.std.specs.Prelude.{◌≡◌, ◌≤◌, ◌+◌, false, length, [], OnOk, IfErr};
-ghost use Rattle.fancy_regex_sizes.specs.Causes.{is_too_complex};
+ghost use Rattle.fancy_regex_sizes.specs.AnalysisErrors.{is_too_complex};
 ghost use Rattle.fancy_regex_program.specs.Caps.{cap_of};
 ghost use Rattle.fancy_regex_program.specs.Extents.{extent, IsFull};
 ghost use Rattle.fancy_regex_program.specs.Ops.{op_of, ops_of};
-ghost use Rattle.fancy_regex_program.specs.Refusals.{IsPlain};
+ghost use Rattle.fancy_regex_program.specs.Refusals.{IsMemoryOrTooComplex};
 ghost use Rattle.fancy_regex_program.specs.Writing.{draft_of, with_op, with_char, closed_draft, added, patched};
 
-use crate::body::Body;
 use crate::insn::Insn;
+use crate::program_builder::ProgramBuilder;
 use fancy_regex_info::CompileError;
 use std::alloc::Global;
 use std::mem;
 
-impl Body {
-    /// No instruction yet, and at most so many, if there is a cap.
-    pub fn new(alloc: Global, max_prog_size: Option<usize>) -> Body
+impl ProgramBuilder {
+    /// The empty program, with a cap on its length if there is one.
+    pub fn new(alloc: Global, max_prog_size: Option<usize>) -> ProgramBuilder
         ensures cap { result.cap ≡ cap_of max_prog_size }
         ensures draft { draft_of result ≡ record { ops = []; text = [] } }
     {
-        Body {
+        ProgramBuilder {
             alloc,
             insns: Vec::new(alloc),
-            waiting: String::new(alloc),
+            pending_literal: String::new(alloc),
             cap: max_prog_size.unwrap_or(usize::MAX),
         }
     }
 
-    /// The number of the next instruction.
+    /// The index of the next instruction.
     pub fn len(&self) -> usize
         ensures { result ≡ length (draft_of self.now).ops }
     {
         self.insns.len()
     }
 
-    /// Adds an instruction, unless there are as many as the cap already.
-    pub fn put(&mut self, insn: Insn) -> Result<(), CompileError>
+    /// Appends an instruction before the pending literal text.
+    pub fn push_insn(&mut self, insn: Insn) -> Result<(), CompileError>
         ensures draft { OnOk result (draft_of self.new ≡ with_op (op_of insn) (draft_of self.old)) }
         ensures cap { self.new.cap ≡ self.old.cap }
         ensures long { OnOk result (extent (draft_of self.new) ≡ extent (draft_of self.old) + 1) }
         ensures full { IfErr result (IsFull self.old 1) }
-        ensures refused { IfErr result IsPlain }
+        ensures refused { IfErr result IsMemoryOrTooComplex }
     {
         if self.insns.len() >= self.cap {
             return Err(CompileError::PatternTooComplex);
@@ -50,47 +50,47 @@ impl Body {
         Ok(())
     }
 
-    /// Adds a character to the text that waits.
-    pub fn wait(&mut self, c: char) -> Result<(), CompileError>
+    /// Appends a character to the pending literal text.
+    pub fn push_literal_char(&mut self, c: char) -> Result<(), CompileError>
         ensures draft { OnOk result (draft_of self.new ≡ with_char c (draft_of self.old)) }
         ensures cap { self.new.cap ≡ self.old.cap }
         ensures full { IfErr result (λ e. is_too_complex e ≡ false) }
-        ensures refused { IfErr result IsPlain }
+        ensures refused { IfErr result IsMemoryOrTooComplex }
     {
-        self.waiting.push(c)?;
+        self.pending_literal.push(c)?;
         Ok(())
     }
 
-    /// Adds the text that waits, if there is some.
+    /// Makes the pending literal text an instruction, if there is some.
     pub fn flush(&mut self) -> Result<(), CompileError>
         ensures draft { OnOk result (draft_of self.new ≡ closed_draft (draft_of self.old)) }
         ensures cap { self.new.cap ≡ self.old.cap }
         ensures long { OnOk result (extent (draft_of self.new) ≡ extent (draft_of self.old)) }
         ensures full { IfErr result (IsFull self.old 0) }
-        ensures refused { IfErr result IsPlain }
+        ensures refused { IfErr result IsMemoryOrTooComplex }
     {
-        if self.waiting.is_empty() {
+        if self.pending_literal.is_empty() {
             return Ok(());
         }
-        let text = mem::replace(&mut self.waiting, String::new(self.alloc));
-        self.put(Insn::Lit(text))?;
+        let text = mem::replace(&mut self.pending_literal, String::new(self.alloc));
+        self.push_insn(Insn::Lit(text))?;
         Ok(())
     }
 
-    /// Adds an instruction behind the text that waits.
-    pub fn add(&mut self, insn: Insn) -> Result<(), CompileError>
+    /// Appends an instruction after the pending literal text.
+    pub fn flush_and_push(&mut self, insn: Insn) -> Result<(), CompileError>
         ensures draft { OnOk result (draft_of self.new ≡ added (op_of insn) (draft_of self.old)) }
         ensures cap { self.new.cap ≡ self.old.cap }
         ensures long { OnOk result (extent (draft_of self.new) ≡ extent (draft_of self.old) + 1) }
         ensures full { IfErr result (IsFull self.old 1) }
-        ensures refused { IfErr result IsPlain }
+        ensures refused { IfErr result IsMemoryOrTooComplex }
     {
         self.flush()?;
-        self.put(insn)?;
+        self.push_insn(insn)?;
         Ok(())
     }
 
-    /// Puts another instruction in the place of one.
+    /// Replaces the instruction at this index, if there is one.
     pub fn patch(&mut self, at: usize, insn: Insn)
         ensures draft { draft_of self.new ≡ patched at (op_of insn) (draft_of self.old) }
         ensures cap { self.new.cap ≡ self.old.cap }
@@ -101,7 +101,7 @@ impl Body {
         }
     }
 
-    /// The instructions.
+    /// The instructions, without the pending literal text.
     pub fn into_insns(self) -> Vec<Insn>
         ensures cap { length result.items ≤ self.cap }
         ensures ops { ops_of result.items ≡ (draft_of self).ops }

@@ -3,26 +3,26 @@ use Rattle.std.proofs.Common.{◌||◌, ◌⊎◌, true≢false, ◌≡◌, ℕ,
 use Rattle.std.proofs.lemmas.Bool.{cases_lt, and_parts}
 use Rattle.fancy_regex_runner.specs.Meaning.{View, reads, is_unbounded}
 use Rattle.fancy_regex_runner.specs.Program.{never_empty}
-use Rattle.fancy_regex_runner.specs.Attempt.{Res, Rest, guard, either, save, prefer, pick, rounds, times_try, upto_try, star_try, tail_try, attempt}
+use Rattle.fancy_regex_runner.specs.Attempt.{AttemptResult, Continuation, guard, either, save, prefer, pick, rounds, times_try, upto_try, star_try, tail_try, attempt}
 use Rattle.fancy_regex_runner.specs.declared.node.Leaf.{Leaf}
 use Rattle.fancy_regex_runner.specs.Re.{Re, nothing, read, test, cat, alt, group, repeat}
 
-pub guard_cong : (b : Bool) (x y : Res) → (b ≡ true → x ≡ y) → guard b x ≡ guard b y
+pub guard_cong : (b : Bool) (x y : AttemptResult) → (b ≡ true → x ≡ y) → guard b x ≡ guard b y
 guard_cong true x y h = ap (guard true) (h refl)
 guard_cong false x y h = refl
 
-pub prefer_cong : (longest g : Bool) (x y u v : Res) → x ≡ y → u ≡ v → prefer longest g x u ≡ prefer longest g y v
+pub prefer_cong : (longest g : Bool) (x y u v : AttemptResult) → x ≡ y → u ≡ v → prefer longest g x u ≡ prefer longest g y v
 prefer_cong longest g x y u v e f = ap₂ (prefer longest g) e f
 
-pub pick_same : (i : ℕ) (same moved : Rest) (j : ℕ) → j ≤ i → pick i same moved j ≡ same j
+pub pick_same : (i : ℕ) (same moved : Continuation) (j : ℕ) → j ≤ i → pick i same moved j ≡ same j
 unfolding pick
 pick_same i same moved j h = rw (le-ltb i j h)
 
-pub pick_moved : (i : ℕ) (same moved : Rest) (j : ℕ) → i < j → pick i same moved j ≡ moved j
+pub pick_moved : (i : ℕ) (same moved : Continuation) (j : ℕ) → i < j → pick i same moved j ≡ moved j
 unfolding pick
 pick_moved i same moved j h = rw (lt-ltb i j h)
 
-pub pick_agree : (i : ℕ) (same moved same2 moved2 : Rest) (j : ℕ) → (j ≤ i → same j ≡ same2 j) → (i < j → moved j ≡ moved2 j) → pick i same moved j ≡ pick i same2 moved2 j
+pub pick_agree : (i : ℕ) (same moved same2 moved2 : Continuation) (j : ℕ) → (j ≤ i → same j ≡ same2 j) → (i < j → moved j ≡ moved2 j) → pick i same moved j ≡ pick i same2 moved2 j
 pick_agree i same moved same2 moved2 j h m =
     ⊎_elim
     (λ lt. pick_moved i same moved j lt ∙ m lt ∙ sym (pick_moved i same2 moved2 j lt))
@@ -40,14 +40,14 @@ module _ (view : View) (stop : ℕ) where
       let both = and_parts _ _ (and_parts _ _ e).1 in
       (ltb-true i (view.next i) both.0, leb-true (view.next i) stop both.1)
 
-  abbrev pub SameFrom : ℕ → Rest → Rest → Type 0
+  abbrev pub SameFrom : ℕ → Continuation → Continuation → Type 0
   SameFrom i k k2 = (j : ℕ) → i ≤ j → j ≤ stop → k j ≡ k2 j
 
   -- what comes after is asked only from the start on
-  abbrev pub Looks : (Rest → Rest) → Type 0
-  Looks body = (k k2 : Rest) (i : ℕ) → i ≤ stop → SameFrom i k k2 → body k i ≡ body k2 i
+  abbrev pub Looks : (Continuation → Continuation) → Type 0
+  Looks body = (k k2 : Continuation) (i : ℕ) → i ≤ stop → SameFrom i k k2 → body k i ≡ body k2 i
 
-  rounds_agree : (g : Bool) (body : Rest → Rest) → Looks body → (n : ℕ) → Looks (λ k. rounds view.longest g body k n)
+  rounds_agree : (g : Bool) (body : Continuation → Continuation) → Looks body → (n : ℕ) → Looks (λ k. rounds view.longest g body k n)
   unfolding rounds
   rounds_agree g body ok zero k k2 i p h =
       prefer_cong view.longest g _ _ _ _
@@ -58,16 +58,16 @@ module _ (view : View) (stop : ℕ) where
       (ok _ _ i p (λ j a b. pick_agree i _ _ _ _ j (λ _. h j a b) (λ lt. rounds_agree g body ok n k k2 j b (λ l c d. h l (omega arith) d))))
       (h i (omega arith) p)
 
-  pub star_agree : (g : Bool) (body : Rest → Rest) → Looks body → Looks (star_try view.longest stop g body)
+  pub star_agree : (g : Bool) (body : Continuation → Continuation) → Looks body → Looks (star_try view.longest stop g body)
   star_agree g body ok k k2 i p h = rounds_agree g body ok (stop - i) k k2 i p h
 
-  pub times_agree : (body : Rest → Rest) → Looks body → (n : ℕ) → Looks (times_try body n)
+  pub times_agree : (body : Continuation → Continuation) → Looks body → (n : ℕ) → Looks (times_try body n)
   unfolding times_try
   times_agree body ok zero k k2 i p h = h i (omega arith) p
   times_agree body ok (suc n) k k2 i p h =
       ok _ _ i p (λ j a b. times_agree body ok n k k2 j b (λ l c d. h l (omega arith) d))
 
-  pub upto_agree : (g : Bool) (body : Rest → Rest) → Looks body → (n : ℕ) → Looks (upto_try view.longest g body n)
+  pub upto_agree : (g : Bool) (body : Continuation → Continuation) → Looks body → (n : ℕ) → Looks (upto_try view.longest g body n)
   unfolding upto_try
   upto_agree g body ok zero k k2 i p h = h i (omega arith) p
   upto_agree g body ok (suc n) k k2 i p h =
@@ -75,7 +75,7 @@ module _ (view : View) (stop : ℕ) where
       (ok _ _ i p (λ j a b. upto_agree g body ok n k k2 j b (λ l c d. h l (omega arith) d)))
       (h i (omega arith) p)
 
-  pub tail_agree : (u g : Bool) (body : Rest → Rest) → Looks body → (n : ℕ) → Looks (tail_try view.longest u stop g body n)
+  pub tail_agree : (u g : Bool) (body : Continuation → Continuation) → Looks body → (n : ℕ) → Looks (tail_try view.longest u stop g body n)
   unfolding tail_try
   tail_agree true g body ok n k k2 i p h = star_agree g body ok k k2 i p h
   tail_agree false g body ok n k k2 i p h = upto_agree g body ok n k k2 i p h
@@ -96,7 +96,7 @@ module _ (view : View) (stop : ℕ) where
       (λ j c d. tail_agree (is_unbounded hi) g (attempt view stop a) (attempt_agree a) (hi - lo) k k2 j d (λ l u v. h l (omega arith) v))
 
   -- more rounds than there is text change nothing
-  rounds_fuel : (g : Bool) (body : Rest → Rest) → Looks body → (n m : ℕ) (k : Rest) (i : ℕ) → i ≤ stop → stop - i ≤ n → stop - i ≤ m
+  rounds_fuel : (g : Bool) (body : Continuation → Continuation) → Looks body → (n m : ℕ) (k : Continuation) (i : ℕ) → i ≤ stop → stop - i ≤ n → stop - i ≤ m
       → rounds view.longest g body k n i ≡ rounds view.longest g body k m i
   unfolding rounds
   rounds_fuel g body ok zero zero k i p a b = refl
@@ -108,7 +108,7 @@ module _ (view : View) (stop : ℕ) where
       prefer_cong view.longest g _ _ _ _ (ok _ _ i p (λ j c d. pick_agree i _ _ _ _ j (λ _. refl)
       (λ lt. rounds_fuel g body ok n m k j d (omega arith) (omega arith)))) refl
 
-  rounds_unfold : (g : Bool) (body : Rest → Rest) → Looks body → (n : ℕ) (k : Rest) (i : ℕ) → i ≤ stop → stop - i ≤ n
+  rounds_unfold : (g : Bool) (body : Continuation → Continuation) → Looks body → (n : ℕ) (k : Continuation) (i : ℕ) → i ≤ stop → stop - i ≤ n
       → rounds view.longest g body k n i ≡ prefer view.longest g (body (pick i k (λ l. rounds view.longest g body k (stop - l) l)) i) (k i)
   unfolding rounds
   rounds_unfold g body ok zero k i p a =
@@ -118,22 +118,22 @@ module _ (view : View) (stop : ℕ) where
       (λ lt. rounds_fuel g body ok n (stop - j) k j d (omega arith) (omega arith)))) refl
 
   -- a loop is its body, and then itself where that moved
-  pub star_unfold : (g : Bool) (body : Rest → Rest) → Looks body → (k : Rest) (i : ℕ) → i ≤ stop
+  pub star_unfold : (g : Bool) (body : Continuation → Continuation) → Looks body → (k : Continuation) (i : ℕ) → i ≤ stop
       → star_try view.longest stop g body k i ≡ prefer view.longest g (body (pick i k (star_try view.longest stop g body k)) i) (k i)
   star_unfold g body ok k i h = rounds_unfold g body ok (stop - i) k i h (omega arith)
 
   -- what comes after is asked only past the start
-  abbrev pub Moves : (Rest → Rest) → Type 0
-  Moves body = (k k2 : Rest) (i : ℕ) → i ≤ stop → ((j : ℕ) → i < j → j ≤ stop → k j ≡ k2 j) → body k i ≡ body k2 i
+  abbrev pub Moves : (Continuation → Continuation) → Type 0
+  Moves body = (k k2 : Continuation) (i : ℕ) → i ≤ stop → ((j : ℕ) → i < j → j ≤ stop → k j ≡ k2 j) → body k i ≡ body k2 i
 
   -- a loop over what always moves is its body, and then itself
-  pub plus_unfold : (g : Bool) (body : Rest → Rest) → Looks body → Moves body → (k : Rest) (i : ℕ) → i ≤ stop
+  pub plus_unfold : (g : Bool) (body : Continuation → Continuation) → Looks body → Moves body → (k : Continuation) (i : ℕ) → i ≤ stop
       → star_try view.longest stop g body k i ≡ prefer view.longest g (body (star_try view.longest stop g body k) i) (k i)
   plus_unfold g body ok moves k i h =
       star_unfold g body ok k i h
       ∙ prefer_cong view.longest g _ _ _ _ (moves _ _ i h (λ j a b. pick_moved i k (star_try view.longest stop g body k) j a)) refl
 
-  times_moves : (body : Rest → Rest) → Looks body → Moves body → (n : ℕ) → 0 < n → Moves (times_try body n)
+  times_moves : (body : Continuation → Continuation) → Looks body → Moves body → (n : ℕ) → 0 < n → Moves (times_try body n)
   unfolding times_try
   times_moves body ok moves zero pos k k2 i p h = absurd (omega arith)
   times_moves body ok moves (suc n) pos k k2 i p h =

@@ -8,23 +8,23 @@ use mathlib.Core.HLevel.{Π_prop, ×_prop, Unit-prop}
 use mathlib.Core.Logic.{∥∥₁_elim}
 use Rattle.std.proofs.Math.Nat.{mul-le-mul_left}
 use Rattle.fancy_regex_meaning.specs.Groups.{Pattern}
-use Rattle.fancy_regex_meaning.specs.Places.{boundaries}
+use Rattle.fancy_regex_meaning.specs.Positions.{boundaries}
 use Rattle.fancy_regex_meaning.specs.Sizes.{tree_weight}
-use Rattle.fancy_regex_meaning.specs.Ways.{Way, Setting, ways, call_ways, most_calls}
+use Rattle.fancy_regex_meaning.specs.Ways.{MatchState, Setting, ways, call_ways, max_open_calls}
 use Rattle.fancy_regex_meaning.specs.Searches.{Search, Match, first_some, farther, first_longest, chosen, is_admitted, match_of, start_way, ways_at, match_at, starts, first_match}
-use Rattle.fancy_regex_meaning.specs.Laws.{Each}
+use Rattle.fancy_regex_meaning.specs.WayLaws.{Each}
 use Rattle.fancy_regex_meaning.proofs.EachLemmas.{Each-filter, Each-weaker, boundaries_within}
-use Rattle.fancy_regex_meaning.proofs.KeptProofs.{chosen_holds}
+use Rattle.fancy_regex_meaning.proofs.MatchStartProofs.{chosen_holds}
 use Rattle.fancy_regex_runner.specs.Re.{Re}
 use Rattle.fancy_regex_runner.specs.Meaning.{Spot, View, kept}
 use Rattle.fancy_regex_runner.specs.Meaning as plain
-use Rattle.fancy_regex_runner.specs.Attempt.{Rest, accept, attempt, better_spot, apply, land}
+use Rattle.fancy_regex_runner.specs.Attempt.{Continuation, accept, attempt, better_spot, apply, land}
 use Rattle.fancy_regex_runner.specs.Program.{emitted, NamesBelow, AgreeBut}
 use Rattle.fancy_regex_runner.specs.Search.{Closed, AllAgree}
-use Rattle.fancy_regex_runner.specs.Find.{Hit, earliest, tried, places}
+use Rattle.fancy_regex_runner.specs.Find.{Hit, earliest, attempted, places}
 use Rattle.fancy_regex_runner.specs.Plain.{IsPlain, classes, re_of, flat, places_of}
-use Rattle.fancy_regex_runner.specs.Sees.{view_of}
-use Rattle.fancy_regex_runner.specs.Easy.{IsProgramOf, IsMade, setting_for, search_for, hit_places}
+use Rattle.fancy_regex_runner.specs.SettingView.{view_of}
+use Rattle.fancy_regex_runner.specs.Easy.{AreStatesOf, IsMade, setting_for, search_for, hit_places}
 use Rattle.fancy_regex_runner.specs.declared.input.RunInput.{RunInput}
 use Rattle.fancy_regex_runner.specs.declared.state.State.{State}
 use Rattle.fancy_regex_runner.specs.declared.state.State.TheVariants.{Split, Enter, Leave}
@@ -48,12 +48,12 @@ NamesBelow-prop n S.Match = Unit-prop
 
 -- what the states of a pattern do
 pub record Does (view : View) (stop : ℕ) (states : List State) (entry : ℕ) (pattern : Re) : Type 0 where
-  pub go : ℕ → Rest
+  pub go : ℕ → Continuation
   pub agree : AllAgree view stop states go
   pub entry_in : entry < length states
   pub means : (i : ℕ) → i ≤ stop → go entry i ≡ attempt view stop pattern accept i
 
-pub program_does : (view : View) (stop : ℕ) (states : List State) (entry : ℕ) (pattern : Re) → IsProgramOf states entry pattern
+pub program_does : (view : View) (stop : ℕ) (states : List State) (entry : ℕ) (pattern : Re) → AreStatesOf states entry pattern
     → Does view stop states entry pattern
 program_does view stop states entry pattern e =
     let start : AgreeBut view stop (λ _. ⊥) (S.Match ∷ []) (λ _. accept) =
@@ -78,29 +78,29 @@ closed states entry made =
 pub entry_in : (states : List State) (entry : ℕ) → IsMade states entry → entry < length states
 entry_in states entry made = ∥∥₁_elim made le_prop (λ t. (program_does blind 0 states entry t.0 t.1).entry_in)
 
-either_way : (b : Bool) (w v : Way) → Some (spot_of (if b then v else w)) ≡ (if b then Some (spot_of v) else Some (spot_of w))
+either_way : (b : Bool) (w v : MatchState) → Some (spot_of (if b then v else w)) ≡ (if b then Some (spot_of v) else Some (spot_of w))
 either_way true w v = refl
 either_way false w v = refl
 
-longest_same : (w : Way) (o : Option Way) → Some (spot_of (farther w o)) ≡ better_spot true (Some (spot_of w)) (option_map spot_of o)
+longest_same : (w : MatchState) (o : Option MatchState) → Some (spot_of (farther w o)) ≡ better_spot true (Some (spot_of w)) (option_map spot_of o)
 longest_same w None = refl
 longest_same w (Some v) = either_way (nat_lt w.position v.position) w v
 
 -- the wanted one of some ways
-chosen_same : (far : Bool) (ws : List Way) → option_map spot_of (chosen far ws) ≡ best_from far (onward accept) (map spot_of ws)
+chosen_same : (far : Bool) (ws : List MatchState) → option_map spot_of (chosen far ws) ≡ best_from far (onward accept) (map spot_of ws)
 unfolding best_from land apply
 chosen_same true [] = refl
 chosen_same true (w ∷ ws) = longest_same w (first_longest ws) ∙ ap (better_spot true (Some (spot_of w))) (chosen_same true ws)
 chosen_same false [] = refl
 chosen_same false (w ∷ ws) = sym (first_is_best (spot_of w) (best_from false (onward accept) (map spot_of ws)))
 
-admitted_here : (b : Bool) (w : Way) (us : List Way) (rest : List Spot) → map spot_of us ≡ rest
+admitted_here : (b : Bool) (w : MatchState) (us : List MatchState) (rest : List Spot) → map spot_of us ≡ rest
     → map spot_of (cond (b && true) (w ∷ us) us) ≡ (if b then spot_of w ∷ rest else rest)
 admitted_here true w us rest e = ap (λ xs. spot_of w ∷ xs) e
 admitted_here false w us rest e = e
 
 -- those that a range admits
-admitted_same : (longest : Bool) (input : RunInput) (ws : List Way)
+admitted_same : (longest : Bool) (input : RunInput) (ws : List MatchState)
     → map spot_of (filter (is_admitted (search_for longest input)) ws) ≡ kept input.range.end (map spot_of ws)
 unfolding kept
 admitted_same longest input [] = refl
@@ -139,10 +139,10 @@ module _ (whole : Bool) (pattern : Pattern) (g : ℕ → Option Match) (f : ℕ 
   found_same [] h = refl
   found_same (p ∷ ps) h = answer_here p whole pattern (g p) (f p) (first_some g ps) (earliest f ps) h.0 (found_same ps h.1)
 
-  tried_same : (ps : List ℕ) → Each Agree ps → tried g ps ≡ tried f ps
-  unfolding tried
+  tried_same : (ps : List ℕ) → Each Agree ps → attempted g ps ≡ attempted f ps
+  unfolding attempted
   tried_same [] h = refl
-  tried_same (p ∷ ps) h = tried_same_here p whole pattern (g p) (f p) (tried g ps) (tried f ps) h.0 (tried_same ps h.1)
+  tried_same (p ∷ ps) h = tried_same_here p whole pattern (g p) (f p) (attempted g ps) (attempted f ps) h.0 (tried_same ps h.1)
 
 -- the places of a way
 places_here : (b : Bool) (xs : List ℕ) (p k e : ℕ) → k ≡ p
@@ -176,7 +176,7 @@ module _ (unicode longest : Bool) (text : List ℕ) (input : RunInput) (states :
   all_ways : (p : ℕ) → p ≤ length text → map spot_of (ways_at s pattern find p) ≡ plain.ways view (length text) re (record { at = p; slots = unset })
   unfolding ways
   all_ways p h =
-      tree_same s pattern.groups unicode (call_ways s pattern.groups (most_calls pattern.groups) []) (classes pattern.tree) longest (λ c. refl) pattern.first_group 0 pattern.tree is_plain
+      tree_same s pattern.groups unicode (call_ways s pattern.groups (max_open_calls pattern.groups) []) (classes pattern.tree) longest (λ c. refl) pattern.first_group 0 pattern.tree is_plain
       (λ j lt. let e : 0 + j ≡ j = omega arith in ap (slice_get (classes pattern.tree)) e) (start_way pattern p) h
       ∙ ap (λ (xs : List ℕ). plain.ways view (length text) re (record { at = p; slots = xs })) (flat_none (length pattern.groups))
 
@@ -194,9 +194,9 @@ module _ (unicode longest : Bool) (text : List ℕ) (input : RunInput) (states :
 
     start_kept : (p : ℕ) → Each (λ v. v.kept ≡ p) (filter (is_admitted find) (ways_at s pattern find p))
     unfolding ways
-    start_kept p = Each-filter (λ v. v.kept ≡ p) (is_admitted find) _ (keeps_start s pattern.groups (call_ways s pattern.groups (most_calls pattern.groups) []) pattern.first_group pattern.tree is_plain (start_way pattern p))
+    start_kept p = Each-filter (λ v. v.kept ≡ p) (is_admitted find) _ (keeps_start s pattern.groups (call_ways s pattern.groups (max_open_calls pattern.groups) []) pattern.first_group pattern.tree is_plain (start_way pattern p))
 
-    same_here : (p : ℕ) (o : Option Way) (b : Option Spot) → option_map spot_of o ≡ b → ((v : Way) → o ≡ Some v → v.kept ≡ p)
+    same_here : (p : ℕ) (o : Option MatchState) (b : Option Spot) → option_map spot_of o ≡ b → ((v : MatchState) → o ≡ Some v → v.kept ≡ p)
         → option_map (places_of pattern) (option_map match_of o) ≡ option_map (λ w. hit_places whole (record { start = p; way = w })) b
     same_here p None b e h = ap (option_map (λ w. hit_places whole (record { start = p; way = w }))) e
     same_here p (Some v) b e h =
@@ -228,22 +228,22 @@ module _ (unicode longest : Bool) (text : List ℕ) (input : RunInput) (states :
 
     -- and tries as many places
     pub tried_is_same : input.first ≤ stop
-        → tried (match_at s pattern find) (starts s pattern find) ≡ tried from_place (places text input.anchored input.first stop)
+        → attempted (match_at s pattern find) (starts s pattern find) ≡ attempted from_place (places text input.anchored input.first stop)
     tried_is_same h =
-        ap (tried (match_at s pattern find)) (starts_are h)
+        ap (attempted (match_at s pattern find)) (starts_are h)
         ∙ tried_same whole pattern (match_at s pattern find) from_place (places text input.anchored input.first stop) (agree_all input.anchored h)
 
   no_starts : stop < input.first → starts s pattern find ≡ []
   no_starts h = cond-true (nat_lt stop input.first) [] (cond input.anchored (input.first ∷ []) (boundaries text input.first stop)) (lt-ltb stop input.first h)
 
-  -- past the range's end no place is tried
+  -- past the range's end no place is attempted
   pub none_past : stop < input.first → first_match s pattern find ≡ None
   unfolding first_match
   none_past h = ap (first_some (match_at s pattern find)) (no_starts h)
 
-  pub none_tried : stop < input.first → tried (match_at s pattern find) (starts s pattern find) ≡ 0
-  unfolding tried
-  none_tried h = ap (tried (match_at s pattern find)) (no_starts h)
+  pub none_tried : stop < input.first → attempted (match_at s pattern find) (starts s pattern find) ≡ 0
+  unfolding attempted
+  none_tried h = ap (attempted (match_at s pattern find)) (no_starts h)
 
 -- the states of a plain tree weigh no more than it
 pub states_weigh : (unicode : Bool) (states : List State) (entry : ℕ) (pattern : Pattern) → IsPlain pattern.tree

@@ -86,9 +86,9 @@ tail_ends true stop g list a n s p = loop_ends stop g list a (stop - s.at) s p
 tail_ends false stop g list a n s p = upto_ends stop g list a n s p
 
 module _ (view : View) (stop : ℕ) where
-  reads_in : (leaf : Leaf) (i : ℕ) → reads view stop leaf i ≡ true → (i < view.next i) × (view.next i ≤ stop)
+  mark_at : (leaf : Leaf) (i : ℕ) → reads view stop leaf i ≡ true → (i < view.next i) × (view.next i ≤ stop)
   unfolding reads
-  reads_in leaf i e =
+  mark_at leaf i e =
       let both = and_parts _ _ (and_parts _ _ e).1 in
       (ltb-true i (view.next i) both.0, leb-true (view.next i) stop both.1)
 
@@ -104,7 +104,7 @@ module _ (view : View) (stop : ℕ) where
   pub ways_end : (t : Re) → Ends stop (ways view stop t)
   unfolding ways
   ways_end nothing s p = ((omega arith, p), tt)
-  ways_end (read leaf) s p = read_ends (reads view stop leaf s.at) s (view.next s.at) p (λ e. reads_in leaf s.at e)
+  ways_end (read leaf) s p = read_ends (reads view stop leaf s.at) s (view.next s.at) p (λ e. mark_at leaf s.at e)
   ways_end (test check) s p = look_ends (view.holds check s.at) s p
   ways_end (cat a b) s p = seq_ends stop (ways view stop a) (ways view stop b) (ways_end a) (ways_end b) s p
   ways_end (alt a b) s p = all_append (Between s.at stop) _ _ (ways_end a s p) (ways_end b s p)
@@ -222,7 +222,7 @@ never false b w = refl
 -- a list over the whole text, and the same in a range
 module _ (len stop : ℕ) (fits : stop ≤ len) where
   abbrev Keeps : (Spot → List Spot) → (Spot → List Spot) → Type 0
-  Keeps whole part = (s : Spot) → s.at ≤ stop → kept stop (whole s) ≡ part s
+  Keeps whole translated = (s : Spot) → s.at ≤ stop → kept stop (whole s) ≡ translated s
 
   past : (list : Spot → List Spot) → Ends len list → (w : Spot) → w.at ≤ len → stop < w.at → kept stop (list w) ≡ []
   past list ends w inside out = kept_past stop w.at len (list w) out (ends w inside)

@@ -1,4 +1,4 @@
--- What is built of a row of trees, part by part.
+-- The translation of a list of trees, one by one.
 use Rattle.std.proofs.Common.{◌≡◌, ◌==◌, not, zero, suc, ℕ, ◌+◌, ◌<◌, ◌≤◌, ◌||◌, ◌&&◌, Bool, List, [], ◌∷◌, ◌++◌, length, map, take, get_or, refl, sym, ap, ap₂, ◌∙◌, arith, length-append, ne_eqb, Result, Ok, Err, IfOk}
 use Rattle.std.proofs.lemmas.List.{take_more, take_all, map-append, append_assoc, append-nil}
 use Rattle.std.specs.List.{Contains}
@@ -16,10 +16,10 @@ use Rattle.fancy_regex_runner.specs.Re.{Re, cats, alts, cat, alt, shape, shapes}
 use Rattle.fancy_regex_runner.specs.declared.node.Node.{Node}
 use Rattle.fancy_regex_runner.specs.Program.{IsSound, never_empty}
 use Rattle.fancy_regex_runner.specs.Plain.{IsPlain, ArePlain, classes, row_classes, re_of, row_of, branches_of}
-use Rattle.fancy_regex_runner.specs.Easy.{Serve}
-use Rattle.fancy_regex_runner.specs.Refused.{IsRead, IsClassCause}
-use Rattle.fancy_regex_runner.specs.Made.{all_trees, Extends, row_list, all_move, AreSound, BuildsRow}
-use Rattle.fancy_regex_runner.specs.declared.build.Walk.{Walk}
+use Rattle.fancy_regex_runner.specs.Easy.{HaveMatchers}
+use Rattle.fancy_regex_runner.specs.Refusals.{IsRead, IsClassCause}
+use Rattle.fancy_regex_runner.specs.Translation.{all_trees, Extends, row_list, all_move, AreSound, BuildsRow}
+use Rattle.fancy_regex_runner.specs.declared.build.Translator.{Translator}
 
 -- what follows of what was answered
 pub if_ok : {X E : Type 0} {P Q : X → Type 0} (r : Result X E) → ((x : X) → P x → Q x) → IfOk r P → IfOk r Q
@@ -38,8 +38,8 @@ trees_more es i x h e =
     ap (map tree_of) (take_more es i x h ∙ ap (λ y. take i es ++ y ∷ []) (sym e)) ∙ map-append tree_of (take i es) (x ∷ [])
 
 module _ (unicode : Bool) where
-  serve_more : (ms : List CharClassMatcher) (cs : List (Text × Bool)) (m : CharClassMatcher) (c : Text × Bool) → Serve unicode ms cs
-      → IsMatcherOf m unicode c.0 c.1 → Serve unicode (ms ++ m ∷ []) (cs ++ c ∷ [])
+  serve_more : (ms : List CharClassMatcher) (cs : List (Text × Bool)) (m : CharClassMatcher) (c : Text × Bool) → HaveMatchers unicode ms cs
+      → IsMatcherOf m unicode c.0 c.1 → HaveMatchers unicode (ms ++ m ∷ []) (cs ++ c ∷ [])
   serve_more [] [] m c s h = (h, tt)
   serve_more (n ∷ ms) (d ∷ cs) m c s h = (s.0, serve_more ms cs m c s.1 h)
   serve_more [] (d ∷ cs) m c s h = absurd s
@@ -119,7 +119,7 @@ module _ (unicode : Bool) (groups : List Tree) where
   branches_is (t ∷ []) n k = refl
   branches_is (t ∷ u ∷ ts) n k = ap (alt (re_of unicode groups n k t)) (branches_is (u ∷ ts) _ _)
 
--- a row takes a character if one of its parts does
+-- a concatenation consumes a character if one of its children does
 pub row_moves : (xs : List Re) (x : Re) → never_empty (cats (xs ++ x ∷ [])) ≡ (never_empty (cats xs) || never_empty x)
 unfolding never_empty
 row_moves [] x = or-false (never_empty x)
@@ -181,18 +181,18 @@ cause_in_row unicode es i x error h is cause =
     cause_more unicode (classes (tree_of x)) (row_classes (all_trees es)) error (λ c there. class_in es i x c h (rw is at there)) cause
 
 -- no tree of a row was walked over
-pub row_none : (walk : Walk) → BuildsRow walk walk [] []
+pub row_none : (translator : Translator) → BuildsRow translator translator [] []
 unfolding row_list group_count classes
-row_none walk = record {
+row_none translator = record {
   unicode = refl;
-  matchers = record { count = omega arith; serve = λ ds s. rw (append-nil ds) s; read = All-nil (IsRead walk.unicode) };
+  matchers = record { count = omega arith; serve = λ ds s. rw (append-nil ds) s; read = All-nil (IsRead translator.unicode) };
   sound = tt;
   groups = λ plain. omega arith;
   patterns = λ plain groups. refl;
 }
 
 -- one more was
-pub row_step : (before mid after : Walk) (ts : List Tree) (xs : List Re) (t : Tree) (x : Re) → BuildsRow before mid ts xs
+pub row_step : (before mid after : Translator) (ts : List Tree) (xs : List Re) (t : Tree) (x : Re) → BuildsRow before mid ts xs
     → after.unicode ≡ mid.unicode → (IsPlain t → after.next_group ≡ mid.next_group + group_count t)
     → Extends mid.unicode mid.matchers.items after.matchers.items (classes t) → IsSound x
     → (IsPlain t → (groups : List Tree) → x ≡ re_of mid.unicode groups mid.next_group (length mid.matchers.items) t)
@@ -214,7 +214,7 @@ row_step before mid after ts xs t x done unicode groups matchers sound pattern =
     }
 
 -- the same of the nodes of expressions
-pub nodes_step : (before mid after : Walk) (es : List Expr) (i : ℕ) (e : Expr) (nodes now : List Node) (node : Node) → i < length es
+pub nodes_step : (before mid after : Translator) (es : List Expr) (i : ℕ) (e : Expr) (nodes now : List Node) (node : Node) → i < length es
     → e ≡ get_or es i e → now ≡ nodes ++ node ∷ [] → BuildsRow before mid (map tree_of (take i es)) (shapes nodes)
     → after.unicode ≡ mid.unicode → (IsPlain (tree_of e) → after.next_group ≡ mid.next_group + group_count (tree_of e))
     → Extends mid.unicode mid.matchers.items after.matchers.items (classes (tree_of e)) → IsSound (shape node)
@@ -225,6 +225,6 @@ nodes_step before mid after es i e nodes now node h is added done unicode groups
     (row_step before mid after (map tree_of (take i es)) (shapes nodes) (tree_of e) (shape node) done unicode groups matchers sound pattern)
 
 -- all of them were
-pub row_whole : (before after : Walk) (es : List Expr) (i : ℕ) (xs : List Re) → length es ≤ i
+pub row_whole : (before after : Translator) (es : List Expr) (i : ℕ) (xs : List Re) → length es ≤ i
     → BuildsRow before after (map tree_of (take i es)) xs → BuildsRow before after (map tree_of es) xs
 row_whole before after es i xs h done = rw (take_all i es h) at done

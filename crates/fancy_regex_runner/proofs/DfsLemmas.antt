@@ -4,7 +4,7 @@ use Rattle.std.proofs.lemmas.List.{set-get_or}
 use Rattle.std.proofs.lemmas.Bool.{cases_lt}
 use Rattle.fancy_regex_runner.specs.Meaning.{Spot}
 use Rattle.std.specs.Prelude.{is_some, IfNone}
-use Rattle.fancy_regex_runner.specs.Attempt.{Trace, Rest, Res, write, save, either, guard, failed, accept, score, better_trace, better_spot, apply, land}
+use Rattle.fancy_regex_runner.specs.Attempt.{Trace, Continuation, AttemptResult, write, save, either, guard, failed, accept, score, better_trace, better_spot, apply, land}
 use Rattle.fancy_regex_runner.specs.Visited.{Adds}
 use Rattle.fancy_regex_runner.specs.Search.{slots_at_bottom, pending, Reaches, IsAsGood, ReachesBelow, Covers, Dfs, resume_result}
 use Rattle.fancy_regex_runner.specs.declared.frame.Frame.{Frame}
@@ -69,7 +69,7 @@ module _ (longest : Bool) where
       sym (better_assoc (λ (s : Spot). score longest s.at) best (land slots (Some t)) p)
       ∙ ap (λ o. better_spot longest o p) (no_better best slots t (h (score longest t.end) (let g : score longest t.end ≤ score longest t.end = omega arith in g)))
 
-  module _ (go : ℕ → Rest) (Seen After : ℕ → ℕ → Type 0) (best : Option Spot) (q i : ℕ) (rest next : List Frame) where
+  module _ (go : ℕ → Continuation) (Seen After : ℕ → ℕ → Type 0) (best : Option Spot) (q i : ℕ) (rest next : List Frame) where
     -- The top (q, i) is marked and gives way to `next`. What the top reaches, or what is further down, stays answered for.
     covers_next : Adds Seen After q i → Covers longest go Seen best (Explore q i ∷ rest)
         → ((d r : ℕ) → (go q i).depth ≤ d → Reaches longest r (go q i).answer → ReachesBelow longest go d r next)
@@ -89,10 +89,10 @@ module _ (longest : Bool) where
           | inr same ↦
               let e : (go p j) ≡ (go q i) = rw (same.0, same.1) in
               inr (top (go p j).depth r (let d : (go p j).depth ≡ (go q i).depth = ap (λ v. v.depth) e in omega arith)
-              (subst (λ (v : Res). Reaches longest r v.answer) e ok))
+              (subst (λ (v : AttemptResult). Reaches longest r v.answer) e ok))
         ]
 
-  module _ {go : ℕ → Rest} {goal best : Option Spot} {bottom : List ℕ} {Seen : ℕ → ℕ → Type 0} where
+  module _ {go : ℕ → Continuation} {goal best : Option Spot} {bottom : List ℕ} {Seen : ℕ → ℕ → Type 0} where
     -- carrying out the `Restore` frames at the top changes nothing
     Dfs-resume_result : (stack : List Frame) (slots : List ℕ) → Dfs longest go goal best bottom Seen stack slots
         → Dfs longest go goal best bottom Seen (resume_result stack slots).0 (resume_result stack slots).1
@@ -102,7 +102,7 @@ module _ (longest : Bool) where
     Dfs-resume_result (Restore slot old ∷ rest) slots d =
         Dfs-resume_result rest (set slots slot old) (record { value = d.value; covers = d.covers; unwinds = d.unwinds })
 
-    -- after `resume`
+    -- after a pop of the backtrack stack
     pub Dfs-popped : {stack next : List Frame} {slots after : List ℕ} → Dfs longest go goal best bottom Seen stack slots
         → resume_result stack slots ≡ (next, after) → Dfs longest go goal best bottom Seen next after
     Dfs-popped {stack} {next} {slots} {after} d e =
@@ -153,11 +153,11 @@ module _ (longest : Bool) where
       Dfs-matched e =
           let here : Spot = record { at = i; slots = slots } in
           let ends : (r : ℕ) → Reaches longest r (go q i).answer → IsAsGood longest r (better_spot longest best (Some here)) =
-          λ r ok. as_good_here r best here (subst (λ (v : Res). Reaches longest r v.answer) e ok) in
+          λ r ok. as_good_here r best here (subst (λ (v : AttemptResult). Reaches longest r v.answer) e ok) in
           record {
             value =
                 better_assoc (λ (s : Spot). score longest s.at) best (Some here) (pending longest go rest slots)
-                ∙ ap (λ (v : Res). better_spot longest best (better_spot longest (land slots v.answer) (pending longest go rest slots))) (sym e)
+                ∙ ap (λ (v : AttemptResult). better_spot longest best (better_spot longest (land slots v.answer) (pending longest go rest slots))) (sym e)
                 ∙ d.value;
             covers = λ p j r new ok.
                 elim (adds p j new) [
@@ -166,7 +166,7 @@ module _ (longest : Bool) where
                         | inl good ↦ inl (as_good_more r best here good)
                         | inr h ↦ elim h.1 [ inl there ↦ inl (ends r there) | inr under ↦ inr under ]
                       ]
-                  | inr same ↦ inl (ends r (subst (λ (v : Res). Reaches longest r v.answer) (let w : go p j ≡ go q i = rw (same.0, same.1) in w) ok))
+                  | inr same ↦ inl (ends r (subst (λ (v : AttemptResult). Reaches longest r v.answer) (let w : go p j ≡ go q i = rw (same.0, same.1) in w) ok))
                 ];
             unwinds = d.unwinds;
           }
@@ -249,17 +249,17 @@ first_is_best s None = refl
 first_is_best s (Some t) = refl
 
 -- a test that held leads on, one level less deep
-pub guard_yes : (r x : Res) (b : Bool) → r ≡ guard b x → b ≡ true → (r.answer ≡ x.answer) × (x.depth < r.depth)
+pub guard_yes : (r x : AttemptResult) (b : Bool) → r ≡ guard b x → b ≡ true → (r.answer ≡ x.answer) × (x.depth < r.depth)
 guard_yes r x b e h =
     let whole : r ≡ guard true x = e ∙ ap (λ v. guard v x) h in
     let deep : r.depth ≡ x.depth + 1 = ap (λ v. v.depth) whole in
     (ap (λ v. v.answer) whole, omega arith)
 
-pub guard_no : (r x : Res) (b : Bool) → r ≡ guard b x → b ≡ false → r.answer ≡ None
+pub guard_no : (r x : AttemptResult) (b : Bool) → r ≡ guard b x → b ≡ false → r.answer ≡ None
 guard_no r x b e h = ap (λ v. v.answer) (e ∙ ap (λ v. guard v x) h)
 
 -- an attempt begins with one pair
-pub Dfs-root : {longest : Bool} {go : ℕ → Rest} {Seen : ℕ → ℕ → Type 0} (q i : ℕ) (slots : List ℕ) → Covers longest go Seen None []
+pub Dfs-root : {longest : Bool} {go : ℕ → Continuation} {Seen : ℕ → ℕ → Type 0} (q i : ℕ) (slots : List ℕ) → Covers longest go Seen None []
     → Dfs longest go (land slots (go q i).answer) None slots Seen (Explore q i ∷ []) slots
 unfolding pending slots_at_bottom
 Dfs-root {longest} q i slots failed = record {
@@ -269,7 +269,7 @@ Dfs-root {longest} q i slots failed = record {
 }
 
 -- the first way was found, where that is wanted
-pub first_done : {longest : Bool} {go : ℕ → Rest} {goal best : Option Spot} {bottom : List ℕ} {Seen : ℕ → ℕ → Type 0} {stack : List Frame} {slots : List ℕ} (s : Spot)
+pub first_done : {longest : Bool} {go : ℕ → Continuation} {goal best : Option Spot} {bottom : List ℕ} {Seen : ℕ → ℕ → Type 0} {stack : List Frame} {slots : List ℕ} (s : Spot)
     → longest ≡ false → best ≡ None → Dfs longest go goal (better_spot longest best (Some s)) bottom Seen stack slots → goal ≡ Some s
 first_done {longest} {go} {stack = stack} {slots = slots} s first none d =
     sym d.value
@@ -277,7 +277,7 @@ first_done {longest} {go} {stack = stack} {slots = slots} s first none d =
     ∙ ap (λ (l : Bool). better_spot l (Some s) (pending longest go stack slots)) first
     ∙ first_is_best s (pending longest go stack slots)
 
-pub Dfs-best : {longest : Bool} {go : ℕ → Rest} {goal best best2 : Option Spot} {bottom : List ℕ} {Seen : ℕ → ℕ → Type 0} {stack : List Frame} {slots : List ℕ}
+pub Dfs-best : {longest : Bool} {go : ℕ → Continuation} {goal best best2 : Option Spot} {bottom : List ℕ} {Seen : ℕ → ℕ → Type 0} {stack : List Frame} {slots : List ℕ}
     → best ≡ best2 → Dfs longest go goal best bottom Seen stack slots → Dfs longest go goal best2 bottom Seen stack slots
 Dfs-best {longest} {go} {goal} {bottom = bottom} {Seen = Seen} {stack = stack} {slots = slots} e d =
     subst (λ (b : Option Spot). Dfs longest go goal b bottom Seen stack slots) e d

@@ -2,21 +2,21 @@
 use Rattle.std.proofs.Common.{◌≡◌, ℕ, zero, suc, ◌+◌, ◌*◌, ◌<◌, ◌≤◌, ◌⊎◌, Bool, true, false, cond, List, [], ◌∷◌, length, nat_eq, refl, sym, ap, ap₂, ◌∙◌, inl, inr, ⊎_elim, arith, eq-eqb, ne_eqb, length-append}
 use Rattle.std.proofs.lemmas.Bool.{cases_lt}
 use Rattle.fancy_regex_runner.specs.Meaning.{View, reads}
-use Rattle.fancy_regex_runner.specs.Attempt.{Rest, guard, either, save, prefer}
+use Rattle.fancy_regex_runner.specs.Attempt.{Continuation, guard, either, save, prefer}
 use Rattle.fancy_regex_runner.specs.Program.{loop_head, push, state_at, NamesBelow, visit, Agrees, AgreeBut}
 use Rattle.fancy_regex_runner.specs.declared.state.State.{State}
 use Rattle.fancy_regex_runner.specs.declared.state.State.TheVariants.{Split, Enter, Leave, Match}
 use Rattle.fancy_regex_runner.specs.declared.state.State.TheVariants as S
 
 -- the same, but for one place
-unfoldable override : (ℕ → Rest) → ℕ → Rest → ℕ → Rest
+unfoldable override : (ℕ → Continuation) → ℕ → Continuation → ℕ → Continuation
 override go n g q = cond (nat_eq q n) g (go q)
 
-override_same : (go : ℕ → Rest) (n : ℕ) (g : Rest) → override go n g n ≡ g
+override_same : (go : ℕ → Continuation) (n : ℕ) (g : Continuation) → override go n g n ≡ g
 unfolding override
 override_same go n g = rw (eq-eqb n n refl)
 
-override_other : (go : ℕ → Rest) (n : ℕ) (g : Rest) (q : ℕ) → q < n → override go n g q ≡ go q
+override_other : (go : ℕ → Continuation) (n : ℕ) (g : Continuation) (q : ℕ) → q < n → override go n g q ≡ go q
 unfolding override
 override_other go n g q h = rw (ne_eqb q n (omega arith))
 
@@ -41,7 +41,7 @@ at_before (x ∷ xs) s zero h = refl
 at_before (x ∷ xs) s (suc q) h = at_before xs s q (omega arith)
 
 module _ (view : View) (stop : ℕ) where
-  pub visit_same : (go go2 : ℕ → Rest) (n : ℕ) (s : State) → NamesBelow n s → ((r : ℕ) → r < n → go2 r ≡ go r) → (i : ℕ)
+  pub visit_same : (go go2 : ℕ → Continuation) (n : ℕ) (s : State) → NamesBelow n s → ((r : ℕ) → r < n → go2 r ≡ go r) → (i : ℕ)
       → visit view stop go2 s i ≡ visit view stop go s i
   visit_same go go2 n (S.Read leaf next) x h i = ap (λ f. guard (reads view stop leaf i) (f (view.next i))) (h next x)
   visit_same go go2 n (S.Look check next) x h i = ap (λ f. guard (view.holds check i) (f i)) (h next x)
@@ -50,12 +50,12 @@ module _ (view : View) (stop : ℕ) where
   visit_same go go2 n (Leave g next) x h i = ap (λ f. save (2 * g + 1) i (f i)) (h next x)
   visit_same go go2 n Match x h i = refl
 
-  pub visit_loop_head : (go : ℕ → Rest) (g : Bool) (round leave i : ℕ)
+  pub visit_loop_head : (go : ℕ → Continuation) (g : Bool) (round leave i : ℕ)
       → visit view stop go (loop_head g round leave) i ≡ prefer view.longest g (go round i) (go leave i)
   visit_loop_head go true round leave i = refl
   visit_loop_head go false round leave i = refl
 
-  agrees_more : (go go2 : ℕ → Rest) (n m q : ℕ) (s : State) → q < n → n ≤ m → ((r : ℕ) → r < n → go2 r ≡ go r)
+  agrees_more : (go go2 : ℕ → Continuation) (n m q : ℕ) (s : State) → q < n → n ≤ m → ((r : ℕ) → r < n → go2 r ≡ go r)
       → Agrees view stop go n q s → Agrees view stop go2 m q s
   agrees_more go go2 n m q s h le same a = record {
     names = names_more n m s le a.names;
@@ -63,19 +63,19 @@ module _ (view : View) (stop : ℕ) where
   }
 
   -- what a push leaves
-  pub record Pushed (Open : ℕ → Type 0) (states : List State) (go : ℕ → Rest) (s : State) (g : Rest) : Type 0 where
-    pub next_go : ℕ → Rest
+  pub record Pushed (Open : ℕ → Type 0) (states : List State) (go : ℕ → Continuation) (s : State) (g : Continuation) : Type 0 where
+    pub next_go : ℕ → Continuation
     pub kept : (q : ℕ) → q < length states → next_go q ≡ go q
     pub here : next_go (length states) ≡ g
     pub agree : AgreeBut view stop Open (push states s) next_go
 
   -- a state is pushed that agrees, or whose number is open
-  pub push_done : (Open : ℕ → Type 0) (states : List State) (go : ℕ → Rest) (s : State) (g : Rest) → AgreeBut view stop Open states go
+  pub push_done : (Open : ℕ → Type 0) (states : List State) (go : ℕ → Continuation) (s : State) (g : Continuation) → AgreeBut view stop Open states go
       → Open (length states) ⊎ (NamesBelow (length states) s × ((i : ℕ) → i ≤ stop → g i ≡ visit view stop go s i))
       → Pushed Open states go s g
   push_done Open states go s g before new =
       let n : ℕ = length states in
-      let go2 : ℕ → Rest = override go n g in
+      let go2 : ℕ → Continuation = override go n g in
       let len : length (push states s) ≡ n + 1 = length-push states s in
       let kept : (q : ℕ) → q < n → go2 q ≡ go q = λ q h. override_other go n g q h in
       let here : go2 n ≡ g = override_same go n g in
@@ -102,8 +102,8 @@ module _ (view : View) (stop : ℕ) where
       }
 
   -- what emitting a tree leaves that means `meaning`
-  pub record Done (Open : ℕ → Type 0) (states : List State) (go : ℕ → Rest) (made : List State × ℕ) (meaning : Rest) : Type 0 where
-    pub next_go : ℕ → Rest
+  pub record Done (Open : ℕ → Type 0) (states : List State) (go : ℕ → Continuation) (made : List State × ℕ) (meaning : Continuation) : Type 0 where
+    pub next_go : ℕ → Continuation
     pub kept : (q : ℕ) → q < length states → next_go q ≡ go q
     pub longer : length states ≤ length made.0
     pub agree : AgreeBut view stop Open made.0 next_go
@@ -111,8 +111,8 @@ module _ (view : View) (stop : ℕ) where
     pub means : (i : ℕ) → i ≤ stop → next_go made.1 i ≡ meaning i
 
   -- the same of two entries
-  pub record DoneBoth (Open : ℕ → Type 0) (states : List State) (go : ℕ → Rest) (made : List State × ℕ × ℕ) (same moved : Rest) : Type 0 where
-    pub next_go : ℕ → Rest
+  pub record DoneBoth (Open : ℕ → Type 0) (states : List State) (go : ℕ → Continuation) (made : List State × ℕ × ℕ) (same moved : Continuation) : Type 0 where
+    pub next_go : ℕ → Continuation
     pub kept : (q : ℕ) → q < length states → next_go q ≡ go q
     pub longer : length states ≤ length made.0
     pub agree : AgreeBut view stop Open made.0 next_go

@@ -6,24 +6,24 @@ use Rattle.regex_hir.specs.Text.{char_at}
 use Rattle.fancy_regex_tree.specs.Tree.{Tree, Trees, empty, any, assertion, literal, concat, alt, group, repeat, delegate, no_trees, more_trees}
 use Rattle.fancy_regex_meaning.specs.Groups.{group_count}
 use Rattle.fancy_regex_meaning.specs.Sizes.{bound_of}
-use Rattle.fancy_regex_meaning.specs.Ways.{Way, Moves, Setting, Meaning, meaning, meanings, all_of, any_of, prefer, due, up_to, loop, character, at_place, for_some, stay_if, holds}
+use Rattle.fancy_regex_meaning.specs.Ways.{MatchState, Moves, Setting, Meaning, meaning, meanings, all_of, any_of, prefer, due, up_to, loop, character, with_position, for_some, match_empty_if, holds}
 use Rattle.fancy_regex_meaning.specs.Ways as ways
-use Rattle.fancy_regex_meaning.specs.Laws.{Each}
+use Rattle.fancy_regex_meaning.specs.WayLaws.{Each}
 use Rattle.fancy_regex_meaning.proofs.EachLemmas.{Each-weaker, Each-append, Each-map, Each-flat_map}
 use Rattle.fancy_regex_runner.specs.Plain.{IsPlain, ArePlain}
 
-abbrev Keeps : Way → List Way → Type 0
+abbrev Keeps : MatchState → List MatchState → Type 0
 Keeps w vs = Each (λ v. v.kept ≡ w.kept) vs
 
 abbrev Kept : Moves → Type 0
-Kept f = (w : Way) → Keeps w (f w)
+Kept f = (w : MatchState) → Keeps w (f w)
 
-follow : (w : Way) (f : Moves) (vs : List Way) → Kept f → Keeps w vs → Keeps w (flat_map f vs)
+follow : (w : MatchState) (f : Moves) (vs : List MatchState) → Kept f → Keeps w vs → Keeps w (flat_map f vs)
 follow w f vs h k =
     Each-flat_map (λ v. v.kept ≡ w.kept) (λ v. v.kept ≡ w.kept) f
     (λ v e. Each-weaker (λ u. u.kept ≡ v.kept) (λ u. u.kept ≡ w.kept) (λ u q. q ∙ e) (f v) (h v)) vs k
 
-in_turn : (g : Bool) (w : Way) (us vs : List Way) → Keeps w us → Keeps w vs → Keeps w (prefer g us vs)
+in_turn : (g : Bool) (w : MatchState) (us vs : List MatchState) → Keeps w us → Keeps w vs → Keeps w (prefer g us vs)
 in_turn true w us vs h k = Each-append (λ v. v.kept ≡ w.kept) us vs h k
 in_turn false w us vs h k = Each-append (λ v. v.kept ≡ w.kept) vs us k h
 
@@ -35,7 +35,7 @@ up_to_kept : (n : ℕ) (g : Bool) (f : Moves) → Kept f → Kept (up_to n g f)
 up_to_kept zero g f h w = (refl, tt)
 up_to_kept (suc n) g f h w = in_turn g w _ (w ∷ []) (follow w (up_to n g f) (f w) (up_to_kept n g f h) (h w)) (refl, tt)
 
-round_kept : (b : Bool) (w v : Way) (again : List Way) → v.kept ≡ w.kept → Keeps v again → Keeps w (if b then v ∷ [] else again)
+round_kept : (b : Bool) (w v : MatchState) (again : List MatchState) → v.kept ≡ w.kept → Keeps v again → Keeps w (if b then v ∷ [] else again)
 round_kept true w v again e h = (e, tt)
 round_kept false w v again e h = Each-weaker (λ u. u.kept ≡ v.kept) (λ u. u.kept ≡ w.kept) (λ u q. q ∙ e) again h
 
@@ -51,13 +51,13 @@ repeat_kept : (s : Setting) (lo : ℕ) (bound : Option ℕ) (g : Bool) (f : Move
 repeat_kept s lo None g f h w = due_kept lo f (loop (length s.text + 1) g f) h (loop_kept (length s.text + 1) g f h) w
 repeat_kept s lo (Some hi) g f h w = due_kept lo f (up_to (hi - lo) g f) h (up_to_kept (hi - lo) g f h) w
 
-if_kept : (b : Bool) (w v : Way) → v.kept ≡ w.kept → Keeps w (if b then v ∷ [] else [])
+if_kept : (b : Bool) (w v : MatchState) → v.kept ≡ w.kept → Keeps w (if b then v ∷ [] else [])
 if_kept true w v e = (e, tt)
 if_kept false w v e = tt
 
-char_kept : (test : ℕ → Bool) (w : Way) (o : Option ℕ) → Keeps w (for_some (λ c. if test c then at_place w (w.position + len_utf8 c) ∷ [] else []) o)
+char_kept : (test : ℕ → Bool) (w : MatchState) (o : Option ℕ) → Keeps w (for_some (λ c. if test c then with_position w (w.position + len_utf8 c) ∷ [] else []) o)
 char_kept test w None = tt
-char_kept test w (Some c) = if_kept (test c) w (at_place w (w.position + len_utf8 c)) refl
+char_kept test w (Some c) = if_kept (test c) w (with_position w (w.position + len_utf8 c)) refl
 
 module _ (s : Setting) (groups : List Tree) (call : ℕ → Moves) where
   mutual

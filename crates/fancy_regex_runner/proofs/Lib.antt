@@ -15,9 +15,9 @@ pub mod CarryLemmas
 pub mod PlainLemmas
 pub mod MeaningLemmas
 pub mod KeptLemmas
-pub mod SightLemmas
+pub mod CharTestLemmas
 pub mod AnswerLemmas
 pub mod ShapeLemmas
 pub mod BuildLemmas
-pub mod MadeLemmas
+pub mod TranslationLemmas
 pub mod ServedLemmas

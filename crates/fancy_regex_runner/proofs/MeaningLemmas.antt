@@ -12,15 +12,15 @@ use Rattle.fancy_regex_tree.specs.declared.expr.Assertion.{Assertion}
 use Rattle.fancy_regex_tree.specs.declared.expr.Assertion.TheVariants as A
 use Rattle.fancy_regex_meaning.specs.Groups.{group_count}
 use Rattle.fancy_regex_meaning.specs.Sizes.{bound_of}
-use Rattle.fancy_regex_meaning.specs.Ways.{Way, Moves, Pairs, Setting, Meaning, meaning, meanings, all_of, any_of, prefer, due, up_to, loop, character, at_place, stay_if, holds}
+use Rattle.fancy_regex_meaning.specs.Ways.{MatchState, Moves, Pairs, Setting, Meaning, meaning, meanings, all_of, any_of, prefer, due, up_to, loop, character, with_position, match_empty_if, holds}
 use Rattle.fancy_regex_meaning.specs.Ways as ways
 use Rattle.fancy_regex_class.specs.Classes.{folded}
 use Rattle.fancy_regex_runner.specs.Re.{Re, nothing, read, test, cat}
 use Rattle.fancy_regex_runner.specs.Re as re
 use Rattle.fancy_regex_runner.specs.Meaning.{Spot, View, each, in_order, after_round, loop_ways, times_ways, upto_ways, tail_ways, is_unbounded, reads}
 use Rattle.fancy_regex_runner.specs.Meaning as plain
-use Rattle.fancy_regex_runner.specs.Plain.{IsPlain, ArePlain, IsServed, test_of, served, is_left_out, unless, classes, row_classes, re_of, row_of, branches_of, flat}
-use Rattle.fancy_regex_runner.specs.Sees.{view_of, takes}
+use Rattle.fancy_regex_runner.specs.Plain.{IsPlain, ArePlain, IsServed, test_of, served, has_no_iteration, unless, classes, row_classes, re_of, row_of, branches_of, flat}
+use Rattle.fancy_regex_runner.specs.SettingView.{view_of, leaf_matches}
 use Rattle.fancy_regex_runner.specs.declared.node.Leaf.{Leaf}
 use Rattle.fancy_regex_runner.specs.declared.node.Leaf.TheVariants.{Any, Char, Folded, Class}
 use Rattle.fancy_regex_runner.proofs.BoundLemmas.{AllOf, Between, Ends, ways_end, tail_ends}
@@ -28,15 +28,15 @@ use Rattle.fancy_regex_runner.proofs.PlainLemmas.{lacks}
 use Rattle.fancy_regex_runner.proofs.CarryLemmas.{Lacks, put, ways_carry, map_twice}
 
 -- where a way is, with its pairs as places
-abbrev pub spot_of : Way → Spot
+abbrev pub spot_of : MatchState → Spot
 spot_of w = record { at = w.position; slots = flat w.pairs }
 
 -- these moves have those ways
 abbrev pub Same : ℕ → Moves → (Spot → List Spot) → Type 0
-Same len f list = (w : Way) → w.position ≤ len → map spot_of (f w) ≡ list (spot_of w)
+Same len f list = (w : MatchState) → w.position ≤ len → map spot_of (f w) ≡ list (spot_of w)
 
 -- one after another
-map_flat : (P : Spot → Type 0) (g : Moves) (h : Spot → List Spot) (vs : List Way) → AllOf P (map spot_of vs) → ((v : Way) → P (spot_of v) → map spot_of (g v) ≡ h (spot_of v))
+map_flat : (P : Spot → Type 0) (g : Moves) (h : Spot → List Spot) (vs : List MatchState) → AllOf P (map spot_of vs) → ((v : MatchState) → P (spot_of v) → map spot_of (g v) ≡ h (spot_of v))
     → map spot_of (flat_map g vs) ≡ each h (map spot_of vs)
 map_flat P g h [] all same = refl
 map_flat P g h (v ∷ vs) all same = map-append spot_of (g v) (flat_map g vs) ∙ ap₂ ◌++◌ (same v all.0) (map_flat P g h vs all.1 same)
@@ -46,7 +46,7 @@ seq_same len f g lf lg ends a b w p =
     map_flat (Between w.position len) g lg (f w) (subst (AllOf (Between w.position len)) (sym (a w p)) (ends (spot_of w) p)) (λ v q. b v q.1)
     ∙ ap (each lg) (a w p)
 
-map_prefer : (g : Bool) (us vs : List Way) → map spot_of (prefer g us vs) ≡ in_order g (map spot_of us) (map spot_of vs)
+map_prefer : (g : Bool) (us vs : List MatchState) → map spot_of (prefer g us vs) ≡ in_order g (map spot_of us) (map spot_of vs)
 map_prefer true us vs = map-append spot_of us vs
 map_prefer false us vs = map-append spot_of vs us
 
@@ -64,7 +64,7 @@ upto_same len (suc n) g f lf ef a w p =
     ∙ ap (λ ws. in_order g ws (spot_of w ∷ [])) (seq_same len f (up_to n g f) lf (upto_ways g lf n) ef a (upto_same len n g f lf ef a) w p)
 
 -- a round, and what follows it
-round_same : (w v : Way) (again : List Way) (next : Spot → List Spot) → w.position ≤ v.position → (w.position < v.position → map spot_of again ≡ next (spot_of v))
+round_same : (w v : MatchState) (again : List MatchState) (next : Spot → List Spot) → w.position ≤ v.position → (w.position < v.position → map spot_of again ≡ next (spot_of v))
     → map spot_of (if v.position == w.position then v ∷ [] else again) ≡ after_round next (spot_of w) (spot_of v)
 unfolding after_round
 round_same w v again next le same =
@@ -73,7 +73,7 @@ round_same w v again next le same =
       | inr ge ↦ rw (eq-eqb v.position w.position (omega arith), le-ltb w.position v.position ge) refl
     ]
 
-loop_same : (len n m : ℕ) (g : Bool) (f : Moves) (lf : Spot → List Spot) → Ends len lf → Same len f lf → (w : Way) → w.position ≤ len
+loop_same : (len n m : ℕ) (g : Bool) (f : Moves) (lf : Spot → List Spot) → Ends len lf → Same len f lf → (w : MatchState) → w.position ≤ len
     → len - w.position < n → len - w.position ≤ m → map spot_of (loop n g f w) ≡ loop_ways g lf m (spot_of w)
 unfolding loop_ways
 loop_same len zero m g f lf ef a w p x y = absurd (omega arith)
@@ -102,7 +102,7 @@ repeat_same s lo hi g false f lf e ef a w p =
     (λ v q. upto_same (length s.text) (hi - lo) g f lf ef a v q) w p
 
 -- a repeat that may be left out
-no_rounds : (lo hi : ℕ) → is_left_out lo hi ≡ true → (lo ≡ 0) × (hi ≡ 0)
+no_rounds : (lo hi : ℕ) → has_no_iteration lo hi ≡ true → (lo ≡ 0) × (hi ≡ 0)
 no_rounds lo hi e = let both = and_parts _ _ e in (eqb-true lo 0 both.0, eqb-true hi 0 both.1)
 
 out_by : (s : Setting) (lo hi : ℕ) (g : Bool) (f : Moves) (view : View) (a : Re) (b : Bool) → (b ≡ true → (lo ≡ 0) × (hi ≡ 0))
@@ -126,7 +126,7 @@ flat_set (Some q ∷ ps) (suc k) a b =
     let three : 2 * suc k + 1 ≡ suc (suc (2 * k + 1)) = omega arith in
     rw (three, two) (ap (λ xs. q.0 ∷ q.1 ∷ xs) (flat_set ps k a b))
 
-map_map : (f : Way → Way) (g : Spot → Spot) (vs : List Way) → ((v : Way) → spot_of (f v) ≡ g (spot_of v)) → map spot_of (map f vs) ≡ map g (map spot_of vs)
+map_map : (f : MatchState → MatchState) (g : Spot → Spot) (vs : List MatchState) → ((v : MatchState) → spot_of (f v) ≡ g (spot_of v)) → map spot_of (map f vs) ≡ map g (map spot_of vs)
 map_map f g [] h = refl
 map_map f g (v ∷ vs) h = ap₂ ◌∷◌ (h v) (map_map f g vs h)
 
@@ -142,18 +142,18 @@ group_same view len n f a lacks same w p =
     ∙ ap (map close) (sym (ways_carry view len n w.position a lacks (spot_of w)))
 
 -- a test
-stay_same : (b : Bool) (w : Way) → map spot_of (if b then w ∷ [] else []) ≡ (if b then spot_of w ∷ [] else [])
+stay_same : (b : Bool) (w : MatchState) → map spot_of (if b then w ∷ [] else []) ≡ (if b then spot_of w ∷ [] else [])
 stay_same true w = refl
 stay_same false w = refl
 
-taken_same : (b : Bool) (w : Way) → map spot_of (if b then w ∷ [] else []) ≡ (if b && (true && true) then spot_of w ∷ [] else [])
+taken_same : (b : Bool) (w : MatchState) → map spot_of (if b then w ∷ [] else []) ≡ (if b && (true && true) then spot_of w ∷ [] else [])
 taken_same true w = refl
 taken_same false w = refl
 
 -- one character
 module _ (s : Setting) (cs : List (Text × Bool)) (far : Bool) where
-  char_same : (leaf : Leaf) (w : Way) (o : Option ℕ) → char_at s.text w.position ≡ o → (is_taken : ℕ → Bool) → ((c : ℕ) → o ≡ Some c → is_taken c ≡ takes s cs leaf c)
-      → map spot_of (ways.for_some (λ c. if is_taken c then at_place w (w.position + len_utf8 c) ∷ [] else []) o)
+  char_same : (leaf : Leaf) (w : MatchState) (o : Option ℕ) → char_at s.text w.position ≡ o → (is_taken : ℕ → Bool) → ((c : ℕ) → o ≡ Some c → is_taken c ≡ leaf_matches s cs leaf c)
+      → map spot_of (ways.for_some (λ c. if is_taken c then with_position w (w.position + len_utf8 c) ∷ [] else []) o)
       ≡ (if reads (view_of s cs far) (length s.text) leaf w.position then record { at = (view_of s cs far).next w.position; slots = flat w.pairs } ∷ [] else [])
   unfolding reads
   char_same leaf w None e is_taken same = rw e refl
@@ -162,7 +162,7 @@ module _ (s : Setting) (cs : List (Text × Bool)) (far : Bool) where
       let fits = char_at_fits s.text w.position c e in
       let lower : w.position < w.position + len_utf8 c = omega arith in
       rw (e, same c refl, lt-ltb w.position (w.position + len_utf8 c) lower, le-leb (w.position + len_utf8 c) (length s.text) fits)
-      (taken_same (takes s cs leaf c) (at_place w (w.position + len_utf8 c)))
+      (taken_same (leaf_matches s cs leaf c) (with_position w (w.position + len_utf8 c)))
 
 get_left : {A : Type 0} (xs ys : List A) (j : ℕ) → j < length xs → slice_get (xs ++ ys) j ≡ slice_get xs j
 get_left [] ys j h = absurd (omega arith)
@@ -182,7 +182,7 @@ module _ (s : Setting) (groups : List Tree) (unicode : Bool) (call : ℕ → Mov
   abbrev view : View
   view = view_of s cs far
 
-  -- the classes of a part stand from k on
+  -- the classes of a child have the numbers from k on
   abbrev pub StandAt : ℕ → List (Text × Bool) → Type 0
   StandAt k xs = (j : ℕ) → j < length xs → slice_get cs (k + j) ≡ slice_get xs j
 
@@ -195,10 +195,10 @@ module _ (s : Setting) (groups : List Tree) (unicode : Bool) (call : ℕ → Mov
       ap (slice_get cs) e ∙ h (length xs + j) (omega (arith, length-append xs ys)) ∙ get_right xs ys j
 
   -- the classes of a repeat that is not left out are its body's
-  all_stand : (k lo hi : ℕ) (t : Tree) → is_left_out lo hi ≡ false → StandAt k (if is_left_out lo hi then [] else classes t) → StandAt k (classes t)
+  all_stand : (k lo hi : ℕ) (t : Tree) → has_no_iteration lo hi ≡ false → StandAt k (if has_no_iteration lo hi then [] else classes t) → StandAt k (classes t)
   all_stand k lo hi t made h = subst (λ b. StandAt k (if b then [] else classes t)) made h
 
-  assertion_same : (a : Assertion) → IsServed (test_of a) → Same len (λ w. stay_if (holds s a w.position) w) (plain.ways view len (served (test_of a)))
+  assertion_same : (a : Assertion) → IsServed (test_of a) → Same len (λ w. match_empty_if (holds s a w.position) w) (plain.ways view len (served (test_of a)))
   unfolding plain.ways
   assertion_same A.StartText p w q = stay_same _ w
   assertion_same A.EndText p w q = stay_same _ w
@@ -240,7 +240,7 @@ module _ (s : Setting) (groups : List Tree) (unicode : Bool) (call : ℕ → Mov
         group_same view len n (meaning s groups call (n + 1) t).from (re_of unicode groups (n + 1) k t) (lacks unicode groups n (n + 1) k t (omega arith))
         (tree_same (n + 1) k t p h) w q
     tree_same n k (repeat t lo hi greedy) p h w q =
-        out_by s lo hi greedy (meaning s groups call n t).from view _ (is_left_out lo hi) (no_rounds lo hi)
+        out_by s lo hi greedy (meaning s groups call n t).from view _ (has_no_iteration lo hi) (no_rounds lo hi)
         (λ made. repeat_same s lo hi greedy (is_unbounded hi) (meaning s groups call n t).from (plain.ways view len (re_of unicode groups n k t)) refl
         (ways_end view len (re_of unicode groups n k t)) (tree_same n k t p (all_stand k lo hi t made h))) w q
     tree_same n k _ p h w q = absurd p

@@ -3,13 +3,13 @@ use Rattle.std.proofs.Common.{◌≡◌, ◌≢◌, ℕ, zero, suc, ◌+◌, ◌
 use Rattle.std.proofs.Math.Nat.{mul-le-mul_left}
 use Rattle.fancy_regex_tree.specs.Tree.{Tree, Trees, empty, any, assertion, literal, concat, alt, group, repeat, delegate, no_trees, more_trees}
 use Rattle.fancy_regex_meaning.specs.Groups.{group_count}
-use Rattle.fancy_regex_meaning.specs.Sizes.{Size, size_with, sum_size, branch_size, size, size_through, may_be_empty, unbounded, bound_of, weights, branch_gaps}
+use Rattle.fancy_regex_meaning.specs.Sizes.{Size, size_with, concat_size, alternation_size, size, size_through, may_be_empty, unbounded, bound_of, weights, branch_gaps}
 use Rattle.fancy_regex_meaning.specs.Sizes as sizes
 use Rattle.fancy_regex_runner.specs.Re.{Re, nothing, read, test, cat}
 use Rattle.fancy_regex_runner.specs.Re as re
 use Rattle.fancy_regex_runner.specs.Meaning.{is_unbounded}
 use Rattle.fancy_regex_runner.specs.Program.{never_empty, IsSound, weight, repeat_weight}
-use Rattle.fancy_regex_runner.specs.Plain.{IsPlain, ArePlain, test_of, served, is_left_out, unless, classes, re_of, row_of, branches_of}
+use Rattle.fancy_regex_runner.specs.Plain.{IsPlain, ArePlain, test_of, served, has_no_iteration, unless, classes, re_of, row_of, branches_of}
 use Rattle.fancy_regex_runner.specs.declared.node.Test.{Test}
 use Rattle.fancy_regex_runner.proofs.CarryLemmas.{Lacks}
 
@@ -46,7 +46,7 @@ out_light true x n h = omega arith
 out_light false x n h = h
 
 -- a repeat without rounds is never sure to move
-out_moves : (lo hi : ℕ) (greedy strict : Bool) (x : Re) → never_empty (unless (is_left_out lo hi) (re.repeat lo hi greedy strict x)) ≡ (nat_lt 0 lo && never_empty x)
+out_moves : (lo hi : ℕ) (greedy strict : Bool) (x : Re) → never_empty (unless (has_no_iteration lo hi) (re.repeat lo hi greedy strict x)) ≡ (nat_lt 0 lo && never_empty x)
 unfolding never_empty
 out_moves zero zero greedy strict x = refl
 out_moves zero (suc hi) greedy strict x = rw (ne_eqb (suc hi) 0 (omega arith)) refl
@@ -66,7 +66,7 @@ module _ (unicode : Bool) (groups : List Tree) where
     lacks m n k (concat ts) h = row_lacks m n k ts h
     lacks m n k (alt ts) h = branches_lack m n k ts h
     lacks m n k (group t) h = (λ e. omega arith, lacks m (n + 1) k t (omega arith))
-    lacks m n k (repeat t lo hi greedy) h = out_lacks m (is_left_out lo hi) _ (lacks m n k t h)
+    lacks m n k (repeat t lo hi greedy) h = out_lacks m (has_no_iteration lo hi) _ (lacks m n k t h)
     lacks m n k _ h = tt
 
     row_lacks : (m n k : ℕ) (ts : Trees) → m < n → Lacks m (row_of unicode groups n k ts)
@@ -127,16 +127,16 @@ module _ (unicode : Bool) (groups : List Tree) (call : ℕ → Size) where
         product_zero lo (size_with call t).least ∙ ap₂ ◌||◌ (zero_test lo) (empties n k t p) ∙ not_and (nat_lt 0 lo) _ ∙ sym (ap not (out_moves lo hi greedy _ _))
     empties n k _ p = absurd p
 
-    row_empties : (n k : ℕ) (ts : Trees) → ArePlain ts → ((sum_size call ts).least == 0) ≡ not (never_empty (row_of unicode groups n k ts))
+    row_empties : (n k : ℕ) (ts : Trees) → ArePlain ts → ((concat_size call ts).least == 0) ≡ not (never_empty (row_of unicode groups n k ts))
     row_empties n k no_trees p = refl
     row_empties n k (more_trees t ts) p =
-        sum_zero (size_with call t).least (sum_size call ts).least ∙ ap₂ ◌&&◌ (empties n k t p.0) (row_empties _ _ ts p.1) ∙ not_or _ _
+        sum_zero (size_with call t).least (concat_size call ts).least ∙ ap₂ ◌&&◌ (empties n k t p.0) (row_empties _ _ ts p.1) ∙ not_or _ _
 
-    branch_empties : (n k : ℕ) (ts : Trees) → (ts ≢ no_trees) → ArePlain ts → ((branch_size call ts).least == 0) ≡ not (never_empty (branches_of unicode groups n k ts))
+    branch_empties : (n k : ℕ) (ts : Trees) → (ts ≢ no_trees) → ArePlain ts → ((alternation_size call ts).least == 0) ≡ not (never_empty (branches_of unicode groups n k ts))
     branch_empties n k no_trees some p = absurd (some refl)
     branch_empties n k (more_trees t no_trees) some p = empties n k t p.0
     branch_empties n k (more_trees t (more_trees u us)) some p =
-        least_zero (size_with call t).least (branch_size call (more_trees u us)).least
+        least_zero (size_with call t).least (alternation_size call (more_trees u us)).least
         ∙ ap₂ ◌||◌ (empties n k t p.0) (branch_empties _ _ (more_trees u us) (λ e. cc) p.1) ∙ not_and _ _
 
 not_twice : (b : Bool) → not (not b) ≡ b
@@ -176,7 +176,7 @@ module _ (unicode : Bool) (groups : List Tree) where
     sound n k (concat ts) p = row_sound n k ts p
     sound n k (alt ts) p = branches_sound n k ts p.1
     sound n k (group t) p = sound (n + 1) k t p
-    sound n k (repeat t lo hi greedy) p = out_sound (is_left_out lo hi) _ (never n k t p, sound n k t p)
+    sound n k (repeat t lo hi greedy) p = out_sound (has_no_iteration lo hi) _ (never n k t p, sound n k t p)
     sound n k _ p = absurd p
 
     row_sound : (n k : ℕ) (ts : Trees) → ArePlain ts → IsSound (row_of unicode groups n k ts)
@@ -211,7 +211,7 @@ module _ (unicode : Bool) (groups : List Tree) where
     light n k (alt ts) p = branches_light n k ts p.0 p.1
     light n k (group t) p = omega (arith, light (n + 1) k t p)
     light n k (repeat t lo hi greedy) p =
-        out_light (is_left_out lo hi) _ _ (lighter (is_unbounded hi) (may_be_empty groups t) lo hi _ _ (light n k t p))
+        out_light (has_no_iteration lo hi) _ _ (lighter (is_unbounded hi) (may_be_empty groups t) lo hi _ _ (light n k t p))
     light n k _ p = absurd p
 
     row_light : (n k : ℕ) (ts : Trees) → ArePlain ts → weight (row_of unicode groups n k ts) ≤ weights groups ts

@@ -2,7 +2,7 @@
 use Rattle.std.proofs.Common.{◌≡◌, ℕ, zero, suc, ◌-◌, ◌<◌, ◌≤◌, ◌⊎◌, Bool, true, false, List, length, refl, sym, ap, ◌∙◌, inl, inr, ⊎_elim, arith, length-set, set, get_or-set_same, get_or-set_other}
 use Rattle.std.proofs.lemmas.Bool.{cases_lt, cases_eq}
 use Rattle.fancy_regex_runner.specs.Meaning.{View}
-use Rattle.fancy_regex_runner.specs.Attempt.{Rest, prefer, pick, times_try, upto_try, star_try, tail_try}
+use Rattle.fancy_regex_runner.specs.Attempt.{Continuation, prefer, pick, times_try, upto_try, star_try, tail_try}
 use Rattle.fancy_regex_runner.specs.Program.{loop_head, push, Emitter, BothEmitter, emitted_times, emitted_both_times, emitted_upto, emitted_both_upto, emitted_star, emitted_both_star, emitted_plus, emitted_both_plus, emitted_many, emitted_both_many, emitted_repeat, emitted_both_repeat, state_at, NamesBelow, visit, AgreeBut}
 use Rattle.fancy_regex_runner.specs.declared.state.State.{State}
 use Rattle.fancy_regex_runner.specs.declared.state.State.TheVariants.{Match}
@@ -18,28 +18,28 @@ head_names false n round leave a b = (b, a)
 
 module _ (view : View) (stop : ℕ) where
   -- what is emitted tries T
-  abbrev pub Emits : Emitter → (Rest → Rest) → Type 1
-  Emits one T = (Open : ℕ → Type 0) (states : List State) (go : ℕ → Rest) (next : ℕ) → AgreeBut view stop Open states go → next < length states
+  abbrev pub Emits : Emitter → (Continuation → Continuation) → Type 1
+  Emits one T = (Open : ℕ → Type 0) (states : List State) (go : ℕ → Continuation) (next : ℕ) → AgreeBut view stop Open states go → next < length states
       → Done view stop Open states go (one states next) (T (go next))
 
   -- the same with two places to go on at
-  abbrev pub EmitsTwo : BothEmitter → (Rest → Rest) → Type 1
-  EmitsTwo both T = (Open : ℕ → Type 0) (states : List State) (go : ℕ → Rest) (same moved : ℕ) → AgreeBut view stop Open states go
+  abbrev pub EmitsTwo : BothEmitter → (Continuation → Continuation) → Type 1
+  EmitsTwo both T = (Open : ℕ → Type 0) (states : List State) (go : ℕ → Continuation) (same moved : ℕ) → AgreeBut view stop Open states go
       → same < length states → moved < length states
       → DoneBoth view stop Open states go (both states same moved) (λ i. T (pick i (go same) (go moved)) i) (T (go moved))
 
   -- past its start a pick has moved
-  pub moved_on : (T : Rest → Rest) → Looks view stop T → (i j : ℕ) (same moved : Rest) → i < j → j ≤ stop
+  pub moved_on : (T : Continuation → Continuation) → Looks view stop T → (i j : ℕ) (same moved : Continuation) → i < j → j ≤ stop
       → T moved j ≡ T (pick i same moved) j
   moved_on T ok i j same moved h p = ok _ _ j p (λ l c d. sym (pick_moved i same moved l (omega arith)))
 
   -- at its start a pick is the same as one from there
-  pub at_start : (T : Rest → Rest) (i j : ℕ) (same moved : Rest) → i ≤ j → j ≤ i
+  pub at_start : (T : Continuation → Continuation) (i j : ℕ) (same moved : Continuation) → i ≤ j → j ≤ i
       → T (pick j same moved) j ≡ T (pick i same moved) j
   at_start T i j same moved h k = let e : j ≡ i = omega arith in rw e
 
   -- what comes first goes on at what comes second
-  pub seq_done : (one two : Emitter) (A B : Rest → Rest) → Looks view stop A → Emits one A → Emits two B
+  pub seq_done : (one two : Emitter) (A B : Continuation → Continuation) → Looks view stop A → Emits one A → Emits two B
       → Emits (λ states next. one (two states next).0 (two states next).1) (λ k. A (B k))
   seq_done one two A B ok a b Open states go next before inside =
       let d = b Open states go next before inside in
@@ -55,7 +55,7 @@ module _ (view : View) (stop : ℕ) where
       }
 
   -- the picks of a rest that tries B
-  pub picks_rest : (B : Rest → Rest) → Looks view stop B → (i j : ℕ) (same moved ms mm : Rest) → i ≤ j → j ≤ stop
+  pub picks_rest : (B : Continuation → Continuation) → Looks view stop B → (i j : ℕ) (same moved ms mm : Continuation) → i ≤ j → j ≤ stop
       → ms j ≡ B (pick j same moved) j → mm j ≡ B moved j → pick i ms mm j ≡ B (pick i same moved) j
   picks_rest B ok i j same moved ms mm c k a b =
       ⊎_elim
@@ -63,7 +63,7 @@ module _ (view : View) (stop : ℕ) where
       (λ (ge : j ≤ i). pick_same i ms mm j ge ∙ a ∙ at_start B i j same moved c ge)
       (cases_lt i j)
 
-  pub seq_two_done : (one two : BothEmitter) (A B : Rest → Rest) → Looks view stop A → Looks view stop B → EmitsTwo one A → EmitsTwo two B
+  pub seq_two_done : (one two : BothEmitter) (A B : Continuation → Continuation) → Looks view stop A → Looks view stop B → EmitsTwo one A → EmitsTwo two B
       → EmitsTwo (λ states same moved. one (two states same moved).0 (two states same moved).1 (two states same moved).2) (λ k. A (B k))
   seq_two_done one two A B ok okb a b Open states go same moved before a_in b_in =
       let d = b Open states go same moved before a_in b_in in
@@ -80,7 +80,7 @@ module _ (view : View) (stop : ℕ) where
         moved_means = λ i h. e.moved_means i h ∙ ok _ _ i h (λ j c k. d.moved_means j k);
       }
 
-  pub times_done : (one : Emitter) (T : Rest → Rest) → Looks view stop T → Emits one T → (n : ℕ) → Emits (emitted_times one n) (times_try T n)
+  pub times_done : (one : Emitter) (T : Continuation → Continuation) → Looks view stop T → Emits one T → (n : ℕ) → Emits (emitted_times one n) (times_try T n)
   unfolding emitted_times times_try
   times_done one T ok ih zero Open states go next before inside = record {
     next_go = go;
@@ -93,7 +93,7 @@ module _ (view : View) (stop : ℕ) where
   times_done one T ok ih (suc n) Open states go next before inside =
       seq_done one (emitted_times one n) T (times_try T n) ok ih (times_done one T ok ih n) Open states go next before inside
 
-  pub times_two_done : (both : BothEmitter) (T : Rest → Rest) → Looks view stop T → EmitsTwo both T → (n : ℕ) → EmitsTwo (emitted_both_times both n) (times_try T n)
+  pub times_two_done : (both : BothEmitter) (T : Continuation → Continuation) → Looks view stop T → EmitsTwo both T → (n : ℕ) → EmitsTwo (emitted_both_times both n) (times_try T n)
   unfolding emitted_both_times times_try
   times_two_done both T ok ih zero Open states go same moved before a_in b_in = record {
     next_go = go;
@@ -108,7 +108,7 @@ module _ (view : View) (stop : ℕ) where
   times_two_done both T ok ih (suc n) Open states go same moved before a_in b_in =
       seq_two_done both (emitted_both_times both n) T (times_try T n) ok (times_agree view stop T ok n) ih (times_two_done both T ok ih n) Open states go same moved before a_in b_in
 
-  pub upto_done : (one : Emitter) (T : Rest → Rest) → Looks view stop T → Emits one T → (greedy : Bool) (n : ℕ) → Emits (emitted_upto greedy one n) (upto_try view.longest greedy T n)
+  pub upto_done : (one : Emitter) (T : Continuation → Continuation) → Looks view stop T → Emits one T → (greedy : Bool) (n : ℕ) → Emits (emitted_upto greedy one n) (upto_try view.longest greedy T n)
   unfolding emitted_upto upto_try
   upto_done one T ok ih greedy zero Open states go next before inside = record {
     next_go = go;
@@ -143,7 +143,7 @@ module _ (view : View) (stop : ℕ) where
         means = λ i h. ap (λ f. f i) p.here;
       }
 
-  pub upto_two_done : (both : BothEmitter) (T : Rest → Rest) → Looks view stop T → EmitsTwo both T → (greedy : Bool) (n : ℕ) → EmitsTwo (emitted_both_upto greedy both n) (upto_try view.longest greedy T n)
+  pub upto_two_done : (both : BothEmitter) (T : Continuation → Continuation) → Looks view stop T → EmitsTwo both T → (greedy : Bool) (n : ℕ) → EmitsTwo (emitted_both_upto greedy both n) (upto_try view.longest greedy T n)
   unfolding emitted_both_upto upto_try
   upto_two_done both T ok ih greedy zero Open states go same moved before a_in b_in = record {
     next_go = go;
@@ -162,7 +162,7 @@ module _ (view : View) (stop : ℕ) where
       let body = both rest.0 rest.1 rest.2 in
       let one : State = loop_head greedy body.1 same in
       let two : State = loop_head greedy body.2 moved in
-      let U : Rest → Rest = upto_try view.longest greedy T n in
+      let U : Continuation → Continuation = upto_try view.longest greedy T n in
       let p = push_done view stop Open body.0 e.next_go one (λ i. upto_try view.longest greedy T (suc n) (pick i (go same) (go moved)) i) e.agree
       (inr (
         head_names greedy (length body.0) body.1 same e.same_in (omega (arith, d.longer, e.longer)),
@@ -196,7 +196,7 @@ module _ (view : View) (stop : ℕ) where
       }
 
   -- the head of a loop is filled in
-  filled : (Open : ℕ → Type 0) (made : List State) (go : ℕ → Rest) (head : ℕ) (state : State) → AgreeBut view stop (λ q. Open q ⊎ (q ≡ head)) made go
+  filled : (Open : ℕ → Type 0) (made : List State) (go : ℕ → Continuation) (head : ℕ) (state : State) → AgreeBut view stop (λ q. Open q ⊎ (q ≡ head)) made go
       → head < length made → NamesBelow (length made) state → ((i : ℕ) → i ≤ stop → go head i ≡ visit view stop go state i)
       → AgreeBut view stop Open (set made head state) go
   filled Open made go head state before inside names does q h =
@@ -209,16 +209,16 @@ module _ (view : View) (stop : ℕ) where
       (cases_eq q head)
 
   -- the head of a loop is left open
-  opened : (Open : ℕ → Type 0) (states : List State) (go : ℕ → Rest) (g : Rest) → AgreeBut view stop Open states go
+  opened : (Open : ℕ → Type 0) (states : List State) (go : ℕ → Continuation) (g : Continuation) → AgreeBut view stop Open states go
       → Pushed view stop (λ q. Open q ⊎ (q ≡ length states)) states go Match g
   opened Open states go g before =
       push_done view stop (λ q. Open q ⊎ (q ≡ length states)) states go Match g (λ q h. ⊎_elim (λ o. inl (inl o)) (λ x. inr x) (before q h)) (inl (inr refl))
 
-  pub star_done : (both : BothEmitter) (T : Rest → Rest) → Looks view stop T → EmitsTwo both T → (greedy : Bool) → Emits (emitted_star greedy both) (star_try view.longest stop greedy T)
+  pub star_done : (both : BothEmitter) (T : Continuation → Continuation) → Looks view stop T → EmitsTwo both T → (greedy : Bool) → Emits (emitted_star greedy both) (star_try view.longest stop greedy T)
   unfolding emitted_star
   star_done both T ok ih greedy Open states go next before inside =
       let head : ℕ = length states in
-      let g : Rest = star_try view.longest stop greedy T (go next) in
+      let g : Continuation = star_try view.longest stop greedy T (go next) in
       let hole = opened Open states go g before in
       let len = length-push states Match in
       let body = ih (λ q. Open q ⊎ (q ≡ head)) (push states Match) hole.next_go next head hole.agree (omega arith) (omega arith) in
@@ -246,7 +246,7 @@ module _ (view : View) (stop : ℕ) where
       }
 
   -- the first round of a loop, where nothing was moved yet
-  fresh_star : (greedy : Bool) (T : Rest → Rest) → Looks view stop T → (ks km : Rest) (i : ℕ) → i ≤ stop
+  fresh_star : (greedy : Bool) (T : Continuation → Continuation) → Looks view stop T → (ks km : Continuation) (i : ℕ) → i ≤ stop
       → star_try view.longest stop greedy T (pick i ks km) i ≡ prefer view.longest greedy (T (pick i ks (star_try view.longest stop greedy T km)) i) (ks i)
   fresh_star greedy T ok ks km i h =
       star_unfold view stop greedy T ok (pick i ks km) i h
@@ -256,7 +256,7 @@ module _ (view : View) (stop : ℕ) where
       (λ lt. sym (moved_on (star_try view.longest stop greedy T) (star_agree view stop greedy T ok) i j ks km lt k))))
       (pick_same i ks km i (omega arith))
 
-  pub star_two_done : (both : BothEmitter) (T : Rest → Rest) → Looks view stop T → EmitsTwo both T → (greedy : Bool) → EmitsTwo (emitted_both_star greedy both) (star_try view.longest stop greedy T)
+  pub star_two_done : (both : BothEmitter) (T : Continuation → Continuation) → Looks view stop T → EmitsTwo both T → (greedy : Bool) → EmitsTwo (emitted_both_star greedy both) (star_try view.longest stop greedy T)
   unfolding emitted_both_star
   star_two_done both T ok ih greedy Open states go same moved before a_in b_in =
       let d = star_done both T ok ih greedy Open states go moved before b_in in
@@ -264,8 +264,8 @@ module _ (view : View) (stop : ℕ) where
       let e = ih Open loop.0 d.next_go same loop.1 d.agree (omega (arith, d.longer)) d.entry in
       let first = both loop.0 same loop.1 in
       let state : State = loop_head greedy first.1 same in
-      let ks : Rest = go same in
-      let km : Rest = go moved in
+      let ks : Continuation = go same in
+      let km : Continuation = go moved in
       let p = push_done view stop Open first.0 e.next_go state (λ i. star_try view.longest stop greedy T (pick i ks km) i) e.agree
       (inr (
         head_names greedy (length first.0) first.1 same e.same_in (omega (arith, d.longer, e.longer)),
@@ -290,13 +290,13 @@ module _ (view : View) (stop : ℕ) where
       }
 
   -- of a loop over what always moves: its head, and the entry of its body
-  pub plus_done : (one : Emitter) (T : Rest → Rest) → Looks view stop T → Moves view stop T → Emits one T → (greedy : Bool)
-      → (Open : ℕ → Type 0) (states : List State) (go : ℕ → Rest) (next : ℕ) → AgreeBut view stop Open states go → next < length states
+  pub plus_done : (one : Emitter) (T : Continuation → Continuation) → Looks view stop T → Moves view stop T → Emits one T → (greedy : Bool)
+      → (Open : ℕ → Type 0) (states : List State) (go : ℕ → Continuation) (next : ℕ) → AgreeBut view stop Open states go → next < length states
       → DoneBoth view stop Open states go (emitted_plus greedy one states next) (star_try view.longest stop greedy T (go next)) (T (star_try view.longest stop greedy T (go next)))
   unfolding emitted_plus
   plus_done one T ok moves ih greedy Open states go next before inside =
       let head : ℕ = length states in
-      let g : Rest = star_try view.longest stop greedy T (go next) in
+      let g : Continuation = star_try view.longest stop greedy T (go next) in
       let hole = opened Open states go g before in
       let len = length-push states Match in
       let body = ih (λ q. Open q ⊎ (q ≡ head)) (push states Match) hole.next_go head hole.agree (omega arith) in
@@ -324,12 +324,12 @@ module _ (view : View) (stop : ℕ) where
       }
 
   -- one round more in front of n is one round more behind them
-  times_turn : (T : Rest → Rest) (n : ℕ) (k : Rest) → times_try T n (T k) ≡ times_try T (suc n) k
+  times_turn : (T : Continuation → Continuation) (n : ℕ) (k : Continuation) → times_try T n (T k) ≡ times_try T (suc n) k
   unfolding times_try
   times_turn T zero k = refl
   times_turn T (suc n) k = ap (λ r. T r) (times_turn T n k)
 
-  pub many_done : (one : Emitter) (T : Rest → Rest) → Looks view stop T → Moves view stop T → Emits one T → (greedy : Bool) (lo : ℕ)
+  pub many_done : (one : Emitter) (T : Continuation → Continuation) → Looks view stop T → Moves view stop T → Emits one T → (greedy : Bool) (lo : ℕ)
       → Emits (emitted_many lo greedy one) (λ k. times_try T lo (star_try view.longest stop greedy T k))
   unfolding emitted_many times_try
   many_done one T ok moves ih greedy zero Open states go next before inside =
@@ -339,7 +339,7 @@ module _ (view : View) (stop : ℕ) where
       let d = plus_done one T ok moves ih greedy Open states go next before inside in
       let loop = emitted_plus greedy one states next in
       let e = times_done one T ok ih n Open loop.0 d.next_go loop.2 d.agree d.moved_in in
-      let g : Rest = star_try view.longest stop greedy T (go next) in
+      let g : Continuation = star_try view.longest stop greedy T (go next) in
       record {
         next_go = e.next_go;
         kept = λ q h. e.kept q (omega (arith, d.longer)) ∙ d.kept q h;
@@ -350,8 +350,8 @@ module _ (view : View) (stop : ℕ) where
       }
 
   -- of a loop over what always moves, at two places: its head, and the entries of its body
-  record DonePlus (Open : ℕ → Type 0) (states : List State) (go : ℕ → Rest) (made : List State × ℕ × ℕ × ℕ) (head same moved : Rest) : Type 0 where
-    pub next_go : ℕ → Rest
+  record DonePlus (Open : ℕ → Type 0) (states : List State) (go : ℕ → Continuation) (made : List State × ℕ × ℕ × ℕ) (head same moved : Continuation) : Type 0 where
+    pub next_go : ℕ → Continuation
     pub kept : (q : ℕ) → q < length states → next_go q ≡ go q
     pub longer : length states ≤ length made.0
     pub agree : AgreeBut view stop Open made.0 next_go
@@ -362,15 +362,15 @@ module _ (view : View) (stop : ℕ) where
     pub same_means : (i : ℕ) → i ≤ stop → next_go made.2 i ≡ same i
     pub moved_means : (i : ℕ) → i ≤ stop → next_go made.3 i ≡ moved i
 
-  plus_two_done : (both : BothEmitter) (T : Rest → Rest) → Looks view stop T → Moves view stop T → EmitsTwo both T → (greedy : Bool)
-      → (Open : ℕ → Type 0) (states : List State) (go : ℕ → Rest) (same moved : ℕ) → AgreeBut view stop Open states go
+  plus_two_done : (both : BothEmitter) (T : Continuation → Continuation) → Looks view stop T → Moves view stop T → EmitsTwo both T → (greedy : Bool)
+      → (Open : ℕ → Type 0) (states : List State) (go : ℕ → Continuation) (same moved : ℕ) → AgreeBut view stop Open states go
       → same < length states → moved < length states
       → DonePlus Open states go (emitted_both_plus greedy both states same moved) (star_try view.longest stop greedy T (go moved))
       (λ i. T (pick i (go same) (star_try view.longest stop greedy T (go moved))) i) (T (star_try view.longest stop greedy T (go moved)))
   unfolding emitted_both_plus
   plus_two_done both T ok moves ih greedy Open states go same moved before a_in b_in =
       let head : ℕ = length states in
-      let g : Rest = star_try view.longest stop greedy T (go moved) in
+      let g : Continuation = star_try view.longest stop greedy T (go moved) in
       let hole = opened Open states go g before in
       let len = length-push states Match in
       let body = ih (λ q. Open q ⊎ (q ≡ head)) (push states Match) hole.next_go same head hole.agree (omega arith) (omega arith) in
@@ -399,15 +399,15 @@ module _ (view : View) (stop : ℕ) where
         moved_means = round;
       }
 
-  pub many_two_done : (both : BothEmitter) (T : Rest → Rest) → Looks view stop T → Moves view stop T → EmitsTwo both T → (greedy : Bool) (lo : ℕ)
+  pub many_two_done : (both : BothEmitter) (T : Continuation → Continuation) → Looks view stop T → Moves view stop T → EmitsTwo both T → (greedy : Bool) (lo : ℕ)
       → EmitsTwo (emitted_both_many lo greedy both) (λ k. times_try T lo (star_try view.longest stop greedy T k))
   unfolding emitted_both_many times_try
   many_two_done both T ok moves ih greedy zero Open states go same moved before a_in b_in =
       let d = plus_two_done both T ok moves ih greedy Open states go same moved before a_in b_in in
       let loop = emitted_both_plus greedy both states same moved in
       let state : State = loop_head greedy loop.2 same in
-      let ks : Rest = go same in
-      let km : Rest = go moved in
+      let ks : Continuation = go same in
+      let km : Continuation = go moved in
       let p = push_done view stop Open loop.0 d.next_go state (λ i. star_try view.longest stop greedy T (pick i ks km) i) d.agree
       (inr (
         head_names greedy (length loop.0) loop.2 same d.same_in (omega (arith, d.longer)),
@@ -431,9 +431,9 @@ module _ (view : View) (stop : ℕ) where
       let d = plus_two_done both T ok moves ih greedy Open states go same moved before a_in b_in in
       let loop = emitted_both_plus greedy both states same moved in
       let e = times_two_done both T ok ih n Open loop.0 d.next_go loop.2 loop.3 d.agree d.same_in d.moved_in in
-      let ks : Rest = go same in
-      let km : Rest = go moved in
-      let S : Rest → Rest = star_try view.longest stop greedy T in
+      let ks : Continuation = go same in
+      let km : Continuation = go moved in
+      let S : Continuation → Continuation = star_try view.longest stop greedy T in
       let sok = star_agree view stop greedy T ok in
       record {
         next_go = e.next_go;
@@ -457,7 +457,7 @@ module _ (view : View) (stop : ℕ) where
         moved_means = λ i h. e.moved_means i h ∙ times_agree view stop T ok n _ _ i h (λ j _ c. d.moved_means j c) ∙ ap (λ f. f i) (times_turn T n (S km));
       }
 
-  pub repeat_done : (one : Emitter) (both : BothEmitter) (T : Rest → Rest) → Looks view stop T → Emits one T → EmitsTwo both T
+  pub repeat_done : (one : Emitter) (both : BothEmitter) (T : Continuation → Continuation) → Looks view stop T → Emits one T → EmitsTwo both T
       → (unbounded strict : Bool) → (strict ≡ true → Moves view stop T) → (lo hi : ℕ) (greedy : Bool)
       → Emits (emitted_repeat unbounded strict lo hi greedy one both) (λ k. times_try T lo (tail_try view.longest unbounded stop greedy T (hi - lo) k))
   unfolding emitted_repeat tail_try
@@ -470,7 +470,7 @@ module _ (view : View) (stop : ℕ) where
       seq_done (emitted_times one lo) (emitted_upto greedy one (hi - lo)) (times_try T lo) (upto_try view.longest greedy T (hi - lo)) (times_agree view stop T ok lo)
       (times_done one T ok a lo) (upto_done one T ok a greedy (hi - lo)) Open states go next before inside
 
-  pub repeat_two_done : (both : BothEmitter) (T : Rest → Rest) → Looks view stop T → EmitsTwo both T
+  pub repeat_two_done : (both : BothEmitter) (T : Continuation → Continuation) → Looks view stop T → EmitsTwo both T
       → (unbounded strict : Bool) → (strict ≡ true → Moves view stop T) → (lo hi : ℕ) (greedy : Bool)
       → EmitsTwo (emitted_both_repeat unbounded strict lo hi greedy both) (λ k. times_try T lo (tail_try view.longest unbounded stop greedy T (hi - lo) k))
   unfolding emitted_both_repeat tail_try

@@ -7,7 +7,7 @@ use Rattle.fancy_regex_runner.specs.Program.{push, emitted, emitted_both, with_b
 use Rattle.fancy_regex_runner.specs.declared.state.State.{State}
 use Rattle.fancy_regex_runner.specs.declared.state.State.TheVariants.{Split}
 
--- the last part of a row comes first
+-- the last child of a concatenation comes first
 pub last_first : (xs : List Re) (x : Re) (states : List State) (next : ℕ)
     → emitted (cats (xs ++ x ∷ [])) states next ≡ emitted (cats xs) (emitted x states next).0 (emitted x states next).1
 unfolding emitted

@@ -11,13 +11,13 @@ use Rattle.fancy_regex_info.specs.declared.error.CompileError.{CompileError}
 use Rattle.fancy_regex_info.specs.declared.error.CompileError.TheVariants.{InnerError, Memory}
 use Rattle.fancy_regex_info.specs.Analysis.{analysis}
 use Rattle.fancy_regex_info.specs.Easy.{is_easy, all_easy, is_easy_assertion}
-use Rattle.fancy_regex_info.specs.Infos.{Facts, InfoTree, known, facts_in, facts, described, described_row, info_layer, info_of}
+use Rattle.fancy_regex_info.specs.Infos.{NodeProperties, InfoTree, known, properties_in, properties, expected_info, expected_infos, info_layer, info_of}
 use Rattle.fancy_regex_info.specs.declared.info.Info.{Info, out-Info}
 use Rattle.fancy_regex_info.specs.declared.info.Info.TheFolds.{fold_out-Info}
 use Rattle.fancy_regex_info.specs.References.{is_read}
 use Rattle.fancy_regex_info.specs.Views.{pattern_in}
 use Rattle.fancy_regex_runner.specs.Plain.{IsPlain, ArePlain, IsServed, test_of, classes}
-use Rattle.fancy_regex_runner.specs.Refused.{greatest_weight, IsRead, IsClassCause, IsCause}
+use Rattle.fancy_regex_runner.specs.Refusals.{greatest_weight, IsRead, IsClassCause, IsCause}
 
 served : (a : Assertion) → is_easy_assertion a ≡ true → IsServed (test_of a)
 served A.StartText e = tt
@@ -63,22 +63,22 @@ abbrev pub tree_in : InfoTree → Tree
 tree_in (known f t xs) = t
 
 -- what the code holds
-pub hard_is : (i : Info) → (facts_in (info_of i)).hard ≡ (out-Info i).hard
-hard_is i = ap (λ x. (facts_in x).hard) (fold_out-Info InfoTree info_layer i)
+pub hard_is : (i : Info) → (properties_in (info_of i)).hard ≡ (out-Info i).hard
+hard_is i = ap (λ x. (properties_in x).hard) (fold_out-Info InfoTree info_layer i)
 
-pub weight_is : (i : Info) → (facts_in (info_of i)).weight ≡ (out-Info i).weight
-weight_is i = ap (λ x. (facts_in x).weight) (fold_out-Info InfoTree info_layer i)
+pub weight_is : (i : Info) → (properties_in (info_of i)).weight ≡ (out-Info i).weight
+weight_is i = ap (λ x. (properties_in x).weight) (fold_out-Info InfoTree info_layer i)
 
 pub tree_is : (i : Info) → tree_in (info_of i) ≡ tree_of (out-Info i).expr.now
 tree_is i = ap tree_in (fold_out-Info InfoTree info_layer i)
 
--- what is known of a tree is of this tree, and its facts are these
-pub record IsRoot (x : InfoTree) (f : Facts) (t : Tree) : Type 0 where
-  pub facts_are : facts_in x ≡ f
+-- what is known of a tree is of this tree, and its properties are these
+pub record IsRoot (x : InfoTree) (f : NodeProperties) (t : Tree) : Type 0 where
+  pub facts_are : properties_in x ≡ f
   pub tree_is : tree_in x ≡ t
 
-root : (groups : List Tree) (reads : ℕ → Bool) (n : ℕ) (t : Tree) → IsRoot (described groups reads n t) (facts groups reads n t) t
-unfolding described described_row
+root : (groups : List Tree) (reads : ℕ → Bool) (n : ℕ) (t : Tree) → IsRoot (expected_info groups reads n t) (properties groups reads n t) t
+unfolding expected_info expected_infos
 root groups reads n (concat ts) = record { facts_are = refl; tree_is = refl }
 root groups reads n (alt ts) = record { facts_are = refl; tree_is = refl }
 root groups reads n (group t) = record { facts_are = refl; tree_is = refl }
@@ -116,11 +116,11 @@ not_false false e = absurd (true≢false e)
 
 -- of the analysis of a tree
 pub root_is : (x : InfoTree) (explicit : Bool) (t : Tree) → x ≡ analysis explicit t
-    → IsRoot x (facts (pattern_in explicit t).groups (is_read (length (pattern_in explicit t).groups) t) (pattern_in explicit t).first_group t) t
+    → IsRoot x (properties (pattern_in explicit t).groups (is_read (length (pattern_in explicit t).groups) t) (pattern_in explicit t).first_group t) t
 root_is x explicit t is = rw is (root (pattern_in explicit t).groups (is_read (length (pattern_in explicit t).groups) t) (pattern_in explicit t).first_group t)
 
 -- its root is plain if it is not hard
-pub root_plain : (x : InfoTree) (explicit : Bool) (t : Tree) → x ≡ analysis explicit t → (facts_in x).hard ≡ false → IsPlain t
+pub root_plain : (x : InfoTree) (explicit : Bool) (t : Tree) → x ≡ analysis explicit t → (properties_in x).hard ≡ false → IsPlain t
 root_plain x explicit t is easy =
     let p = pattern_in explicit t in
     let reads : ℕ → Bool = is_read (length p.groups) t in
@@ -135,7 +135,7 @@ explicit_is false t = refl
 -- What the analysis of this tree says to the code.
 pub record IsOf (i : Info) (explicit : Bool) (t : Tree) : Type 0 where
   pub tree : tree_of (out-Info i).expr.now ≡ t
-  pub start : ((facts_in (info_of i)).start == 0) ≡ explicit
+  pub start : ((properties_in (info_of i)).start == 0) ≡ explicit
   pub weight : (out-Info i).weight ≡ min unbounded (weight (pattern_in explicit t).groups t)
 
 pub info_is_of : (i : Info) (explicit : Bool) (t : Tree) → info_of i ≡ analysis explicit t → IsOf i explicit t

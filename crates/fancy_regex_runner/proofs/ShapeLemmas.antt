@@ -6,7 +6,7 @@ use Rattle.fancy_regex_tree.specs.declared.expr.Expr.TheVariants as expr
 use Rattle.fancy_regex_tree.specs.declared.expr.Absent.TheOpen.{Expr-F}
 use Rattle.fancy_regex_tree.specs.declared.expr.Absent.TheFolds.{fold-roll-Expr}
 use Rattle.fancy_regex_runner.specs.Re.{Re, repeat, cats, alts, node_shape, shape, shapes}
-use Rattle.fancy_regex_runner.specs.Made.{all_trees}
+use Rattle.fancy_regex_runner.specs.Translation.{all_trees}
 use Rattle.fancy_regex_runner.specs.declared.node.Node.{Node, Node-F, fold-roll-Node}
 use Rattle.fancy_regex_runner.specs.declared.node.Node.TheVariants as node
 

@@ -11,9 +11,9 @@ use Rattle.std.proofs.lemmas.Str.{IsUtf8-drop, len_utf8_bounds}
 use Rattle.regex_hir.specs.Text.{char_at, is_boundary}
 use Rattle.regex_hir.proofs.TextLemmas.{char_at_from}
 use Rattle.regex_hir.proofs.Utf8Lemmas.{char_at_cases, IsOneByteAt, IsTwoBytesAt, IsThreeBytesAt, IsFourBytesAt}
-use Rattle.fancy_regex_meaning.specs.Places.{numbers_from, boundaries}
+use Rattle.fancy_regex_meaning.specs.Positions.{numbers_from, boundaries}
 use Rattle.fancy_regex_runner.specs.Meaning.{Spot}
-use Rattle.fancy_regex_runner.specs.Find.{earliest, tried, places}
+use Rattle.fancy_regex_runner.specs.Find.{earliest, attempted, places}
 
 pub test_of_IsCharBoundary : (text : List ℕ) (i : ℕ) → IsCharBoundary text i → is_boundary text i ≡ true
 unfolding is_boundary
@@ -135,33 +135,33 @@ pub earliest_none : (f : ℕ → Option Spot) → earliest f [] ≡ None
 unfolding earliest
 earliest_none f = refl
 
-pub tried_next : {A : Type 0} (f : ℕ → Option A) (p : ℕ) (ps : List ℕ) → f p ≡ None → tried f (p ∷ ps) ≡ 1 + tried f ps
-unfolding tried
-tried_next f p ps e = rw (e, tried)
+pub tried_next : {A : Type 0} (f : ℕ → Option A) (p : ℕ) (ps : List ℕ) → f p ≡ None → attempted f (p ∷ ps) ≡ 1 + attempted f ps
+unfolding attempted
+tried_next f p ps e = rw (e, attempted)
 
-pub tried_here : {A : Type 0} (f : ℕ → Option A) (p : ℕ) (ps : List ℕ) (w : A) → f p ≡ Some w → tried f (p ∷ ps) ≡ 1
-unfolding tried
-tried_here f p ps w e = rw (e, tried)
+pub tried_here : {A : Type 0} (f : ℕ → Option A) (p : ℕ) (ps : List ℕ) (w : A) → f p ≡ Some w → attempted f (p ∷ ps) ≡ 1
+unfolding attempted
+tried_here f p ps w e = rw (e, attempted)
 
-pub tried_none : {A : Type 0} (f : ℕ → Option A) → tried f [] ≡ 0
-unfolding tried
+pub tried_none : {A : Type 0} (f : ℕ → Option A) → attempted f [] ≡ 0
+unfolding attempted
 tried_none f = refl
 
 -- the place has a way
 pub found_here : (f : ℕ → Option Spot) (text : List ℕ) (anchored : Bool) (from stop : ℕ) (w : Spot) → IsCharBoundary text from → from ≤ stop → f from ≡ Some w
-    → (earliest f (places text anchored from stop) ≡ Some (record { start = from; way = w })) × (tried f (places text anchored from stop) ≡ 1)
+    → (earliest f (places text anchored from stop) ≡ Some (record { start = from; way = w })) × (attempted f (places text anchored from stop) ≡ 1)
 found_here f text true from stop w b le e = (earliest_here f from [] w e, tried_here f from [] w e)
 found_here f text false from stop w b le e =
     let split = from_here text from stop b le in
-    (ap (earliest f) split ∙ earliest_here f from _ w e, ap (tried f) split ∙ tried_here f from _ w e)
+    (ap (earliest f) split ∙ earliest_here f from _ w e, ap (attempted f) split ∙ tried_here f from _ w e)
 
 -- the place has none, and more come
 pub failed_next : (f : ℕ → Option Spot) (from : ℕ) (ps qs : List ℕ) → ps ≡ from ∷ qs → f from ≡ None
-    → (earliest f ps ≡ earliest f qs) × (tried f ps ≡ 1 + tried f qs)
-failed_next f from ps qs split e = (ap (earliest f) split ∙ earliest_next f from qs e, ap (tried f) split ∙ tried_next f from qs e)
+    → (earliest f ps ≡ earliest f qs) × (attempted f ps ≡ 1 + attempted f qs)
+failed_next f from ps qs split e = (ap (earliest f) split ∙ earliest_next f from qs e, ap (attempted f) split ∙ tried_next f from qs e)
 
 -- the place has none, and no more come
-pub failed_last : (f : ℕ → Option Spot) (from : ℕ) (ps : List ℕ) → ps ≡ from ∷ [] → f from ≡ None → (earliest f ps ≡ None) × (tried f ps ≡ 1)
+pub failed_last : (f : ℕ → Option Spot) (from : ℕ) (ps : List ℕ) → ps ≡ from ∷ [] → f from ≡ None → (earliest f ps ≡ None) × (attempted f ps ≡ 1)
 failed_last f from ps split e =
     let next = failed_next f from ps [] split e in
     let none = tried_none f in

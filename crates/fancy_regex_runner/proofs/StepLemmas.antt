@@ -7,9 +7,9 @@ use Rattle.std.specs.Bool.{MatchBool}
 use Rattle.std.specs.Char.{len_utf8}
 use Rattle.std.specs.Prelude.{IfSome, IsCharBoundary}
 use Rattle.fancy_regex_runner.specs.Meaning.{Spot, View, reads}
-use Rattle.fancy_regex_runner.specs.Attempt.{Rest, save, guard}
+use Rattle.fancy_regex_runner.specs.Attempt.{Continuation, save, guard}
 use Rattle.fancy_regex_runner.specs.Visited.{Adds}
-use Rattle.fancy_regex_runner.specs.Sight.{takes_char, Shows, read_next}
+use Rattle.fancy_regex_runner.specs.CharTests.{leaf_matches_char, Shows, read_next}
 use Rattle.fancy_regex_runner.specs.Search.{Dfs, After, NextWithin}
 use Rattle.fancy_regex_runner.specs.declared.node.Leaf.{Leaf}
 use Rattle.fancy_regex_class.specs.declared.class.CharClassMatcher.{CharClassMatcher}
@@ -38,7 +38,7 @@ past_stop width at stop next p e far =
     ]
 
 pub read_tracked : (view : View) (matchers : List CharClassMatcher) (rules : Rules) (stop : ℕ) (leaf : Leaf) (next at id : ℕ) (before after : Option ℕ)
-    (go : ℕ → Rest) (goal best : Option Spot) (bottom : List ℕ) (Seen Marked : ℕ → ℕ → Type 0) (frames : List Frame) (slots : List ℕ)
+    (go : ℕ → Continuation) (goal best : Option Spot) (bottom : List ℕ) (Seen Marked : ℕ → ℕ → Type 0) (frames : List Frame) (slots : List ℕ)
     → at ≤ stop → Shows matchers rules view at before after
     → go id at ≡ guard (reads view stop leaf at) (go next (view.next at)) → Adds Seen Marked id at
     → Dfs view.longest go goal best bottom Seen (Explore id at ∷ frames) slots
@@ -51,7 +51,7 @@ read_tracked view matchers rules stop leaf next at id before (Some c) go goal be
     let some : 1 ≤ width = (len_utf8_bounds c).0 in
     let behind : view.next at ≡ at + width = shows.next in
     let lower : at < view.next at = omega arith in
-    next_if (λ n. After view.longest go n at goal best bottom Marked frames slots) (takes_char rules.unicode matchers leaf c && nat_le width (stop - at)) (Pair next (at + width))
+    next_if (λ n. After view.longest go n at goal best bottom Marked frames slots) (leaf_matches_char rules.unicode matchers leaf c && nat_le width (stop - at)) (Pair next (at + width))
     (λ yes.
     let both = and_parts _ _ yes in
     let fits : width ≤ stop - at = leb-true width (stop - at) both.1 in
@@ -64,7 +64,7 @@ read_tracked view matchers rules stop leaf next at id before (Some c) go goal be
     Dfs-dead view.longest d adds (guard_no _ _ _ e (and_none (view.has leaf at) _ (nat_le width (stop - at)) (ap (λ b. b && nat_le width (stop - at)) (shows.has leaf) ∙ no)
     (λ yes far. and_right _ _ (let past : stop < view.next at = past_stop width at stop (view.next at) p behind far in lt-leb (view.next at) stop past)))))
 
-pub write_tracked : (longest : Bool) (go : ℕ → Rest) (goal best : Option Spot) (bottom : List ℕ) (Seen Marked : ℕ → ℕ → Type 0)
+pub write_tracked : (longest : Bool) (go : ℕ → Continuation) (goal best : Option Spot) (bottom : List ℕ) (Seen Marked : ℕ → ℕ → Type 0)
     (q i next slot real : ℕ) (frames new_frames : List Frame) (slots new_slots : List ℕ) (kept : Bool)
     → slot ≡ min real (2 ^ 64 - 1) → length slots ≤ 2 ^ 64 - 1
     → MatchBool kept (slot < length slots) (length slots ≤ slot)
@@ -83,9 +83,9 @@ pub read_within : (unicode : Bool) (text : List ℕ) (count stop base next at : 
     → IfSome after (λ c. IsCharBoundary text (at + len_utf8 c)) → NextWithin text count stop base (read_next unicode matchers stop leaf next at after)
 read_within unicode text count stop base next at matchers leaf None n low p h = tt
 read_within unicode text count stop base next at matchers leaf (Some c) n low p h =
-    next_if (NextWithin text count stop base) (takes_char unicode matchers leaf c && nat_le (len_utf8 c) (stop - at)) (Pair next (at + len_utf8 c))
+    next_if (NextWithin text count stop base) (leaf_matches_char unicode matchers leaf c && nat_le (len_utf8 c) (stop - at)) (Pair next (at + len_utf8 c))
     (λ yes.
-    let fits : len_utf8 c ≤ stop - at = leb-true (len_utf8 c) (stop - at) (and_parts (takes_char unicode matchers leaf c) (nat_le (len_utf8 c) (stop - at)) yes).1 in
+    let fits : len_utf8 c ≤ stop - at = leb-true (len_utf8 c) (stop - at) (and_parts (leaf_matches_char unicode matchers leaf c) (nat_le (len_utf8 c) (stop - at)) yes).1 in
     let low_end : base ≤ at + len_utf8 c = omega arith in
     let high_end : at + len_utf8 c ≤ stop = omega arith in
     record { state = n; low = low_end; high = high_end; boundary = h })

@@ -2,7 +2,7 @@
 use Rattle.std.proofs.Common.{◌≡◌, ℕ, ◌+◌, ◌*◌, ◌<◌, List, length, refl, sym, ap, ap₂, ◌∙◌, inr, ⊎_elim, arith}
 use Rattle.std.proofs.lemmas.Bool.{cases_lt}
 use Rattle.fancy_regex_runner.specs.Meaning.{View, is_unbounded}
-use Rattle.fancy_regex_runner.specs.Attempt.{Res, Rest, guard, either, save, pick, attempt}
+use Rattle.fancy_regex_runner.specs.Attempt.{AttemptResult, Continuation, guard, either, save, pick, attempt}
 use Rattle.fancy_regex_runner.specs.Program.{IsSound, push, emitted, emitted_both, emitted_both_group, AgreeBut}
 use Rattle.fancy_regex_runner.specs.Re.{Re, nothing, read, test, cat, alt, group, repeat}
 use Rattle.fancy_regex_runner.specs.declared.state.State.{State}
@@ -14,7 +14,7 @@ use Rattle.fancy_regex_runner.proofs.RepeatLemmas.{Emits, EmitsTwo, seq_done, se
 
 module _ (view : View) (stop : ℕ) where
   -- a tree from i, where nothing was moved yet
-  abbrev pub fresh : Re → Rest → Rest → Rest
+  abbrev pub fresh : Re → Continuation → Continuation → Continuation
   fresh t same moved i = attempt view stop t (pick i same moved) i
 
   abbrev EmitsBoth : Re → Type 1
@@ -87,7 +87,7 @@ module _ (view : View) (stop : ℕ) where
       (is_unbounded hi) strict (λ e. attempt_moves view stop a (sound.0 e)) lo hi greedy Open states go next before inside
 
   -- what follows is applied on both sides of a pick
-  pick_map : (f : ℕ → Res → Res) (i : ℕ) (same moved same2 moved2 : Rest) (j : ℕ) → same2 j ≡ f j (same j) → moved2 j ≡ f j (moved j)
+  pick_map : (f : ℕ → AttemptResult → AttemptResult) (i : ℕ) (same moved same2 moved2 : Continuation) (j : ℕ) → same2 j ≡ f j (same j) → moved2 j ≡ f j (moved j)
       → pick i same2 moved2 j ≡ f j (pick i same moved j)
   pick_map f i same moved same2 moved2 j e m =
       ⊎_elim
@@ -224,7 +224,7 @@ module _ (view : View) (stop : ℕ) where
       (is_unbounded hi) strict (λ e. attempt_moves view stop a (sound.0 e)) lo hi greedy Open states go same moved before a_in b_in
 
   -- the states of a tree, with nothing open
-  pub emit_means : (t : Re) → IsSound t → (states : List State) (go : ℕ → Rest) (next : ℕ)
+  pub emit_means : (t : Re) → IsSound t → (states : List State) (go : ℕ → Continuation) (next : ℕ)
       → AgreeBut view stop (λ _. ⊥) states go → next < length states
       → Done view stop (λ _. ⊥) states go (emitted t states next) (attempt view stop t (go next))
   emit_means t sound states go next before inside = emit_done emit_both_done t sound (λ _. ⊥) states go next before inside

@@ -3,7 +3,7 @@ use Rattle.std.proofs.Common.{◌≡◌, ℕ, zero, suc, ◌+◌, ◌*◌, ◌-�
 use Rattle.std.proofs.lemmas.Bool.{cases_lt}
 use Rattle.fancy_regex_runner.specs.Meaning.{Spot, View, each, in_order, after_round, loop_ways, times_ways, upto_ways, tail_ways, is_unbounded, reads, ways}
 use Rattle.fancy_regex_runner.specs.Attempt.{apply, land}
-use Rattle.fancy_regex_runner.specs.Attempt.{Trace, Res, Rest, score, better, better_trace, better_spot, failed, guard, write, save, prefer, pick, rounds, times_try, upto_try, tail_try, attempt}
+use Rattle.fancy_regex_runner.specs.Attempt.{Trace, AttemptResult, Continuation, score, better, better_trace, better_spot, failed, guard, write, save, prefer, pick, rounds, times_try, upto_try, tail_try, attempt}
 use Rattle.fancy_regex_runner.specs.Re.{Re, nothing, read, test, cat, alt, group, repeat}
 use Rattle.fancy_regex_runner.proofs.AgreeLemmas.{pick_same, pick_moved}
 
@@ -63,7 +63,7 @@ land_write slots slot i None = refl
 land_write slots slot i (Some t) = refl
 
 -- where the rest goes from a way
-abbrev pub onward : Rest → Spot → Option Spot
+abbrev pub onward : Continuation → Spot → Option Spot
 onward k w = land w.slots (k w.at).answer
 
 module _ (longest : Bool) where
@@ -96,17 +96,17 @@ module _ (longest : Bool) where
   unfolding best_from
   first_one f w = better-None (λ s. score longest s.at) (f w)
 
-  first_guard : (f : Spot → Option Spot) (b : Bool) (w : Spot) (slots : List ℕ) (r : Res) → f w ≡ land slots r.answer
+  first_guard : (f : Spot → Option Spot) (b : Bool) (w : Spot) (slots : List ℕ) (r : AttemptResult) → f w ≡ land slots r.answer
       → land slots (guard b r).answer ≡ best_from f (if b then w ∷ [] else [])
   unfolding best_from land
   first_guard f true w slots r h = sym (better-None (λ s. score longest s.at) (f w) ∙ h)
   first_guard f false w slots r h = refl
 
   -- a try finds the first of these ways from which the rest goes on
-  abbrev pub Lists : (Rest → Rest) → (Spot → List Spot) → Type 0
-  Lists body list = (k : Rest) (s : Spot) → land s.slots (body k s.at).answer ≡ best_from (onward k) (list s)
+  abbrev pub Lists : (Continuation → Continuation) → (Spot → List Spot) → Type 0
+  Lists body list = (k : Continuation) (s : Spot) → land s.slots (body k s.at).answer ≡ best_from (onward k) (list s)
 
-  one_round : (again : Rest) (list : Spot → List Spot) (k : Rest) (s : Spot) → ((w : Spot) → land w.slots (again w.at).answer ≡ best_from (onward k) (list w))
+  one_round : (again : Continuation) (list : Spot → List Spot) (k : Continuation) (s : Spot) → ((w : Spot) → land w.slots (again w.at).answer ≡ best_from (onward k) (list w))
       → (w : Spot) → onward (pick s.at k again) w ≡ best_from (onward k) (after_round list s w)
   unfolding after_round
   one_round again list k s ih w =
@@ -117,13 +117,13 @@ module _ (longest : Bool) where
       ap (λ r. land w.slots r.answer) (pick_same s.at k again w.at ge) ∙ (rw (le-ltb s.at w.at ge) (sym (first_one (onward k) w))))
       (cases_lt s.at w.at)
 
-  rounds_order : (g : Bool) (x y : Res) (slots : List ℕ) (f : Spot → Option Spot) (us ws : List Spot)
+  rounds_order : (g : Bool) (x y : AttemptResult) (slots : List ℕ) (f : Spot → Option Spot) (us ws : List Spot)
       → land slots x.answer ≡ best_from f us → land slots y.answer ≡ best_from f ws
       → land slots (prefer longest g x y).answer ≡ best_from f (in_order g us ws)
   rounds_order true x y slots f us ws a b = land_better longest slots x.answer y.answer ∙ ap₂ (better_spot longest) a b ∙ sym (first_append f us ws)
   rounds_order false x y slots f us ws a b = land_better longest slots y.answer x.answer ∙ ap₂ (better_spot longest) b a ∙ sym (first_append f ws us)
 
-  rounds_list : (g : Bool) (body : Rest → Rest) (list : Spot → List Spot) → Lists body list → (n : ℕ) → Lists (λ k. rounds longest g body k n) (loop_ways g list n)
+  rounds_list : (g : Bool) (body : Continuation → Continuation) (list : Spot → List Spot) → Lists body list → (n : ℕ) → Lists (λ k. rounds longest g body k n) (loop_ways g list n)
   unfolding rounds loop_ways best_from land
   rounds_list g body list ih zero k s =
       rounds_order g _ _ s.slots (onward k) _ _
@@ -138,7 +138,7 @@ module _ (longest : Bool) where
       ∙ sym (first_each (onward k) (after_round (loop_ways g list n) s) (list s)))
       (sym (first_one (onward k) s))
 
-  times_list : (body : Rest → Rest) (list : Spot → List Spot) → Lists body list → (last : Rest → Rest) (rest : Spot → List Spot) → Lists last rest
+  times_list : (body : Continuation → Continuation) (list : Spot → List Spot) → Lists body list → (last : Continuation → Continuation) (rest : Spot → List Spot) → Lists last rest
       → (n : ℕ) → Lists (λ k. times_try body n (last k)) (times_ways list n rest)
   unfolding times_try times_ways
   times_list body list ih last rest tail zero k s = tail k s
@@ -147,7 +147,7 @@ module _ (longest : Bool) where
       ∙ first_cong _ _ (list s) (λ w. times_list body list ih last rest tail n k w)
       ∙ sym (first_each (onward k) (times_ways list n rest) (list s))
 
-  upto_list : (g : Bool) (body : Rest → Rest) (list : Spot → List Spot) → Lists body list → (n : ℕ) → Lists (upto_try longest g body n) (upto_ways g list n)
+  upto_list : (g : Bool) (body : Continuation → Continuation) (list : Spot → List Spot) → Lists body list → (n : ℕ) → Lists (upto_try longest g body n) (upto_ways g list n)
   unfolding upto_try upto_ways
   upto_list g body list ih zero k s = sym (first_one (onward k) s)
   upto_list g body list ih (suc n) k s =
@@ -157,7 +157,7 @@ module _ (longest : Bool) where
       ∙ sym (first_each (onward k) (upto_ways g list n) (list s)))
       (sym (first_one (onward k) s))
 
-  tail_list : (u : Bool) (stop : ℕ) (g : Bool) (body : Rest → Rest) (list : Spot → List Spot) → Lists body list → (n : ℕ)
+  tail_list : (u : Bool) (stop : ℕ) (g : Bool) (body : Continuation → Continuation) (list : Spot → List Spot) → Lists body list → (n : ℕ)
       → Lists (tail_try longest u stop g body n) (tail_ways u stop g list n)
   unfolding tail_try tail_ways
   tail_list true stop g body list ih n k s = rounds_list g body list ih (stop - s.at) k s

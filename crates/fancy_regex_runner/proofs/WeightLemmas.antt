@@ -10,7 +10,7 @@ use Rattle.fancy_regex_runner.specs.declared.state.State.TheVariants as S
 pushes : (states : List State) (s : State) → length (push states s) ≡ length states + 1
 pushes states s = length-append states (s ∷ [])
 
--- a part adds at most w states
+-- a node adds at most w states
 abbrev pub Weighs : Emitter → ℕ → Type 0
 Weighs one w = (states : List State) (next : ℕ) → length (one states next).0 ≤ length states + w
 

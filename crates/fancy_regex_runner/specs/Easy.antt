@@ -1,4 +1,4 @@
--- A plain pattern made ready for searches.
+-- Compiled easy patterns.
 use Rattle.std.specs.Prelude.{◌≡◌, ℕ, Bool, false, List, [], ◌∷◌, if◌then◌else◌, slice_set}
 use Rattle.fancy_regex_tree.specs.Tree.{Text}
 use Rattle.fancy_regex_meaning.specs.Groups.{Pattern}
@@ -16,28 +16,28 @@ use Rattle.fancy_regex_runner.specs.declared.state.State.TheVariants.{Match as E
 use Rattle.fancy_regex_runner.specs.declared.rules.Rules.{Rules}
 use Rattle.fancy_regex_runner.specs.declared.input.RunInput.{RunInput}
 
--- the states of the pattern, before the end
-abbrev pub IsProgramOf : List State → ℕ → Re → Type 0
-IsProgramOf states entry pattern = (emitted pattern (End ∷ []) 0 ≡ (states, entry)) × IsSound pattern
+-- these are the states of the pattern, which continue at the final state
+abbrev pub AreStatesOf : List State → ℕ → Re → Type 0
+AreStatesOf states entry pattern = (emitted pattern (End ∷ []) 0 ≡ (states, entry)) × IsSound pattern
 
 -- the states of some pattern
 abbrev pub IsMade : List State → ℕ → Type 0
-IsMade states entry = ∥ ((pattern : Re) × IsProgramOf states entry pattern) ∥₁
+IsMade states entry = ∥ ((pattern : Re) × AreStatesOf states entry pattern) ∥₁
 
 -- a matcher for each class
-abbrev pub Serve : Bool → List CharClassMatcher → List (Text × Bool) → Type 0
-Serve unicode [] [] = Unit {0}
-Serve unicode (m ∷ ms) (c ∷ cs) = IsMatcherOf m unicode c.0 c.1 × Serve unicode ms cs
-Serve unicode [] (c ∷ cs) = ⊥
-Serve unicode (m ∷ ms) [] = ⊥
+abbrev pub HaveMatchers : Bool → List CharClassMatcher → List (Text × Bool) → Type 0
+HaveMatchers unicode [] [] = Unit {0}
+HaveMatchers unicode (m ∷ ms) (c ∷ cs) = IsMatcherOf m unicode c.0 c.1 × HaveMatchers unicode ms cs
+HaveMatchers unicode [] (c ∷ cs) = ⊥
+HaveMatchers unicode (m ∷ ms) [] = ⊥
 
 -- The states and matchers are those of the pattern, which is plain.
-pub record Serves (unicode : Bool) (states : List State) (entry : ℕ) (matchers : List CharClassMatcher) (pattern : Pattern) : Type 0 where
+pub record IsCompiledPattern (unicode : Bool) (states : List State) (entry : ℕ) (matchers : List CharClassMatcher) (pattern : Pattern) : Type 0 where
   pub plain : IsPlain pattern.tree
   pub program : emitted (re_of unicode pattern.groups pattern.first_group 0 pattern.tree) (End ∷ []) 0 ≡ (states, entry)
-  pub matchers_are : Serve unicode matchers (classes pattern.tree)
+  pub matchers_are : HaveMatchers unicode matchers (classes pattern.tree)
 
--- what the ways of a search depend on
+-- the setting on which the matches of a search depend
 abbrev pub setting_for : Bool → List ℕ → RunInput → Setting
 setting_for unicode text input = record (setting_of unicode text) {
   no_start_text = input.no_start_text;
@@ -45,7 +45,7 @@ setting_for unicode text input = record (setting_of unicode text) {
   continue_at = input.continue_at;
 }
 
--- what a search holds to
+-- the flags of a search
 abbrev pub rules_for : Bool → Bool → RunInput → Rules
 rules_for unicode longest input = record {
   unicode = unicode;
@@ -54,7 +54,7 @@ rules_for unicode longest input = record {
   longest = longest;
 }
 
--- which matches are looked for
+-- the search that the input asks for
 abbrev pub search_for : Bool → RunInput → Search
 search_for longest input = record {
   first = input.first;
@@ -63,10 +63,10 @@ search_for longest input = record {
   options = record { find_not_empty = false; longest = longest };
 }
 
--- the places of what was found
+-- the byte offsets of the groups of a match
 abbrev pub hit_places : Bool → Hit → List ℕ
 hit_places whole h = if whole then slice_set (slice_set h.way.slots 0 h.start) 1 h.way.at else h.way.slots
 
--- the way from a place to another, with these slots
+-- the match from `start` to `end`, with these slots
 abbrev pub hit_at : ℕ → ℕ → List ℕ → Hit
 hit_at start end slots = record { start = start; way = record { at = end; slots = slots } }

@@ -4,12 +4,12 @@ pub mod Attempt
 pub mod Program
 pub mod Visited
 pub mod Search
-pub mod Sight
+pub mod CharTests
 pub mod Find
 pub mod Plain
-pub mod Sees
+pub mod SettingView
 pub mod PlainFact
 pub mod Easy
 pub mod Runner
-pub mod Refused
-pub mod Made
+pub mod Refusals
+pub mod Translation

@@ -52,8 +52,8 @@ abbrev mutual
   ArePlain (more_trees t ts) = IsPlain t × ArePlain ts
 
 -- a repeat that has no round at all: nothing is made of its body
-abbrev pub is_left_out : ℕ → ℕ → Bool
-is_left_out lo hi = (lo == 0) && (hi == 0)
+abbrev pub has_no_iteration : ℕ → ℕ → Bool
+has_no_iteration lo hi = (lo == 0) && (hi == 0)
 
 abbrev pub unless : Bool → Re → Re
 unless true x = re.nothing
@@ -66,7 +66,7 @@ unfoldable mutual
   classes (concat ts) = row_classes ts
   classes (alt ts) = row_classes ts
   classes (group t) = classes t
-  classes (repeat t lo hi greedy) = if is_left_out lo hi then [] else classes t
+  classes (repeat t lo hi greedy) = if has_no_iteration lo hi then [] else classes t
   classes _ = []
 
   pub row_classes : Trees → List (Text × Bool)
@@ -90,7 +90,7 @@ module _ (unicode : Bool) (groups : List Tree) where
     re_of n k (alt ts) = branches_of n k ts
     re_of n k (group t) = re.group n (re_of (n + 1) k t)
     re_of n k (repeat t lo hi greedy) =
-        unless (is_left_out lo hi) (re.repeat lo hi greedy (not (may_be_empty groups t)) (re_of n k t))
+        unless (has_no_iteration lo hi) (re.repeat lo hi greedy (not (may_be_empty groups t)) (re_of n k t))
     re_of n k _ = re.nothing
 
     pub row_of : ℕ → ℕ → Trees → Re

@@ -1,6 +1,6 @@
 -- The states that a tree becomes.
 use Rattle.std.specs.Prelude.{◌≡◌, ℕ, zero, suc, ◌-◌, true, false, ◌&&◌, ◌||◌, max, nat_lt, ◌+◌, ◌*◌, ◌<◌, ◌≤◌, ◌⊎◌, Bool, List, [], ◌∷◌, ◌++◌, length, slice_set, slice_index_or, if◌then◌else◌}
-use Rattle.fancy_regex_runner.specs.Attempt.{Rest, guard, either, save, accept}
+use Rattle.fancy_regex_runner.specs.Attempt.{Continuation, guard, either, save, accept}
 use Rattle.fancy_regex_runner.specs.Meaning.{View, reads, is_unbounded}
 use Rattle.fancy_regex_runner.specs.Re.{Re, nothing, read, test, cat, alt, group, repeat}
 use Rattle.fancy_regex_runner.specs.declared.state.State.{State}
@@ -34,7 +34,7 @@ IsSound (alt a b) = IsSound a × IsSound b
 IsSound (group g a) = IsSound a
 IsSound (repeat lo hi greedy strict a) = (strict ≡ true → never_empty a ≡ true) × IsSound a
 
--- how one part is emitted, that goes on at one place, or at two
+-- how one node is emitted that continues at one state, or at two
 abbrev pub Emitter : Type 0
 Emitter = List State → ℕ → List State × ℕ
 
@@ -129,7 +129,7 @@ emitted_both_repeat false strict lo hi greedy both states same moved =
     let rest = emitted_both_upto greedy both (hi - lo) states same moved in
     emitted_both_times both lo rest.0 rest.1 rest.2
 
--- a group round a part
+-- a capture group
 unfoldable pub emitted_both_group : ℕ → BothEmitter → List State → ℕ → ℕ → List State × ℕ × ℕ
 emitted_both_group g both states same moved =
     let one = push states (Leave g same) in
@@ -226,7 +226,7 @@ NamesBelow n Match = Unit {0}
 
 module _ (view : View) (stop : ℕ) where
   -- what a state gives at i, where `go q` is what the state q gives
-  abbrev pub visit : (ℕ → Rest) → State → Rest
+  abbrev pub visit : (ℕ → Continuation) → State → Continuation
   visit go (S.Read leaf next) i = guard (reads view stop leaf i) (go next (view.next i))
   visit go (S.Look check next) i = guard (view.holds check i) (go next i)
   visit go (Split first second) i = either view.longest (go first i) (go second i)
@@ -235,10 +235,10 @@ module _ (view : View) (stop : ℕ) where
   visit go Match i = accept i
 
   -- the state q does what `go q` says, as far as the states that it names do
-  pub record Agrees (go : ℕ → Rest) (count q : ℕ) (state : State) : Type 0 where
+  pub record Agrees (go : ℕ → Continuation) (count q : ℕ) (state : State) : Type 0 where
     pub names : NamesBelow count state
     pub does : (i : ℕ) → i ≤ stop → go q i ≡ visit go state i
 
   -- all states do, but for the open ones
-  abbrev pub AgreeBut : (ℕ → Type 0) → List State → (ℕ → Rest) → Type 0
+  abbrev pub AgreeBut : (ℕ → Type 0) → List State → (ℕ → Continuation) → Type 0
   AgreeBut Open states go = (q : ℕ) → q < length states → Open q ⊎ Agrees go (length states) q (state_at states q)

@@ -1,11 +1,11 @@
 -- A depth-first search over pairs of a state and a position, which looks at each pair once.
 use Rattle.std.specs.Prelude.{◌≡◌, ℕ, ◌+◌, ◌<◌, ◌≤◌, ◌⊎◌, Bool, List, [], ◌∷◌, ◌++◌, length, Option, Some, None, slice_set, IsCharBoundary}
 use Rattle.fancy_regex_runner.specs.Meaning.{Spot, View}
-use Rattle.fancy_regex_runner.specs.Attempt.{Trace, Rest, score, better_spot, land}
+use Rattle.fancy_regex_runner.specs.Attempt.{Trace, Continuation, score, better_spot, land}
 use Rattle.fancy_regex_runner.specs.Program.{state_at, NamesBelow, Agrees}
-use Rattle.fancy_regex_runner.specs.Sight.{ShowsAll}
+use Rattle.fancy_regex_runner.specs.CharTests.{ShowsAll}
 use Rattle.fancy_regex_runner.specs.declared.state.State.{State}
-use Rattle.fancy_regex_runner.specs.declared.search.Plan.{Plan}
+use Rattle.fancy_regex_runner.specs.declared.search.SearchContext.{SearchContext}
 use Rattle.fancy_regex_runner.specs.declared.frame.Frame.{Frame}
 use Rattle.fancy_regex_runner.specs.declared.frame.Frame.TheVariants.{Explore, Restore}
 use Rattle.fancy_regex_runner.specs.declared.frame.Next.{Next}
@@ -39,14 +39,14 @@ AllWithin text count stop base (Explore q i ∷ rest) = IsPair text count stop b
 AllWithin text count stop base (Restore slot old ∷ rest) = AllWithin text count stop base rest
 
 -- all states do what `go` says
-abbrev pub AllAgree : View → ℕ → List State → (ℕ → Rest) → Type 0
+abbrev pub AllAgree : View → ℕ → List State → (ℕ → Continuation) → Type 0
 AllAgree view stop states go = (q : ℕ) → q < length states → Agrees view stop go (length states) q (state_at states q)
 
 -- The view says what looks at the text show, and the states do what `go` says.
-pub record Explains (plan : Plan) (text : List ℕ) (view : View) (go : ℕ → Rest) : Type 0 where
-  pub longest : view.longest ≡ plan.rules.longest
-  pub shows : ShowsAll plan.matchers.now plan.rules text view
-  pub agree : AllAgree view plan.stop plan.states.now go
+pub record Explains (context : SearchContext) (text : List ℕ) (view : View) (go : ℕ → Continuation) : Type 0 where
+  pub longest : view.longest ≡ context.rules.longest
+  pub shows : ShowsAll context.matchers.now context.rules text view
+  pub agree : AllAgree view context.stop context.states.now go
 
 -- there is an end that scores r at least
 abbrev pub Reaches : Bool → ℕ → Option Trace → Type 0
@@ -57,7 +57,7 @@ abbrev pub IsAsGood : Bool → ℕ → Option Spot → Type 0
 IsAsGood longest r None = ⊥
 IsAsGood longest r (Some s) = r ≤ score longest s.at
 
-module _ (longest : Bool) (go : ℕ → Rest) where
+module _ (longest : Bool) (go : ℕ → Continuation) where
   -- the best success on the stack
   unfoldable pub pending : List Frame → List ℕ → Option Spot
   pending [] slots = None

@@ -1,19 +1,21 @@
+//! Compiled easy patterns, and their searches.
+
 ghost use Rattle.std.specs.Prelude.{◌≡◌, Bool, false, IfErr, ◌+◌, ◌-◌, ◌*◌, ◌^◌, ◌≤◌, min, length, vec_len, IfOk, option_map, IsCharBoundary, replicate, slice_set, ◌<◌};
 ghost use Rattle.fancy_regex_meaning.specs.Groups.{Pattern};
 ghost use Rattle.fancy_regex_meaning.specs.Sizes.{tree_weight};
 ghost use Rattle.fancy_regex_meaning.specs.Searches.{first_match, match_at, starts};
 ghost use Rattle.fancy_regex_runner.specs.Easy.{IsMade, setting_for, search_for, rules_for, hit_places, hit_at};
-ghost use Rattle.fancy_regex_runner.specs.Find.{tried};
+ghost use Rattle.fancy_regex_runner.specs.Find.{attempted};
 ghost use Rattle.fancy_regex_runner.specs.Plain.{places_of};
 ghost use Rattle.fancy_regex_tree.specs.Tree.{Tree};
 
-use crate::build::Walk;
+use crate::backtrack::BacktrackState;
+use crate::build::Translator;
 use crate::emit::emit;
 use crate::input::RunInput;
 use crate::rules::Rules;
-use crate::search::{Plan, earliest_way};
+use crate::search::{SearchContext, earliest_way};
 use crate::state::{State, add};
-use crate::trail::Trail;
 use crate::visited::Visited;
 use fancy_regex_class::{CharClassMatcher, Counted, Steps};
 use fancy_regex_info::{BytesMode, CompileError, CompileOptions, Info};
@@ -22,15 +24,15 @@ use std::alloc::{AllocError, Global};
 /// The greatest weight of a whole pattern.
 const GREATEST_WEIGHT: u64 = 4_294_967_295;
 
-/// A plain pattern made ready for searches.
+/// A compiled easy pattern.
 #[derive(Drop)]
 pub struct Easy {
     states: Vec<State>,
     entry: usize,
     matchers: Vec<CharClassMatcher>,
-    /// How many groups have places in an answer.
+    /// The number of capture groups in an answer.
     groups: usize,
-    /// Group 0 is the whole.
+    /// Whether group 0 is the whole match.
     whole: bool,
     unicode: bool,
     longest: bool,
@@ -39,15 +41,15 @@ pub struct Easy {
 
 impl Easy {
     ghost use Rattle.fancy_regex_runner.specs.Runner.{IsEasyOf};
-    ghost use Rattle.fancy_regex_runner.specs.Refused.{IsTaken, IsCause};
+    ghost use Rattle.fancy_regex_runner.specs.Refusals.{IsTaken, IsCause};
     ghost use Rattle.fancy_regex_info.specs.Analysis.{analysis};
     ghost use Rattle.fancy_regex_info.specs.Infos.{info_of};
     ghost use Rattle.fancy_regex_info.specs.declared.info.Info.{out-Info};
     ghost use Rattle.fancy_regex_info.specs.Views.{pattern_in};
 
-    /// Makes the pattern ready that was looked at. The error is `InnerError` with the text of a class that `regex`
-    /// refuses, `PatternTooComplex` where the weight of the whole passes 4,294,967,295, `FeatureNotYetSupported` for
-    /// bytes that are not Unicode, or `Memory`. Of several causes that hold any may be told.
+    /// Compiles an analyzed pattern that is easy. The error is `InnerError` with the text of a class that `regex` refuses,
+    /// `PatternTooComplex` where the weight of the pattern exceeds 4,294,967,295, `FeatureNotYetSupported` for a bytes mode
+    /// other than Unicode, or `Memory`. Of several causes that hold any may be reported.
     pub fn new(
         alloc: Global,
         info: &Info<'_>,
@@ -70,24 +72,25 @@ impl Easy {
             return Err(CompileError::PatternTooComplex);
         }
         let explicit = info.start_group() == 0;
-        let mut walk = Walk::new(alloc, options.unicode, explicit);
-        let part = walk.part(info.expr)?;
+        let mut translator = Translator::new(alloc, options.unicode, explicit);
+        let translated = translator.translated(info.expr)?;
         let mut states = Vec::new(alloc);
         add(&mut states, State::Match)?;
-        let entry = emit(&part.node, &mut states, 0)?;
+        let entry = emit(&translated.node, &mut states, 0)?;
         Ok(Easy {
             states,
             entry,
-            matchers: walk.matchers,
-            groups: walk.next_group,
+            matchers: translator.matchers,
+            groups: translator.next_group,
             whole: !explicit,
             unicode: options.unicode,
             longest: options.leftmost_longest,
         })
     }
 
-    /// The match, by two places in bytes for each group, each `usize::MAX` where the group is unset. The steps are raised
-    /// by one for each look at the text, also where memory runs out.
+    /// Searches the text, and answers the capture groups of the match: two byte offsets for each group, both `usize::MAX` if
+    /// the group is unset. `Ok(None)` means no match. `steps` grows by one for each look-up in the text, also after an error.
+    /// The error is want of memory; the pattern is unchanged.
     pub fn search(
         &self,
         alloc: Global,
@@ -103,14 +106,14 @@ impl Easy {
         ensures at_most { (pattern : Pattern) → IsEasyOf self.now pattern
             → steps.new ≤ steps.old + tree_weight pattern.groups pattern.tree * (input.now.range.end - input.now.first + 1) }
         ensures at_least { IfOk result (λ _. (pattern : Pattern) → IsEasyOf self.now pattern
-            → min (steps.old + tried (match_at (setting_for self.now.unicode text.now input.now) pattern (search_for self.now.longest input.now))
+            → min (steps.old + attempted (match_at (setting_for self.now.unicode text.now input.now) pattern (search_for self.now.longest input.now))
             (starts (setting_for self.now.unicode text.now input.now) pattern (search_for self.now.longest input.now))) (2 ^ 64 - 1) ≤ steps.new) }
     {
         let stop = input.range.end;
         if input.first > stop {
             return Ok(None);
         }
-        let plan = Plan {
+        let context = SearchContext {
             states: &self.states,
             matchers: &self.matchers,
             rules: self.rules(input),
@@ -119,28 +122,28 @@ impl Easy {
         };
         let mut visited = Visited::new(alloc, self.states.len(), input.first);
         let slots = unset_slots(alloc, self.groups)?;
-        let mut trail = Trail {
+        let mut backtrack = BacktrackState {
             stack: Vec::new(alloc),
             slots,
         };
         let mut farthest = unset_slots(alloc, self.groups)?;
         let mut counted = Counted::new(text, steps);
         let span = earliest_way(
-            &plan,
+            &context,
             &mut counted,
             input.first,
             input.anchored,
             &mut visited,
-            &mut trail,
+            &mut backtrack,
             &mut farthest,
         )?;
         match span {
-            Some((start, end)) => Ok(Some(self.places(trail.slots, start, end))),
+            Some((start, end)) => Ok(Some(self.places(backtrack.slots, start, end))),
             None => Ok(None),
         }
     }
 
-    /// What a search of this pattern holds to.
+    /// The flags of a search of this pattern.
     fn rules(&self, input: &RunInput) -> Rules
         ensures { result ≡ rules_for self.now.unicode self.now.longest input.now }
     {
@@ -152,7 +155,7 @@ impl Easy {
         }
     }
 
-    /// The places of a match with these slots.
+    /// The byte offsets of the groups of a match with these slots.
     fn places(&self, mut slots: Vec<usize>, start: usize, end: usize) -> Vec<usize>
         ensures { result.items ≡ hit_places self.now.whole (hit_at start end slots.items) }
     {
@@ -164,7 +167,7 @@ impl Easy {
     }
 }
 
-/// Two slots for each group, each unset.
+/// Two unset slots for each group. The error is want of memory.
 fn unset_slots(alloc: Global, groups: usize) -> Result<Vec<usize>, AllocError>
     ensures { IfOk result (λ v. v.items ≡ replicate (2 * groups) (2 ^ 64 - 1)) }
 {
@@ -173,7 +176,7 @@ fn unset_slots(alloc: Global, groups: usize) -> Result<Vec<usize>, AllocError>
     Ok(slots)
 }
 
-/// Writes to a slot, if it is there.
+/// Writes to a slot, if it exists.
 #[tactic(auto, using(std::proofs::lemmas::List::set_past))]
 fn put(slots: &mut Vec<usize>, slot: usize, value: usize)
     ensures { slots.new.items ≡ slice_set slots.old.items slot value }

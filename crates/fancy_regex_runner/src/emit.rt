@@ -1,3 +1,5 @@
+//! States of a pattern, from its nodes.
+
 ghost use Rattle.std.specs.Prelude.{◌≡◌, ◌≤◌, IfOk, length, vec_len};
 ghost use Rattle.fancy_regex_runner.specs.Re.{shape, shapes, cats, alts};
 ghost use Rattle.fancy_regex_runner.specs.Program.{emitted, emitted_both, emitted_repeat, emitted_times, emitted_upto, emitted_star, emitted_many};
@@ -8,7 +10,7 @@ use crate::node::Node;
 use crate::state::{State, add, make_head};
 use std::alloc::AllocError;
 
-/// Adds the states of a pattern that goes on at `next`, and says its entry.
+/// Adds the states of a node that continues at state `next`, and returns its entry state. The error is want of memory.
 #[tactic(auto, unfolding(crate::specs::Program::emitted))]
 #[cycle(emit)]
 pub fn emit(node: &Node, states: &mut Vec<State>, next: usize) -> Result<usize, AllocError>
@@ -48,7 +50,7 @@ pub fn emit(node: &Node, states: &mut Vec<State>, next: usize) -> Result<usize, 
     }
 }
 
-/// Adds the states of the parts in a row, the last part first.
+/// Adds the states of a concatenation, the last child first.
 #[cycle(emit)]
 fn emit_row(parts: &[Node], states: &mut Vec<State>, next: usize) -> Result<usize, AllocError>
     ensures longer { IfOk result (λ _. vec_len states.old ≤ vec_len states.new) }
@@ -63,7 +65,7 @@ fn emit_row(parts: &[Node], states: &mut Vec<State>, next: usize) -> Result<usiz
     Ok(entry)
 }
 
-/// Adds the states of the branches, the last branch first.
+/// Adds the states of an alternation, the last branch first.
 #[cycle(emit)]
 fn emit_branches(parts: &[Node], states: &mut Vec<State>, next: usize) -> Result<usize, AllocError>
     ensures longer { IfOk result (λ _. vec_len states.old ≤ vec_len states.new) }
@@ -88,7 +90,7 @@ fn emit_branches(parts: &[Node], states: &mut Vec<State>, next: usize) -> Result
     Ok(entry)
 }
 
-/// Adds a repeat of the pattern.
+/// Adds the states of a quantifier.
 #[cycle(emit)]
 #[tactic(auto, unfolding(crate::specs::Program::emitted_repeat))]
 fn emit_repeat(
@@ -115,7 +117,7 @@ fn emit_repeat(
     }
 }
 
-/// Adds `count` copies in a row.
+/// Adds `count` consecutive copies of the node.
 #[cycle(emit)]
 #[tactic(auto, unfolding(crate::specs::Program::emitted_times))]
 fn emit_times(
@@ -135,7 +137,7 @@ fn emit_times(
     Ok(entry)
 }
 
-/// Adds at most `count` copies, each of which may be left out with those behind it.
+/// Adds `count` nested optional copies of the node.
 #[cycle(emit)]
 #[tactic(auto, unfolding(crate::specs::Program::emitted_upto))]
 fn emit_upto(
@@ -157,7 +159,7 @@ fn emit_upto(
     Ok(entry)
 }
 
-/// Adds a loop over what may be empty.
+/// Adds a loop whose body may match the empty string.
 #[tactic(auto, unfolding(crate::specs::Program::emitted_star))]
 fn emit_star(
     node: &Node,
@@ -175,7 +177,7 @@ fn emit_star(
     Ok(head)
 }
 
-/// Adds an unbounded repeat of what is never empty.
+/// Adds an unbounded loop whose body always consumes a character.
 #[cycle(emit)]
 #[tactic(auto, unfolding(crate::specs::Program::emitted_many, crate::specs::Program::emitted_plus))]
 fn emit_many(

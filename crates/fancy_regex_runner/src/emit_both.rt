@@ -1,3 +1,6 @@
+//! States of the body of a loop that may match the empty string. Each node is emitted twice: once for an iteration that has
+//! consumed nothing so far, and once for one that has.
+
 ghost use Rattle.std.specs.Prelude.{◌≡◌, ◌≤◌, IfOk, length, vec_len};
 ghost use Rattle.fancy_regex_runner.specs.Re.{shape, shapes, cats, alts};
 ghost use Rattle.fancy_regex_runner.specs.Program.{emitted_both, emitted_both_repeat, emitted_both_times, emitted_both_upto, emitted_both_star, emitted_both_many, emitted_both_group};
@@ -7,8 +10,8 @@ use crate::node::Node;
 use crate::state::{State, add, add_both, make_head};
 use std::alloc::AllocError;
 
-/// Adds the states of a pattern that goes on at `same` where it moved nothing, and at `moved` where it did.
-/// Says its entries where nothing was moved yet, and where something was.
+/// Adds the states of a node that continues at state `same` where the iteration has consumed nothing, and at `moved` where it
+/// has. Returns the two entry states, for nothing consumed so far and for something. The error is want of memory.
 #[tactic(auto, unfolding(crate::specs::Program::emitted_both))]
 #[cycle(both)]
 pub fn emit_both(
@@ -56,7 +59,7 @@ pub fn emit_both(
     }
 }
 
-/// Adds the states of a group round the pattern.
+/// Adds the states of a capture group.
 #[cycle(both)]
 #[tactic(auto, unfolding(crate::specs::Program::emitted_both_group))]
 fn emit_group_both(
@@ -95,7 +98,7 @@ fn emit_group_both(
     )
 }
 
-/// Adds the states of the parts in a row, the last part first.
+/// Adds the states of a concatenation, the last child first.
 #[cycle(both)]
 fn emit_row_both(
     parts: &[Node],
@@ -119,7 +122,7 @@ fn emit_row_both(
     Ok((first, second))
 }
 
-/// Adds the states of the branches, the last branch first.
+/// Adds the states of an alternation, the last branch first.
 #[cycle(both)]
 fn emit_branches_both(
     parts: &[Node],
@@ -156,7 +159,7 @@ fn emit_branches_both(
     Ok((first, second))
 }
 
-/// Adds a repeat of the pattern that goes on at two places.
+/// Adds the states of a quantifier.
 #[cycle(both)]
 #[tactic(auto, unfolding(crate::specs::Program::emitted_both_repeat))]
 fn emit_repeat_both(
@@ -184,7 +187,7 @@ fn emit_repeat_both(
     }
 }
 
-/// Adds `count` copies in a row.
+/// Adds `count` consecutive copies of the node.
 #[cycle(both)]
 #[tactic(auto, unfolding(crate::specs::Program::emitted_both_times))]
 fn emit_times_both(
@@ -208,7 +211,7 @@ fn emit_times_both(
     Ok((first, second))
 }
 
-/// Adds at most `count` copies, each of which may be left out with those behind it.
+/// Adds `count` nested optional copies of the node.
 #[cycle(both)]
 #[tactic(auto, unfolding(crate::specs::Program::emitted_both_upto))]
 fn emit_upto_both(
@@ -238,7 +241,7 @@ fn emit_upto_both(
     Ok((first, second))
 }
 
-/// Adds a loop over what may be empty.
+/// Adds a loop whose body may match the empty string.
 #[cycle(both)]
 #[tactic(auto, unfolding(crate::specs::Program::emitted_both_star, crate::specs::Program::emitted_star))]
 fn emit_star_both(
@@ -260,7 +263,7 @@ fn emit_star_both(
     Ok((one, head))
 }
 
-/// Adds an unbounded repeat of what is never empty.
+/// Adds an unbounded loop whose body always consumes a character.
 #[cycle(both)]
 #[tactic(auto, unfolding(crate::specs::Program::emitted_both_many, crate::specs::Program::emitted_both_plus))]
 fn emit_many_both(

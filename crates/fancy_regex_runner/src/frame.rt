@@ -1,18 +1,21 @@
-/// What is left to do.
+//! The frames of the backtrack stack.
+
+/// A frame of the backtrack stack.
 #[derive(Clone, Copy)]
 pub enum Frame {
-    /// Try this state at this position.
+    /// Explore this state at this byte offset.
     Explore { state: usize, at: usize },
-    /// Give the slot its old value back.
+    /// Undo a write: restore the old value of the slot.
     Restore { slot: usize, old: usize },
 }
 
-/// What follows a visit.
+/// The outcome of a visit.
 #[derive(Clone, Copy)]
 pub enum Next {
-    /// Go on with this state at this position.
+    /// Continue with this state at this byte offset.
     Pair(usize, usize),
-    /// Go back to the stack.
+    /// Backtrack: pop the next frame.
     Back,
+    /// The final state was reached.
     Matched,
 }

@@ -1,18 +1,21 @@
+//! The input of a search, shared by both engines.
+
 use std::ops::Range;
 
-/// What a search is asked. The first place and the range's ends lie between characters, and in the text.
+/// The parameters of a search. All offsets are byte offsets; `first` and the ends of the range are to be character
+/// boundaries of the text.
 #[derive(Debug, Drop)]
 pub struct RunInput {
-    /// The first place that is tried.
+    /// The first start of a match to try.
     pub first: usize,
-    /// Where a search is said to continue, if anywhere.
+    /// The offset at which `\G` holds, if any.
     pub continue_at: Option<usize>,
-    /// No match ends past the range's end.
+    /// The range of the search: no match ends past its end.
     pub range: Range<usize>,
-    /// The first place is the only one.
+    /// Whether a match may start at `first` only.
     pub anchored: bool,
-    /// The start of the text is not seen as one.
+    /// Whether the start-of-text assertion fails at the start of the text.
     pub no_start_text: bool,
-    /// The end of the text is not seen as one.
+    /// Whether the end-of-text assertion fails at the end of the text.
     pub no_end_text: bool,
 }

@@ -1,7 +1,12 @@
-//! The runner of plain patterns: one table of states and positions for all starts of a search.
+//! The linear-time engine for easy patterns: those without back references, look-around, atomic groups and the like. A
+//! pattern is compiled to states, and a search is a depth-first search over pairs of a state and a byte offset. A visited set
+//! that all starts of the search share lets it try each pair at most once, so the number of look-ups in the text is bounded
+//! by the pattern's weight times the length of the range plus one. A search fails for want of memory alone.
 #![tactic(auto)]
 
+mod backtrack;
 mod build;
+mod char_tests;
 mod easy;
 mod emit;
 mod emit_both;
@@ -10,11 +15,7 @@ mod input;
 mod node;
 mod rules;
 mod search;
-mod sight;
 mod state;
-#[cfg(test)]
-mod tests;
-mod trail;
 mod visited;
 
 pub use easy::Easy;

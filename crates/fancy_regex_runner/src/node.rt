@@ -1,48 +1,68 @@
-/// What one character is asked for.
+//! The simplified syntax tree of an easy pattern, from which states are made.
+
+/// A test of one character.
 #[derive(Clone, Copy, PartialEq, Eq, Debug)]
 pub enum Leaf {
     /// Any character, but `\n` only with `newline`, and with `crlf` and without `newline` not `\r` either.
     Any { newline: bool, crlf: bool },
+    /// This character.
     Char(char),
-    /// What folds to this character.
+    /// A character whose case folding is this one.
     Folded(char),
-    /// A member of the class of this number.
+    /// A member of the class of this number, by its index in the table of matchers.
     Class(usize),
 }
 
-/// What a place is asked for.
+/// A zero-width assertion.
 #[derive(Clone, Copy, PartialEq, Eq, Debug)]
 pub enum Test {
+    /// The start of the text.
     StartText,
+    /// The end of the text.
     EndText,
+    /// The start of a line; with `crlf` also `\r` and `\r\n` end a line.
     StartLine { crlf: bool },
+    /// The end of a line; with `crlf` also `\r` and `\r\n` end a line.
     EndLine { crlf: bool },
+    /// The start or the end of a word.
     WordBoundary,
+    /// Neither the start nor the end of a word.
     NotWordBoundary,
+    /// The start of a word.
     LeftWordBoundary,
+    /// The end of a word.
     RightWordBoundary,
 }
 
-/// A plain pattern, with its matchers in a table beside it.
+/// A node of the simplified tree. Character classes are numbers into a table of matchers.
 #[derive(Drop)]
 pub enum Node {
+    /// The empty string.
     Empty,
+    /// One character.
     Read(Leaf),
+    /// A zero-width assertion.
     Look(Test),
+    /// A concatenation.
     Concat(Vec<Node>),
-    /// The first is preferred.
+    /// An alternation; earlier branches are preferred.
     Alt(Vec<Node>),
+    /// A capture group.
     Group {
+        /// The number of the group.
         number: usize,
         body: Box<Node>,
     },
+    /// A quantifier.
     Repeat {
         body: Box<Node>,
+        /// The least count of iterations.
         lo: usize,
-        /// `usize::MAX` for no bound.
+        /// The greatest count of iterations; `usize::MAX` for no bound.
         hi: usize,
+        /// Whether another iteration is preferred to the exit.
         greedy: bool,
-        /// Whether each way of the body takes a character.
+        /// Whether each match of the body consumes a character.
         moves: bool,
     },
 }

@@ -1,12 +1,14 @@
-/// What a search holds to.
+//! The flags of a search.
+
+/// The flags that a search follows.
 #[derive(Clone, Copy)]
 pub struct Rules {
-    /// Whether classes have members past ASCII.
+    /// Whether word characters and case folding follow Unicode, instead of ASCII.
     pub unicode: bool,
-    /// The start of the text is not seen as one.
+    /// Whether the start-of-text assertion fails at the start of the text.
     pub no_start_text: bool,
-    /// The end of the text is not seen as one.
+    /// Whether the end-of-text assertion fails at the end of the text.
     pub no_end_text: bool,
-    /// The way that ends farthest is wanted, and not the first.
+    /// Whether leftmost-longest matching is wanted, instead of leftmost-first.
     pub longest: bool,
 }

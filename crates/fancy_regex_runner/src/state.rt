@@ -1,24 +1,29 @@
+//! The states that a pattern is compiled to.
+
 ghost use Rattle.std.specs.Prelude.{◌≡◌, ◌≤◌, IfOk, length, vec_len};
 ghost use Rattle.fancy_regex_runner.specs.Program.{loop_head, push};
 
 use crate::node::{Leaf, Test};
 use std::alloc::AllocError;
 
-/// What a walk does at one place of a pattern, and where it goes on, by the numbers of states.
+/// A state. `next`, `first` and `second` are numbers of states.
 #[derive(Clone, Copy, PartialEq, Eq, Debug)]
 pub enum State {
+    /// Consumes one character that the leaf matches.
     Read { leaf: Leaf, next: usize },
+    /// Checks a zero-width assertion.
     Look { test: Test, next: usize },
-    /// The first is preferred.
+    /// Two alternatives; the first is preferred.
     Split { first: usize, second: usize },
-    /// The group of this number opens.
+    /// Writes the start of the capture group of this number.
     Enter { group: usize, next: usize },
-    /// The group of this number closes.
+    /// Writes the end of the capture group of this number.
     Leave { group: usize, next: usize },
+    /// The pattern has matched.
     Match,
 }
 
-/// The head of a loop: another round, or out.
+/// The head of a loop: another iteration, or the exit, in the order of preference.
 pub fn make_head(greedy: bool, round: usize, leave: usize) -> State
     ensures { result ≡ loop_head greedy round leave }
 {
@@ -35,7 +40,7 @@ pub fn make_head(greedy: bool, round: usize, leave: usize) -> State
     }
 }
 
-/// Adds a state, and says its number.
+/// Adds a state and returns its number. The error is want of memory.
 pub fn add(states: &mut Vec<State>, state: State) -> Result<usize, AllocError>
     ensures longer { IfOk result (λ _. vec_len states.old ≤ vec_len states.new) }
     ensures states { IfOk result (λ _. states.new.items ≡ push states.old.items state) }
@@ -46,7 +51,7 @@ pub fn add(states: &mut Vec<State>, state: State) -> Result<usize, AllocError>
     Ok(number)
 }
 
-/// Adds two states, and says their numbers.
+/// Adds two states and returns their numbers. The error is want of memory.
 pub fn add_both(
     states: &mut Vec<State>,
     one: State,

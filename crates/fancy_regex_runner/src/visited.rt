@@ -1,18 +1,20 @@
+//! The set of visited pairs of a state and a byte offset.
+
 ghost use Rattle.std.specs.Prelude.{◌≡◌, ◌+◌, ◌-◌, ◌*◌, ◌/◌, ◌<◌, ◌≤◌, ℕ, max, ◌^◌, length, IfOk, OnOk, OnErr};
 ghost use Rattle.std.specs.Bool.{MatchBool};
 
 use std::alloc::{AllocError, Global};
 
-/// The set of pairs of a state and a place that were looked at: rows of bits, one row a place, made as the search reaches
-/// the place.
+/// The visited set, as rows of bits: one row for each byte offset, made when the search first reaches it.
 #[derive(Drop)]
 pub struct Visited {
-    /// How many states there are.
+    /// The number of states.
     count: usize,
-    /// How many words a row has.
+    /// The number of words in a row.
     width: usize,
-    /// The place of the first row.
+    /// The byte offset of the first row.
     base: usize,
+    /// The number of rows so far.
     rows: usize,
     words: Vec<u64>,
     ghost wide: { width ≡ count / 64 + 1 },
@@ -22,7 +24,7 @@ pub struct Visited {
 impl Visited {
     ghost use Rattle.fancy_regex_runner.specs.Visited.{Has, members, Adds, IsSame};
 
-    /// The empty set, for so many states, and places from `base` on.
+    /// The empty set, for `count` states and byte offsets from `base` on.
     pub fn new(alloc: Global, count: usize, base: usize) -> Visited
         ensures count { result.count ≡ count }
         ensures base { result.base ≡ base }
@@ -51,7 +53,7 @@ impl Visited {
         Ok(())
     }
 
-    /// Adds rows up to that of the place.
+    /// Adds rows up to that of the byte offset `at`. The error is want of memory.
     fn reach(&mut self, at: usize) -> Result<(), AllocError>
         requires { self.old.base ≤ at }
         ensures same { (self.new.count ≡ self.old.count) × (self.new.base ≡ self.old.base) }
@@ -65,7 +67,7 @@ impl Visited {
         Ok(())
     }
 
-    /// Sets the bit of a pair whose row is there, and says whether it was clear.
+    /// Sets the bit of a pair whose row exists; returns whether it was clear.
     fn set(&mut self, state: usize, at: usize) -> bool
         requires state { state < self.old.count }
         requires base { self.old.base ≤ at }
@@ -82,8 +84,8 @@ impl Visited {
         word & bit == 0
     }
 
-    /// Adds a pair, and says whether it was new. Where memory runs out the set is as it was.
-    pub fn mark(&mut self, state: usize, at: usize) -> Result<bool, AllocError>
+    /// Adds a pair; returns whether it is new. The error is want of memory, and then the set is unchanged.
+    pub fn insert_pair(&mut self, state: usize, at: usize) -> Result<bool, AllocError>
         requires state { state < self.old.count }
         requires base { self.old.base ≤ at }
         ensures same { (self.new.count ≡ self.old.count) × (self.new.base ≡ self.old.base) }

@@ -9,10 +9,10 @@ use Rattle.fancy_regex_tree.specs.declared.expr.LookAround.TheVariants.{LookAhea
 use Rattle.fancy_regex_meaning.specs.Groups.{group_count}
 use Rattle.fancy_regex_meaning.specs.Sizes.{bound_of}
 use Rattle.fancy_regex_meaning.specs.Ways as ways
-use Rattle.fancy_regex_meaning.specs.Ways.{Setting, Way, Moves, Meaning, is_none_of, meaning, meanings, call_ways, most_calls, due, all_of, look, first_of_all}
+use Rattle.fancy_regex_meaning.specs.Ways.{Setting, MatchState, Moves, Meaning, is_none_of, meaning, meanings, call_ways, max_open_calls, due, all_of, look, first_only}
 use Rattle.fancy_regex_sizes.specs.Anchored.{begins_anchored, all_begin_anchored, IsAnchor, IsAnchored}
-use Rattle.fancy_regex_sizes.proofs.CauseLemmas.{and_left, and_right}
-use Rattle.fancy_regex_sizes.proofs.TellLemmas.{either_is}
+use Rattle.fancy_regex_sizes.proofs.AnalysisErrorLemmas.{and_left, and_right}
+use Rattle.fancy_regex_sizes.proofs.PartErrorLemmas.{either_is}
 
 pub none_begin : all_begin_anchored no_trees ≡ true
 unfolding begins_anchored all_begin_anchored
@@ -33,7 +33,7 @@ unfolding begins_anchored all_begin_anchored
 no_branches [] none = refl
 no_branches (x ∷ xs) none = let bad : suc (length xs) ≡ 0 = eqb-true (suc (length xs)) 0 none in absurd (omega arith)
 
-module _ (s : Setting) (groups : List Tree) (call : ℕ → Moves) (w : Way) where
+module _ (s : Setting) (groups : List Tree) (call : ℕ → Moves) (w : MatchState) where
   abbrev is_anchor : Bool
   is_anchor = (w.position == 0) || is_some_and s.continue_at (λ g. g == w.position)
 
@@ -71,7 +71,7 @@ module _ (s : Setting) (groups : List Tree) (call : ℕ → Moves) (w : Way) whe
           (none_elsewhere n t (and_left (begins_anchored t) (all_begin_anchored ts) h))
           ∙ none_in_branches (n + group_count t) ts (and_right (begins_anchored t) (all_begin_anchored ts) h)
       none_elsewhere n (group t) h = ap (map _) (none_elsewhere (n + 1) t h)
-      none_elsewhere n (atomic_group t) h = ap first_of_all (none_elsewhere n t h)
+      none_elsewhere n (atomic_group t) h = ap first_only (none_elsewhere n t h)
       none_elsewhere n (look_around t LookAhead) h = ap (map _) (none_elsewhere n t h)
       none_elsewhere n (repeat t lo hi greedy) h =
           none_repeated lo (bound_of hi) greedy (M n t).from (and_left (nat_lt 0 lo) (begins_anchored t) h)
@@ -103,4 +103,4 @@ module _ (s : Setting) (groups : List Tree) (call : ℕ → Moves) (w : Way) whe
 
 pub anchored : (t : Tree) → begins_anchored t ≡ true → IsAnchored t
 unfolding ways.ways
-anchored t h s groups n w some = anchored_at s groups (call_ways s groups (most_calls groups) []) w n t h some
+anchored t h s groups n w some = anchored_at s groups (call_ways s groups (max_open_calls groups) []) w n t h some

@@ -1,7 +1,7 @@
 -- Lists that have an item that passes a test.
 use Rattle.std.proofs.Common.{◌≡◌, zero, suc, ◌<◌, ⊎_elim, Bool, true, List, [], ◌∷◌, refl, ap, ◌∙◌, arith}
 use Rattle.std.specs.List.{list_any, Contains}
-use Rattle.fancy_regex_info.proofs.ReachLemmas.{or_left, or_right, or_cases}
+use Rattle.fancy_regex_info.proofs.ReachabilityLemmas.{or_left, or_right, or_cases}
 
 module _ {X : Type 0} (p : X → Bool) where
   pub any_has : (xs : List X) (x : X) → Contains xs x → p x ≡ true → list_any p xs ≡ true

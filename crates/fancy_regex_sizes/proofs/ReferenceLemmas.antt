@@ -6,14 +6,14 @@ use Rattle.std.specs.Ordering.{nat_cmp}
 use Rattle.std.proofs.lemmas.Cmp.{nat_cmp_total}
 use Rattle.std.proofs.lemmas.Map.Lookups.{exact_unsigned}
 use Rattle.std.proofs.lemmas.Map.Views.{btree_set_contains_iff}
-use Rattle.fancy_regex_tree.specs.Marks.{refers_to, back_group}
+use Rattle.fancy_regex_tree.specs.ReferenceSummary.{refers_to, back_group}
 use Rattle.fancy_regex_tree.specs.Tree.{Tree, backref, backref_with_level, backref_exists}
-use Rattle.fancy_regex_tree.specs.Walks.{nodes}
-use Rattle.fancy_regex_sizes.specs.WellFormed.{is_left_out, is_named_in}
+use Rattle.fancy_regex_tree.specs.Traversal.{nodes}
+use Rattle.fancy_regex_sizes.specs.WellFormed.{is_unlisted_reference, is_named_in}
 use Rattle.fancy_regex_sizes.proofs.AnyLemmas.{any_has, any_finds}
-use Rattle.fancy_regex_sizes.proofs.CauseLemmas.{and_left, and_right, both_true}
-use Rattle.fancy_regex_info.proofs.ReachLemmas.{settled}
-use Rattle.fancy_regex_sizes.proofs.TellLemmas.{either_is}
+use Rattle.fancy_regex_sizes.proofs.AnalysisErrorLemmas.{and_left, and_right, both_true}
+use Rattle.fancy_regex_info.proofs.ReachabilityLemmas.{settled}
+use Rattle.fancy_regex_sizes.proofs.PartErrorLemmas.{either_is}
 
 clash : (b : Bool) → b ≡ true → b ≡ false → ⊥
 clash true h g = cc
@@ -39,7 +39,7 @@ refers_to_it k (backref_with_level g level casei) h = let same : g ≡ k = cc in
 refers_to_it k (backref_exists g level) h = let same : g ≡ k = cc in eq-eqb g k same
 refers_to_it k u h = cc
 
-left_out_group : (total : ℕ) (set : ℕ → Bool) (o : Option ℕ) → is_left_out total set o ≡ true →
+left_out_group : (total : ℕ) (set : ℕ → Bool) (o : Option ℕ) → is_unlisted_reference total set o ≡ true →
     (k : ℕ) × (o ≡ Some k) × (nat_le k total ≡ true) × (set k ≡ false)
 left_out_group total set None h = cc
 left_out_group total set (Some k) h = (k, refl, and_left (nat_le k total) (not (set k)) h, not_true (set k) (and_right (nat_le k total) (not (set k)) h))
@@ -47,7 +47,7 @@ left_out_group total set (Some k) h = (k, refl, and_left (nat_le k total) (not (
 module _ (t : Tree) (total : ℕ) (set : ℕ → Bool) (keys : List ℕ) (has : (k : ℕ) → set k ≡ true → Contains keys k)
     (had : (k : ℕ) → Contains keys k → set k ≡ true) where
   abbrev LeftOut : Tree → Bool
-  LeftOut u = is_left_out total set (back_group u)
+  LeftOut u = is_unlisted_reference total set (back_group u)
 
   abbrev Other : ℕ → Bool
   Other k = not (is_named_in total t k)
@@ -62,7 +62,7 @@ module _ (t : Tree) (total : ℕ) (set : ℕ → Bool) (keys : List ℕ) (has : 
       let found = any_finds (refers_to k) (nodes t) (and_right (nat_le k total) (list_any (refers_to k) (nodes t)) h) in
       absurd (clash (list_any LeftOut (nodes t))
       (any_has LeftOut (nodes t) found.0 found.2
-      (ap (is_left_out total set) (back_group_is k found.0 found.1)
+      (ap (is_unlisted_reference total set) (back_group_is k found.0 found.1)
       ∙ both_true (nat_le k total) (not (set k)) (and_left (nat_le k total) (list_any (refers_to k) (nodes t)) h) (ap not e)))
       none))
       (either_is (set k)))

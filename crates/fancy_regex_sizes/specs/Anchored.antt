@@ -3,7 +3,7 @@ use Rattle.std.specs.Prelude.{◌≡◌, ℕ, ◌⊎◌, Bool, true, false, ◌&
 use Rattle.fancy_regex_tree.specs.Tree.{Tree, Trees, assertion, concat, alt, group, look_around, repeat, atomic_group, continue, no_trees, more_trees}
 use Rattle.fancy_regex_tree.specs.declared.expr.Assertion.TheVariants.{StartText}
 use Rattle.fancy_regex_tree.specs.declared.expr.LookAround.TheVariants.{LookAhead}
-use Rattle.fancy_regex_meaning.specs.Ways.{Setting, Way, is_none_of, ways}
+use Rattle.fancy_regex_meaning.specs.Ways.{Setting, MatchState, is_none_of, ways}
 
 -- what is entered first is an assertion of one of these places
 unfoldable mutual
@@ -30,4 +30,4 @@ IsAnchor s p = (p ≡ 0) ⊎ (s.continue_at ≡ Some p)
 
 -- wherever the tree has a way, in whatever pattern it stands
 abbrev pub IsAnchored : Tree → Type 0
-IsAnchored t = (s : Setting) (groups : List Tree) (n : ℕ) (w : Way) → is_none_of (ways s groups n t w) ≡ false → IsAnchor s w.position
+IsAnchored t = (s : Setting) (groups : List Tree) (n : ℕ) (w : MatchState) → is_none_of (ways s groups n t w) ≡ false → IsAnchor s w.position

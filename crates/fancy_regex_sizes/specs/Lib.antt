@@ -1,8 +1,8 @@
-pub mod NodeCauses
-pub mod Endings
-pub mod Starts
-pub mod Written
-pub mod PartCauses
-pub mod Causes
+pub mod NodeErrors
+pub mod TerminationFixpoint
+pub mod LeftRecursion
+pub mod EmittedParts
+pub mod UnsupportedParts
+pub mod AnalysisErrors
 pub mod Anchored
 pub mod WellFormed

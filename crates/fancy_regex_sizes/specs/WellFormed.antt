@@ -1,10 +1,10 @@
--- Trees as the reader makes them.
+-- Well-formed trees: those that the parser can make.
 use Rattle.std.specs.Prelude.{◌≡◌, ℕ, Bool, true, false, not, ◌&&◌, nat_lt, nat_le, Option, Some, None}
 use Rattle.std.specs.List.{list_any}
-use Rattle.fancy_regex_tree.specs.Marks.{refers_to, is_call}
+use Rattle.fancy_regex_tree.specs.ReferenceSummary.{refers_to, is_call}
 use Rattle.fancy_regex_tree.specs.Printable.{is_one_character}
 use Rattle.fancy_regex_tree.specs.Tree.{Tree, literal, alt, repeat, no_trees}
-use Rattle.fancy_regex_tree.specs.Walks.{nodes}
+use Rattle.fancy_regex_tree.specs.Traversal.{nodes}
 use Rattle.fancy_regex_meaning.specs.Groups.{group_count}
 
 -- an alternation without a branch, a literal that is not one character, or a repeat whose least count is above its greatest
@@ -15,9 +15,9 @@ is_ill_formed (repeat t lo hi greedy) = nat_lt hi lo
 is_ill_formed t = false
 
 -- a back reference or a condition on a group up to the total that is not in the set
-abbrev pub is_left_out : ℕ → (ℕ → Bool) → Option ℕ → Bool
-is_left_out total set None = false
-is_left_out total set (Some k) = nat_le k total && not (set k)
+abbrev pub is_unlisted_reference : ℕ → (ℕ → Bool) → Option ℕ → Bool
+is_unlisted_reference total set None = false
+is_unlisted_reference total set (Some k) = nat_le k total && not (set k)
 
 -- back references and conditions name this group, which is within the total
 abbrev pub is_named_in : ℕ → Tree → ℕ → Bool

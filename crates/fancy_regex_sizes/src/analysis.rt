@@ -1,57 +1,60 @@
-//! The analysis of a whole pattern.
+//! The analysis of a whole pattern: all checks, then the analysis of each node.
 
 ghost use Rattle.std.specs.Prelude.{◌≡◌, ◌⊎◌, true, false, ◌||◌, ◌&&◌, map, IfOk, IfErr};
 ghost use Rattle.fancy_regex_tree.specs.Tree.{tree_of};
 ghost use Rattle.fancy_regex_info.specs.Analysis.{analysis};
-ghost use Rattle.fancy_regex_sizes.specs.Causes.{Holds, is_root_refused, root_shows, has_faulty_node, HasStoppedPart};
-ghost use Rattle.fancy_regex_sizes.specs.Endings.{never_ends, is_never_ending};
-ghost use Rattle.fancy_regex_info.specs.Infos.{info_of, facts_in};
-ghost use Rattle.fancy_regex_sizes.specs.NodeCauses.{is_memory};
+ghost use Rattle.fancy_regex_sizes.specs.AnalysisErrors.{ErrorHolds, is_root_refused, is_root_error, has_invalid_node, HasUnsupportedPart};
+ghost use Rattle.fancy_regex_sizes.specs.TerminationFixpoint.{never_ends, is_never_ending};
+ghost use Rattle.fancy_regex_info.specs.Infos.{info_of, properties_in};
+ghost use Rattle.fancy_regex_sizes.specs.NodeErrors.{is_memory};
 ghost use Rattle.fancy_regex_info.specs.declared.error.CompileError.{CompileError};
 ghost use Rattle.fancy_regex_info.specs.Views.{body_tree};
 
-use crate::ends::{can_end_in, ending_groups};
+use crate::left_recursion::check_left_recursion;
 use crate::nodes::check_nodes;
-use crate::parts::check_written;
-use crate::starts::check_starts;
+use crate::termination::{can_end_in, ending_groups};
+use crate::unsupported::check_emitted_parts;
 use fancy_regex_info::{
-    AnalyzeContext, CompileError, Info, add_calls, describe_whole, groups_of, known_sizes,
+    AnalyzeContext, CompileError, Info, add_calls, analyze_tree, group_call_sizes, groups_of,
 };
 use fancy_regex_tree::{Expr, ExprTree};
 use std::alloc::Global;
 
-/// The greatest weight of a whole tree.
+/// The greatest weight of a whole pattern, in states.
 const GREATEST_WEIGHT: u64 = 4_294_967_295;
 
-/// Sizes, weights and more of each node of the tree, or a cause for which it is refused. Of several causes that hold any
-/// may be told. The recursion goes as deep as the tree, which is at most 832 for one that was read.
+/// Analyzes each node of the tree. Refused are patterns with numbered references among named groups, references to missing
+/// groups, reversed quantifier bounds, unresolved nodes, never ending or left recursion, too great a weight, only empty
+/// matches where these are excluded, variable look-behind, and unsupported features; every such pattern is refused, with
+/// any one of the errors that apply to it. The other error is `Memory`. Recursion is as deep as the tree, which is at
+/// most 832 for a parsed one.
 pub fn analyze<'a>(
     alloc: Global,
     tree: &'a ExprTree,
     context: AnalyzeContext,
 ) -> Result<Info<'a>, CompileError>
     ensures answer { IfOk result (λ info. info_of info ≡ analysis context.explicit_capture_group_0 (tree_of tree.now.expr)) }
-    ensures refused { IfErr result (λ e. (is_memory e ≡ true) ⊎ Holds context tree.now.named_backref_only (tree_of tree.now.expr) e) }
-    ensures complete { IfOk result (λ _. (e : CompileError) → Holds context tree.now.named_backref_only (tree_of tree.now.expr) e → ⊥) }
-    ensures nodes { IfOk result (λ _. has_faulty_node context.explicit_capture_group_0 (tree_of tree.now.expr) ≡ false) }
-    ensures parts { IfOk result (λ _. HasStoppedPart context.explicit_capture_group_0 (tree_of tree.now.expr) → ⊥) }
+    ensures refused { IfErr result (λ e. (is_memory e ≡ true) ⊎ ErrorHolds context tree.now.named_backref_only (tree_of tree.now.expr) e) }
+    ensures complete { IfOk result (λ _. (e : CompileError) → ErrorHolds context tree.now.named_backref_only (tree_of tree.now.expr) e → ⊥) }
+    ensures nodes { IfOk result (λ _. has_invalid_node context.explicit_capture_group_0 (tree_of tree.now.expr) ≡ false) }
+    ensures parts { IfOk result (λ _. HasUnsupportedPart context.explicit_capture_group_0 (tree_of tree.now.expr) → ⊥) }
 {
     if tree.named_backref_only {
         return Err(CompileError::NamedBackrefOnly);
     }
     let groups = groups_of(alloc, &tree.expr, context.explicit_capture_group_0)?;
     check_nodes(alloc, &tree.expr, groups.len())?;
-    check_end(alloc, &tree.expr, &groups)?;
-    let sizes = known_sizes(alloc, &groups)?;
-    let info = describe_whole(alloc, &tree.expr, &groups, &sizes, context)?;
+    check_termination(alloc, &tree.expr, &groups)?;
+    let sizes = group_call_sizes(alloc, &groups)?;
+    let info = analyze_tree(alloc, &tree.expr, &groups, &sizes, context)?;
     check_root(&info, context)?;
-    check_starts(alloc, &groups, &sizes)?;
-    check_written(alloc, &tree.expr, &groups, &sizes)?;
+    check_left_recursion(alloc, &groups, &sizes)?;
+    check_emitted_parts(alloc, &tree.expr, &groups, &sizes)?;
     Ok(info)
 }
 
-/// Refuses a pattern with calls that cannot end.
-fn check_end(alloc: Global, expr: &Expr, groups: &[&Expr]) -> Result<(), CompileError>
+/// Refuses a pattern with subroutine calls in which every path calls again, with `NeverEndingRecursion`.
+fn check_termination(alloc: Global, expr: &Expr, groups: &[&Expr]) -> Result<(), CompileError>
     ensures refused { IfErr result (λ e. (is_memory e || (never_ends (map body_tree groups.now) (tree_of expr.now) && is_never_ending e)) ≡ true) }
     ensures complete { IfOk result (λ _. never_ends (map body_tree groups.now) (tree_of expr.now) ≡ false) }
 {
@@ -68,10 +71,11 @@ fn check_end(alloc: Global, expr: &Expr, groups: &[&Expr]) -> Result<(), Compile
     }
 }
 
-/// Refuses a pattern that is too heavy, or that has only empty matches where none is wanted.
+/// Refuses a pattern above the weight limit (`PatternTooComplex`), and one with only empty matches where these are excluded
+/// (`PatternCanNeverMatch`).
 fn check_root(info: &Info, context: AnalyzeContext) -> Result<(), CompileError>
-    ensures refused { IfErr result (λ e. root_shows context.find_not_empty (facts_in (info_of info.now)) e ≡ true) }
-    ensures complete { IfOk result (λ _. is_root_refused context.find_not_empty (facts_in (info_of info.now)) ≡ false) }
+    ensures refused { IfErr result (λ e. is_root_error context.find_not_empty (properties_in (info_of info.now)) e ≡ true) }
+    ensures complete { IfOk result (λ _. is_root_refused context.find_not_empty (properties_in (info_of info.now)) ≡ false) }
 {
     if info.weight > GREATEST_WEIGHT - 2 {
         return Err(CompileError::PatternTooComplex);

@@ -1,4 +1,4 @@
-//! Patterns that match at one place only.
+//! Anchored patterns: those that can match at one position only.
 
 ghost use Rattle.std.specs.Prelude.{◌≡◌, true, map};
 ghost use Rattle.fancy_regex_tree.specs.Tree.{Tree, tree_of, trees};
@@ -6,8 +6,8 @@ ghost use Rattle.fancy_regex_sizes.specs.Anchored.{begins_anchored, all_begin_an
 
 use fancy_regex_tree::{Assertion, Expr, LookAround};
 
-/// Whether each way of the tree begins at the start of the text, or where the search continues. Takes no memory; the
-/// recursion goes as deep as the tree.
+/// Whether every match of the tree starts with `\A`, at the start of the haystack, or with `\G`, where the search
+/// continues. False says nothing. Allocates nothing; recursion is as deep as the tree.
 pub fn can_compile_as_anchored(expr: &Expr) -> bool
     ensures answer { result ≡ begins_anchored (tree_of expr.now) }
     ensures law { result ≡ true → IsAnchored (tree_of expr.now) }

@@ -1,17 +1,16 @@
-//! The analysis of whole patterns: their sizes and weights, why one may be refused, whether a tree is as the reader makes it,
-//! and whether a pattern matches at one place only. What is said of each node is shown again here.
+//! The analysis of whole patterns: sizes and weights of all nodes, or the error for which a pattern is refused; whether a
+//! tree is one that the parser could have made; and whether a pattern matches at one position only. Re-exports the public
+//! types of `fancy_regex_info`.
 #![tactic(auto)]
 
 mod analysis;
 mod anchored;
-mod ends;
+mod emitted;
+mod left_recursion;
 mod nodes;
-mod parts;
-mod starts;
-#[cfg(test)]
-mod tests;
+mod termination;
+mod unsupported;
 mod well_formed;
-mod written;
 
 pub use analysis::analyze;
 pub use anchored::can_compile_as_anchored;

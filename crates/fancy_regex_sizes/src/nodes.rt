@@ -1,20 +1,21 @@
-//! Causes that a node alone shows.
+//! Errors that a single node shows, without regard to the rest of the pattern.
 
 ghost use Rattle.std.specs.Prelude.{◌≡◌, ℕ, true, false, not, ◌&&◌, ◌||◌, nat_lt, map, string_bytes, IfOk, IfErr};
 ghost use Rattle.fancy_regex_tree.specs.Tree.{tree_of, trees, absent_tree_of, ast_tree_of, by_number, target_of};
-ghost use Rattle.fancy_regex_sizes.specs.NodeCauses.{some_node, some_node_of, is_memory, is_no_group, is_faulty, shows, is_invalid, is_not_found, names, signed};
+ghost use Rattle.fancy_regex_sizes.specs.NodeErrors.{some_node, some_node_of, is_memory, is_no_group, is_invalid_node, shows, is_invalid, is_not_found, names, signed};
 
 use fancy_regex_info::CompileError;
 use fancy_regex_tree::{Absent, AstNode, CaptureGroupTarget, Expr};
 use std::alloc::{AllocError, Global};
 
-/// Refuses a tree with a repeat whose least count is above its greatest, with a reference, a condition or a call of what is
-/// no group, or with a node that the reader resolves. There are groups with the numbers below `groups`.
-#[tactic(auto, unfolding(crate::specs::NodeCauses::some_node))]
+/// Refuses a tree with a quantifier whose lower bound is above its upper (`RepeatBoundsReversed`), a reference or condition
+/// on a missing group or group 0 (`InvalidBackref`), a call of a missing group (`SubroutineCallTargetNotFound`), or an
+/// unresolved node (`UnresolvedAstNode`). The groups are those with numbers below `groups`. The other error is `Memory`.
+#[tactic(auto, unfolding(crate::specs::NodeErrors::some_node))]
 #[cycle(nodes)]
 pub(crate) fn check_nodes(alloc: Global, expr: &Expr, groups: usize) -> Result<(), CompileError>
     ensures refused { IfErr result (λ e. (is_memory e || some_node (shows groups e) (tree_of expr.now)) ≡ true) }
-    ensures complete { IfOk result (λ _. some_node (is_faulty groups) (tree_of expr.now) ≡ false) }
+    ensures complete { IfOk result (λ _. some_node (is_invalid_node groups) (tree_of expr.now) ≡ false) }
 {
     match expr {
         Expr::Backref { group, .. } => check_reference(*group, groups),
@@ -53,11 +54,11 @@ pub(crate) fn check_nodes(alloc: Global, expr: &Expr, groups: usize) -> Result<(
     }
 }
 
-#[tactic(auto, unfolding(crate::specs::NodeCauses::some_node))]
+#[tactic(auto, unfolding(crate::specs::NodeErrors::some_node))]
 #[cycle(nodes)]
 fn check_absent(alloc: Global, absent: &Absent, groups: usize) -> Result<(), CompileError>
     ensures refused { IfErr result (λ e. (is_memory e || some_node (shows groups e) (absent_tree_of absent.now)) ≡ true) }
-    ensures complete { IfOk result (λ _. some_node (is_faulty groups) (absent_tree_of absent.now) ≡ false) }
+    ensures complete { IfOk result (λ _. some_node (is_invalid_node groups) (absent_tree_of absent.now) ≡ false) }
 {
     match absent {
         Absent::Repeater(child) | Absent::Stopper(child) => check_nodes(alloc, child, groups),
@@ -72,7 +73,7 @@ fn check_absent(alloc: Global, absent: &Absent, groups: usize) -> Result<(), Com
 #[cycle(nodes)]
 fn check_each(alloc: Global, parts: &[Expr], groups: usize) -> Result<(), CompileError>
     ensures refused { IfErr result (λ e. (is_memory e || some_node_of (shows groups e) (trees (map tree_of parts.now))) ≡ true) }
-    ensures complete { IfOk result (λ _. some_node_of (is_faulty groups) (trees (map tree_of parts.now)) ≡ false) }
+    ensures complete { IfOk result (λ _. some_node_of (is_invalid_node groups) (trees (map tree_of parts.now)) ≡ false) }
 {
     for part in parts {
         check_nodes(alloc, part, groups)?;
@@ -80,7 +81,7 @@ fn check_each(alloc: Global, parts: &[Expr], groups: usize) -> Result<(), Compil
     Ok(())
 }
 
-/// Group 0 is no group to a reference.
+/// Refuses a reference to a group that does not exist. Back references and conditions cannot name group 0.
 fn check_reference(group: usize, groups: usize) -> Result<(), CompileError>
     ensures refused { IfErr result (λ e. (is_no_group groups group && is_invalid group e) ≡ true) }
     ensures complete { IfOk result (λ _. is_no_group groups group ≡ false) }
@@ -92,6 +93,7 @@ fn check_reference(group: usize, groups: usize) -> Result<(), CompileError>
     }
 }
 
+/// Refuses a subroutine call of a group that does not exist.
 fn check_call(alloc: Global, group: usize, groups: usize) -> Result<(), CompileError>
     ensures refused { IfErr result (λ e. (is_memory e || (not (nat_lt group groups) && is_not_found (by_number group) e)) ≡ true) }
     ensures complete { IfOk result (λ _. not (nat_lt group groups) ≡ false) }
@@ -103,8 +105,8 @@ fn check_call(alloc: Global, group: usize, groups: usize) -> Result<(), CompileE
     Err(CompileError::SubroutineCallTargetNotFound(target))
 }
 
-/// The cause for which a node is refused that the reader resolves: a call that was not resolved names what is no group.
-#[tactic(auto, unfolding(crate::specs::NodeCauses::some_node))]
+/// The error for an unresolved node; an unresolved call counts as a call of a missing group.
+#[tactic(auto, unfolding(crate::specs::NodeErrors::some_node))]
 fn unresolved(alloc: Global, node: &AstNode) -> Result<CompileError, AllocError>
     ensures { IfOk result (λ e. (groups position : ℕ) → some_node (shows groups e) (ast_tree_of node.now position) ≡ true) }
 {
@@ -119,7 +121,7 @@ fn unresolved(alloc: Global, node: &AstNode) -> Result<CompileError, AllocError>
     }
 }
 
-/// The name, the number, or the distance with its sign.
+/// The text of a call's target: the name, the number, or the signed relative number.
 fn target_text(alloc: Global, target: &CaptureGroupTarget) -> Result<String, AllocError>
     ensures { IfOk result (λ text. names (target_of target.now) (string_bytes text) ≡ true) }
 {
@@ -130,6 +132,7 @@ fn target_text(alloc: Global, target: &CaptureGroupTarget) -> Result<String, All
     }
 }
 
+/// A relative group number with its sign.
 fn distance_text(alloc: Global, distance: isize) -> Result<String, AllocError>
     ensures { IfOk result (λ text. string_bytes text ≡ signed distance) }
 {

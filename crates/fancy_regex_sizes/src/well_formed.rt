@@ -1,22 +1,22 @@
-//! Trees as the reader makes them.
+//! Well-formed trees: those whose nodes and summary fields are as the parser makes them.
 
 ghost use Rattle.std.specs.Prelude.{◌≡◌, ◌↔◌, ℕ, ◌+◌, ◌<◌, not, chars, map, false, IsTrue, MatchOption};
 ghost use Rattle.std.specs.BTreeSet.{contains};
 ghost use Rattle.std.specs.List.{list_any};
 ghost use Rattle.std.specs.Ordering.{nat_cmp};
-ghost use Rattle.fancy_regex_tree.specs.Marks.{refers_to, is_call, back_group};
+ghost use Rattle.fancy_regex_tree.specs.ReferenceSummary.{refers_to, is_call, back_group};
 ghost use Rattle.fancy_regex_tree.specs.Printable.{is_one_character};
 ghost use Rattle.fancy_regex_tree.specs.Tree.{tree_of, trees, absent_tree_of, ast_tree_of};
-ghost use Rattle.fancy_regex_tree.specs.Walks.{nodes};
+ghost use Rattle.fancy_regex_tree.specs.Traversal.{nodes};
 ghost use Rattle.fancy_regex_meaning.specs.Groups.{group_count, row_group_count};
-ghost use Rattle.fancy_regex_sizes.specs.WellFormed.{is_ill_formed, is_left_out, is_named_in, IsWellFormed};
+ghost use Rattle.fancy_regex_sizes.specs.WellFormed.{is_ill_formed, is_unlisted_reference, is_named_in, IsWellFormed};
 
 use fancy_regex_text::{is_empty, split_first};
 use fancy_regex_tree::{Absent, AstNode, Expr, ExprTree};
 
-/// Whether the tree is as the reader makes it: no alternation is without a branch, each literal is one character, no
-/// repeat's least count is above its greatest, and the groups that are named by references, whether something is called,
-/// and the count of groups are those of the tree. Takes no memory; the recursion goes as deep as the tree.
+/// Whether the tree is well-formed: each alternation has a branch, each literal is one character, no quantifier's lower
+/// bound is above its upper bound, and the fields `backrefs`, `contains_subroutines` and `total_groups` agree with the
+/// nodes. Allocates nothing; recursion is as deep as the tree.
 pub fn is_well_formed(tree: &ExprTree) -> bool
     ensures { IsTrue result ↔ IsWellFormed (tree_of tree.now.expr) tree.now.total_groups tree.now.contains_subroutines (contains nat_cmp tree.now.backrefs) }
 {
@@ -32,7 +32,7 @@ fn nodes_agree(tree: &ExprTree) -> bool
 fn groups_agree(tree: &ExprTree) -> bool
     ensures { IsTrue result ↔ (tree.now.total_groups ≡ group_count (tree_of tree.now.expr)) }
 {
-    match groups_left(&tree.expr, tree.total_groups) {
+    match remaining_groups(&tree.expr, tree.total_groups) {
         Some(left) => left == 0,
         None => false,
     }
@@ -47,10 +47,10 @@ fn calls_agree(tree: &ExprTree) -> bool
 fn references_agree(tree: &ExprTree) -> bool
     ensures { IsTrue result ↔ ((k : ℕ) → contains nat_cmp tree.now.backrefs k ≡ is_named_in tree.now.total_groups (tree_of tree.now.expr) k) }
 {
-    !leaves_out(tree) && !has_others(tree)
+    !has_unlisted_reference(tree) && !has_unknown_reference(tree)
 }
 
-/// Whether some node is none that the reader makes.
+/// Whether some node of the tree is ill-formed.
 fn has_ill_formed(expr: &Expr) -> bool
     ensures { result ≡ list_any is_ill_formed (nodes (tree_of expr.now)) }
 {
@@ -78,7 +78,7 @@ fn is_one_character(text: &str) -> bool
     }
 }
 
-/// Whether something is called, also by a call that was not resolved.
+/// Whether the tree has a subroutine call, resolved or not.
 fn has_calls(expr: &Expr) -> bool
     ensures { result ≡ list_any is_call (nodes (tree_of expr.now)) }
 {
@@ -106,7 +106,7 @@ fn is_unresolved_call(node: &AstNode) -> bool
     }
 }
 
-/// The group of a back reference or a condition.
+/// The group number that a back reference or condition names.
 fn back_group(node: &Expr) -> Option<usize>
     ensures { result ≡ back_group (tree_of node.now) }
 {
@@ -118,15 +118,18 @@ fn back_group(node: &Expr) -> Option<usize>
     }
 }
 
-/// Whether a back reference or a condition is on a group up to the total that the tree is not said to name.
-fn leaves_out(tree: &ExprTree) -> bool
-    ensures { result ≡ list_any (λ u. is_left_out tree.now.total_groups (contains nat_cmp tree.now.backrefs) (back_group u)) (nodes (tree_of tree.now.expr)) }
+/// Whether a back reference or condition names a group within the total that is missing in the field `backrefs`.
+fn has_unlisted_reference(tree: &ExprTree) -> bool
+    ensures { result ≡ list_any (λ u. is_unlisted_reference tree.now.total_groups (contains nat_cmp tree.now.backrefs) (back_group u)) (nodes (tree_of tree.now.expr)) }
 {
-    is_left_out(tree, &tree.expr) || tree.expr.has_descendant(|node| is_left_out(tree, node))
+    is_unlisted_reference(tree, &tree.expr)
+        || tree
+            .expr
+            .has_descendant(|node| is_unlisted_reference(tree, node))
 }
 
-fn is_left_out(tree: &ExprTree, node: &Expr) -> bool
-    ensures { result ≡ is_left_out tree.now.total_groups (contains nat_cmp tree.now.backrefs) (back_group (tree_of node.now)) }
+fn is_unlisted_reference(tree: &ExprTree, node: &Expr) -> bool
+    ensures { result ≡ is_unlisted_reference tree.now.total_groups (contains nat_cmp tree.now.backrefs) (back_group (tree_of node.now)) }
 {
     match back_group(node) {
         Some(group) => group <= tree.total_groups && !tree.backrefs.contains(&group),
@@ -134,14 +137,14 @@ fn is_left_out(tree: &ExprTree, node: &Expr) -> bool
     }
 }
 
-/// Whether the tree is said to name a group that is none, or that it does not name.
-fn has_others(tree: &ExprTree) -> bool
+/// Whether `backrefs` holds a number above the total, or one that no back reference or condition names.
+fn has_unknown_reference(tree: &ExprTree) -> bool
     ensures { result ≡ list_any (λ k. not (is_named_in tree.now.total_groups (tree_of tree.now.expr) k)) tree.now.backrefs.keys }
 {
     tree.backrefs.iter().any(|group| *group > tree.total_groups || !names(&tree.expr, *group))
 }
 
-/// Whether a back reference or a condition is on the group.
+/// Whether a back reference or condition of the tree names the group.
 fn names(expr: &Expr, group: usize) -> bool
     ensures { result ≡ list_any (refers_to group) (nodes (tree_of expr.now)) }
 {
@@ -159,27 +162,27 @@ fn refers_to(node: &Expr, wanted: usize) -> bool
     }
 }
 
-/// So many groups less those of the tree, or none where it has more.
+/// `left` minus the number of capture groups of the tree; `None` if the tree has more.
 #[tactic(auto, unfolding(fancy_regex_meaning::specs::Groups::group_count))]
 #[cycle(left)]
-fn groups_left(expr: &Expr, left: usize) -> Option<usize>
+fn remaining_groups(expr: &Expr, left: usize) -> Option<usize>
     ensures { MatchOption result (left < group_count (tree_of expr.now)) (λ rest. rest + group_count (tree_of expr.now) ≡ left) }
 {
     match expr {
-        Expr::Group(child) => groups_left(child, left.checked_sub(1)?),
+        Expr::Group(child) => remaining_groups(child, left.checked_sub(1)?),
         Expr::Concat(parts) | Expr::Alt(parts) => groups_left_by_each(parts, left),
-        Expr::LookAround(child, _) | Expr::AtomicGroup(child) => groups_left(child, left),
-        Expr::Repeat { child, .. } => groups_left(child, left),
+        Expr::LookAround(child, _) | Expr::AtomicGroup(child) => remaining_groups(child, left),
+        Expr::Repeat { child, .. } => remaining_groups(child, left),
         Expr::Conditional {
             condition,
             true_branch,
             false_branch,
         } => {
-            let left = groups_left(condition, left)?;
-            let left = groups_left(true_branch, left)?;
-            groups_left(false_branch, left)
+            let left = remaining_groups(condition, left)?;
+            let left = remaining_groups(true_branch, left)?;
+            remaining_groups(false_branch, left)
         }
-        Expr::DefineGroup { definitions } => groups_left(definitions, left),
+        Expr::DefineGroup { definitions } => remaining_groups(definitions, left),
         Expr::Absent(absent) => groups_left_by_absent(absent, left),
         Expr::AstNode(node, _) => groups_left_by_unresolved(node, left),
         Expr::Empty | Expr::Any { .. } | Expr::Assertion(_) | Expr::GeneralNewline { .. } => {
@@ -199,8 +202,11 @@ fn groups_left_by_absent(absent: &Absent, left: usize) -> Option<usize>
     ensures { MatchOption result (left < group_count (absent_tree_of absent.now)) (λ rest. rest + group_count (absent_tree_of absent.now) ≡ left) }
 {
     match absent {
-        Absent::Repeater(child) | Absent::Stopper(child) => groups_left(child, left),
-        Absent::Expression { absent, exp } => groups_left(exp, groups_left(absent, left)?),
+        Absent::Repeater(child) | Absent::Stopper(child) => remaining_groups(child, left),
+        Absent::Expression { absent, exp } => remaining_groups(
+            exp,
+            remaining_groups(absent, left)?,
+        ),
         Absent::Clear => Some(left),
     }
 }
@@ -211,7 +217,7 @@ fn groups_left_by_unresolved(node: &AstNode, left: usize) -> Option<usize>
     ensures { (position : ℕ) → MatchOption result (left < group_count (ast_tree_of node.now position)) (λ rest. rest + group_count (ast_tree_of node.now position) ≡ left) }
 {
     match node {
-        AstNode::AstGroup { inner, .. } => groups_left(inner, left),
+        AstNode::AstGroup { inner, .. } => remaining_groups(inner, left),
         AstNode::Backref { .. } | AstNode::SubroutineCall(_) => Some(left),
         AstNode::BackrefExistsCondition { .. } => Some(left),
     }
@@ -223,7 +229,7 @@ fn groups_left_by_each(parts: &[Expr], left: usize) -> Option<usize>
 {
     let mut left = left;
     for part in parts {
-        left = groups_left(part, left)?;
+        left = remaining_groups(part, left)?;
     }
     Some(left)
 }

@@ -1,5 +1,6 @@
-//! The slots of a backtracking machine: a row of slots that is read and written, and a stack of branches that each hold
-//! a complete copy of the row as it was. The copies share pages until one of them is written.
+//! The slots of a backtracking VM: the current slots, and a stack of branches that each save all slots as they were when
+//! the branch was pushed. Saved slots share their pages (copy on write), so pushing a branch costs constant time. After
+//! an error nothing has changed.
 #![tactic(auto)]
 
 pub mod branch;

@@ -1,6 +1,6 @@
-pub mod Texts
-pub mod Spans
-pub mod Layouts
+pub mod TextLemmas
+pub mod SpanLemmas
+pub mod LayoutLemmas
 pub mod Computing
-pub mod LayoutRowsProof
-pub mod NameRowsProof
+pub mod LayoutExamplesProof
+pub mod NameExamplesProof

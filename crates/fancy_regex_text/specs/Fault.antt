@@ -1,4 +1,4 @@
--- Why a text is no pattern, and where; and readings that may stop at such a fault.
+-- Parse errors, and the results of parsing functions: a value, or the first error with its position.
 use Rattle.std.specs.Prelude.{◌≡◌, ℕ, ◌++◌, Result, Ok, Err, chars, string_bytes}
 use Rattle.fancy_regex_text.specs.Text.{Text, bytes}
 use Rattle.fancy_regex_text.specs.declared.fault.ParseError.{ParseError}
@@ -6,6 +6,7 @@ use Rattle.fancy_regex_text.specs.declared.fault.ParseError.TheVariants.{General
 use Rattle.fancy_regex_text.specs.declared.fault.ReadError.{ReadError}
 use Rattle.fancy_regex_text.specs.declared.fault.ReadError.TheVariants as errors
 
+-- the kinds of parse errors, with texts as characters
 pub data Kind : Type 0 where
   general_parse_error : Text → Kind
   unclosed_open_paren : Kind
@@ -24,25 +25,27 @@ pub data Kind : Type 0 where
   invalid_group_name : Kind
   invalid_group_name_backref : Text → Kind
 
+-- a parse error
 pub record Fault : Type 0 where
   pub kind : Kind
-  -- how many bytes its place has behind it, up to the end of the pattern
+  -- the number of bytes from the position of the error to the end of the pattern
   pub left : ℕ
 
-abbrev pub Reading : Type 0 → Type 0
-Reading A = Result A Fault
+-- the result of parsing: a value, or the first error
+abbrev pub ParseOutcome : Type 0 → Type 0
+ParseOutcome A = Result A Fault
 
--- one step after another, where each may stop
+-- one parsing step and then another, where each may fail
 infixl 10 ◌>>=◌
-abbrev pub ◌>>=◌ : {A B : Type 0} → Reading A → (A → Reading B) → Reading B
+abbrev pub ◌>>=◌ : {A B : Type 0} → ParseOutcome A → (A → ParseOutcome B) → ParseOutcome B
 Ok a >>= f = f a
 Err e >>= f = Err e
 
--- stops with this fault at the start of this rest of the pattern; at `[]` for the end of the text
-abbrev pub stop : {A : Type 0} → Kind → Text → Reading A
-stop kind t = Err (record { kind = kind; left = bytes t })
+-- fails with this kind at the position where this rest of the pattern begins; `[]` is the end of the pattern
+abbrev pub fail_at : {A : Type 0} → Kind → Text → ParseOutcome A
+fail_at kind t = Err (record { kind = kind; left = bytes t })
 
--- a declared fault, with texts as characters
+-- the kind of an error of the code, with its payload as characters
 abbrev pub kind_of : ParseError → Kind
 kind_of (GeneralParseError s) = general_parse_error (chars (string_bytes s))
 kind_of UnclosedOpenParen = unclosed_open_paren
@@ -61,22 +64,22 @@ kind_of TargetNotRepeatable = target_not_repeatable
 kind_of InvalidGroupName = invalid_group_name
 kind_of (InvalidGroupNameBackref s) = invalid_group_name_backref (chars (string_bytes s))
 
--- the reading stops where this error says, unless memory ran out
-abbrev pub Fails : {A : Type 0} → ReadError → Reading A → Type 0
+-- this error of the code is the error of the definition; want of memory says nothing
+abbrev pub Fails : {A : Type 0} → ReadError → ParseOutcome A → Type 0
 Fails (errors.Fault f) read = read ≡ Err (record { kind = kind_of f.kind; left = f.left })
 Fails errors.Memory read = Unit {0}
 
--- what a function returned, seen by `view`, is what is read, unless memory ran out
-abbrev pub Gives : {X A : Type 0} → (X → A) → Result X ReadError → Reading A → Type 0
+-- what a function returned, converted by `view`, is the result of the definition; want of memory says nothing
+abbrev pub Gives : {X A : Type 0} → (X → A) → Result X ReadError → ParseOutcome A → Type 0
 Gives view (Ok x) read = read ≡ Ok (view x)
 Gives view (Err e) read = Fails e read
 
--- what is read, behind a text that stands in front of it
-abbrev pub with_front : Text → Reading (Text × Text) → Reading (Text × Text)
-with_front front (Ok read) = Ok (front ++ read.0, read.1)
-with_front front (Err e) = Err e
+-- the result with this text put before the text that was read
+abbrev pub prepend : Text → ParseOutcome (Text × Text) → ParseOutcome (Text × Text)
+prepend front (Ok read) = Ok (front ++ read.0, read.1)
+prepend front (Err e) = Err e
 
--- a function stopped with this fault at the place that the text follows, or memory ran out
+-- a function failed with this kind at the position where the text begins, or for want of memory
 abbrev pub Stops : {X : Type 0} → Result X ReadError → Kind → Text → Type 0
 Stops (Ok x) kind t = ⊥
 Stops (Err (errors.Fault f)) kind t = (kind_of f.kind ≡ kind) × (f.left ≡ bytes t)

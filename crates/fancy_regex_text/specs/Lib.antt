@@ -1,8 +1,8 @@
 pub mod Text
 pub mod Fault
 pub mod Layout
-pub mod Places
+pub mod LayoutStates
 pub mod Names
-pub mod LayoutRows
-pub mod NameRows
-pub mod Sure
+pub mod LayoutExamples
+pub mod NameExamples
+pub mod FaultOnly

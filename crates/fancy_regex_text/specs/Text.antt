@@ -1,13 +1,14 @@
--- Texts as lists of characters, and the words in which the grammar looks at them.
+-- Texts as lists of characters, and functions on their prefixes.
 use Rattle.std.specs.Prelude.{◌≡◌, ℕ, zero, suc, ◌+◌, ◌-◌, ◌++◌, ◌*◌, Bool, true, false, ◌||◌, ◌==◌, nat_eq, List, [], ◌∷◌, length, take, fold, codes, Option, Some, None, option_map, if◌then◌else◌}
 use Rattle.std.specs.List.{starts_with}
 use Rattle.std.specs.Char.{is_digit, digit_value, len_utf8}
 use Prim.Native.String.{String}
 
--- the characters that are still to read
+-- a list of code points: the rest of the pattern that is still to be read, or a part of it
 abbrev pub Text : Type 0
 Text = List ℕ
 
+-- the number is in the list
 abbrev pub is_among : ℕ → List ℕ → Bool
 is_among c [] = false
 is_among c (d ∷ []) = c == d
@@ -24,8 +25,8 @@ is_at s [] = false
 is_at s (c ∷ t) = c ∈ s
 
 -- the text begins with this word
-abbrev pub begins : String → Text → Bool
-begins s t = starts_with nat_eq t (codes s)
+abbrev pub has_prefix : String → Text → Bool
+has_prefix s t = starts_with nat_eq t (codes s)
 
 abbrev pub is_empty : Text → Bool
 is_empty [] = true
@@ -36,43 +37,43 @@ unfoldable pub bytes : Text → ℕ
 bytes [] = 0
 bytes (c ∷ t) = len_utf8 c + bytes t
 
--- the first character, and what follows it
+-- the first character and the rest
 abbrev pub uncons : Text → Option (ℕ × Text)
 uncons [] = None
 uncons (c ∷ t) = Some (c, t)
 
--- what follows this word, where the text begins with it
-unfoldable pub behind : Text → Text → Option Text
-behind [] t = Some t
-behind (d ∷ word) [] = None
-behind (d ∷ word) (c ∷ t) = if c == d then behind word t else None
+-- the rest of the text after this word; None if the text does not start with it
+unfoldable pub strip_prefix : Text → Text → Option Text
+strip_prefix [] t = Some t
+strip_prefix (d ∷ word) [] = None
+strip_prefix (d ∷ word) (c ∷ t) = if c == d then strip_prefix word t else None
 
--- the longest front of the text whose characters pass the test, and what follows it
+-- the longest prefix whose characters pass the test, and the rest
 unfoldable pub span : (ℕ → Bool) → Text → Text × Text
 span test [] = ([], [])
 span test (c ∷ t) = elim (test c) [ true ↦ let more = span test t in (c ∷ more.0, more.1) | false ↦ ([], c ∷ t) ]
 
--- the first character, where it passes the test, and what follows it
-abbrev pub passing : (ℕ → Bool) → Text → Option (ℕ × Text)
-passing test [] = None
-passing test (c ∷ t) = if test c then Some (c, t) else None
+-- the first character and the rest, if the character passes the test
+abbrev pub split_if : (ℕ → Bool) → Text → Option (ℕ × Text)
+split_if test [] = None
+split_if test (c ∷ t) = if test c then Some (c, t) else None
 
--- the value of the first character as a digit, and what follows it
-abbrev pub digit_front : ℕ → Text → Option (ℕ × Text)
-digit_front radix [] = None
-digit_front radix (c ∷ t) = if is_digit c radix then Some (digit_value c, t) else None
+-- the value of the first character as a digit of this radix, and the rest
+abbrev pub split_digit : ℕ → Text → Option (ℕ × Text)
+split_digit radix [] = None
+split_digit radix (c ∷ t) = if is_digit c radix then Some (digit_value c, t) else None
 
--- the longest front of at most n characters that pass the test, and what follows it
-unfoldable pub span_most : (ℕ → Bool) → ℕ → Text → Text × Text
-span_most test zero t = ([], t)
-span_most test (suc n) [] = ([], [])
-span_most test (suc n) (c ∷ t) =
-    elim (test c) [ true ↦ let more = span_most test n t in (c ∷ more.0, more.1) | false ↦ ([], c ∷ t) ]
+-- the longest prefix of at most n characters that pass the test, and the rest
+unfoldable pub span_at_most : (ℕ → Bool) → ℕ → Text → Text × Text
+span_at_most test zero t = ([], t)
+span_at_most test (suc n) [] = ([], [])
+span_at_most test (suc n) (c ∷ t) =
+    elim (test c) [ true ↦ let more = span_at_most test n t in (c ∷ more.0, more.1) | false ↦ ([], c ∷ t) ]
 
--- the text before the first place of a character, and what follows that character; None where it does not come
-unfoldable pub up_to : ℕ → Text → Option (Text × Text)
-up_to close [] = None
-up_to close (c ∷ t) = if c == close then Some ([], t) else option_map (λ found. (c ∷ found.0, found.1)) (up_to close t)
+-- the text before the first occurrence of a character, and the text after it; None if it does not occur
+unfoldable pub split_once : ℕ → Text → Option (Text × Text)
+split_once close [] = None
+split_once close (c ∷ t) = if c == close then Some ([], t) else option_map (λ found. (c ∷ found.0, found.1)) (split_once close t)
 
 abbrev pub is_decimal : ℕ → Bool
 is_decimal c = is_digit c 10
@@ -88,10 +89,10 @@ value radix digits = fold (λ n d. n * radix + digit_value d) 0 digits
 abbrev pub unbounded : ℕ
 unbounded = 18446744073709551615
 
--- the text up to where this rest of it begins
-abbrev pub up_to_rest : Text → Text → Text
-up_to_rest here rest = take (length here - length rest) here
+-- the prefix of the text before this rest of it
+abbrev pub prefix_before : Text → Text → Text
+prefix_before here rest = take (length here - length rest) here
 
--- the first is the end of the second
-abbrev pub IsEnd : Text → Text → Type 0
-IsEnd rest whole = (front : Text) × (whole ≡ front ++ rest)
+-- the first text is a suffix of the second
+abbrev pub IsSuffix : Text → Text → Type 0
+IsSuffix rest whole = (front : Text) × (whole ≡ front ++ rest)

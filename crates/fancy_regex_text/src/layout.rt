@@ -1,34 +1,36 @@
-//! What stands between tokens.
+//! Layout: what is skipped between tokens. That is comments `(?#..)`, and under the flag `x` blanks and comments from `#`
+//! to the end of the line.
 
 ghost use Rattle.std.specs.Prelude.{◌≡◌, ◌≤◌, ◌<◌, length, chars, option_map, IfOk, IfErr, IfSome, ◌∷◌};
-ghost use Rattle.fancy_regex_text.specs.Layout.{behind_blank, begins_comment, behind_first, first_step, ended, next_token, skip};
+ghost use Rattle.fancy_regex_text.specs.Layout.{state_after_blank, begins_comment, state_after, layout_step, ended, next_token, skip};
 ghost use Rattle.fancy_regex_text.specs.Fault.{Gives};
-ghost use Rattle.fancy_regex_text.specs.Places.{inside_of};
-ghost use Rattle.fancy_regex_text.specs.Sure.{IsFault};
+ghost use Rattle.fancy_regex_text.specs.LayoutStates.{layout_state_of};
+ghost use Rattle.fancy_regex_text.specs.FaultOnly.{IsFault};
 
 use crate::fault::{Fault, ParseError, ReadError};
-use crate::text::{begins, split_first};
+use crate::text::{has_prefix, split_first};
 
-/// Where a place in the layout is.
+/// The state of the scanner of layout at a position.
 #[derive(Clone, Copy)]
-pub enum Inside {
+pub enum LayoutState {
     /// Between tokens.
     Nothing,
-    /// Behind a `#`, up to the next newline.
+    /// In a comment after `#`, which ends with the next newline.
     Line,
-    /// In a `(?#..)`.
+    /// In a comment `(?#..)`.
     Comment,
-    /// In a comment behind a backslash.
-    Hidden,
+    /// In a comment `(?#..)`, directly after a backslash: the next character does not close it.
+    CommentEscape,
 }
 
-#[tactic(auto, unfolding(crate::specs::Layout::behind_blank))]
-fn behind_blank(c: char) -> Option<Inside>
-    ensures { option_map inside_of result ≡ behind_blank c }
+/// Under the flag `x`, the state after a blank or a `#` between tokens. `None` for any other character.
+#[tactic(auto, unfolding(crate::specs::Layout::state_after_blank))]
+fn state_after_blank(c: char) -> Option<LayoutState>
+    ensures { option_map layout_state_of result ≡ state_after_blank c }
 {
     match c {
-        ' ' | '\t' | '\r' | '\n' => Some(Inside::Nothing),
-        '#' => Some(Inside::Line),
+        ' ' | '\t' | '\r' | '\n' => Some(LayoutState::Nothing),
+        '#' => Some(LayoutState::Line),
         _ => None,
     }
 }
@@ -38,82 +40,86 @@ fn behind_blank(c: char) -> Option<Inside>
 fn begins_comment(text: &str) -> bool
     ensures { result ≡ begins_comment (chars text.now) }
 {
-    begins(text, "(?#")
+    has_prefix(text, "(?#")
 }
 
-#[tactic(auto, unfolding(crate::specs::Layout::behind_first))]
-fn behind_first(verbose: bool, inside: Inside, c: char, text: &str) -> Option<Inside>
-    ensures { option_map inside_of result ≡ behind_first verbose (inside_of inside) c (chars text.now) }
+/// The state after the first character `c` of the text. `None` if that character is not layout.
+#[tactic(auto, unfolding(crate::specs::Layout::state_after))]
+fn state_after(verbose: bool, inside: LayoutState, c: char, text: &str) -> Option<LayoutState>
+    ensures { option_map layout_state_of result ≡ state_after verbose (layout_state_of inside) c (chars text.now) }
 {
     match inside {
-        Inside::Nothing => {
+        LayoutState::Nothing => {
             if begins_comment(text) {
-                Some(Inside::Comment)
+                Some(LayoutState::Comment)
             } else if verbose {
-                behind_blank(c)
+                state_after_blank(c)
             } else {
                 None
             }
         }
-        Inside::Line => {
+        LayoutState::Line => {
             if c == '\n' {
-                Some(Inside::Nothing)
+                Some(LayoutState::Nothing)
             } else {
-                Some(Inside::Line)
+                Some(LayoutState::Line)
             }
         }
-        Inside::Comment => match c {
-            ')' => Some(Inside::Nothing),
-            '\\' => Some(Inside::Hidden),
-            _ => Some(Inside::Comment),
+        LayoutState::Comment => match c {
+            ')' => Some(LayoutState::Nothing),
+            '\\' => Some(LayoutState::CommentEscape),
+            _ => Some(LayoutState::Comment),
         },
-        Inside::Hidden => Some(Inside::Comment),
+        LayoutState::CommentEscape => Some(LayoutState::Comment),
     }
 }
 
-/// One character of layout: where the place behind it is, and the text there.
-#[tactic(auto, unfolding(crate::specs::Layout::first_step))]
-fn first_step(verbose: bool, inside: Inside, text: &str) -> Option<(Inside, &str)>
-    ensures value { option_map (λ x. (inside_of x.0, chars x.1.now)) result ≡ first_step verbose (inside_of inside) (chars text.now) }
+/// Skips one character of layout: the state after it, and the rest of the text. `None` if the first character is not
+/// layout, or the text is empty.
+#[tactic(auto, unfolding(crate::specs::Layout::layout_step))]
+fn layout_step(verbose: bool, inside: LayoutState, text: &str) -> Option<(LayoutState, &str)>
+    ensures value { option_map (λ x. (layout_state_of x.0, chars x.1.now)) result ≡ layout_step verbose (layout_state_of inside) (chars text.now) }
     ensures shorter { IfSome result (λ x. length (chars x.1.now) < length (chars text.now)) }
 {
     let (c, rest) = split_first(text)?;
-    let next = behind_first(verbose, inside, c, text)?;
+    let next = state_after(verbose, inside, c, text)?;
     Some((next, rest))
 }
 
-/// The text where the layout goes no further, if it has ended between tokens.
+/// The text, if layout may end in this state. `None` inside a comment `(?#..)`.
 #[tactic(auto, unfolding(crate::specs::Layout::ended))]
-fn ended(inside: Inside, text: &str) -> Option<&str>
-    ensures value { option_map (λ rest. chars rest.now) result ≡ ended (inside_of inside) (chars text.now) }
+fn ended(inside: LayoutState, text: &str) -> Option<&str>
+    ensures value { option_map (λ rest. chars rest.now) result ≡ ended (layout_state_of inside) (chars text.now) }
     ensures same { IfSome result (λ rest. chars rest.now ≡ chars text.now) }
 {
     match inside {
-        Inside::Nothing | Inside::Line => Some(text),
-        Inside::Comment | Inside::Hidden => None,
+        LayoutState::Nothing | LayoutState::Line => Some(text),
+        LayoutState::Comment | LayoutState::CommentEscape => None,
     }
 }
 
-/// The text from the first token on; None where the text ends in a comment before it.
+/// The text after its leading layout, from the first token on. `None` if the text ends inside a comment `(?#..)`. `verbose`
+/// is the flag `x`.
 pub fn next_token(verbose: bool, text: &str) -> Option<&str>
     ensures value { option_map (λ rest. chars rest.now) result ≡ next_token verbose (chars text.now) }
     ensures shorter { IfSome result (λ rest. length (chars rest.now) ≤ length (chars text.now)) }
 {
-    let mut inside = Inside::Nothing;
+    let mut inside = LayoutState::Nothing;
     let mut rest = text;
-    while let Some((next, after)) = first_step(verbose, inside, rest) {
+    while let Some((next, after)) = layout_step(verbose, inside, rest) {
         inside = next;
         rest = after;
     }
     ended(inside, rest)
 }
 
-/// The text from the first token on. Stops at the end of the text where it ends in a comment. Asks for no memory.
+/// The text after its leading layout, from the first token on. `verbose` is the flag `x`. Fails with
+/// [`ParseError::UnclosedOpenParen`] at the end of the text if it ends inside a comment `(?#..)`. Allocates nothing.
 #[tactic(auto, unfolding(crate::specs::Layout::skip, crate::specs::Text::bytes))]
 pub fn skip(verbose: bool, text: &str) -> Result<&str, ReadError>
     ensures value { Gives (λ rest. chars rest.now) result (skip verbose (chars text.now)) }
     ensures shorter { IfOk result (λ rest. length (chars rest.now) ≤ length (chars text.now)) }
-    ensures sure { IfErr result IsFault }
+    ensures fault_only { IfErr result IsFault }
 {
     let Some(rest) = next_token(verbose, text) else {
         return Err(ReadError::Fault(Fault {

@@ -1,14 +1,14 @@
-//! Names, numbers, and what references name.
+//! Group names, numbers, and the text of references. Numbers saturate: none is refused for its size.
 
 ghost use Rattle.std.specs.Prelude.{◌≡◌, ◌<◌, ◌≤◌, length, chars, option_map, IfSome, min, pos, neg_ℤ, ◌^◌, ◌-◌};
-ghost use Rattle.fancy_regex_text.specs.Text.{passing, span, digit_front};
-ghost use Rattle.fancy_regex_text.specs.Names.{is_number_category, is_name_char, is_name, digits, more_digits, whole_number, signed, named_target, reference, named_of, referred_of};
+ghost use Rattle.fancy_regex_text.specs.Text.{split_if, span, split_digit};
+ghost use Rattle.fancy_regex_text.specs.Names.{is_number_category, is_name_char, is_name, digits, append_digit, whole_number, signed, named_target, reference, named_of, referred_of};
 
-use crate::text::{is_empty, split_first, up_to_rest};
+use crate::text::{is_empty, prefix_before, split_first};
 use crate::token::{Reference, Target};
 use unicode::properties::{GeneralCategory, is_alphabetic};
 
-/// Whether the category is one of numbers.
+/// Whether the general category is one of the three of numbers.
 fn is_number_category(category: GeneralCategory) -> bool
     ensures { result ≡ is_number_category category }
 {
@@ -20,7 +20,7 @@ fn is_number_category(category: GeneralCategory) -> bool
     )
 }
 
-/// Whether the character may stand in a name.
+/// Whether the character is allowed in a group name: `_`, alphabetic, or of a number category.
 #[tactic(auto, unfolding(crate::specs::Names::is_name_char))]
 fn is_name_char(c: char) -> bool
     ensures { result ≡ is_name_char c }
@@ -28,27 +28,27 @@ fn is_name_char(c: char) -> bool
     c == '_' || is_alphabetic(c) || is_number_category(GeneralCategory::for_char(c))
 }
 
-/// What follows a character of a name.
-fn behind_name_char(text: &str) -> Option<&str>
-    ensures value { option_map (λ rest. chars rest.now) result ≡ option_map (λ x. x.1) (passing is_name_char (chars text.now)) }
+/// The text after its first character, if that is allowed in a name.
+fn strip_name_char(text: &str) -> Option<&str>
+    ensures value { option_map (λ rest. chars rest.now) result ≡ option_map (λ x. x.1) (split_if is_name_char (chars text.now)) }
     ensures shorter { IfSome result (λ rest. length (chars rest.now) < length (chars text.now)) }
 {
     let (c, rest) = split_first(text)?;
     if is_name_char(c) { Some(rest) } else { None }
 }
 
-/// The characters of a name in front, and what follows them.
+/// Splits off the longest prefix whose characters are all allowed in names, which may be empty, and the rest.
 pub fn split_name(text: &str) -> (&str, &str)
     ensures { (chars result.0.now, chars result.1.now) ≡ span is_name_char (chars text.now) }
 {
     let mut rest = text;
-    while let Some(after) = behind_name_char(rest) {
+    while let Some(after) = strip_name_char(rest) {
         rest = after;
     }
-    (up_to_rest(text, rest), rest)
+    (prefix_before(text, rest), rest)
 }
 
-/// Whether the text is a name.
+/// Whether the whole text is a group name: one or more characters, each allowed in names.
 #[tactic(auto, unfolding(crate::specs::Names::is_name))]
 pub fn is_name(text: &str) -> bool
     ensures { result ≡ is_name (chars text.now) }
@@ -57,9 +57,9 @@ pub fn is_name(text: &str) -> bool
     !is_empty(name) && is_empty(rest)
 }
 
-/// The value of the first character as a decimal digit, and what follows it.
-fn behind_digit(text: &str) -> Option<(usize, &str)>
-    ensures value { option_map (λ x. (x.0, chars x.1.now)) result ≡ digit_front 10 (chars text.now) }
+/// The value of the first character as a decimal digit, and the rest.
+fn strip_digit(text: &str) -> Option<(usize, &str)>
+    ensures value { option_map (λ x. (x.0, chars x.1.now)) result ≡ split_digit 10 (chars text.now) }
     ensures shorter { IfSome result (λ x. length (chars x.1.now) < length (chars text.now)) }
     ensures digit { IfSome result (λ x. x.0 < 10) }
 {
@@ -68,9 +68,9 @@ fn behind_digit(text: &str) -> Option<(usize, &str)>
     Some((digit as usize, rest))
 }
 
-/// The number with one more digit behind it.
-fn more_digits(number: Option<usize>, digit: usize) -> usize
-    ensures { result ≡ more_digits number digit }
+/// The number with one more decimal digit at its end. It saturates at `usize::MAX`.
+fn append_digit(number: Option<usize>, digit: usize) -> usize
+    ensures { result ≡ append_digit number digit }
 {
     match number {
         None => digit,
@@ -78,21 +78,21 @@ fn more_digits(number: Option<usize>, digit: usize) -> usize
     }
 }
 
-/// The decimal digits in front, as a number, and what follows them.
+/// The number of the leading decimal digits, `None` if there are none, and the rest. It saturates at `usize::MAX`.
 pub fn digits(text: &str) -> (Option<usize>, &str)
     ensures value { (result.0, chars result.1.now) ≡ digits (chars text.now) }
     ensures shorter { length (chars result.1.now) ≤ length (chars text.now) }
 {
     let mut number = None;
     let mut rest = text;
-    while let Some((digit, after)) = behind_digit(rest) {
-        number = Some(more_digits(number, digit));
+    while let Some((digit, after)) = strip_digit(rest) {
+        number = Some(append_digit(number, digit));
         rest = after;
     }
     (number, rest)
 }
 
-/// The number, where the text is one or more decimal digits.
+/// The number, if the whole text is one or more decimal digits. It saturates at `usize::MAX`.
 #[tactic(auto, unfolding(crate::specs::Names::whole_number))]
 pub fn whole_number(text: &str) -> Option<usize>
     ensures { result ≡ whole_number (chars text.now) }
@@ -101,14 +101,14 @@ pub fn whole_number(text: &str) -> Option<usize>
     if is_empty(rest) { number } else { None }
 }
 
-/// The number as an `isize`; past its end it counts as that.
+/// The number as an `isize`, at most `isize::MAX`.
 fn positive(number: usize) -> isize
     ensures { result ≡ pos (min number (2 ^ 63 - 1)) }
 {
     number.min(isize::MAX as usize) as isize
 }
 
-/// The number below zero as an `isize`; past its end it counts as that.
+/// The negated number as an `isize`, at least `isize::MIN`.
 fn negative(number: usize) -> isize
     ensures { result ≡ neg_ℤ (pos (min number (2 ^ 63))) }
 {
@@ -119,7 +119,7 @@ fn negative(number: usize) -> isize
     }
 }
 
-/// The number, where the text is a sign and decimal digits.
+/// The number, if the whole text is `+` or `-` and one or more decimal digits. It saturates at both ends of `isize`.
 #[tactic(auto, unfolding(crate::specs::Names::signed))]
 pub fn signed(text: &str) -> Option<isize>
     ensures { result ≡ signed (chars text.now) }
@@ -132,7 +132,7 @@ pub fn signed(text: &str) -> Option<isize>
     }
 }
 
-/// A target of digits alone is a number, and any other a name.
+/// The target of a text: a group number if it is all decimal digits, else a group name.
 #[tactic(auto, unfolding(crate::specs::Names::named_target))]
 fn named_target(text: &str) -> Target<'_>
     ensures { named_of result ≡ named_target (chars text.now) }
@@ -143,11 +143,11 @@ fn named_target(text: &str) -> Target<'_>
     }
 }
 
-/// What a reference says between its brackets: a number or a name, where a level may follow if `leveled`, or a signed
-/// number alone.
+/// Parses the text of a reference, without its brackets: a group number or name, or a signed number, which is relative.
+/// With `allow_level`, a signed recursion level may follow a number or a name. `None` if the text is none of these.
 #[tactic(auto, unfolding(crate::specs::Names::reference))]
-pub fn reference(leveled: bool, text: &str) -> Option<Reference<'_>>
-    ensures { option_map referred_of result ≡ reference leveled (chars text.now) }
+pub fn reference(allow_level: bool, text: &str) -> Option<Reference<'_>>
+    ensures { option_map referred_of result ≡ reference allow_level (chars text.now) }
 {
     let (name, rest) = split_name(text);
     if is_empty(name) {
@@ -163,7 +163,7 @@ pub fn reference(leveled: bool, text: &str) -> Option<Reference<'_>>
             level: None,
         });
     }
-    if !leveled {
+    if !allow_level {
         return None;
     }
     let level = signed(rest)?;

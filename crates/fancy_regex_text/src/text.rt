@@ -1,12 +1,12 @@
-//! Looks at the front of a text.
+//! Prefixes of a text, and errors at the position where a text begins.
 
 ghost use Rattle.std.specs.Prelude.{◌≡◌, ◌+◌, ◌<◌, ◌≤◌, ◌<◌, ◌≤◌, length, drop, All, chars, option_map, is_some, IfSome, ◌∷◌, ◌++◌, Err};
-ghost use Rattle.fancy_regex_text.specs.Text.{uncons, behind, up_to, bytes, is_empty, IsEnd, up_to_rest};
+ghost use Rattle.fancy_regex_text.specs.Text.{uncons, strip_prefix, split_once, bytes, is_empty, IsSuffix, prefix_before};
 ghost use Rattle.fancy_regex_text.specs.declared.fault.ReadError.TheVariants as errors;
 
 use crate::fault::{Fault, ParseError, ReadError};
 
-/// The first character and what follows it.
+/// The first character and the rest. `None` if the text is empty.
 pub fn split_first(text: &str) -> Option<(char, &str)>
     ensures value { option_map (λ x. (x.0, chars x.1.now)) result ≡ uncons (chars text.now) }
     ensures whole { IfSome result (λ x. chars text.now ≡ x.0 ∷ chars x.1.now) }
@@ -18,8 +18,8 @@ pub fn split_first(text: &str) -> Option<(char, &str)>
     }
 }
 
-/// What follows the first character.
-pub fn behind_first(text: &str) -> &str
+/// The text without its first character. An empty text stays empty.
+pub fn rest_after_first(text: &str) -> &str
     ensures value { chars result.now ≡ drop 1 (chars text.now) }
     ensures shorter { length (chars result.now) ≤ length (chars text.now) }
 {
@@ -29,10 +29,10 @@ pub fn behind_first(text: &str) -> &str
     }
 }
 
-/// What follows the word, where the text begins with it; the word is in ASCII.
-pub fn behind<'t>(text: &'t str, word: &str) -> Option<&'t str>
+/// The rest of the text after `word`. `None` if the text does not start with it. `word` must be ASCII.
+pub fn strip_prefix<'t>(text: &'t str, word: &str) -> Option<&'t str>
     requires { All (λ b. b < 128) word.now }
-    ensures value { option_map (λ rest. chars rest.now) result ≡ behind word.now (chars text.now) }
+    ensures value { option_map (λ rest. chars rest.now) result ≡ strip_prefix word.now (chars text.now) }
     ensures whole { IfSome result (λ rest. chars text.now ≡ word.now ++ chars rest.now) }
     ensures len { IfSome result (λ rest. length word.now + length (chars rest.now) ≡ length (chars text.now)) }
     ensures shorter { IfSome result (λ rest. length (chars rest.now) ≤ length (chars text.now)) }
@@ -41,39 +41,39 @@ pub fn behind<'t>(text: &'t str, word: &str) -> Option<&'t str>
     Some(rest)
 }
 
-/// Whether the text begins with the word, which is in ASCII.
-pub fn begins(text: &str, word: &str) -> bool
+/// Whether the text starts with `word`, which must be ASCII.
+pub fn has_prefix(text: &str, word: &str) -> bool
     requires { All (λ b. b < 128) word.now }
-    ensures { result ≡ is_some (behind word.now (chars text.now)) }
+    ensures { result ≡ is_some (strip_prefix word.now (chars text.now)) }
 {
-    behind(text, word).is_some()
+    strip_prefix(text, word).is_some()
 }
 
-/// The text before the first place of a character, and what follows that character.
-pub fn up_to(text: &str, close: char) -> Option<(&str, &str)>
-    ensures value { option_map (λ x. (chars x.0.now, chars x.1.now)) result ≡ up_to close (chars text.now) }
+/// The text before the first `close`, and the text after it. `None` if `close` does not occur.
+pub fn split_once(text: &str, close: char) -> Option<(&str, &str)>
+    ensures value { option_map (λ x. (chars x.0.now, chars x.1.now)) result ≡ split_once close (chars text.now) }
     ensures shorter { IfSome result (λ x. length (chars x.1.now) < length (chars text.now)) }
 {
     let (front, rest) = text.split_once(close)?;
     Some((front, rest))
 }
 
-/// Whether the text has no character.
+/// Whether the text is empty.
 pub fn is_empty(text: &str) -> bool
     ensures { result ≡ is_empty (chars text.now) }
 {
     text.is_empty()
 }
 
-/// The text up to where `rest` begins, which is its end.
-pub fn up_to_rest<'t>(text: &'t str, rest: &str) -> &'t str
-    requires { IsEnd (chars rest.now) (chars text.now) }
-    ensures { chars result.now ≡ up_to_rest (chars text.now) (chars rest.now) }
+/// The prefix of the text before `rest`, which must be a suffix of it.
+pub fn prefix_before<'t>(text: &'t str, rest: &str) -> &'t str
+    requires { IsSuffix (chars rest.now) (chars text.now) }
+    ensures { chars result.now ≡ prefix_before (chars text.now) (chars rest.now) }
 {
     &text[..text.len() - rest.len()]
 }
 
-/// A fault at the place that the text follows.
+/// A parse error of this kind at the position where `text`, the rest of the pattern, begins.
 pub fn fault_at(kind: ParseError, text: &str) -> Fault
     ensures { result ≡ record { left = bytes (chars text.now); kind = kind } }
 {
@@ -83,8 +83,8 @@ pub fn fault_at(kind: ParseError, text: &str) -> Fault
     }
 }
 
-/// Stops with a fault at the place that the text follows.
-pub fn stop<T>(kind: ParseError, text: &str) -> Result<T, ReadError>
+/// Fails with a parse error of this kind at the position where `text`, the rest of the pattern, begins.
+pub fn fail_at<T>(kind: ParseError, text: &str) -> Result<T, ReadError>
     ensures { result ≡ Err (errors.Fault (record { left = bytes (chars text.now); kind = kind })) }
 {
     Err(ReadError::Fault(fault_at(kind, text)))

@@ -1,17 +1,17 @@
-//! Texts that are written, seen as characters.
+//! Appending to a `String`, with contracts on its characters. If an allocation is refused the string is unchanged.
 
 ghost use Rattle.std.specs.Prelude.{◌≡◌, ◌<◌, ◌++◌, All, chars, string_bytes, IfOk, OnOk, OnErr, [], ◌∷◌};
 
 use std::alloc::{AllocError, Global};
 
-/// A text of no character.
+/// An empty string. Allocates nothing.
 pub fn empty(alloc: Global) -> String
     ensures { chars (string_bytes result) ≡ [] }
 {
     String::new(alloc)
 }
 
-/// Adds a character. After a refusal what is written is as before.
+/// Appends a character. If an allocation is refused, `out` is unchanged.
 pub fn push(out: &mut String, c: char) -> Result<(), AllocError>
     ensures added { OnOk result (chars (string_bytes out.new) ≡ chars (string_bytes out.old) ++ c ∷ []) }
     ensures refused { OnErr result (string_bytes out.new ≡ string_bytes out.old) }
@@ -20,7 +20,7 @@ pub fn push(out: &mut String, c: char) -> Result<(), AllocError>
     Ok(())
 }
 
-/// Adds a text. After a refusal what is written is as before.
+/// Appends a text. If an allocation is refused, `out` is unchanged.
 pub fn push_text(out: &mut String, text: &str) -> Result<(), AllocError>
     ensures added { OnOk result (chars (string_bytes out.new) ≡ chars (string_bytes out.old) ++ chars text.now) }
     ensures refused { OnErr result (string_bytes out.new ≡ string_bytes out.old) }
@@ -29,7 +29,7 @@ pub fn push_text(out: &mut String, text: &str) -> Result<(), AllocError>
     Ok(())
 }
 
-/// Adds a text in ASCII. After a refusal what is written is as before.
+/// Appends a text, which must be ASCII: its contract is on bytes. If an allocation is refused, `out` is unchanged.
 pub fn push_ascii(out: &mut String, text: &str) -> Result<(), AllocError>
     requires { All (λ b. b < 128) text.now }
     ensures added { OnOk result (chars (string_bytes out.new) ≡ chars (string_bytes out.old) ++ text.now) }
@@ -39,7 +39,7 @@ pub fn push_ascii(out: &mut String, text: &str) -> Result<(), AllocError>
     Ok(())
 }
 
-/// Adds a backslash and a character. After a refusal what is written is as before.
+/// Appends a backslash and a character. If an allocation is refused, `out` is unchanged, so neither is appended.
 pub fn push_escaped(out: &mut String, c: char) -> Result<(), AllocError>
     ensures added { OnOk result (chars (string_bytes out.new) ≡ chars (string_bytes out.old) ++ 0x5C ∷ c ∷ []) }
     ensures refused { OnErr result (string_bytes out.new ≡ string_bytes out.old) }
@@ -48,7 +48,7 @@ pub fn push_escaped(out: &mut String, c: char) -> Result<(), AllocError>
     push_text(out, &text)
 }
 
-/// A backslash and a character.
+/// A new string of a backslash and a character.
 pub fn escaped(alloc: Global, c: char) -> Result<String, AllocError>
     ensures { IfOk result (λ s. chars (string_bytes s) ≡ 0x5C ∷ c ∷ []) }
 {

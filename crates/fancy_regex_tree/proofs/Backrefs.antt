@@ -9,8 +9,8 @@ use Rattle.std.proofs.lemmas.Bool.Decides.{eqb_tells}
 use Rattle.std.proofs.lemmas.List.Folds.{list_any-append}
 use Rattle.fancy_regex_tree.specs.declared.expr.Expr.{Expr}
 use Rattle.fancy_regex_tree.specs.Tree.{Tree, backref, backref_with_level, backref_exists}
-use Rattle.fancy_regex_tree.specs.Walks.{tree_at}
-use Rattle.fancy_regex_tree.specs.Marks.{refers_to, back_group, up_to_total}
+use Rattle.fancy_regex_tree.specs.Traversal.{tree_at}
+use Rattle.fancy_regex_tree.specs.ReferenceSummary.{refers_to, back_group, up_to_total}
 use Rattle.fancy_regex_tree.proofs.GroupNames.{map_next}
 
 not_equal : (b : Bool) → is_eq (cond b Less (cond false Equal Greater)) ≡ false

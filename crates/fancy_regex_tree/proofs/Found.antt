@@ -4,7 +4,7 @@ use Rattle.std.specs.Borrow.{Bor}
 use Rattle.std.specs.Fn.{Shared}
 use Rattle.fancy_regex_tree.specs.declared.expr.Expr.{Expr}
 use Rattle.fancy_regex_tree.specs.Tree.{Tree, tree_of, trees}
-use Rattle.fancy_regex_tree.specs.Walks.{nodes, all_nodes, Found, FoundNone, IsFound}
+use Rattle.fancy_regex_tree.specs.Traversal.{nodes, all_nodes, Found, FoundNone, IsFound}
 
 module _ {F : Type 0} (g : Shared F (Bor Expr × Unit {0}) Bool) (f : F) where
   pub none_in_none : (ts : List Tree) → ts ≡ [] → FoundNone g f ts

@@ -5,14 +5,14 @@ use Rattle.std.proofs.lemmas.List.{map-append, length-map, length-take-le}
 use Rattle.std.proofs.lemmas.List.Elements.{filter_map-append}
 use Rattle.std.specs.List.{filter_map, list_any, cons_option}
 use Rattle.std.proofs.lemmas.List.Folds.{list_any-append}
-use Rattle.fancy_regex_tree.specs.Told.{carries}
+use Rattle.fancy_regex_tree.specs.ParseResult.{carries}
 use Rattle.std.specs.Str.{bytes_eq, encode_utf8_all}
 use Rattle.std.proofs.lemmas.Str.{encodes-chars}
 use Rattle.std.proofs.lemmas.Slice.Eq.{bytes_eq-Decides}
 use Rattle.std.proofs.lemmas.Bool.Decides.{same_from_decides}
 use Rattle.std.specs.Borrow.{Bor}
 use Rattle.fancy_regex_tree.specs.declared.expr.Expr.{Expr}
-use Rattle.fancy_regex_tree.specs.Walks.{tree_at}
+use Rattle.fancy_regex_tree.specs.Traversal.{tree_at}
 use Rattle.fancy_regex_tree.specs.Tree.{Text, Tree}
 use Rattle.fancy_regex_tree.specs.Numbering.{Names, opening_of, kept, counted, numbers_of, same_text, name_view}
 

@@ -1,5 +1,5 @@
 pub mod Children
-pub mod Lent
+pub mod BorrowedChildren
 pub mod Replacing
 pub mod Compared
 pub mod Found
@@ -9,7 +9,7 @@ pub mod GroupNames
 pub mod NodeRows
 pub mod Lookups
 pub mod Relative
-pub mod Meets
+pub mod Agreeing
 pub mod Prefixes
 pub mod PieceLists
 pub mod Loops
@@ -19,5 +19,5 @@ pub mod TreeBounds
 pub mod LongOpenings
 pub mod PrintedTexts
 pub mod PrintedTrees
-pub mod RowForms
+pub mod ConcatKinds
 pub mod PrintableLists

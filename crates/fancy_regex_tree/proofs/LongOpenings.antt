@@ -1,35 +1,35 @@
 -- A reference as condition opens with more than one character.
 use Rattle.std.proofs.Common.{◌≡◌, ℕ, ◌+◌, ◌≤◌, ◌<◌, Bool, true, false, cond, [], ◌∷◌, length, codes, Option, Some, None, Ok, Err, refl, ap, subst, arith, option_map, ◌==◌}
 use Rattle.std.proofs.lemmas.Option.{none-some, same_Some}
-use Rattle.fancy_regex_text.specs.Text.{Text, ◌∈◌, behind, up_to}
-use Rattle.fancy_regex_text.specs.Fault.{Reading, ◌>>=◌}
+use Rattle.fancy_regex_text.specs.Text.{Text, ◌∈◌, strip_prefix, split_once}
+use Rattle.fancy_regex_text.specs.Fault.{ParseOutcome, ◌>>=◌}
 use Rattle.fancy_regex_lex.specs.FlagLetters.{flag_letters}
-use Rattle.fancy_regex_lex.specs.Escapes.{reference_up_to}
+use Rattle.fancy_regex_lex.specs.Escapes.{delimited_reference}
 use Rattle.fancy_regex_text.specs.Names.{is_name}
-use Rattle.fancy_regex_lex.specs.Openings.{Opening, capturing, bare, setting, atomic, look, if_set, if_matches, define, absent, absent_bar, whole_reference, whole_call, whole_verb, named, tested, condition, behind_angle, behind_tilde, flags, python, behind_question, opening, control_verb, reference_condition}
+use Rattle.fancy_regex_lex.specs.Openings.{Opening, capturing, non_capturing, set_flags, atomic, look, if_set, if_matches, define, absent, absent_bar, whole_reference, whole_call, whole_verb, named, tested, condition, after_angle, after_tilde, flags, python, after_question, opening, control_verb, reference_condition}
 use Rattle.fancy_regex_lex.specs.declared.token.Flags.{Flags}
-use Rattle.fancy_regex_text.proofs.Texts.{behind_is}
-use Rattle.fancy_regex_tree.specs.Bounds.{slack}
+use Rattle.fancy_regex_text.proofs.TextLemmas.{strip_prefix_is}
+use Rattle.fancy_regex_tree.specs.Bounds.{extra_nodes}
 
 -- where the opening is such a one, n is two more at least than what is left
-abbrev IsLong : ℕ → Reading (Opening × Text) → Type 0
-IsLong n (Ok p) = 0 < slack p.0 → length p.1 + 2 ≤ n
+abbrev IsLong : ℕ → ParseOutcome (Opening × Text) → Type 0
+IsLong n (Ok p) = 0 < extra_nodes p.0 → length p.1 + 2 ≤ n
 IsLong n (Err e) = Unit {0}
 
-long_if : (n : ℕ) (b : Bool) (x y : Reading (Opening × Text)) → IsLong n x → IsLong n y → IsLong n (cond b x y)
+long_if : (n : ℕ) (b : Bool) (x y : ParseOutcome (Opening × Text)) → IsLong n x → IsLong n y → IsLong n (cond b x y)
 long_if n true x y h k = h
 long_if n false x y h k = k
 
-long_option : {A : Type 0} (n : ℕ) (o : Option A) (x : Reading (Opening × Text)) (f : A → Reading (Opening × Text)) → IsLong n x →
+long_option : {A : Type 0} (n : ℕ) (o : Option A) (x : ParseOutcome (Opening × Text)) (f : A → ParseOutcome (Opening × Text)) → IsLong n x →
     ((a : A) → o ≡ Some a → IsLong n (f a)) → IsLong n (elim o [ None ↦ x | Some a ↦ f a ])
 long_option n None x f h k = h
 long_option n (Some a) x f h k = k a refl
 
-long_bind : {A : Type 0} (n : ℕ) (r : Reading A) (f : A → Reading (Opening × Text)) → ((a : A) → IsLong n (f a)) → IsLong n (r >>= f)
+long_bind : {A : Type 0} (n : ℕ) (r : ParseOutcome A) (f : A → ParseOutcome (Opening × Text)) → ((a : A) → IsLong n (f a)) → IsLong n (r >>= f)
 long_bind n (Ok a) f h = h a
 long_bind n (Err e) f h = tt
 
-slack_flags : (b : Bool) (f : Flags) → slack (cond b (bare f) (setting f)) ≡ 0
+slack_flags : (b : Bool) (f : Flags) → extra_nodes (cond b (non_capturing f) (set_flags f)) ≡ 0
 slack_flags true f = refl
 slack_flags false f = refl
 
@@ -39,13 +39,13 @@ nothing_less n m h = absurd (omega (arith, h))
 long_named : (n : ℕ) (here t : Text) → IsLong n (named here t)
 unfolding named
 long_named n here t =
-    long_option n (up_to 0x3E t) _ _ tt (λ found is. long_if n (is_name found.0) _ _ (λ h. nothing_less _ _ h) tt)
+    long_option n (split_once 0x3E t) _ _ tt (λ found is. long_if n (is_name found.0) _ _ (λ h. nothing_less _ _ h) tt)
 
-long_angle : (n : ℕ) (here t : Text) → IsLong n (behind_angle here t)
-unfolding behind_angle
+long_angle : (n : ℕ) (here t : Text) → IsLong n (after_angle here t)
+unfolding after_angle
 long_angle n here t =
-    long_option n (behind (codes "=") t) _ _
-    (long_option n (behind (codes "!") t) _ _ (long_named n here t) (λ rest is h. nothing_less _ _ h))
+    long_option n (strip_prefix (codes "=") t) _ _
+    (long_option n (strip_prefix (codes "!") t) _ _ (long_named n here t) (λ rest is h. nothing_less _ _ h))
     (λ rest is h. nothing_less _ _ h)
 
 long_flags : (n : ℕ) (unicode : Bool) (f : Flags) (here t : Text) → IsLong n (flags unicode f here t)
@@ -56,26 +56,26 @@ long_flags n unicode f here t =
 long_python : (n : ℕ) (unicode : Bool) (f : Flags) (here t : Text) → IsLong n (python unicode f here t)
 unfolding python
 long_python n unicode f here t =
-    long_option n (behind (codes "P<") t) _ _
-    (long_option n (behind (codes "P=") t) _ _
-    (long_option n (behind (codes "P>") t) _ _ (long_flags n unicode f here t)
-    (λ rest is. long_bind n (reference_up_to false 0x29 here rest) _ (λ r h. nothing_less _ _ h)))
-    (λ rest is. long_bind n (reference_up_to true 0x29 here rest) _ (λ r h. nothing_less _ _ h)))
+    long_option n (strip_prefix (codes "P<") t) _ _
+    (long_option n (strip_prefix (codes "P=") t) _ _
+    (long_option n (strip_prefix (codes "P>") t) _ _ (long_flags n unicode f here t)
+    (λ rest is. long_bind n (delimited_reference false 0x29 here rest) _ (λ r h. nothing_less _ _ h)))
+    (λ rest is. long_bind n (delimited_reference true 0x29 here rest) _ (λ r h. nothing_less _ _ h)))
     (λ rest is. long_named n here rest)
 
 -- the same of what is always read
 abbrev IsLongPair : ℕ → Opening × Text → Type 0
-IsLongPair n p = 0 < slack p.0 → length p.1 + 2 ≤ n
+IsLongPair n p = 0 < extra_nodes p.0 → length p.1 + 2 ≤ n
 
 pair_option : {A : Type 0} (n : ℕ) (o : Option A) (x : Opening × Text) (f : A → Opening × Text) → IsLongPair n x →
     ((a : A) → o ≡ Some a → IsLongPair n (f a)) → IsLongPair n (elim o [ None ↦ x | Some a ↦ f a ])
 pair_option n None x f h k = h
 pair_option n (Some a) x f h k = k a refl
 
-up_to_short : (close : ℕ) (t : Text) (found : Text × Text) → up_to close t ≡ Some found → length found.1 ≤ length t
-unfolding up_to
+up_to_short : (close : ℕ) (t : Text) (found : Text × Text) → split_once close t ≡ Some found → length found.1 ≤ length t
+unfolding split_once
 up_to_short close [] found h = absurd (none-some _ h)
-up_to_short close (c ∷ t) found h = up_to_step (c == close) c t (up_to close t) found (λ more is. up_to_short close t more is) h
+up_to_short close (c ∷ t) found h = up_to_step (c == close) c t (split_once close t) found (λ more is. up_to_short close t more is) h
   where
     up_to_step : (b : Bool) (c : ℕ) (t : Text) (o : Option (Text × Text)) (found : Text × Text) → ((more : Text × Text) → o ≡ Some more → length more.1 ≤ length t) →
         cond b (Some ([], t)) (option_map (λ x. (c ∷ x.0, x.1)) o) ≡ Some found → length found.1 ≤ length (c ∷ t)
@@ -87,18 +87,18 @@ up_to_short close (c ∷ t) found h = up_to_step (c == close) c t (up_to close t
 long_condition : (n : ℕ) (t : Text) → length t + 2 ≤ n → IsLongPair n (condition t)
 unfolding condition tested
 long_condition n t h =
-    pair_option n (behind (codes "DEFINE)") t) _ _
-    (pair_option n (up_to 0x29 t) _ _ (λ k. nothing_less _ _ k)
+    pair_option n (strip_prefix (codes "DEFINE)") t) _ _
+    (pair_option n (split_once 0x29 t) _ _ (λ k. nothing_less _ _ k)
     (λ found is. pair_option n (reference_condition found.0) _ _ (λ k. nothing_less _ _ k)
     (λ r same k. omega (arith, up_to_short 0x29 t found is, h))))
     (λ rest is k. nothing_less _ _ k)
 
-long_tilde : (n : ℕ) (t : Text) → IsLongPair n (behind_tilde t)
-unfolding behind_tilde
-long_tilde n t = pair_option n (behind (codes "|") t) _ _ (λ k. nothing_less _ _ k) (λ rest is k. nothing_less _ _ k)
+long_tilde : (n : ℕ) (t : Text) → IsLongPair n (after_tilde t)
+unfolding after_tilde
+long_tilde n t = pair_option n (strip_prefix (codes "|") t) _ _ (λ k. nothing_less _ _ k) (λ rest is k. nothing_less _ _ k)
 
-long_question : (n : ℕ) (unicode : Bool) (f : Flags) (here t : Text) → length t + 2 ≤ n → IsLong n (behind_question unicode f here t)
-unfolding behind_question
+long_question : (n : ℕ) (unicode : Bool) (f : Flags) (here t : Text) → length t + 2 ≤ n → IsLong n (after_question unicode f here t)
+unfolding after_question
 long_question n unicode f here [] h = long_flags n unicode f here []
 long_question n unicode f here (c ∷ t) h =
     long_if n (c ∈ "=") _ _ (λ k. nothing_less _ _ k)
@@ -112,20 +112,20 @@ long_question n unicode f here (c ∷ t) h =
 long_opening : (unicode : Bool) (f : Flags) (here : Text) → IsLong (length here) (opening unicode f here)
 unfolding opening
 long_opening unicode f here =
-    long_option (length here) (behind (codes "(?") here) _ _
+    long_option (length here) (strip_prefix (codes "(?") here) _ _
     (long_option (length here) (control_verb here) _ _ (λ k. nothing_less _ _ k) (λ v is k. nothing_less _ _ k))
-    (λ rest is. let longer = ap (λ t. length t) (behind_is (codes "(?") here rest is) in long_question (length here) unicode f here rest (omega (arith, longer)))
+    (λ rest is. let longer = ap (λ t. length t) (strip_prefix_is (codes "(?") here rest is) in long_question (length here) unicode f here rest (omega (arith, longer)))
 
 -- what follows the opening of a reference as condition is two characters shorter at least
-pub opening_long : (unicode : Bool) (f : Flags) (here t : Text) (how : Opening) → opening unicode f here ≡ Ok (how, t) → 0 < slack how → length t + 2 ≤ length here
+pub opening_long : (unicode : Bool) (f : Flags) (here t : Text) (how : Opening) → opening unicode f here ≡ Ok (how, t) → 0 < extra_nodes how → length t + 2 ≤ length here
 opening_long unicode f here t how h = subst (λ r. IsLong (length here) r) h (long_opening unicode f here)
 
--- there is slack of one at most
-pub slack_least : (how : Opening) → slack how ≤ 1
+-- an opening makes at most one node more than one
+pub slack_least : (how : Opening) → extra_nodes how ≤ 1
 slack_least (if_set target level) = omega arith
 slack_least (capturing name) = omega arith
-slack_least (bare f) = omega arith
-slack_least (setting f) = omega arith
+slack_least (non_capturing f) = omega arith
+slack_least (set_flags f) = omega arith
 slack_least atomic = omega arith
 slack_least (look k) = omega arith
 slack_least if_matches = omega arith

@@ -4,7 +4,7 @@ use Rattle.std.proofs.Math.Seq.{take-suc}
 use Rattle.std.proofs.lemmas.List.{map-append}
 use Rattle.fancy_regex_tree.specs.declared.expr.Expr.{Expr}
 use Rattle.fancy_regex_tree.specs.Tree.{Tree, tree_of, trees}
-use Rattle.fancy_regex_tree.specs.Walks.{nodes, all_nodes}
+use Rattle.fancy_regex_tree.specs.Traversal.{nodes, all_nodes}
 
 nodes_more : (ts : List Tree) (t : Tree) → all_nodes (trees (ts ++ t ∷ [])) ≡ all_nodes (trees ts) ++ nodes t
 nodes_more [] t = append-nil (nodes t)

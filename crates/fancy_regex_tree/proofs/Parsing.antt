@@ -8,13 +8,13 @@ use Rattle.fancy_regex_text.specs.Text.{bytes}
 use Rattle.fancy_regex_tree.specs.declared.error.Error.{Error}
 use Rattle.fancy_regex_tree.specs.declared.error.Error.TheVariants.{ParseError, Memory}
 use Rattle.fancy_regex_tree.specs.declared.expr_tree.ExprTree.{ExprTree}
-use Rattle.fancy_regex_tree.specs.declared.parse.Groups.{Groups}
+use Rattle.fancy_regex_tree.specs.declared.parse.GroupSummary.{GroupSummary}
 use Rattle.fancy_regex_tree.specs.Tree.{Text, Tree, ast_group, group}
-use Rattle.fancy_regex_tree.specs.Groups.{read_whole}
-use Rattle.fancy_regex_tree.specs.Numbering.{Refusal, ◌⨟◌, Meets, Names, openings, opening_of, counted, last_named, last_number, numbers_of, numbers_under, lookup_in, resolved}
-use Rattle.fancy_regex_tree.specs.Parse.{Options, Parsed, placed, ignores, finish, parse}
-use Rattle.fancy_regex_tree.specs.Marks.{is_named}
-use Rattle.fancy_regex_tree.specs.Told.{IsParsed, AreGroups}
+use Rattle.fancy_regex_tree.specs.Parser.{parse_pattern}
+use Rattle.fancy_regex_tree.specs.Numbering.{PositionedFault, ◌⨟◌, AgreesWith, Names, openings, opening_of, counted, last_named, last_number, numbers_of, numbers_under, lookup_in, resolved}
+use Rattle.fancy_regex_tree.specs.Parse.{Options, Parsed, with_position, ignores, resolve_references, parse}
+use Rattle.fancy_regex_tree.specs.ReferenceSummary.{is_named}
+use Rattle.fancy_regex_tree.specs.ParseResult.{IsParsed, IsGroupSummary}
 
 pub list_any_map : {X Y : Type 0} (p : Y → Bool) (f : X → Y) (xs : List X) → list_any (λ x. p (f x)) xs ≡ list_any p (map f xs)
 list_any_map p f [] = refl
@@ -45,21 +45,21 @@ module _ (m : BTreeMap (String Global) (Vec ℕ Global)) (names : Names) (has : 
   same_lookup i name = lookup_cases name (all_scalars name) refl i
 
 -- an error that is handed on
-handed_on : (r : Result ExprTree Error) (e : Error) (d : Result Parsed Refusal) → IsErrAnd r (λ g. g ≡ e) → IsParsed (Err e) d → IsParsed r d
+handed_on : (r : Result ExprTree Error) (e : Error) (d : Result Parsed PositionedFault) → IsErrAnd r (λ g. g ≡ e) → IsParsed (Err e) d → IsParsed r d
 handed_on (Ok x) e d h fails = absurd h
 handed_on (Err g) e d h fails = subst (λ f. IsParsed (Err f) d) (sym h) fails
 
-step_fails : {X A : Type 0} (v : X → A) (e : Error) (d : Result A Refusal) (f : A → Result Parsed Refusal) → Meets v (Err e) d → IsParsed (Err e) (d ⨟ f)
+step_fails : {X A : Type 0} (v : X → A) (e : Error) (d : Result A PositionedFault) (f : A → Result Parsed PositionedFault) → AgreesWith v (Err e) d → IsParsed (Err e) (d ⨟ f)
 step_fails v (ParseError position kind) d f h = ap (λ r. r ⨟ f) h
 step_fails v Memory d f h = tt
 
 -- nothing is read
 pub reading_fails : {X : Type 0} (v : X → Tree) (o : Options) (t : Text) (r : Result ExprTree Error) (e : Error) → IsErrAnd r (λ g. g ≡ e)
-    → Meets v (Err e) (placed (bytes t) (read_whole o.oniguruma o.unicode o.flags t)) → IsParsed r (parse o t)
+    → AgreesWith v (Err e) (with_position (bytes t) (parse_pattern o.oniguruma o.unicode o.flags t)) → IsParsed r (parse o t)
 unfolding parse
-reading_fails v o t r e h fails = handed_on r e _ h (step_fails v e (placed (bytes t) (read_whole o.oniguruma o.unicode o.flags t)) (finish o) fails)
+reading_fails v o t r e h fails = handed_on r e _ h (step_fails v e (with_position (bytes t) (parse_pattern o.oniguruma o.unicode o.flags t)) (resolve_references o) fails)
 
-module _ (o : Options) (t : Text) (tree : Tree) (g : Groups) (read : placed (bytes t) (read_whole o.oniguruma o.unicode o.flags t) ≡ Ok tree) (are : AreGroups o.ignore_numbered tree g) where
+module _ (o : Options) (t : Text) (tree : Tree) (g : GroupSummary) (read : with_position (bytes t) (parse_pattern o.oniguruma o.unicode o.flags t) ≡ Ok tree) (are : IsGroupSummary o.ignore_numbered tree g) where
   abbrev found_of : Tree → Parsed
   found_of e = record { tree = e; names = counted (ignores o (openings tree)) (openings tree); unresolved = tree; ignored = ignores o (openings tree) }
 
@@ -70,11 +70,11 @@ module _ (o : Options) (t : Text) (tree : Tree) (g : Groups) (read : placed (byt
 
   parse_is : parse o t ≡ (resolved g.ignored (lookup_in g.named) 0 tree ⨟ λ found. Ok (found_of found.0))
   unfolding parse
-  parse_is = ap (λ r. r ⨟ finish o) read ∙ ap (λ r. r ⨟ λ found. Ok (found_of found.0)) (sym same_resolved)
+  parse_is = ap (λ r. r ⨟ resolve_references o) read ∙ ap (λ r. r ⨟ λ found. Ok (found_of found.0)) (sym same_resolved)
 
   -- a reference is refused
   pub resolving_fails : {X : Type 0} (v : X → Tree × ℕ) (r : Result ExprTree Error) (e : Error) → IsErrAnd r (λ f. f ≡ e)
-      → Meets v (Err e) (resolved g.ignored (lookup_in g.named) 0 tree) → IsParsed r (parse o t)
+      → AgreesWith v (Err e) (resolved g.ignored (lookup_in g.named) 0 tree) → IsParsed r (parse o t)
   resolving_fails v r e h fails =
       handed_on r e _ h (subst (IsParsed (Err e)) (sym parse_is) (step_fails v e (resolved g.ignored (lookup_in g.named) 0 tree) (λ found. Ok (found_of found.0)) fails))
 

@@ -2,7 +2,7 @@
 use Rattle.std.proofs.Common.{◌≡◌, List, [], ◌∷◌, ◌++◌, map, filter, not, Bool, true, false, cond, refl, ap, sym, ◌∙◌}
 use Rattle.std.proofs.lemmas.List.{map-append}
 use Rattle.fancy_regex_tree.specs.Tree.{Tree, tree_of}
-use Rattle.fancy_regex_tree.specs.Shapes.{is_empty_tree, without_empty, branch_of, all_branches}
+use Rattle.fancy_regex_tree.specs.TreeBuilders.{is_empty_tree, without_empty, branch_of, all_branches}
 use Rattle.fancy_regex_tree.specs.declared.expr.Expr.{Expr}
 
 add_kept : (e : Expr) (xs : List Expr) (ts : List Tree) (b : Bool) → map tree_of xs ≡ ts →

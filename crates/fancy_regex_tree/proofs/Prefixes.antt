@@ -5,14 +5,14 @@ use Rattle.fancy_regex_tree.specs.declared.expr.Expr.{Expr}
 use Rattle.fancy_regex_tree.specs.Tree.{Text, Tree, Trees, no_trees, more_trees, trees, tree_of}
 use Rattle.fancy_regex_tree.specs.declared.error.Error.{Error}
 use Rattle.fancy_regex_tree.specs.declared.error.Error.TheVariants.{ParseError, Memory}
-use Rattle.fancy_regex_tree.specs.Numbering.{Refusal, ◌⨟◌, Meets, resolved, all_resolved}
+use Rattle.fancy_regex_tree.specs.Numbering.{PositionedFault, ◌⨟◌, AgreesWith, resolved, all_resolved}
 
 abbrev pub behind_trees : List Tree → Trees → Trees
 behind_trees [] rest = rest
 behind_trees (t ∷ ts) rest = more_trees t (behind_trees ts rest)
 
 -- what is answered behind these trees
-abbrev pub prefixed : List Tree → Result (Trees × ℕ) Refusal → Result (Trees × ℕ) Refusal
+abbrev pub prefixed : List Tree → Result (Trees × ℕ) PositionedFault → Result (Trees × ℕ) PositionedFault
 prefixed ts (Ok found) = Ok (behind_trees ts found.0, found.1)
 prefixed ts (Err e) = Err e
 
@@ -24,7 +24,7 @@ pub behind_one : (ts : List Tree) (t : Tree) (rest : Trees) → behind_trees (ts
 behind_one [] t rest = refl
 behind_one (s ∷ ts) t rest = ap (more_trees s) (behind_one ts t rest)
 
-prefixed_one : (ts : List Tree) (t : Tree) (r : Result (Trees × ℕ) Refusal) → prefixed (ts ++ t ∷ []) r ≡ prefixed ts (r ⨟ λ others. Ok (more_trees t others.0, others.1))
+prefixed_one : (ts : List Tree) (t : Tree) (r : Result (Trees × ℕ) PositionedFault) → prefixed (ts ++ t ∷ []) r ≡ prefixed ts (r ⨟ λ others. Ok (more_trees t others.0, others.1))
 prefixed_one ts t (Ok found) = ap (λ us. Ok (us, found.1)) (behind_one ts t found.0)
 prefixed_one ts t (Err e) = refl
 
@@ -37,7 +37,7 @@ module _ (ignored : Bool) (group_named : Text → Option ℕ) where
       ∙ sym (ap (λ r. prefixed ts (r ⨟ λ first. all_resolved ignored group_named first.1 rest ⨟ λ others. Ok (more_trees first.0 others.0, others.1))) h)
 
   -- one is refused
-  pub prefixed_refused : (ts : List Tree) (n : ℕ) (old : Tree) (rest : Trees) (e : Refusal) → resolved ignored group_named n old ≡ Err e
+  pub prefixed_refused : (ts : List Tree) (n : ℕ) (old : Tree) (rest : Trees) (e : PositionedFault) → resolved ignored group_named n old ≡ Err e
       → prefixed ts (all_resolved ignored group_named n (more_trees old rest)) ≡ Err e
   prefixed_refused ts n old rest e h =
       ap (λ r. prefixed ts (r ⨟ λ first. all_resolved ignored group_named first.1 rest ⨟ λ others. Ok (more_trees first.0 others.0, others.1))) h
@@ -47,7 +47,7 @@ module _ (ignored : Bool) (group_named : Text → Option ℕ) where
   at_place old i d x inside is = ap (map tree_of) (drop-cons old i d inside) ∙ ap (λ e. tree_of e ∷ map tree_of (drop (suc i) old)) is
 
   -- one more node of a row is resolved
-  pub row_next : (old now : List Expr) (whole : Result (Trees × ℕ) Refusal) (i n m : ℕ) (d x new : Expr) → i < length now → i < length old → get_or old i d ≡ x
+  pub row_next : (old now : List Expr) (whole : Result (Trees × ℕ) PositionedFault) (i n m : ℕ) (d x new : Expr) → i < length now → i < length old → get_or old i d ≡ x
       → resolved ignored group_named n (tree_of x) ≡ Ok (tree_of new, m)
       → prefixed (map tree_of (take i now)) (all_resolved ignored group_named n (trees (map tree_of (drop i old)))) ≡ whole
       → prefixed (map tree_of (take (i + 1) (set now i new))) (all_resolved ignored group_named m (trees (map tree_of (drop (i + 1) old)))) ≡ whole
@@ -60,7 +60,7 @@ module _ (ignored : Bool) (group_named : Text → Option ℕ) where
       ∙ made
 
   -- one node of a row is refused
-  pub row_refused : (old now : List Expr) (whole : Result (Trees × ℕ) Refusal) (i n : ℕ) (d x : Expr) (e : Refusal) → i < length old → get_or old i d ≡ x
+  pub row_refused : (old now : List Expr) (whole : Result (Trees × ℕ) PositionedFault) (i n : ℕ) (d x : Expr) (e : PositionedFault) → i < length old → get_or old i d ≡ x
       → resolved ignored group_named n (tree_of x) ≡ Err e
       → prefixed (map tree_of (take i now)) (all_resolved ignored group_named n (trees (map tree_of (drop i old)))) ≡ whole
       → whole ≡ Err e
@@ -70,7 +70,7 @@ module _ (ignored : Bool) (group_named : Text → Option ℕ) where
       ∙ prefixed_refused ignored group_named (map tree_of (take i now)) n (tree_of x) (trees (map tree_of (drop (suc i) old))) e refused
 
   -- the whole row is resolved
-  pub row_end : (old now : List Expr) (whole : Result (Trees × ℕ) Refusal) (i n : ℕ) → length old ≤ i → length now ≤ i
+  pub row_end : (old now : List Expr) (whole : Result (Trees × ℕ) PositionedFault) (i n : ℕ) → length old ≤ i → length now ≤ i
       → prefixed (map tree_of (take i now)) (all_resolved ignored group_named n (trees (map tree_of (drop i old)))) ≡ whole
       → whole ≡ Ok (trees (map tree_of now), n)
   row_end old now whole i n past short made =
@@ -79,13 +79,13 @@ module _ (ignored : Bool) (group_named : Text → Option ℕ) where
       ∙ ap (λ ts. Ok (ts, n)) (behind_none (map tree_of (take i now)) ∙ ap (λ es. trees (map tree_of es)) (take_all i now short))
 
   -- the same, or memory ran out
-  pub row_fails : {Y : Type 0} (w : Y → Trees × ℕ) (v : ℕ → Tree × ℕ) (old now : List Expr) (whole : Result (Trees × ℕ) Refusal) (i n : ℕ) (d x : Expr) (e : Error) → i < length old → get_or old i d ≡ x
-      → Meets v (Err e) (resolved ignored group_named n (tree_of x))
+  pub row_fails : {Y : Type 0} (w : Y → Trees × ℕ) (v : ℕ → Tree × ℕ) (old now : List Expr) (whole : Result (Trees × ℕ) PositionedFault) (i n : ℕ) (d x : Expr) (e : Error) → i < length old → get_or old i d ≡ x
+      → AgreesWith v (Err e) (resolved ignored group_named n (tree_of x))
       → prefixed (map tree_of (take i now)) (all_resolved ignored group_named n (trees (map tree_of (drop i old)))) ≡ whole
-      → Meets w (Err e) whole
+      → AgreesWith w (Err e) whole
   row_fails w v old now whole i n d x (ParseError position kind) inside is refused made = row_refused old now whole i n d x _ inside is refused made
   row_fails w v old now whole i n d x Memory inside is refused made = tt
 
-pub prefixed_none : (r : Result (Trees × ℕ) Refusal) → prefixed [] r ≡ r
+pub prefixed_none : (r : Result (Trees × ℕ) PositionedFault) → prefixed [] r ≡ r
 prefixed_none (Ok found) = refl
 prefixed_none (Err e) = refl

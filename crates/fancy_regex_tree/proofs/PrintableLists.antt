@@ -3,10 +3,10 @@ use Rattle.std.proofs.Common.{◌≡◌, ◌+◌, ◌<◌, ◌≤◌, ◌&&◌, 
 use Rattle.std.proofs.lemmas.Bool.{le-leb}
 use Rattle.std.proofs.lemmas.List.{drop_more, drop_all}
 use Rattle.fancy_regex_tree.specs.Tree.{Tree, trees}
-use Rattle.fancy_regex_tree.specs.Printable.{is_printable, are_printable, are_branches}
+use Rattle.fancy_regex_tree.specs.Printable.{is_printable, are_printable, has_two_branches}
 
-pub branches-leb : {X : Type 0} (f : X → Tree) (xs : List X) → leb 2 (length xs) ≡ are_branches (trees (map f xs))
-unfolding are_branches
+pub branches-leb : {X : Type 0} (f : X → Tree) (xs : List X) → leb 2 (length xs) ≡ has_two_branches (trees (map f xs))
+unfolding has_two_branches
 branches-leb f [] = refl
 branches-leb f (x ∷ []) = refl
 branches-leb f (x ∷ y ∷ xs) = le-leb 2 (length (x ∷ y ∷ xs)) (omega arith)

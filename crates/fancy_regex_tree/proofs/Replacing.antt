@@ -2,8 +2,8 @@
 use Rattle.std.proofs.Common.{◌≡◌, ℕ, zero, suc, List, [], ◌∷◌, map, Result, Ok, Err, option_map, slice_get, slice_set, refl, ap, sym, ◌∙◌}
 use Rattle.std.proofs.lemmas.Option.{slice_get-map}
 use Rattle.fancy_regex_tree.specs.Tree.{Tree, tree_of}
-use Rattle.fancy_regex_tree.specs.Walks.{children}
-use Rattle.fancy_regex_tree.specs.Replaced.{with_children, IsReplaced, IsPutIn}
+use Rattle.fancy_regex_tree.specs.Traversal.{children}
+use Rattle.fancy_regex_tree.specs.ReplacedChild.{with_children, IsChildReplaced, IsItemReplaced}
 use Rattle.fancy_regex_tree.specs.declared.expr.Expr.{Expr}
 
 pub set_map : (xs : List Expr) (i : ℕ) (x : Expr) → map tree_of (slice_set xs i x) ≡ slice_set (map tree_of xs) i (tree_of x)
@@ -14,7 +14,7 @@ set_map (y ∷ ys) (suc i) x = ap (λ ts. tree_of y ∷ ts) (set_map ys i x)
 -- a node over the children `before` becomes the same node over the children `after`
 pub put : (whole node now : Tree) (before after : List Expr) (i : ℕ) (child : Expr) (r : Result Expr Expr)
     → whole ≡ node → now ≡ with_children node (map tree_of after) → map tree_of before ≡ children node → node ≡ with_children node (map tree_of before)
-    → children (with_children node (map tree_of after)) ≡ map tree_of after → IsPutIn before after i child r → IsReplaced whole now i child r
+    → children (with_children node (map tree_of after)) ≡ map tree_of after → IsItemReplaced before after i child r → IsChildReplaced whole now i child r
 put whole node now before after i child (Ok old) is made over same kept (there, then) =
     let others : map tree_of after ≡ slice_set (children whole) i (tree_of child) =
     ap (λ es. map tree_of es) then ∙ set_map before i child ∙ ap (λ ts. slice_set ts i (tree_of child)) (over ∙ ap children (sym is)) in (

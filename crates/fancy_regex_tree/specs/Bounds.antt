@@ -1,4 +1,4 @@
--- How many nodes a tree has, and how many stand on its longest path from the root.
+-- The number of nodes of a tree, and its depth: the number of nodes on its longest path from the root.
 use Rattle.std.specs.Prelude.{ℕ, suc, ◌+◌, ◌≤◌, ◌≡◌, max, List, [], ◌∷◌}
 use Rattle.fancy_regex_lex.specs.Openings.{Opening, if_set}
 use Rattle.fancy_regex_tree.specs.Tree.{Tree, Trees, empty, any, assertion, general_newline, literal, literal_bytes, concat, alt, group, look_around, repeat, delegate, backref, backref_with_level, atomic_group, keep_out, continue, backref_exists, conditional, subroutine_call, verb, absent_repeater, absent_expression, absent_stopper, absent_clear, define_group, ast_group, ast_backref, ast_call, ast_condition, no_trees, more_trees}
@@ -41,7 +41,7 @@ abbrev mutual
   nodes_of (more_trees t ts) = nodes t + nodes_of ts
 
 abbrev mutual
-  -- the nodes of the longest path
+  -- the number of nodes on the longest path from the root
   pub depth : Tree → ℕ
   depth empty = 1
   depth (any newline crlf) = 1
@@ -78,34 +78,34 @@ abbrev mutual
   depth_of no_trees = 0
   depth_of (more_trees t ts) = max (depth t) (depth_of ts)
 
--- one node
+-- the tree is one node
 abbrev pub IsLeaf : Tree → Type 0
 IsLeaf t = (nodes t ≡ 1) × (depth t ≡ 1)
 
--- the second tree has at most two nodes more than the first, on one path
+-- the second tree has at most two more nodes than the first, and is at most two nodes deeper
 abbrev pub IsWrapped : Tree → Tree → Type 0
 IsWrapped t u = (nodes u ≤ nodes t + 2) × (depth u ≤ depth t + 2)
 
--- The measures of what is read: how many characters at least the pieces of a branch take, twice, ..
-abbrev pub weigh : List Tree → ℕ
-weigh [] = 0
-weigh (t ∷ ts) = suc (nodes t) + weigh ts
+-- Measures of parsed pieces. For a branch: its nodes and one more for each piece, which is at most twice its characters, ..
+abbrev pub pieces_measure : List Tree → ℕ
+pieces_measure [] = 0
+pieces_measure (t ∷ ts) = suc (nodes t) + pieces_measure ts
 
--- .. the same of branches, each with a bar, ..
-abbrev pub weigh_all : List (List Tree) → ℕ
-weigh_all [] = 0
-weigh_all (b ∷ bs) = 2 + weigh b + weigh_all bs
+-- .. for several branches: the sum, with 2 more for the bar of each, ..
+abbrev pub branches_measure : List (List Tree) → ℕ
+branches_measure [] = 0
+branches_measure (b ∷ bs) = 2 + pieces_measure b + branches_measure bs
 
--- .. and the longest path in them
-abbrev pub tallest : List Tree → ℕ
-tallest [] = 0
-tallest (t ∷ ts) = max (depth t) (tallest ts)
+-- .. and the greatest depth of a piece
+abbrev pub max_depth : List Tree → ℕ
+max_depth [] = 0
+max_depth (t ∷ ts) = max (depth t) (max_depth ts)
 
-abbrev pub tallest_of_all : List (List Tree) → ℕ
-tallest_of_all [] = 0
-tallest_of_all (b ∷ bs) = max (tallest b) (tallest_of_all bs)
+abbrev pub max_depth_of_all : List (List Tree) → ℕ
+max_depth_of_all [] = 0
+max_depth_of_all (b ∷ bs) = max (max_depth b) (max_depth_of_all bs)
 
--- a reference as condition makes two nodes of one bracket
-abbrev pub slack : Opening → ℕ
-slack (if_set target level) = 1
-slack _ = 0
+-- how many nodes more than one a group of this opening makes by itself: a condition on a capture group makes two
+abbrev pub extra_nodes : Opening → ℕ
+extra_nodes (if_set target level) = 1
+extra_nodes _ = 0

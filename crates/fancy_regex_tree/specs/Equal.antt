@@ -1,4 +1,4 @@
--- When two trees are the same, as a test.
+-- Equality of trees as a function to `Bool`.
 use Rattle.std.specs.Prelude.{◌≡◌, ℕ, ℤ, Bool, true, false, ◌&&◌, nat_eq, List, [], ◌∷◌, Option, Some, None}
 use Rattle.std.specs.Bool.{Decides}
 use Rattle.std.specs.Cmp.{IsEquivalence, decided, booleans_Decides, unsigned_Decides}

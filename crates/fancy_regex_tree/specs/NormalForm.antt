@@ -1,43 +1,43 @@
--- What a printed text is read as.
+-- The normal form of a tree: what its printed text is parsed as.
 use Rattle.std.specs.Prelude.{false, [], ◌∷◌, Option, Some, None, Ok, Err, unwrap_or, if◌then◌else◌}
 use Rattle.fancy_regex_text.specs.Text.{Text, ◌∈◌}
-use Rattle.fancy_regex_text.specs.Fault.{Reading}
+use Rattle.fancy_regex_text.specs.Fault.{ParseOutcome}
 use Rattle.fancy_regex_lex.specs.Escapes.{Escape, class_escape, escape}
-use Rattle.fancy_regex_lex.specs.Classes.{class_in_brackets}
+use Rattle.fancy_regex_lex.specs.Classes.{bracketed_class}
 use Rattle.fancy_regex_tree.specs.Tree.{Tree, empty, any, assertion, concat, alt, group, repeat, delegate, Trees, no_trees, more_trees}
-use Rattle.fancy_regex_tree.specs.declared.form.Form.{Form}
-use Rattle.fancy_regex_tree.specs.declared.form.Form.TheVariants.{Nothing, Place, Other}
+use Rattle.fancy_regex_tree.specs.declared.normal_form_kind.NormalFormKind.{NormalFormKind}
+use Rattle.fancy_regex_tree.specs.declared.normal_form_kind.NormalFormKind.TheVariants.{Empty, Anchor, Repeatable}
 
--- the class that was read, where nothing is left behind it
-unfoldable pub whole_class : Reading (Text × Text) → Option Text
+-- the parsed class, if nothing is left of the text
+unfoldable pub whole_class : ParseOutcome (Text × Text) → Option Text
 whole_class (Ok (class, [])) = Some class
 whole_class (Ok (class, c ∷ rest)) = None
 whole_class (Err e) = None
 
--- the class that an escape stands for, where nothing is left behind it
-unfoldable pub whole_escape : Reading (Escape × Text) → Option Text
+-- the class that an escape stands for, if nothing is left of the text
+unfoldable pub whole_escape : ParseOutcome (Escape × Text) → Option Text
 whole_escape (Ok (class_escape class, [])) = Some class
 whole_escape _ = None
 
--- the class that a text is read as with nothing round it; None where it is not one class
+-- the class that a whole text is parsed as; None if it is not one class
 unfoldable pub class_alone : Text → Option Text
 class_alone [] = None
 class_alone (c ∷ t) =
-    if c ∈ "[" then whole_class (class_in_brackets false (c ∷ t))
+    if c ∈ "[" then whole_class (bracketed_class false (c ∷ t))
     else if c ∈ "\\" then whole_escape (escape false (c ∷ t))
     else None
 
--- what a tree is, as far as rows and quantifiers ask
-unfoldable pub form_of : Tree → Form
-form_of empty = Nothing
-form_of (assertion a) = Place
-form_of _ = Other
+-- the kind of a node, as far as concatenation and quantifiers need it
+unfoldable pub node_kind : Tree → NormalFormKind
+node_kind empty = Empty
+node_kind (assertion a) = Anchor
+node_kind _ = Repeatable
 
--- a piece in front of others; `Empty` is none
+-- a piece in front of others; an empty node is left out
 unfoldable pub with_piece : Tree → Trees → Trees
-with_piece t ts = elim (form_of t) [ Nothing ↦ ts | Place ↦ more_trees t ts | Other ↦ more_trees t ts ]
+with_piece t ts = elim (node_kind t) [ Empty ↦ ts | Anchor ↦ more_trees t ts | Repeatable ↦ more_trees t ts ]
 
--- pieces in a row: none is `Empty`, one is itself
+-- a concatenation: the empty node for no piece, the piece itself for one
 unfoldable pub row_of : Trees → Tree
 row_of no_trees = empty
 row_of (more_trees t no_trees) = t

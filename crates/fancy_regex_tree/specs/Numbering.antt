@@ -9,23 +9,23 @@ use Rattle.std.specs.Str.{all_scalars, encode_utf8_all}
 use Rattle.std.specs.BTreeMap.{BTreeMap, get_by_text}
 use Rattle.fancy_regex_text.specs.Text.{unbounded}
 use Rattle.fancy_regex_text.specs.Fault.{Kind, kind_of, invalid_backref, invalid_group_name_backref}
-use Rattle.fancy_regex_tree.specs.Walks.{nodes}
+use Rattle.fancy_regex_tree.specs.Traversal.{nodes}
 use Rattle.fancy_regex_tree.specs.declared.error.Error.{Error}
 use Rattle.fancy_regex_tree.specs.declared.error.Error.TheVariants as errors
 use Rattle.fancy_regex_tree.specs.Tree.{Text, Tree, Trees, no_trees, more_trees, Target, by_number, by_name, relative, concat, alt, group, look_around, repeat, backref, backref_with_level, atomic_group, backref_exists, conditional, subroutine_call, absent_repeater, absent_expression, absent_stopper, define_group, ast_group, ast_backref, ast_call, ast_condition}
 
--- a fault, and its place in bytes from the start of the pattern
-pub record Refusal : Type 0 where
+-- an error, and its byte offset in the pattern
+pub record PositionedFault : Type 0 where
   pub kind : Kind
   pub position : ℕ
 
--- one step after another, where each may be refused
+-- one step after another, where each may fail
 infixl 10 ◌⨟◌
-abbrev pub ◌⨟◌ : {A B : Type 0} → Result A Refusal → (A → Result B Refusal) → Result B Refusal
+abbrev pub ◌⨟◌ : {A B : Type 0} → Result A PositionedFault → (A → Result B PositionedFault) → Result B PositionedFault
 Ok a ⨟ f = f a
 Err e ⨟ f = Err e
 
-abbrev pub refused : {A : Type 0} → Kind → ℕ → Result A Refusal
+abbrev pub refused : {A : Type 0} → Kind → ℕ → Result A PositionedFault
 refused kind position = Err (record { kind = kind; position = position })
 
 -- the names of groups, in the order of their openings
@@ -64,17 +64,17 @@ relative_number n (pos zero) = None
 relative_number n (pos (suc k)) = Some (min (n + suc k) unbounded)
 relative_number n (negsuc k) = if nat_lt k n then Some (n - k) else None
 
--- an opening counts, where those without a name may be ignored
+-- a capture group gets a number; with the flag set, unnamed ones get none
 abbrev pub counts : Bool → Option Text → Bool
 counts ignored (Some name) = true
 counts true None = false
 counts false None = true
 
--- the openings that count
+-- the names of the groups that get a number
 abbrev pub counted : Bool → Names → Names
 counted ignored names = filter (counts ignored) names
 
--- an opening, if there is one and it counts
+-- the name of a group, if there is a group and it gets a number
 abbrev pub kept : Bool → Option (Option Text) → Option (Option Text)
 kept ignored None = None
 kept ignored (Some (Some name)) = Some (Some name)
@@ -90,26 +90,26 @@ abbrev pub last_named : Names → Text → Option ℕ
 last_named names name = if all_scalars name then last_number (numbers_of name 0 names) else None
 
 -- the group of a relative back reference or condition
-abbrev pub relative_target : ℕ → ℕ → ℤ → Result ℕ Refusal
+abbrev pub relative_target : ℕ → ℕ → ℤ → Result ℕ PositionedFault
 relative_target n position k = elim (relative_number n k) [ Some g ↦ Ok g | None ↦ refused invalid_backref position ]
 
--- the limit, where there is one, is not passed
+-- at most the limit, if there is one
 abbrev pub is_within : Option ℕ → ℕ → Bool
 is_within None g = true
 is_within (Some limit) g = nat_le g limit
 
 -- the group of a name in a back reference or condition; there has to be one, up to the limit
-abbrev pub limited_target : Option ℕ → Option ℕ → ℕ → Text → Result ℕ Refusal
-limited_target limit None position name = refused (invalid_group_name_backref name) position
-limited_target limit (Some g) position name = if is_within limit g then Ok g else refused (invalid_group_name_backref name) position
+abbrev pub named_target : Option ℕ → Option ℕ → ℕ → Text → Result ℕ PositionedFault
+named_target limit None position name = refused (invalid_group_name_backref name) position
+named_target limit (Some g) position name = if is_within limit g then Ok g else refused (invalid_group_name_backref name) position
 
 -- `group_named` has the last group of a name.
 module _ (group_named : Text → Option ℕ) where
   -- the group of a back reference or condition behind n openings; a group by name is within the limit
-  abbrev pub group_target : Option ℕ → ℕ → ℕ → Target → Result ℕ Refusal
+  abbrev pub group_target : Option ℕ → ℕ → ℕ → Target → Result ℕ PositionedFault
   group_target limit n position (by_number k) = Ok k
   group_target limit n position (relative k) = relative_target n position k
-  group_target limit n position (by_name name) = limited_target limit (group_named name) position name
+  group_target limit n position (by_name name) = named_target limit (group_named name) position name
 
   -- the group of a call behind n openings
   abbrev pub call_target : ℕ → Target → Option ℕ
@@ -125,7 +125,7 @@ module _ (group_named : Text → Option ℕ) where
 module _ (ignored : Bool) (group_named : Text → Option ℕ) where
   -- the tree behind n openings with its references resolved, and how many openings are before its end
   abbrev mutual
-    pub resolved : ℕ → Tree → Result (Tree × ℕ) Refusal
+    pub resolved : ℕ → Tree → Result (Tree × ℕ) PositionedFault
     resolved n (ast_group name e position) =
         if counts ignored name then resolved (suc n) e ⨟ (λ found. Ok (group found.0, found.1)) else resolved n e
     resolved n (group e) = resolved (suc n) e ⨟ λ found. Ok (group found.0, found.1)
@@ -150,16 +150,16 @@ module _ (ignored : Bool) (group_named : Text → Option ℕ) where
     resolved n (define_group e) = resolved n e ⨟ λ found. Ok (define_group found.0, found.1)
     resolved n e = Ok (e, n)
 
-    pub all_resolved : ℕ → Trees → Result (Trees × ℕ) Refusal
+    pub all_resolved : ℕ → Trees → Result (Trees × ℕ) PositionedFault
     all_resolved n no_trees = Ok (no_trees, n)
     all_resolved n (more_trees e es) =
         resolved n e ⨟ λ first. all_resolved first.1 es ⨟ λ others. Ok (more_trees first.0 others.0, others.1)
 
--- what a function answered, seen by `view`, is what is defined, unless memory ran out
-abbrev pub Meets : {X A : Type 0} → (X → A) → Result X Error → Result A Refusal → Type 0
-Meets view (Ok x) defined = defined ≡ Ok (view x)
-Meets view (Err (errors.ParseError position kind)) defined = defined ≡ Err (record { kind = kind_of kind; position = position })
-Meets view (Err errors.Memory) defined = Unit {0}
+-- the result of a function, as `view` shows it, is the defined one, unless memory ran out
+abbrev pub AgreesWith : {X A : Type 0} → (X → A) → Result X Error → Result A PositionedFault → Type 0
+AgreesWith view (Ok x) defined = defined ≡ Ok (view x)
+AgreesWith view (Err (errors.ParseError position kind)) defined = defined ≡ Err (record { kind = kind_of kind; position = position })
+AgreesWith view (Err errors.Memory) defined = Unit {0}
 
 -- The last group of a name, as a map from names to numbers has it.
 unfoldable pub lookup_in : BTreeMap (String Global) (Vec ℕ Global) → Text → Option ℕ

@@ -1,14 +1,14 @@
--- What a text is read as: the tree with its groups numbered and its references resolved, or the first fault.
+-- What a text is parsed as: the tree with its groups numbered and its references resolved, or the first error.
 use Rattle.std.specs.Prelude.{ℕ, ◌-◌, ◌^◌, Bool, not, ◌&&◌, ◌==◌, is_some, Result, Ok, Err, bit_and}
 use Rattle.std.specs.List.{list_any}
 use Rattle.fancy_regex_text.specs.Text.{bytes}
-use Rattle.fancy_regex_text.specs.Fault.{Reading}
+use Rattle.fancy_regex_text.specs.Fault.{ParseOutcome}
 use Rattle.fancy_regex_lex.specs.declared.token.Flags.{Flags}
 use Rattle.fancy_regex_tree.specs.Tree.{Text, Tree}
-use Rattle.fancy_regex_tree.specs.Groups.{read_whole}
-use Rattle.fancy_regex_tree.specs.Numbering.{Names, Refusal, ◌⨟◌, openings, counted, last_named, resolved}
+use Rattle.fancy_regex_tree.specs.Parser.{parse_pattern}
+use Rattle.fancy_regex_tree.specs.Numbering.{Names, PositionedFault, ◌⨟◌, openings, counted, last_named, resolved}
 
--- what the flags of the call set
+-- the options of a call, as its flags set them
 pub record Options : Type 0 where
   pub flags : Flags
   pub unicode : Bool
@@ -25,25 +25,25 @@ pub record Parsed : Type 0 where
   -- groups without a name were ignored
   pub ignored : Bool
 
--- a fault of reading in a text of this size, with its place
-abbrev pub placed : {A : Type 0} → ℕ → Reading A → Result A Refusal
-placed size (Ok a) = Ok a
-placed size (Err e) = Err (record { kind = e.kind; position = size - e.left })
+-- an error in a text of this many bytes, with its byte offset instead of how much is left
+abbrev pub with_position : {A : Type 0} → ℕ → ParseOutcome A → Result A PositionedFault
+with_position size (Ok a) = Ok a
+with_position size (Err e) = Err (record { kind = e.kind; position = size - e.left })
 
--- groups without a name do not count
+-- unnamed groups get no number
 abbrev pub ignores : Options → Names → Bool
 ignores o names = o.ignore_numbered && list_any is_some names
 
--- a whole tree with its references resolved
-abbrev pub finish : Options → Tree → Result Parsed Refusal
-finish o tree =
+-- a whole tree with its groups numbered and its references resolved
+abbrev pub resolve_references : Options → Tree → Result Parsed PositionedFault
+resolve_references o tree =
     let ignored = ignores o (openings tree) in
     let names = counted ignored (openings tree) in
     resolved ignored (last_named names) 0 tree ⨟ λ found.
     Ok (record { tree = found.0; names = names; unresolved = tree; ignored = ignored })
 
-unfoldable pub parse : Options → Text → Result Parsed Refusal
-parse o t = placed (bytes t) (read_whole o.oniguruma o.unicode o.flags t) ⨟ finish o
+unfoldable pub parse : Options → Text → Result Parsed PositionedFault
+parse o t = with_position (bytes t) (parse_pattern o.oniguruma o.unicode o.flags t) ⨟ resolve_references o
 
 -- this bit is set
 abbrev pub has_flag : ℕ → ℕ → Bool

@@ -1,18 +1,18 @@
--- Which trees have a text, and which patterns print as a text that reads back.
+-- Which trees can be printed, and which patterns have a printed text that is parsed as a pattern of the same meaning.
 use Rattle.std.specs.Prelude.{ℕ, ◌+◌, max, Bool, true, false, ◌&&◌, ◌||◌, nat_lt, [], ◌∷◌, Option, Some, None, is_some, bytes_eq, if◌then◌else◌}
 use Rattle.fancy_regex_text.specs.Text.{Text, is_empty, unbounded}
 use Rattle.fancy_regex_tree.specs.Tree.{Tree, empty, any, assertion, literal, concat, alt, group, repeat, delegate, Trees, no_trees, more_trees}
-use Rattle.fancy_regex_tree.specs.NormalForm.{class_alone, form_of, normal_form}
-use Rattle.fancy_regex_tree.specs.declared.form.Form.{Form}
-use Rattle.fancy_regex_tree.specs.declared.form.Form.TheVariants.{Nothing, Place, Other}
+use Rattle.fancy_regex_tree.specs.NormalForm.{class_alone, node_kind, normal_form}
+use Rattle.fancy_regex_tree.specs.declared.normal_form_kind.NormalFormKind.{NormalFormKind}
+use Rattle.fancy_regex_tree.specs.declared.normal_form_kind.NormalFormKind.TheVariants.{Empty, Anchor, Repeatable}
 use Rattle.fancy_regex_tree.specs.declared.expr.Assertion.{Assertion}
 use Rattle.fancy_regex_tree.specs.declared.expr.Assertion.TheVariants.{EndTextIgnoreTrailingNewlines, StartLine, StartLineOniguruma, EndLine}
 
--- a quantifier may stand behind a tree of this form
-unfoldable pub can_be_repeated : Form → Bool
-can_be_repeated Nothing = false
-can_be_repeated Place = false
-can_be_repeated Other = true
+-- a quantifier may follow a node of this kind
+unfoldable pub can_be_repeated : NormalFormKind → Bool
+can_be_repeated Empty = false
+can_be_repeated Anchor = false
+can_be_repeated Repeatable = true
 
 unfoldable pub is_printable_assertion : Assertion → Bool
 is_printable_assertion (EndTextIgnoreTrailingNewlines crlf) = false
@@ -24,9 +24,9 @@ is_one_character [] = false
 is_one_character (c ∷ t) = is_empty t
 
 -- there are two branches or more
-unfoldable pub are_branches : Trees → Bool
-are_branches (more_trees t (more_trees u ts)) = true
-are_branches _ = false
+unfoldable pub has_two_branches : Trees → Bool
+has_two_branches (more_trees t (more_trees u ts)) = true
+has_two_branches _ = false
 
 unfoldable mutual
   pub is_printable : Tree → Bool
@@ -36,21 +36,21 @@ unfoldable mutual
   is_printable (literal val casei) = is_one_character val
   is_printable (delegate inner casei) = is_some (class_alone inner)
   is_printable (concat ts) = are_printable ts
-  is_printable (alt ts) = are_branches ts && are_printable ts
+  is_printable (alt ts) = has_two_branches ts && are_printable ts
   is_printable (group t) = is_printable t
-  is_printable (repeat t lo hi greedy) = nat_lt lo unbounded && can_be_repeated (form_of (normal_form t)) && is_printable t
+  is_printable (repeat t lo hi greedy) = nat_lt lo unbounded && can_be_repeated (node_kind (normal_form t)) && is_printable t
   is_printable _ = false
 
   pub are_printable : Trees → Bool
   are_printable no_trees = true
   are_printable (more_trees t ts) = is_printable t && are_printable ts
 
--- the text is read as itself
+-- the text of a class is parsed as itself
 unfoldable pub is_same_class : Text → Option Text → Bool
 is_same_class t None = false
 is_same_class t (Some class) = bytes_eq t class
 
--- each class is read back unchanged
+-- the text of each class in the tree is parsed as itself
 unfoldable mutual
   pub classes_read_back : Tree → Bool
   classes_read_back (delegate inner casei) = is_same_class inner (class_alone inner)
@@ -73,7 +73,7 @@ assertion_levels (StartLine crlf) = 1
 assertion_levels (EndLine crlf) = 1
 assertion_levels _ = 0
 
--- how many groups nest in the printed text at a precedence
+-- how deep groups are inside each other in the text that is printed at a precedence
 unfoldable mutual
   pub printed_levels : ℕ → Tree → ℕ
   printed_levels precedence (any newline crlf) = level (newline || crlf) 0

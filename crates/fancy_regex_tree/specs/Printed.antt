@@ -1,21 +1,21 @@
--- The text of a tree, which the grammar reads as the tree's normal form.
+-- The printed text of a tree, which is parsed as the normal form of the tree.
 use Rattle.std.specs.Prelude.{ℕ, Bool, ◌&&◌, ◌==◌, nat_lt, [], ◌∷◌, ◌++◌, codes, decimal, if◌then◌else◌}
 use Rattle.fancy_regex_text.specs.Text.{◌∈◌, unbounded}
 use Rattle.fancy_regex_tree.specs.Tree.{Text, Tree, any, assertion, literal, concat, alt, group, repeat, delegate, Trees, no_trees, more_trees}
 use Rattle.fancy_regex_tree.specs.declared.expr.Assertion.{Assertion}
 use Rattle.fancy_regex_tree.specs.declared.expr.Assertion.TheVariants.{StartText, EndText, StartLine, EndLine, LeftWordBoundary, LeftWordHalfBoundary, RightWordBoundary, RightWordHalfBoundary, WordBoundary, NotWordBoundary}
 
--- a pattern would read the character as a sign
-abbrev pub is_sign : ℕ → Bool
-is_sign c = c ∈ "\\.+*?()|[]{}^$#"
+-- a metacharacter, which a pattern must escape
+abbrev pub is_metacharacter : ℕ → Bool
+is_metacharacter c = c ∈ "\\.+*?()|[]{}^$#"
 
--- a character as a literal: signs behind a backslash, ends of lines and tabs by their letters
+-- a character as a literal: metacharacters behind a backslash; newline, carriage return and tab as `\n`, `\r`, `\t`
 unfoldable pub escaped_char : ℕ → Text
 escaped_char c =
     if c ∈ "\n" then codes "\\n"
     else if c ∈ "\r" then codes "\\r"
     else if c ∈ "\t" then codes "\\t"
-    else if is_sign c then 0x5C ∷ c ∷ []
+    else if is_metacharacter c then 0x5C ∷ c ∷ []
     else c ∷ []
 
 unfoldable pub escaped : Text → Text
@@ -29,7 +29,7 @@ group_start needed = if needed then codes "(?:" else []
 unfoldable pub group_end : Bool → Text
 group_end needed = if needed then codes ")" else []
 
--- in a group that captures nothing, where the text would not hold together without it
+-- in a non-capturing group, where one is needed
 unfoldable pub in_group : Bool → Text → Text
 in_group needed t = group_start needed ++ t ++ group_end needed
 
@@ -87,12 +87,12 @@ bounds_text lo hi =
 unfoldable pub quantifier_text : ℕ → ℕ → Bool → Text
 quantifier_text lo hi greedy = if greedy then bounds_text lo hi else bounds_text lo hi ++ codes "?"
 
--- what parts a branch from the one before it, where there is one
+-- `|`, where there is a branch before
 unfoldable pub bar : Bool → Text
 bar needed = if needed then codes "|" else []
 
--- The text of a tree at a precedence: 0 is a whole, 1 a branch, 2 a piece, 3 what a quantifier stands behind. A tree that is not
--- printable has a text too, which means nothing.
+-- The text of a tree at a precedence: 0 for a whole pattern, 1 for a branch, 2 for a piece, 3 before a quantifier. What is said of it
+-- holds for printable trees alone.
 unfoldable mutual
   pub printed : ℕ → Tree → Text
   printed precedence (any newline crlf) = dot_text newline crlf
@@ -105,17 +105,17 @@ unfoldable mutual
   printed precedence (repeat t lo hi greedy) = in_group (nat_lt 2 precedence) (printed 3 t ++ quantifier_text lo hi greedy)
   printed precedence _ = []
 
-  -- pieces in a row
+  -- the texts of a concatenation
   pub printed_pieces : Trees → Text
   printed_pieces no_trees = []
   printed_pieces (more_trees t ts) = printed 2 t ++ printed_pieces ts
 
-  -- branches with a bar between each two
+  -- the branches of an alternation with `|` between them
   pub printed_branches : Trees → Text
   printed_branches no_trees = []
   printed_branches (more_trees t ts) = printed 1 t ++ later_branches ts
 
-  -- branches, each behind a bar
+  -- branches, each behind a `|`
   pub later_branches : Trees → Text
   later_branches no_trees = []
   later_branches (more_trees t ts) = codes "|" ++ printed 1 t ++ later_branches ts

@@ -1,4 +1,4 @@
--- The tree of a pattern as mathematics has it: an `Expr` without where it lies in memory, with texts as characters.
+-- The syntax tree as a mathematical value: an `Expr` without its memory, with texts as lists of characters.
 use Rattle.std.specs.Prelude.{ℕ, ℤ, Bool, List, [], ◌∷◌, Option, option_map, string_bytes, chars}
 use Rattle.fancy_regex_tree.specs.declared.expr.Assertion.{Assertion}
 use Rattle.fancy_regex_tree.specs.declared.expr.LookAround.{LookAround}
@@ -14,7 +14,7 @@ use Rattle.fancy_regex_tree.specs.declared.expr.Absent.TheOpen.{Expr-F, Absent-F
 abbrev pub Text : Type 0
 Text = List ℕ
 
--- what a reference names
+-- the capture group that a reference names
 pub data Target : Type 0 where
   by_number : ℕ → Target
   by_name : Text → Target
@@ -59,7 +59,7 @@ mutual
     absent_stopper : Tree → Tree
     absent_clear : Tree
     define_group : Tree → Tree
-    -- nodes that are not resolved; the last field is the place in bytes of the construct
+    -- unresolved nodes; the last field is the byte offset in the pattern
     -- name, inner
     ast_group : Option Text → Tree → ℕ → Tree
     -- target, casei, relative_recursion_level
@@ -81,7 +81,7 @@ target_of (ByNumber n) = by_number n
 target_of (ByName s) = by_name (chars (string_bytes s))
 target_of (Relative z) = relative z
 
--- one level, with the tree of each child in its place
+-- one level of nodes, where each child is its tree already
 abbrev pub absent_tree : Absent-F Tree (ℕ → Tree) Tree → Tree
 absent_tree (Absent-F.Repeater t) = absent_repeater t.value
 absent_tree (Absent-F.Expression absent exp) = absent_expression absent.value exp.value

@@ -1,15 +1,15 @@
-//! Children, lent for writing.
+//! Mutable access to the children of a node.
 
 ghost use Rattle.std.specs.Prelude.{◌≡◌, ◌∷◌, [], map, option_map, slice_get};
 ghost use Rattle.fancy_regex_tree.specs.Tree.{tree_of, absent_tree_of};
-ghost use Rattle.fancy_regex_tree.specs.Walks.{children};
-ghost use Rattle.fancy_regex_tree.specs.Lent.{tree_lent};
+ghost use Rattle.fancy_regex_tree.specs.Traversal.{children};
+ghost use Rattle.fancy_regex_tree.specs.BorrowedChild.{borrowed_tree};
 
 use crate::expr::{Absent, AstNode, Expr};
 
-/// The one child, or `None` for any other index than 0.
+/// The only child for index 0, `None` for any other.
 fn only(child: &mut Expr, i: usize) -> Option<&mut Expr>
-    ensures { option_map tree_lent result ≡ slice_get (tree_of child.old ∷ []) i }
+    ensures { option_map borrowed_tree result ≡ slice_get (tree_of child.old ∷ []) i }
 {
     match i {
         0 => Some(child),
@@ -17,9 +17,9 @@ fn only(child: &mut Expr, i: usize) -> Option<&mut Expr>
     }
 }
 
-/// One of two children.
+/// The first of two children for index 0, the second for 1, `None` for any other.
 fn either<'t>(first: &'t mut Expr, second: &'t mut Expr, i: usize) -> Option<&'t mut Expr>
-    ensures { option_map tree_lent result ≡ slice_get (tree_of first.old ∷ tree_of second.old ∷ []) i }
+    ensures { option_map borrowed_tree result ≡ slice_get (tree_of first.old ∷ tree_of second.old ∷ []) i }
 {
     match i {
         0 => Some(first),
@@ -28,16 +28,17 @@ fn either<'t>(first: &'t mut Expr, second: &'t mut Expr, i: usize) -> Option<&'t
     }
 }
 
-/// One of a row.
+/// The child at an index, `None` past the end.
 fn item(children: &mut Vec<Expr>, i: usize) -> Option<&mut Expr>
-    ensures { option_map tree_lent result ≡ slice_get (map tree_of children.old.items) i }
+    ensures { option_map borrowed_tree result ≡ slice_get (map tree_of children.old.items) i }
 {
     children.get_mut(i)
 }
 
 impl Absent {
+    /// The child at an index, in the order of the pattern, as a mutable reference.
     fn child_mut(&mut self, i: usize) -> Option<&mut Expr>
-        ensures { option_map tree_lent result ≡ slice_get (children (absent_tree_of self.old)) i }
+        ensures { option_map borrowed_tree result ≡ slice_get (children (absent_tree_of self.old)) i }
     {
         match self {
             Absent::Repeater(child) => only(child, i),
@@ -49,11 +50,12 @@ impl Absent {
 }
 
 impl Expr {
-    /// The i-th child, in the order of `children_iter`, lent for writing; `None` where there is no such child.
+    /// The child at index `i`, in the order of `children_iter`, as a mutable reference; `None` where there is no such child.
     ///
-    /// Which child is lent is proved. What this node is after a write through it is not; of `replace_child` it is.
+    /// The contract says which child it is. It does not say what this node is after a write through the reference; that of
+    /// `replace_child` does.
     pub fn child_mut(&mut self, i: usize) -> Option<&mut Expr>
-        ensures { option_map tree_lent result ≡ slice_get (children (tree_of self.old)) i }
+        ensures { option_map borrowed_tree result ≡ slice_get (children (tree_of self.old)) i }
     {
         match self {
             Expr::Concat(children) => item(children, i),

@@ -1,3 +1,5 @@
+//! Copies of trees. Each copy may run out of memory; there is no `Clone`.
+
 ghost use Rattle.std.specs.Prelude.{◌≡◌, IfOk, option_map, map, string_bytes, chars};
 ghost use Rattle.fancy_regex_tree.specs.Tree.{tree_of, absent_tree_of, ast_tree_of, target_of};
 
@@ -5,6 +7,7 @@ use crate::expr::{Absent, AstNode, CaptureGroupTarget, Expr};
 use std::alloc::{AllocError, Global};
 
 impl CaptureGroupTarget {
+    /// A copy of the target. Fails only if an allocation fails.
     pub fn try_clone(&self, alloc: Global) -> Result<CaptureGroupTarget, AllocError>
         ensures { IfOk result (λ copy. target_of copy ≡ target_of self.now) }
     {
@@ -18,6 +21,7 @@ impl CaptureGroupTarget {
     }
 }
 
+/// A copy of a group name, if there is one.
 fn copy_name(alloc: Global, name: &Option<String>) -> Result<Option<String>, AllocError>
     ensures { IfOk result (λ copy. option_map (λ s. chars (string_bytes s)) copy ≡ option_map (λ s. chars (string_bytes s)) name.now) }
 {
@@ -28,6 +32,7 @@ fn copy_name(alloc: Global, name: &Option<String>) -> Result<Option<String>, All
 }
 
 impl Absent {
+    /// A deep copy of the operator. Fails only if an allocation fails.
     #[cycle(copy)]
     pub fn try_clone(&self, alloc: Global) -> Result<Absent, AllocError>
         ensures { IfOk result (λ copy. absent_tree_of copy ≡ absent_tree_of self.now) }
@@ -45,6 +50,7 @@ impl Absent {
 }
 
 impl AstNode {
+    /// A deep copy of the node. Fails only if an allocation fails.
     #[cycle(copy)]
     pub fn try_clone(&self, alloc: Global) -> Result<AstNode, AllocError>
         ensures { IfOk result (λ copy. ast_tree_of copy ≡ ast_tree_of self.now) }
@@ -78,6 +84,7 @@ impl AstNode {
 }
 
 impl Expr {
+    /// A deep copy of the tree. Fails only if an allocation fails.
     #[cycle(copy)]
     pub fn try_clone(&self, alloc: Global) -> Result<Expr, AllocError>
         ensures { IfOk result (λ copy. tree_of copy ≡ tree_of self.now) }
@@ -161,6 +168,7 @@ impl Expr {
     }
 }
 
+/// A deep copy of a boxed child.
 #[cycle(copy)]
 fn copy_child(alloc: Global, child: &Box<Expr>) -> Result<Box<Expr>, AllocError>
     ensures { IfOk result (λ copy. tree_of copy.value ≡ tree_of child.now.value) }
@@ -168,6 +176,7 @@ fn copy_child(alloc: Global, child: &Box<Expr>) -> Result<Box<Expr>, AllocError>
     Ok(Box::new(alloc, child.try_clone(alloc)?)?)
 }
 
+/// Deep copies of all children.
 #[cycle(copy)]
 fn copy_all(alloc: Global, children: &[Expr]) -> Result<Vec<Expr>, AllocError>
     ensures { IfOk result (λ copy. map tree_of copy.items ≡ map tree_of children.now) }

@@ -1,4 +1,4 @@
-//! Equality: two values are equal where they stand for the same tree.
+//! Equality of trees: structural, so that two values are equal exactly if they are the same tree.
 
 ghost use Rattle.std.specs.Prelude.{◌≡◌, ◌↔◌, IsTrue, map, chars, string_bytes, option_map, ◌&&◌, nat_eq, ℕ};
 ghost use Rattle.std.specs.Cmp.{on_per, on_equiv, partial_equiv_from_equiv};
@@ -15,6 +15,7 @@ impl PartialEq for CaptureGroupTarget {
 
     ghost laws = { on_per target_of (partial_equiv_from_equiv targets_equiv) };
 
+    /// Whether both name a group by the same number, the same name or the same distance.
     fn eq(&self, other: &CaptureGroupTarget) -> bool
         ensures value { result ≡ same_target (target_of self.now) (target_of other.now) }
         ensures exact { IsTrue result ↔ (target_of self.now ≡ target_of other.now) }
@@ -27,13 +28,14 @@ impl Eq for CaptureGroupTarget {
     ghost laws = { on_equiv target_of targets_equiv };
 }
 
-/// Whether two texts have the same characters.
+/// Whether two texts are equal.
 fn same_text(a: &str, b: &str) -> bool
     ensures { result ≡ same_list (chars a.now) (chars b.now) }
 {
     a.as_bytes() == b.as_bytes()
 }
 
+/// Whether two groups have equal names, or both none.
 fn same_name(a: &Option<String>, b: &Option<String>) -> bool
     ensures { result ≡ same_name (option_map (λ s. chars (string_bytes s)) a.now) (option_map (λ s. chars (string_bytes s)) b.now) }
 {
@@ -44,24 +46,28 @@ fn same_name(a: &Option<String>, b: &Option<String>) -> bool
     }
 }
 
+/// Whether two look-arounds are of the same kind.
 fn same_look(a: LookAround, b: LookAround) -> bool
     ensures { result ≡ same_look a b }
 {
     a == b
 }
 
+/// Whether two control verbs are the same.
 fn same_verb(a: BacktrackingControlVerb, b: BacktrackingControlVerb) -> bool
     ensures { result ≡ same_verb a b }
 {
     a == b
 }
 
+/// Whether two assertions are the same, with the same flags.
 fn same_assertion(a: Assertion, b: Assertion) -> bool
     ensures { result ≡ same_assertion a b }
 {
     a == b
 }
 
+/// Whether two targets are equal.
 fn same_target(a: &CaptureGroupTarget, b: &CaptureGroupTarget) -> bool
     ensures { result ≡ same_target (target_of a.now) (target_of b.now) }
 {
@@ -86,6 +92,7 @@ impl PartialEq for Absent {
 
     ghost laws = { on_per absent_tree_of (partial_equiv_from_equiv trees_equiv) };
 
+    /// Whether both are the same operator over equal trees.
     fn eq(&self, other: &Absent) -> bool
         ensures value { result ≡ same_tree (absent_tree_of self.now) (absent_tree_of other.now) }
         ensures exact { IsTrue result ↔ (absent_tree_of self.now ≡ absent_tree_of other.now) }
@@ -103,6 +110,7 @@ impl PartialEq for AstNode {
 
     ghost laws = { on_per (λ a. ast_tree_of a 0) (partial_equiv_from_equiv trees_equiv) };
 
+    /// Whether both are equal but for their byte offsets, which `Expr::AstNode` holds.
     fn eq(&self, other: &AstNode) -> bool
         ensures value { result ≡ same_tree (ast_tree_of self.now 0) (ast_tree_of other.now 0) }
         ensures exact { IsTrue result ↔ (ast_tree_of self.now 0 ≡ ast_tree_of other.now 0) }
@@ -120,6 +128,7 @@ impl PartialEq for Expr {
 
     ghost laws = { on_per tree_of (partial_equiv_from_equiv trees_equiv) };
 
+    /// Whether both trees have the same nodes, with equal fields; byte offsets of unresolved nodes included.
     fn eq(&self, other: &Expr) -> bool
         ensures value { result ≡ same_tree (tree_of self.now) (tree_of other.now) }
         ensures exact { IsTrue result ↔ (tree_of self.now ≡ tree_of other.now) }
@@ -132,9 +141,9 @@ impl Eq for Expr {
     ghost laws = { on_equiv tree_of trees_equiv };
 }
 
-/// Whether two rows of trees are the same.
+/// Whether two lists of trees are equal.
 #[cycle(equal)]
-fn same_row(a: &[Expr], b: &[Expr]) -> bool
+fn same_exprs(a: &[Expr], b: &[Expr]) -> bool
     ensures { result ≡ same_trees (trees (map tree_of a.now)) (trees (map tree_of b.now)) }
 {
     if a.len() != b.len() {
@@ -148,6 +157,7 @@ fn same_row(a: &[Expr], b: &[Expr]) -> bool
     true
 }
 
+/// Whether two absent operators are equal.
 #[cycle(equal)]
 fn same_absent(a: &Absent, b: &Absent) -> bool
     ensures { result ≡ same_tree (absent_tree_of a.now) (absent_tree_of b.now) }
@@ -172,7 +182,7 @@ fn same_absent(a: &Absent, b: &Absent) -> bool
     }
 }
 
-/// Whether two nodes that are not resolved are the same, wherever they stand.
+/// Whether two unresolved nodes are equal, whatever their byte offsets.
 #[cycle(equal)]
 fn same_node(a: &AstNode, b: &AstNode) -> bool
     ensures { (p q : ℕ) → (result && nat_eq p q) ≡ same_tree (ast_tree_of a.now p) (ast_tree_of b.now q) }
@@ -225,7 +235,7 @@ fn same_node(a: &AstNode, b: &AstNode) -> bool
     }
 }
 
-/// Whether two nodes are the same.
+/// Whether two trees are equal.
 #[cycle(equal)]
 fn same_expr(a: &Expr, b: &Expr) -> bool
     ensures { result ≡ same_tree (tree_of a.now) (tree_of b.now) }
@@ -259,11 +269,11 @@ fn same_expr(a: &Expr, b: &Expr) -> bool
             _ => false,
         },
         Expr::Concat(children) => match b {
-            Expr::Concat(others) => same_row(children, others),
+            Expr::Concat(others) => same_exprs(children, others),
             _ => false,
         },
         Expr::Alt(children) => match b {
-            Expr::Alt(others) => same_row(children, others),
+            Expr::Alt(others) => same_exprs(children, others),
             _ => false,
         },
         Expr::Group(child) => match b {

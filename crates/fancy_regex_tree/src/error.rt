@@ -1,4 +1,4 @@
-//! Why a text is no pattern.
+//! The errors of the parser.
 
 ghost use Rattle.std.specs.Prelude.{◌≡◌};
 ghost use Rattle.fancy_regex_tree.specs.declared.error.Error.TheVariants as errors;
@@ -7,19 +7,19 @@ use fancy_regex_lex::ParseError;
 use std::alloc::{AllocError, AllocFailed};
 use thiserror::Error;
 
-/// A place in a pattern, in bytes from its start.
+/// A byte offset from the start of the pattern.
 pub type ParseErrorPosition = usize;
 
-/// What a reading answers.
+/// The result of parsing.
 pub type Result<T> = std::result::Result<T, Error>;
 
-/// Why a reading answers no tree.
+/// The reason why a pattern could not be parsed.
 #[derive(Debug, PartialEq, Eq, Drop, Error)]
 pub enum Error {
-    /// The first fault of the text, and its place in bytes, which is at most the length of the text.
+    /// The first error in the text, with its byte offset, which is at most the length of the text.
     #[error("Parsing error at position {0}: {1}")]
     ParseError(ParseErrorPosition, ParseError),
-    /// Memory ran out.
+    /// An allocation failed.
     #[error("Out of memory")]
     Memory,
 }

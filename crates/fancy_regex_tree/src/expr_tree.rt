@@ -1,26 +1,28 @@
-//! A pattern that was read.
+//! The result of parsing a pattern.
 
 use crate::expr::Expr;
 use std::collections::{BTreeMap, BTreeSet};
 
-/// The numbers of the groups of each name, rising.
+/// For each group name, the numbers of the groups with that name in ascending order.
 pub type NamedGroups = BTreeMap<String, Vec<usize>>;
 
-/// The tree of a pattern, and what is said of the pattern beside it.
+/// A parsed pattern: its syntax tree, and a summary of its groups and references.
 #[derive(Debug, PartialEq, Eq, Drop)]
 pub struct ExprTree {
+    /// The syntax tree, with all references resolved but calls of groups that do not exist.
     pub expr: Expr,
-    /// The groups that back references and conditions name, up to the total.
+    /// The numbers, at most `total_groups`, of all groups that a back reference or a condition names.
     pub backrefs: BTreeSet<usize>,
+    /// The names of groups, with the numbers of their groups.
     pub named_groups: NamedGroups,
-    /// A group or the whole pattern is called somewhere, also by a call that was not resolved.
+    /// Whether there is a subroutine call, resolved or not, of a group or of the whole pattern.
     pub contains_subroutines: bool,
-    /// How many groups capture; the whole pattern is not counted.
+    /// The number of capture groups, without group 0, the whole pattern.
     pub total_groups: usize,
-    /// A back reference, a condition or a call names a number above the total.
+    /// Whether a back reference, a condition or a call names a group number above `total_groups`.
     pub reference_above_total: bool,
-    /// Groups without a name are ignored, and a reference other than a call of the whole goes by number.
+    /// Whether unnamed groups are ignored and a reference other than a call of group 0 is by number or relative.
     pub named_backref_only: bool,
-    /// A call names group 0, the whole pattern.
+    /// Whether a subroutine call names group 0, the whole pattern.
     pub calls_whole: bool,
 }

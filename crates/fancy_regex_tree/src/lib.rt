@@ -1,7 +1,10 @@
-//! The syntax tree of a pattern.
+//! The syntax tree of a regular expression: its type `Expr`, the parser, the printer and traversals.
+//!
+//! A pattern is parsed into an `ExprTree` with `Expr::parse_tree` or `Expr::parse_tree_with_flags`. The answer is the tree that the
+//! grammar gives for the text, or the first error with its byte offset, or want of memory. `Expr::to_str` prints a tree.
+
 #![tactic(auto)]
 
-mod atoms;
 mod child;
 mod copy;
 mod equal;
@@ -9,22 +12,23 @@ mod error;
 mod expr;
 mod expr_tree;
 mod flag_bits;
-mod form;
-mod groups;
-mod marks;
+mod group_names;
 mod nodes;
+mod normal_form_kind;
 mod parse;
+mod parse_atoms;
+mod parser;
+mod parser_config;
 mod print;
 mod print_text;
 mod print_tokens;
 mod printable;
-mod profile;
 mod quantifiers;
-mod read;
+mod reference_summary;
 mod replace;
 mod resolve;
-mod shapes;
-mod walks;
+mod traversal;
+mod tree_builders;
 
 pub use error::{Error, ParseErrorPosition, Result};
 pub use expr::{
@@ -36,4 +40,4 @@ pub use flag_bits::{
     FLAG_CASEI, FLAG_CRLF, FLAG_DOTNL, FLAG_IGNORE_NUMBERED_GROUPS_WHEN_NAMED_GROUPS_EXIST,
     FLAG_IGNORE_SPACE, FLAG_MULTI, FLAG_ONIGURUMA_MODE, FLAG_SWAP_GREED, FLAG_UNICODE,
 };
-pub use walks::ExprChildrenIter;
+pub use traversal::ExprChildrenIter;

@@ -1,20 +1,20 @@
-//! The nodes of a tree in a row.
+//! All nodes of a tree as a list.
 
 ghost use Rattle.std.specs.Prelude.{◌≡◌, ℕ, ◌++◌, IfOk, map};
 ghost use Rattle.fancy_regex_tree.specs.Tree.{tree_of, absent_tree_of, ast_tree_of, trees};
-ghost use Rattle.fancy_regex_tree.specs.Walks.{nodes, all_nodes, descendants, tree_at};
+ghost use Rattle.fancy_regex_tree.specs.Traversal.{nodes, all_nodes, descendants, tree_at};
 
 use crate::expr::{Absent, AstNode, Expr};
 use std::alloc::{AllocError, Global};
 
-/// The nodes of a tree, each before those below it.
+/// All nodes of a tree in preorder: each before those below it, from left to right.
 pub fn nodes(alloc: Global, expr: &Expr) -> Result<Vec<&Expr>, AllocError>
     ensures { IfOk result (λ all. map tree_at all.items ≡ nodes (tree_of expr.now)) }
 {
     with_nodes(expr, Vec::new(alloc))
 }
 
-/// These nodes, and those of a tree behind them.
+/// Appends all nodes of a tree.
 #[cycle(nodes)]
 fn with_nodes<'t>(expr: &'t Expr, mut found: Vec<&'t Expr>) -> Result<Vec<&'t Expr>, AllocError>
     ensures { IfOk result (λ all. map tree_at all.items ≡ map tree_at found.entry.items ++ nodes (tree_of expr.now)) }
@@ -23,7 +23,7 @@ fn with_nodes<'t>(expr: &'t Expr, mut found: Vec<&'t Expr>) -> Result<Vec<&'t Ex
     with_nodes_below(expr, found)
 }
 
-/// These nodes, and those of trees in a row behind them.
+/// Appends all nodes of several trees.
 #[cycle(nodes)]
 fn with_nodes_of_all<'t>(
     children: &'t [Expr],
@@ -38,7 +38,7 @@ fn with_nodes_of_all<'t>(
     Ok(all)
 }
 
-/// These nodes, and those below a node behind them.
+/// Appends all nodes below a node.
 #[cycle(nodes)]
 fn with_nodes_below<'t>(expr: &'t Expr, found: Vec<&'t Expr>) -> Result<Vec<&'t Expr>, AllocError>
     ensures { IfOk result (λ all. map tree_at all.items ≡ map tree_at found.entry.items ++ descendants (tree_of expr.now)) }
@@ -65,7 +65,7 @@ fn with_nodes_below<'t>(expr: &'t Expr, found: Vec<&'t Expr>) -> Result<Vec<&'t 
     }
 }
 
-/// These nodes, and those in an absent operator behind them.
+/// Appends all nodes below an absent operator.
 #[cycle(nodes)]
 fn with_nodes_in_absent<'t>(
     absent: &'t Absent,

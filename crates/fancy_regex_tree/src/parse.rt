@@ -1,13 +1,13 @@
-//! Reads a pattern.
+//! Parses a pattern: syntax, group numbers, references, summary.
 
 ghost use Rattle.std.specs.Prelude.{◌≡◌, ◌≤◌, length, chars, IfOk, IfErr};
 ghost use Rattle.fancy_regex_text.specs.Text.{bytes};
 ghost use Rattle.fancy_regex_tree.specs.Tree.{tree_of};
-ghost use Rattle.fancy_regex_tree.specs.Groups.{read_whole};
-ghost use Rattle.fancy_regex_tree.specs.Numbering.{Meets};
-ghost use Rattle.fancy_regex_tree.specs.Parse.{options_of, placed, parse};
-ghost use Rattle.fancy_regex_tree.specs.Options.{unicode_alone};
-ghost use Rattle.fancy_regex_tree.specs.Told.{IsParsed, IsWithin, AreGroups, AreMarks};
+ghost use Rattle.fancy_regex_tree.specs.Parser.{parse_pattern};
+ghost use Rattle.fancy_regex_tree.specs.Numbering.{AgreesWith};
+ghost use Rattle.fancy_regex_tree.specs.Parse.{options_of, with_position, parse};
+ghost use Rattle.fancy_regex_tree.specs.Options.{unicode_only};
+ghost use Rattle.fancy_regex_tree.specs.ParseResult.{IsParsed, IsWithin, IsGroupSummary, IsReferenceSummary};
 
 use crate::error::{Error, Result};
 use crate::expr::Expr;
@@ -16,16 +16,18 @@ use crate::flag_bits::{
     FLAG_CASEI, FLAG_CRLF, FLAG_DOTNL, FLAG_IGNORE_NUMBERED_GROUPS_WHEN_NAMED_GROUPS_EXIST,
     FLAG_IGNORE_SPACE, FLAG_MULTI, FLAG_ONIGURUMA_MODE, FLAG_SWAP_GREED, FLAG_UNICODE,
 };
-use crate::groups::{group_names, named_groups};
-use crate::marks::{any_above, any_call, any_call_of_whole, any_named, any_numbered, backrefs};
+use crate::group_names::{group_names, named_groups};
 use crate::nodes::nodes;
-use crate::read::read_pattern;
+use crate::parser::parse_pattern;
+use crate::reference_summary::{
+    any_call, any_call_of_whole, any_named, any_numbered, any_reference_above, backrefs,
+};
 use crate::resolve::Resolver;
 use fancy_regex_lex::{Flags, ReadError};
 use std::alloc::{AllocError, Global};
 use std::collections::BTreeSet;
 
-/// The flags that hold where a pattern begins.
+/// The flags in force where a pattern begins.
 fn flags_at_start(flags: u32) -> Flags
     ensures { result ≡ (options_of flags).flags }
 {
@@ -39,12 +41,12 @@ fn flags_at_start(flags: u32) -> Flags
     }
 }
 
-/// The tree of a pattern in which references are not resolved.
-fn read_unresolved(alloc: Global, re: &str, flags: u32) -> Result<Expr>
-    ensures value { Meets tree_of result (placed (bytes (chars re.now)) (read_whole (options_of flags).oniguruma (options_of flags).unicode (options_of flags).flags (chars re.now))) }
+/// Parses a pattern into a tree with unresolved references. An error has its byte offset, at most the length of `re`.
+fn parse_unresolved(alloc: Global, re: &str, flags: u32) -> Result<Expr>
+    ensures value { AgreesWith tree_of result (with_position (bytes (chars re.now)) (parse_pattern (options_of flags).oniguruma (options_of flags).unicode (options_of flags).flags (chars re.now))) }
     ensures within { IfErr result (λ e. IsWithin (length re.now) e) }
 {
-    match read_pattern(
+    match parse_pattern(
         alloc,
         flags & FLAG_ONIGURUMA_MODE != 0,
         flags & FLAG_UNICODE != 0,
@@ -60,29 +62,31 @@ fn read_unresolved(alloc: Global, re: &str, flags: u32) -> Result<Expr>
     }
 }
 
-/// What is known of the groups of a pattern before its references are resolved.
+/// The capture groups of a pattern, before its references are resolved.
 #[derive(Drop)]
-struct Groups {
+struct GroupSummary {
+    /// The numbers of the groups of each name.
     named: NamedGroups,
+    /// The number of capture groups.
     total: usize,
-    /// Groups without a name do not count.
+    /// Whether unnamed groups get no number.
     ignored: bool,
-    /// A reference other than a call of the whole pattern goes by number.
+    /// Whether a reference other than a call of group 0 is by number or relative.
     numbered: bool,
 }
 
-/// The groups of a pattern; those without a name do not count if `ignore_numbered` and there is a name.
-fn groups_of(
+/// Numbers the capture groups. Unnamed groups get no number if `ignore_numbered` is set and there is a named group.
+fn summarize_groups(
     alloc: Global,
     expr: &Expr,
     ignore_numbered: bool,
-) -> std::result::Result<Groups, AllocError>
-    ensures { IfOk result (λ groups. AreGroups ignore_numbered (tree_of expr.now) groups) }
+) -> std::result::Result<GroupSummary, AllocError>
+    ensures { IfOk result (λ groups. IsGroupSummary ignore_numbered (tree_of expr.now) groups) }
 {
     let nodes = nodes(alloc, expr)?;
     let ignored = ignore_numbered && any_named(&nodes);
     let names = group_names(alloc, &nodes, ignored)?;
-    Ok(Groups {
+    Ok(GroupSummary {
         named: named_groups(alloc, &names)?,
         total: names.len(),
         ignored,
@@ -90,60 +94,70 @@ fn groups_of(
     })
 }
 
-/// What the references of a pattern say of it, once they are resolved.
+/// What the resolved references of a pattern refer to.
 #[derive(Drop)]
-struct Marks {
+struct ReferenceSummary {
+    /// The group numbers, at most the total, that back references and conditions name.
     backrefs: BTreeSet<usize>,
+    /// Whether there is a subroutine call.
     contains_subroutines: bool,
+    /// Whether a reference names a group number above the total.
     reference_above_total: bool,
+    /// Whether a call names group 0.
     calls_whole: bool,
 }
 
-/// What is said of a pattern with so many groups.
-fn marks_of(alloc: Global, expr: &Expr, total: usize) -> std::result::Result<Marks, AllocError>
-    ensures { IfOk result (λ marks. AreMarks total (tree_of expr.now) marks) }
+/// Summarizes the references of a pattern with `total` capture groups.
+fn summarize_references(
+    alloc: Global,
+    expr: &Expr,
+    total: usize,
+) -> std::result::Result<ReferenceSummary, AllocError>
+    ensures { IfOk result (λ summary. IsReferenceSummary total (tree_of expr.now) summary) }
 {
     let nodes = nodes(alloc, expr)?;
-    Ok(Marks {
+    Ok(ReferenceSummary {
         backrefs: backrefs(alloc, &nodes, total)?,
         contains_subroutines: any_call(&nodes),
-        reference_above_total: any_above(total, &nodes),
+        reference_above_total: any_reference_above(total, &nodes),
         calls_whole: any_call_of_whole(&nodes),
     })
 }
 
 impl Expr {
-    /// Reads a pattern in Unicode mode: `parse_tree_with_flags` with `FLAG_UNICODE`.
+    /// Parses a pattern with `FLAG_UNICODE` alone; see `parse_tree_with_flags`.
     pub fn parse_tree(alloc: Global, re: &str) -> Result<ExprTree>
-        ensures { IsParsed result (parse unicode_alone (chars re.now)) }
+        ensures { IsParsed result (parse unicode_only (chars re.now)) }
     {
         Expr::parse_tree_with_flags(alloc, re, FLAG_UNICODE)
     }
 
-    /// Reads a pattern, with the flags of the constants `FLAG_...`; other bits are ignored. Answers its tree with all
-    /// references resolved and what is said of it, or the first fault with its place in bytes, which does not pass the end of
-    /// the text, or want of memory.
+    /// Parses a pattern. `flags` is a union of the constants `FLAG_...`; other bits are ignored.
+    ///
+    /// Answers the syntax tree, with references resolved, and the summary of its groups and references. The errors are
+    /// `Error::ParseError`, with the first error of the pattern and its byte offset, which is at most the length of `re`, and
+    /// `Error::Memory`, if an allocation fails. Errors of syntax come before those of references.
     pub fn parse_tree_with_flags(alloc: Global, re: &str, flags: u32) -> Result<ExprTree>
         ensures { IsParsed result (parse (options_of flags) (chars re.now)) }
     {
-        let mut expr = read_unresolved(alloc, re, flags)?;
+        let mut expr = parse_unresolved(alloc, re, flags)?;
         let ignore_numbered = flags & FLAG_IGNORE_NUMBERED_GROUPS_WHEN_NAMED_GROUPS_EXIST != 0;
-        let groups = groups_of(alloc, &expr, ignore_numbered)?;
+        let groups = summarize_groups(alloc, &expr, ignore_numbered)?;
         let resolver = Resolver {
             named: &groups.named,
             ignored: groups.ignored,
         };
         resolver.resolve(&mut expr, 0)?;
-        let marks = marks_of(alloc, &expr, groups.total)?;
+        let summary = summarize_references(alloc, &expr, groups.total)?;
         Ok(ExprTree {
             expr,
-            backrefs: marks.backrefs,
+            backrefs: summary.backrefs,
             named_groups: groups.named,
-            contains_subroutines: marks.contains_subroutines,
+            contains_subroutines: summary.contains_subroutines,
             total_groups: groups.total,
-            reference_above_total: marks.reference_above_total,
+            reference_above_total: summary.reference_above_total,
             named_backref_only: groups.ignored && groups.numbered,
-            calls_whole: marks.calls_whole,
+            calls_whole: summary.calls_whole,
         })
     }
 }

@@ -1,4 +1,4 @@
-//! Printing of trees.
+//! Prints trees as patterns.
 
 ghost use Rattle.std.specs.Prelude.{◌≡◌, ◌++◌, IsTrue, OnOk, OnErr, map, chars, string_bytes};
 ghost use Rattle.fancy_regex_tree.specs.Tree.{tree_of, trees};
@@ -11,12 +11,12 @@ use crate::print_tokens::{print_assertion, print_dot, print_quantifier};
 use std::alloc::AllocError;
 
 impl Expr {
-    /// Appends the printed text of a printable tree, which the reader of patterns reads as a tree of the same meaning.
+    /// Appends the text of a printable tree. The parser reads it as a tree of the same meaning.
     ///
-    /// The precedence says where the text will stand: 0 as a whole pattern or in a group, 1 as a branch, 2 as a piece of a
-    /// row, 3 before a quantifier. A text that would not hold together there stands in a group that captures nothing.
+    /// `precedence` says what the text is part of: 0 a whole pattern or a group, 1 a branch, 2 a concatenation, 3 an expression
+    /// with a quantifier behind it. Where needed, the text is put in a non-capturing group.
     ///
-    /// The one error is want of memory; the buffer then holds what it held.
+    /// Fails only if an allocation fails; the buffer is then unchanged.
     pub fn to_str(&self, buf: &mut String, precedence: u8) -> Result<(), AllocError>
         requires { IsTrue (is_printable (tree_of self.now)) }
         ensures printed { OnOk result (chars (string_bytes buf.new) ≡ chars (string_bytes buf.old) ++ printed precedence (tree_of self.now)) }
@@ -28,7 +28,7 @@ impl Expr {
     }
 }
 
-/// Opens a group that captures nothing, where it is needed.
+/// Appends the opening of a non-capturing group, where one is needed.
 #[tactic(auto, unfolding(crate::specs::Printed::group_start))]
 fn open_group(out: &mut String, needed: bool) -> Result<(), AllocError>
     ensures { OnOk result (chars (string_bytes out.new) ≡ chars (string_bytes out.old) ++ group_start needed) }
@@ -39,7 +39,7 @@ fn open_group(out: &mut String, needed: bool) -> Result<(), AllocError>
     Ok(())
 }
 
-/// Closes a group, where it is needed.
+/// Appends the closing parenthesis of a group, where one is needed.
 #[tactic(auto, unfolding(crate::specs::Printed::group_end))]
 fn close_group(out: &mut String, needed: bool) -> Result<(), AllocError>
     ensures { OnOk result (chars (string_bytes out.new) ≡ chars (string_bytes out.old) ++ group_end needed) }
@@ -50,7 +50,7 @@ fn close_group(out: &mut String, needed: bool) -> Result<(), AllocError>
     Ok(())
 }
 
-/// Opens a group that disregards case, where it is needed.
+/// Appends the opening of a group with the flag `i`, where the node is case-insensitive.
 #[tactic(auto, unfolding(crate::specs::Printed::case_start))]
 fn open_case(out: &mut String, casei: bool) -> Result<(), AllocError>
     ensures { OnOk result (chars (string_bytes out.new) ≡ chars (string_bytes out.old) ++ case_start casei) }
@@ -61,7 +61,7 @@ fn open_case(out: &mut String, casei: bool) -> Result<(), AllocError>
     Ok(())
 }
 
-/// Adds what parts a branch from the one before it, where there is one.
+/// Appends `|`, where there is a branch before.
 #[tactic(auto, unfolding(crate::specs::Printed::bar))]
 fn print_bar(out: &mut String, needed: bool) -> Result<(), AllocError>
     ensures { OnOk result (chars (string_bytes out.new) ≡ chars (string_bytes out.old) ++ bar needed) }
@@ -72,7 +72,7 @@ fn print_bar(out: &mut String, needed: bool) -> Result<(), AllocError>
     Ok(())
 }
 
-/// Adds a literal.
+/// Appends a literal.
 #[tactic(auto, unfolding(crate::specs::Printed::with_case))]
 fn print_literal(out: &mut String, val: &str, casei: bool) -> Result<(), AllocError>
     ensures { OnOk result (chars (string_bytes out.new) ≡ chars (string_bytes out.old) ++ with_case casei (escaped (chars val.now))) }
@@ -82,7 +82,7 @@ fn print_literal(out: &mut String, val: &str, casei: bool) -> Result<(), AllocEr
     close_group(out, casei)
 }
 
-/// Adds a class.
+/// Appends a character class.
 #[tactic(auto, unfolding(crate::specs::Printed::with_case))]
 fn print_class(out: &mut String, inner: &str, casei: bool) -> Result<(), AllocError>
     ensures { OnOk result (chars (string_bytes out.new) ≡ chars (string_bytes out.old) ++ with_case casei (chars inner.now)) }
@@ -92,7 +92,7 @@ fn print_class(out: &mut String, inner: &str, casei: bool) -> Result<(), AllocEr
     close_group(out, casei)
 }
 
-/// Adds the printed text of a tree; nothing for a node that is not printable.
+/// Appends the text of a tree; a node that is not printable has no text.
 #[cycle(print)]
 #[tactic(auto, unfolding(crate::specs::Printed::printed, crate::specs::Printed::in_group))]
 fn print(expr: &Expr, precedence: u8, out: &mut String) -> Result<(), AllocError>
@@ -136,7 +136,7 @@ fn print(expr: &Expr, precedence: u8, out: &mut String) -> Result<(), AllocError
     }
 }
 
-/// Adds pieces in a row.
+/// Appends the texts of a concatenation.
 #[cycle(print)]
 fn print_pieces(pieces: &[Expr], out: &mut String) -> Result<(), AllocError>
     ensures { OnOk result (chars (string_bytes out.new) ≡ chars (string_bytes out.old) ++ printed_pieces (trees (map tree_of pieces.now))) }
@@ -147,7 +147,7 @@ fn print_pieces(pieces: &[Expr], out: &mut String) -> Result<(), AllocError>
     Ok(())
 }
 
-/// Adds branches with a bar between each two.
+/// Appends the branches of an alternation, with `|` between them.
 #[cycle(print)]
 fn print_branches(branches: &[Expr], out: &mut String) -> Result<(), AllocError>
     ensures { OnOk result (chars (string_bytes out.new) ≡ chars (string_bytes out.old) ++ printed_branches (trees (map tree_of branches.now))) }

@@ -1,12 +1,12 @@
-//! Texts that are printed, seen as characters.
+//! Appends texts to a buffer; the contracts speak of characters instead of bytes.
 
 ghost use Rattle.std.specs.Prelude.{◌≡◌, ◌<◌, ◌++◌, All, OnOk, OnErr, [], ◌∷◌, chars, string_bytes, decimal};
-ghost use Rattle.fancy_regex_tree.specs.Printed.{is_sign, escaped_char, escaped};
+ghost use Rattle.fancy_regex_tree.specs.Printed.{is_metacharacter, escaped_char, escaped};
 
 use fancy_regex_lex::split_first;
 use std::alloc::AllocError;
 
-/// Adds a character.
+/// Appends a character.
 pub fn print_char(out: &mut String, c: char) -> Result<(), AllocError>
     ensures { OnOk result (chars (string_bytes out.new) ≡ chars (string_bytes out.old) ++ c ∷ []) }
 {
@@ -14,7 +14,7 @@ pub fn print_char(out: &mut String, c: char) -> Result<(), AllocError>
     Ok(())
 }
 
-/// Adds a text. After a refusal the buffer is as before.
+/// Appends a text. If an allocation fails, the buffer is unchanged.
 pub fn print_text(out: &mut String, text: &str) -> Result<(), AllocError>
     ensures added { OnOk result (chars (string_bytes out.new) ≡ chars (string_bytes out.old) ++ chars text.now) }
     ensures refused { OnErr result (string_bytes out.new ≡ string_bytes out.old) }
@@ -23,7 +23,7 @@ pub fn print_text(out: &mut String, text: &str) -> Result<(), AllocError>
     Ok(())
 }
 
-/// Adds a text in ASCII.
+/// Appends an ASCII text.
 pub fn print_ascii(out: &mut String, text: &str) -> Result<(), AllocError>
     requires { All (λ b. b < 128) text.now }
     ensures { OnOk result (chars (string_bytes out.new) ≡ chars (string_bytes out.old) ++ text.now) }
@@ -32,7 +32,7 @@ pub fn print_ascii(out: &mut String, text: &str) -> Result<(), AllocError>
     Ok(())
 }
 
-/// Adds a number in decimal digits.
+/// Appends a number in decimal digits.
 pub fn print_number(out: &mut String, number: usize) -> Result<(), AllocError>
     ensures { OnOk result (chars (string_bytes out.new) ≡ chars (string_bytes out.old) ++ decimal number) }
 {
@@ -40,9 +40,9 @@ pub fn print_number(out: &mut String, number: usize) -> Result<(), AllocError>
     Ok(())
 }
 
-/// Whether a pattern would read the character as a sign.
-fn is_sign(c: char) -> bool
-    ensures { result ≡ is_sign c }
+/// Whether the character is a metacharacter, which a pattern must escape.
+fn is_metacharacter(c: char) -> bool
+    ensures { result ≡ is_metacharacter c }
 {
     matches!(
         c,
@@ -50,7 +50,7 @@ fn is_sign(c: char) -> bool
     )
 }
 
-/// Adds a character as a literal.
+/// Appends a character as a literal, escaped if it must be.
 #[tactic(auto, unfolding(crate::specs::Printed::escaped_char))]
 fn print_escaped_char(out: &mut String, c: char) -> Result<(), AllocError>
     ensures { OnOk result (chars (string_bytes out.new) ≡ chars (string_bytes out.old) ++ escaped_char c) }
@@ -64,13 +64,13 @@ fn print_escaped_char(out: &mut String, c: char) -> Result<(), AllocError>
     if c == '\t' {
         return print_ascii(out, "\\t");
     }
-    if is_sign(c) {
+    if is_metacharacter(c) {
         print_char(out, '\\')?;
     }
     print_char(out, c)
 }
 
-/// Adds a text as literals.
+/// Appends a text as literal characters, each escaped if it must be.
 pub fn print_escaped(out: &mut String, text: &str) -> Result<(), AllocError>
     ensures { OnOk result (chars (string_bytes out.new) ≡ chars (string_bytes out.old) ++ escaped (chars text.now)) }
 {

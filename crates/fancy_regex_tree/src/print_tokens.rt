@@ -1,4 +1,4 @@
-//! The printed texts of dots, assertions and quantifiers.
+//! Prints dots, assertions and quantifiers.
 
 ghost use Rattle.std.specs.Prelude.{◌≡◌, ◌++◌, OnOk, chars, string_bytes};
 ghost use Rattle.fancy_regex_tree.specs.Printed.{dot_text, start_line_text, end_line_text, assertion_text, braces_text, bounds_text, quantifier_text};
@@ -7,7 +7,7 @@ use crate::expr::Assertion;
 use crate::print_text::{print_ascii, print_char, print_number};
 use std::alloc::AllocError;
 
-/// Adds a dot, with the flags that it needs.
+/// Appends a dot, in a group with the flags that it needs.
 #[tactic(auto, unfolding(crate::specs::Printed::dot_text))]
 pub fn print_dot(out: &mut String, newline: bool, crlf: bool) -> Result<(), AllocError>
     ensures { OnOk result (chars (string_bytes out.new) ≡ chars (string_bytes out.old) ++ dot_text newline crlf) }
@@ -19,7 +19,7 @@ pub fn print_dot(out: &mut String, newline: bool, crlf: bool) -> Result<(), Allo
     }
 }
 
-/// Adds the start of a line.
+/// Appends `^` in a group with the flag `m`, and `R` if `crlf` is set.
 #[tactic(auto, unfolding(crate::specs::Printed::start_line_text))]
 fn print_start_line(out: &mut String, crlf: bool) -> Result<(), AllocError>
     ensures { OnOk result (chars (string_bytes out.new) ≡ chars (string_bytes out.old) ++ start_line_text crlf) }
@@ -31,7 +31,7 @@ fn print_start_line(out: &mut String, crlf: bool) -> Result<(), AllocError>
     }
 }
 
-/// Adds the end of a line.
+/// Appends `$` in a group with the flag `m`, and `R` if `crlf` is set.
 #[tactic(auto, unfolding(crate::specs::Printed::end_line_text))]
 fn print_end_line(out: &mut String, crlf: bool) -> Result<(), AllocError>
     ensures { OnOk result (chars (string_bytes out.new) ≡ chars (string_bytes out.old) ++ end_line_text crlf) }
@@ -43,7 +43,7 @@ fn print_end_line(out: &mut String, crlf: bool) -> Result<(), AllocError>
     }
 }
 
-/// Adds an assertion; nothing for one that is not printable.
+/// Appends an assertion; one that is not printable has no text.
 #[tactic(auto, unfolding(crate::specs::Printed::assertion_text))]
 pub fn print_assertion(out: &mut String, assertion: Assertion) -> Result<(), AllocError>
     ensures { OnOk result (chars (string_bytes out.new) ≡ chars (string_bytes out.old) ++ assertion_text assertion) }
@@ -65,7 +65,7 @@ pub fn print_assertion(out: &mut String, assertion: Assertion) -> Result<(), All
     }
 }
 
-/// Adds bounds in braces; `usize::MAX` is no bound.
+/// Appends `{lo}`, `{lo,}` or `{lo,hi}`; `hi` of `usize::MAX` is no limit.
 #[tactic(auto, unfolding(crate::specs::Printed::braces_text))]
 fn print_braces(out: &mut String, lo: usize, hi: usize) -> Result<(), AllocError>
     ensures { OnOk result (chars (string_bytes out.new) ≡ chars (string_bytes out.old) ++ braces_text lo hi) }
@@ -81,7 +81,7 @@ fn print_braces(out: &mut String, lo: usize, hi: usize) -> Result<(), AllocError
     print_char(out, '}')
 }
 
-/// Adds the bounds of a quantifier; `usize::MAX` is no bound.
+/// Appends `?`, `*`, `+` or bounds in braces; `hi` of `usize::MAX` is no limit.
 #[tactic(auto, unfolding(crate::specs::Printed::bounds_text))]
 fn print_bounds(out: &mut String, lo: usize, hi: usize) -> Result<(), AllocError>
     ensures { OnOk result (chars (string_bytes out.new) ≡ chars (string_bytes out.old) ++ bounds_text lo hi) }
@@ -94,7 +94,7 @@ fn print_bounds(out: &mut String, lo: usize, hi: usize) -> Result<(), AllocError
     }
 }
 
-/// Adds a quantifier, with the mark of a lazy one.
+/// Appends a quantifier, with `?` behind it if it is lazy; `hi` of `usize::MAX` is no limit.
 #[tactic(auto, unfolding(crate::specs::Printed::quantifier_text))]
 pub fn print_quantifier(
     out: &mut String,

@@ -1,24 +1,23 @@
 //! Which trees can be printed.
 
 ghost use Rattle.std.specs.Prelude.{◌≡◌, IfOk, map, chars, is_some, false};
-ghost use Rattle.fancy_regex_lex.specs.Classes.{class_in_brackets};
+ghost use Rattle.fancy_regex_lex.specs.Classes.{bracketed_class};
 ghost use Rattle.fancy_regex_lex.specs.Escapes.{escape};
 ghost use Rattle.fancy_regex_tree.specs.Tree.{tree_of, trees};
-ghost use Rattle.fancy_regex_tree.specs.NormalForm.{whole_class, whole_escape, class_alone, form_of, normal_form};
-ghost use Rattle.fancy_regex_tree.specs.Printable.{can_be_repeated, is_printable_assertion, is_one_character, are_branches, is_printable, are_printable};
+ghost use Rattle.fancy_regex_tree.specs.NormalForm.{whole_class, whole_escape, class_alone, node_kind, normal_form};
+ghost use Rattle.fancy_regex_tree.specs.Printable.{can_be_repeated, is_printable_assertion, is_one_character, has_two_branches, is_printable, are_printable};
 
 use crate::expr::{Assertion, Expr};
-use crate::form::{Form, form_read};
-use fancy_regex_lex::{Escape, ReadError, class_in_brackets, escape, is_empty, split_first};
+use crate::normal_form_kind::{NormalFormKind, normal_form_kind};
+use fancy_regex_lex::{Escape, ReadError, bracketed_class, escape, is_empty, split_first};
 use std::alloc::{AllocError, Global};
 
 impl Expr {
-    /// Whether the tree can be printed. It is made of empty nodes, dots, literals of one character, classes, assertions, rows,
-    /// alternations of two branches or more, capturing groups and repeats; each class is one that the reader of patterns reads;
-    /// `\Z` and the start of a line in Oniguruma's manner are none of the assertions; and a repeat has a least count below
-    /// `usize::MAX` and repeats something else than nothing or an assertion.
+    /// Whether `to_str` may print the tree. Printable are empty nodes, dots, literals of one character, character classes that the
+    /// parser accepts, assertions but `\Z` and the start of a line in Oniguruma mode, concatenations, alternations of two branches
+    /// or more, capture groups, and repetitions with `lo` below `usize::MAX` of anything but an empty node or an assertion.
     ///
-    /// The one error is want of memory.
+    /// Fails only if an allocation fails.
     #[cycle(printable)]
     #[tactic(auto, unfolding(crate::specs::Printable::is_printable))]
     pub fn is_printable(&self, alloc: Global) -> Result<bool, AllocError>
@@ -31,7 +30,7 @@ impl Expr {
             Expr::Delegate { inner, .. } => is_class(alloc, inner),
             Expr::Concat(pieces) => are_printable(alloc, pieces),
             Expr::Alt(branches) => {
-                if !are_branches(branches) {
+                if !has_two_branches(branches) {
                     return Ok(false);
                 }
                 are_printable(alloc, branches)
@@ -51,7 +50,7 @@ impl Expr {
     }
 }
 
-/// Whether each of the trees can be printed.
+/// Whether all of the trees are printable.
 #[cycle(printable)]
 fn are_printable(alloc: Global, parts: &[Expr]) -> Result<bool, AllocError>
     ensures { IfOk result (λ answer. answer ≡ are_printable (trees (map tree_of parts.now))) }
@@ -65,6 +64,7 @@ fn are_printable(alloc: Global, parts: &[Expr]) -> Result<bool, AllocError>
     Ok(true)
 }
 
+/// Whether there is a text for the assertion.
 #[tactic(auto, unfolding(crate::specs::Printable::is_printable_assertion))]
 fn is_printable_assertion(assertion: Assertion) -> bool
     ensures { result ≡ is_printable_assertion assertion }
@@ -75,6 +75,7 @@ fn is_printable_assertion(assertion: Assertion) -> bool
     )
 }
 
+/// Whether the text has exactly one character.
 #[tactic(auto, unfolding(crate::specs::Printable::is_one_character))]
 fn is_one_character(text: &str) -> bool
     ensures { result ≡ is_one_character (chars text.now) }
@@ -86,24 +87,24 @@ fn is_one_character(text: &str) -> bool
 }
 
 /// Whether there are two branches or more.
-fn are_branches(branches: &[Expr]) -> bool
-    ensures { result ≡ are_branches (trees (map tree_of branches.now)) }
+fn has_two_branches(branches: &[Expr]) -> bool
+    ensures { result ≡ has_two_branches (trees (map tree_of branches.now)) }
 {
     branches.len() >= 2
 }
 
-/// Whether a quantifier may stand behind what the printed text of the tree is read as.
+/// Whether a quantifier may follow the printed text of the tree.
 #[tactic(auto, unfolding(crate::specs::Printable::can_be_repeated))]
 fn can_be_repeated(expr: &Expr) -> bool
-    ensures { result ≡ can_be_repeated (form_of (normal_form (tree_of expr.now))) }
+    ensures { result ≡ can_be_repeated (node_kind (normal_form (tree_of expr.now))) }
 {
-    match form_read(expr) {
-        Form::Nothing | Form::Place => false,
-        Form::Other => true,
+    match normal_form_kind(expr) {
+        NormalFormKind::Empty | NormalFormKind::Anchor => false,
+        NormalFormKind::Repeatable => true,
     }
 }
 
-/// Whether the text is read as one class, with nothing round it.
+/// Whether the whole text is one character class.
 #[tactic(auto, unfolding(crate::specs::NormalForm::class_alone))]
 fn is_class(alloc: Global, text: &str) -> Result<bool, AllocError>
     ensures { IfOk result (λ answer. answer ≡ is_some (class_alone (chars text.now))) }
@@ -115,19 +116,19 @@ fn is_class(alloc: Global, text: &str) -> Result<bool, AllocError>
     }
 }
 
-/// Whether the text, which begins with a bracket, is one class.
+/// Whether the whole text, which begins with `[`, is one class in brackets.
 #[tactic(auto, unfolding(crate::specs::NormalForm::whole_class))]
 fn is_class_in_brackets(alloc: Global, text: &str) -> Result<bool, AllocError>
-    ensures { IfOk result (λ answer. answer ≡ is_some (whole_class (class_in_brackets false (chars text.now)))) }
+    ensures { IfOk result (λ answer. answer ≡ is_some (whole_class (bracketed_class false (chars text.now)))) }
 {
-    match class_in_brackets(alloc, false, text) {
+    match bracketed_class(alloc, false, text) {
         Ok((_, rest)) => Ok(is_empty(rest)),
         Err(ReadError::Fault(_)) => Ok(false),
         Err(ReadError::Memory) => Err(AllocError),
     }
 }
 
-/// Whether the text, which begins with a backslash, is one escape for a class.
+/// Whether the whole text, which begins with a backslash, is one escape for a class.
 #[tactic(auto, unfolding(crate::specs::NormalForm::whole_escape))]
 fn is_class_escape(alloc: Global, text: &str) -> Result<bool, AllocError>
     ensures { IfOk result (λ answer. answer ≡ is_some (whole_escape (escape false (chars text.now)))) }

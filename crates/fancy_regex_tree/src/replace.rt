@@ -1,15 +1,15 @@
-//! Children, put in the place of others.
+//! Replaces children of a node.
 
 ghost use Rattle.std.specs.Prelude.{ℕ, ◌∷◌, []};
 ghost use Rattle.fancy_regex_tree.specs.Tree.{tree_of, absent_tree_of, ast_tree_of};
-ghost use Rattle.fancy_regex_tree.specs.Replaced.{IsPutIn, IsReplaced};
+ghost use Rattle.fancy_regex_tree.specs.ReplacedChild.{IsItemReplaced, IsChildReplaced};
 
 use crate::expr::{Absent, AstNode, Expr};
 use std::mem;
 
-/// Puts a node in the place of the one child; gives it back for any other index than 0.
-fn put_only(only: &mut Expr, i: usize, child: Expr) -> Result<Expr, Expr>
-    ensures { IsPutIn (only.old ∷ []) (only.new ∷ []) i child result }
+/// Replaces the only child at index 0 and answers the old one. For any other index it gives the new child back as the error.
+fn replace_only(only: &mut Expr, i: usize, child: Expr) -> Result<Expr, Expr>
+    ensures { IsItemReplaced (only.old ∷ []) (only.new ∷ []) i child result }
 {
     match i {
         0 => Ok(mem::replace(only, child)),
@@ -17,9 +17,9 @@ fn put_only(only: &mut Expr, i: usize, child: Expr) -> Result<Expr, Expr>
     }
 }
 
-/// Puts a node in the place of one of two children.
-fn put_either(first: &mut Expr, second: &mut Expr, i: usize, child: Expr) -> Result<Expr, Expr>
-    ensures { IsPutIn (first.old ∷ second.old ∷ []) (first.new ∷ second.new ∷ []) i child result }
+/// Replaces one of two children and answers the old one. For an index above 1 it gives the new child back as the error.
+fn replace_either(first: &mut Expr, second: &mut Expr, i: usize, child: Expr) -> Result<Expr, Expr>
+    ensures { IsItemReplaced (first.old ∷ second.old ∷ []) (first.new ∷ second.new ∷ []) i child result }
 {
     match i {
         0 => Ok(mem::replace(first, child)),
@@ -28,9 +28,9 @@ fn put_either(first: &mut Expr, second: &mut Expr, i: usize, child: Expr) -> Res
     }
 }
 
-/// Puts a node in the place of one of a row.
-fn put_item(row: &mut [Expr], i: usize, child: Expr) -> Result<Expr, Expr>
-    ensures { IsPutIn row.old row.new i child result }
+/// Replaces the child at index `i` and answers the old one. Past the end it gives the new child back as the error.
+fn replace_item(row: &mut [Expr], i: usize, child: Expr) -> Result<Expr, Expr>
+    ensures { IsItemReplaced row.old row.new i child result }
 {
     if i >= row.len() {
         return Err(child);
@@ -39,23 +39,24 @@ fn put_item(row: &mut [Expr], i: usize, child: Expr) -> Result<Expr, Expr>
 }
 
 impl Absent {
+    /// Replaces the child at index `i` of an absent operator; see `Expr::replace_child`.
     fn replace_child(self, i: usize, child: Expr) -> (Absent, Result<Expr, Expr>)
-        ensures { IsReplaced (absent_tree_of self) (absent_tree_of result.0) i child result.1 }
+        ensures { IsChildReplaced (absent_tree_of self) (absent_tree_of result.0) i child result.1 }
     {
         match self {
             Absent::Repeater(mut only) => {
-                let replaced = put_only(&mut only, i, child);
+                let replaced = replace_only(&mut only, i, child);
                 (Absent::Repeater(only), replaced)
             }
             Absent::Expression {
                 mut absent,
                 mut exp,
             } => {
-                let replaced = put_either(&mut absent, &mut exp, i, child);
+                let replaced = replace_either(&mut absent, &mut exp, i, child);
                 (Absent::Expression { absent, exp }, replaced)
             }
             Absent::Stopper(mut only) => {
-                let replaced = put_only(&mut only, i, child);
+                let replaced = replace_only(&mut only, i, child);
                 (Absent::Stopper(only), replaced)
             }
             Absent::Clear => (Absent::Clear, Err(child)),
@@ -64,12 +65,13 @@ impl Absent {
 }
 
 impl AstNode {
+    /// Replaces the child at index `i` of an unresolved node; see `Expr::replace_child`.
     fn replace_child(self, i: usize, child: Expr) -> (AstNode, Result<Expr, Expr>)
-        ensures { (position : ℕ) → IsReplaced (ast_tree_of self position) (ast_tree_of result.0 position) i child result.1 }
+        ensures { (position : ℕ) → IsChildReplaced (ast_tree_of self position) (ast_tree_of result.0 position) i child result.1 }
     {
         match self {
             AstNode::AstGroup { name, mut inner } => {
-                let replaced = put_only(&mut inner, i, child);
+                let replaced = replace_only(&mut inner, i, child);
                 (AstNode::AstGroup { name, inner }, replaced)
             }
             leaf => (leaf, Err(child)),
@@ -78,26 +80,26 @@ impl AstNode {
 }
 
 impl Expr {
-    /// Puts a node in the place of the i-th child, in the order of `children_iter`. Answers the node with it and the child
-    /// that was there, or the node as it was and the new child, where there is no i-th child.
+    /// Replaces the child at index `i`, in the order of `children_iter`. Answers the node with the new child, and `Ok` with the old
+    /// child. Where there is no such child, it answers the node unchanged, and `Err` with the child that was given.
     pub fn replace_child(self, i: usize, child: Expr) -> (Expr, Result<Expr, Expr>)
-        ensures { IsReplaced (tree_of self) (tree_of result.0) i child result.1 }
+        ensures { IsChildReplaced (tree_of self) (tree_of result.0) i child result.1 }
     {
         match self {
             Expr::Concat(mut row) => {
-                let replaced = put_item(&mut row, i, child);
+                let replaced = replace_item(&mut row, i, child);
                 (Expr::Concat(row), replaced)
             }
             Expr::Alt(mut row) => {
-                let replaced = put_item(&mut row, i, child);
+                let replaced = replace_item(&mut row, i, child);
                 (Expr::Alt(row), replaced)
             }
             Expr::Group(mut only) => {
-                let replaced = put_only(&mut only, i, child);
+                let replaced = replace_only(&mut only, i, child);
                 (Expr::Group(only), replaced)
             }
             Expr::LookAround(mut only, look) => {
-                let replaced = put_only(&mut only, i, child);
+                let replaced = replace_only(&mut only, i, child);
                 (Expr::LookAround(only, look), replaced)
             }
             Expr::Repeat {
@@ -106,7 +108,7 @@ impl Expr {
                 hi,
                 greedy,
             } => {
-                let replaced = put_only(&mut only, i, child);
+                let replaced = replace_only(&mut only, i, child);
                 let repeat = Expr::Repeat {
                     child: only,
                     lo,
@@ -116,7 +118,7 @@ impl Expr {
                 (repeat, replaced)
             }
             Expr::AtomicGroup(mut only) => {
-                let replaced = put_only(&mut only, i, child);
+                let replaced = replace_only(&mut only, i, child);
                 (Expr::AtomicGroup(only), replaced)
             }
             Expr::Conditional {
@@ -142,7 +144,7 @@ impl Expr {
                 (Expr::Absent(absent), replaced)
             }
             Expr::DefineGroup { mut definitions } => {
-                let replaced = put_only(&mut definitions, i, child);
+                let replaced = replace_only(&mut definitions, i, child);
                 (Expr::DefineGroup { definitions }, replaced)
             }
             Expr::AstNode(node, position) => {

@@ -1,8 +1,8 @@
-//! Gives references the numbers of their groups.
+//! Numbers capture groups and resolves references to them.
 
 ghost use Rattle.std.specs.Prelude.{◌≡◌, suc, IfOk, IfErr, map, option_map, chars, string_bytes};
 ghost use Rattle.fancy_regex_tree.specs.Tree.{tree_of, absent_tree_of, ast_tree_of, target_of, trees};
-ghost use Rattle.fancy_regex_tree.specs.Numbering.{Meets, lookup_in, relative_number, relative_target, is_within, limited_target, group_target, call_target, counts, backref_of, resolved, all_resolved};
+ghost use Rattle.fancy_regex_tree.specs.Numbering.{AgreesWith, lookup_in, relative_number, relative_target, is_within, named_target, group_target, call_target, counts, backref_of, resolved, all_resolved};
 ghost use Rattle.fancy_regex_tree.specs.declared.error.Error.TheVariants as errors;
 
 use crate::error::{Error, Result};
@@ -11,16 +11,17 @@ use crate::expr_tree::NamedGroups;
 use fancy_regex_lex::ParseError;
 use std::mem;
 
-/// What is known of the groups of a pattern while its references are resolved.
+/// The capture groups that references are resolved against.
 #[derive(Drop)]
 pub struct Resolver<'g> {
     /// The numbers of the groups of each name.
     pub named: &'g NamedGroups,
-    /// Openings without a name do not count.
+    /// Whether unnamed groups get no number.
     pub ignored: bool,
 }
 
-/// The group that so many openings away is, with `openings` before it: -1 is the last of these, 1 the next after them.
+/// The group number of a relative reference with `openings` groups opened before it: -1 is the last of these, 1 the next one.
+/// `None` if there is no such group.
 fn relative_number(openings: usize, distance: isize) -> Option<usize>
     ensures { result ≡ relative_number openings distance }
 {
@@ -34,7 +35,7 @@ fn relative_number(openings: usize, distance: isize) -> Option<usize>
     Some(openings - back + 1)
 }
 
-/// One opening more; there is no memory for a tree in which this has no answer.
+/// One more than `openings`. A tree in which this overflows does not fit in memory.
 fn next(openings: usize) -> Result<usize>
     ensures ok { IfOk result (λ n. n ≡ suc openings) }
     ensures memory { IfErr result (λ e. e ≡ errors.Memory) }
@@ -42,9 +43,10 @@ fn next(openings: usize) -> Result<usize>
     openings.checked_add(1).ok_or(Error::Memory)
 }
 
-/// A group that is known by its distance.
+/// The group number of a relative back reference or condition at the byte offset `position`; without a group it is the error
+/// `InvalidBackref` there.
 fn relative_target(openings: usize, position: usize, distance: isize) -> Result<usize>
-    ensures { Meets (λ g. g) result (relative_target openings position distance) }
+    ensures { AgreesWith (λ g. g) result (relative_target openings position distance) }
 {
     match relative_number(openings, distance) {
         Some(group) => Ok(group),
@@ -52,7 +54,7 @@ fn relative_target(openings: usize, position: usize, distance: isize) -> Result<
     }
 }
 
-/// Whether a group is at most the limit, where there is one.
+/// Whether the group number is at most the limit, if there is one.
 fn is_within(limit: Option<usize>, group: usize) -> bool
     ensures { result ≡ is_within limit group }
 {
@@ -62,14 +64,15 @@ fn is_within(limit: Option<usize>, group: usize) -> bool
     }
 }
 
-/// A group that is known by its name, which is at most the limit.
-fn limited_target(
+/// The group number of a back reference or condition by name at the byte offset `position`. Without a group, or with one above
+/// the limit, it is the error `InvalidGroupNameBackref` there.
+fn named_target(
     limit: Option<usize>,
     group: Option<usize>,
     position: usize,
     name: String,
 ) -> Result<usize>
-    ensures { Meets (λ g. g) result (limited_target limit group position (chars (string_bytes name))) }
+    ensures { AgreesWith (λ g. g) result (named_target limit group position (chars (string_bytes name))) }
 {
     match group {
         Some(group) if is_within(limit, group) => Ok(group),
@@ -78,7 +81,7 @@ fn limited_target(
 }
 
 impl Resolver<'_> {
-    /// The last group of a name.
+    /// The number of the last group with this name.
     fn last_named(&self, name: &str) -> Option<usize>
         ensures { result ≡ lookup_in self.now.named.now (chars name.now) }
     {
@@ -86,7 +89,8 @@ impl Resolver<'_> {
         numbers.last().copied()
     }
 
-    /// The group of a back reference or a condition behind so many openings; a group by name is at most the limit.
+    /// The group number of a back reference or condition at the byte offset `position`, with `openings` groups opened before it.
+    /// A group by name must be at most `limit`.
     fn group_target(
         &self,
         limit: Option<usize>,
@@ -94,19 +98,19 @@ impl Resolver<'_> {
         position: usize,
         target: CaptureGroupTarget,
     ) -> Result<usize>
-        ensures { Meets (λ g. g) result (group_target (lookup_in self.now.named.now) limit openings position (target_of target)) }
+        ensures { AgreesWith (λ g. g) result (group_target (lookup_in self.now.named.now) limit openings position (target_of target)) }
     {
         match target {
             CaptureGroupTarget::ByNumber(number) => Ok(number),
             CaptureGroupTarget::Relative(distance) => relative_target(openings, position, distance),
             CaptureGroupTarget::ByName(name) => {
                 let group = self.last_named(&name);
-                limited_target(limit, group, position, name)
+                named_target(limit, group, position, name)
             }
         }
     }
 
-    /// The group of a call behind so many openings.
+    /// The group number of a call with `openings` groups opened before it; `None` if there is no such group.
     fn call_target(&self, openings: usize, target: &CaptureGroupTarget) -> Option<usize>
         ensures { result ≡ call_target (lookup_in self.now.named.now) openings (target_of target.now) }
     {
@@ -117,18 +121,18 @@ impl Resolver<'_> {
         }
     }
 
-    /// Whether an opening with this name, or none, counts.
+    /// Whether a capture group with this name, or none, gets a number.
     fn counts(&self, name: &Option<String>) -> bool
         ensures { result ≡ counts self.now.ignored (option_map (λ s. chars (string_bytes s)) name.now) }
     {
         name.is_some() || !self.ignored
     }
 
-    /// Resolves what stands behind so many openings; answers how many openings are before its end. After an error the node
-    /// is empty.
+    /// Resolves the references in a tree with `openings` groups opened before it; answers how many groups have opened before its
+    /// end. Fails at the first reference without a group, with its byte offset, or if memory runs out; the tree is then empty.
     #[cycle(resolve)]
     pub fn resolve(&self, expr: &mut Expr, openings: usize) -> Result<usize>
-        ensures { Meets (λ n. (tree_of expr.new, n)) result (resolved self.now.ignored (lookup_in self.now.named.now) openings (tree_of expr.old)) }
+        ensures { AgreesWith (λ n. (tree_of expr.new, n)) result (resolved self.now.ignored (lookup_in self.now.named.now) openings (tree_of expr.old)) }
     {
         let node = mem::replace(expr, Expr::Empty);
         let (node, openings) = self.resolved(node, openings)?;
@@ -136,10 +140,10 @@ impl Resolver<'_> {
         Ok(openings)
     }
 
-    /// What a node becomes behind so many openings, and how many openings are before its end.
+    /// Resolves a tree by value; answers the tree, and how many groups have opened before its end.
     #[cycle(resolve)]
     fn resolved(&self, expr: Expr, openings: usize) -> Result<(Expr, usize)>
-        ensures { Meets (λ r. (tree_of r.0, r.1)) result (resolved self.now.ignored (lookup_in self.now.named.now) openings (tree_of expr)) }
+        ensures { AgreesWith (λ r. (tree_of r.0, r.1)) result (resolved self.now.ignored (lookup_in self.now.named.now) openings (tree_of expr)) }
     {
         match expr {
             Expr::Concat(mut children) => {
@@ -205,10 +209,10 @@ impl Resolver<'_> {
         }
     }
 
-    /// Resolves nodes in a row behind so many openings; answers how many openings are before their end.
+    /// Resolves several trees in order; answers how many groups have opened before their end.
     #[cycle(resolve)]
     fn resolve_all(&self, children: &mut [Expr], openings: usize) -> Result<usize>
-        ensures { Meets (λ n. (trees (map tree_of children.new), n)) result (all_resolved self.now.ignored (lookup_in self.now.named.now) openings (trees (map tree_of children.old))) }
+        ensures { AgreesWith (λ n. (trees (map tree_of children.new), n)) result (all_resolved self.now.ignored (lookup_in self.now.named.now) openings (trees (map tree_of children.old))) }
     {
         let mut reached = openings;
         for i in 0..children.len() {
@@ -217,10 +221,10 @@ impl Resolver<'_> {
         Ok(reached)
     }
 
-    /// What an absent operator becomes, and how many openings are before its end.
+    /// Resolves an absent operator; answers it, and how many groups have opened before its end.
     #[cycle(resolve)]
     fn resolved_absent(&self, absent: Absent, openings: usize) -> Result<(Absent, usize)>
-        ensures { Meets (λ r. (absent_tree_of r.0, r.1)) result (resolved self.now.ignored (lookup_in self.now.named.now) openings (absent_tree_of absent)) }
+        ensures { AgreesWith (λ r. (absent_tree_of r.0, r.1)) result (resolved self.now.ignored (lookup_in self.now.named.now) openings (absent_tree_of absent)) }
     {
         match absent {
             Absent::Repeater(mut child) => {
@@ -243,7 +247,8 @@ impl Resolver<'_> {
         }
     }
 
-    /// What a node that is not resolved becomes, and how many openings are before its end.
+    /// Resolves a node at the byte offset `position`; answers its new node, and how many groups have opened before its end. A call
+    /// without a group stays unresolved.
     #[cycle(resolve)]
     fn resolved_node(
         &self,
@@ -251,7 +256,7 @@ impl Resolver<'_> {
         position: usize,
         openings: usize,
     ) -> Result<(Expr, usize)>
-        ensures { Meets (λ r. (tree_of r.0, r.1)) result (resolved self.now.ignored (lookup_in self.now.named.now) openings (ast_tree_of node position)) }
+        ensures { AgreesWith (λ r. (tree_of r.0, r.1)) result (resolved self.now.ignored (lookup_in self.now.named.now) openings (ast_tree_of node position)) }
     {
         match node {
             AstNode::AstGroup { name, mut inner } => {
@@ -294,7 +299,7 @@ impl Resolver<'_> {
     }
 }
 
-/// A back reference to a group, with its level of recursion if it has one.
+/// A resolved back reference, with its recursion level if it has one.
 fn backref(group: usize, level: Option<isize>, casei: bool) -> Expr
     ensures { tree_of result ≡ backref_of level casei group }
 {

@@ -11,18 +11,18 @@ use Rattle.clap.specs.ValueTests.{accepts}
 use Rattle.clap.specs.declared.builder.value_parser.ValueParser.TheVariants.{Unsigned}
 use Rattle.clap.proofs.ValueTestLemmas.{accepts-Accepts, Accepts-accepts}
 use Rattle.std.proofs.Common.{arith}
-use Rattle.fancy_search_words.specs.Rules.{greatest}
-use Rattle.fancy_search_words.specs.Words.{number_of, limit_of}
+use Rattle.fancy_search_words.specs.CommandLine.{max_limit}
+use Rattle.fancy_search_words.specs.Requests.{number_of, limit_of}
 
 -- a number that `u64` reads is the one that the text stands for
 pub number_read : (E : Type 0) (t : List ℕ) (r : Option ℕ) → ReadsOne {T = ℕ} {E = E} (ParsesUnsigned 64 10) t r → r ≡ number_of t
 number_read E t (Some v) h =
     let n = digits_value 10 (without_leading_plus t) in
-    let is : accepts false (Unsigned 0 greatest) t ≡ true = Accepts-accepts false (Unsigned 0 greatest) t (h.0.0, h.0.1, omega arith, omega (arith, h.0.1)) in
+    let is : accepts false (Unsigned 0 max_limit) t ≡ true = Accepts-accepts false (Unsigned 0 max_limit) t (h.0.0, h.0.1, omega arith, omega (arith, h.0.1)) in
     rw is (ap Some h.1)
 number_read E t None h =
-    elim (accepts false (Unsigned 0 greatest) t) as (λ b. accepts false (Unsigned 0 greatest) t ≡ b → None ≡ cond b (Some (digits_value 10 (without_leading_plus t))) None) [
-      | true ↦ λ is. let read : IsUnsignedIn 0 greatest t = accepts-Accepts false (Unsigned 0 greatest) t is in absurd (h.1 (read.0, read.1))
+    elim (accepts false (Unsigned 0 max_limit) t) as (λ b. accepts false (Unsigned 0 max_limit) t ≡ b → None ≡ cond b (Some (digits_value 10 (without_leading_plus t))) None) [
+      | true ↦ λ is. let read : IsUnsignedIn 0 max_limit t = accepts-Accepts false (Unsigned 0 max_limit) t is in absurd (h.1 (read.0, read.1))
       | false ↦ λ is. refl
     ] refl
 

@@ -12,9 +12,9 @@ use Rattle.clap.specs.declared.parser.matches.ArgMatches.TheViews.{out-ArgMatche
 use Rattle.clap.specs.declared.parser.matches.Found.{Found}
 use Rattle.clap.proofs.WalkLemmas.{first_value-rows}
 use Rattle.clap.proofs.OnLiterals.{clap_on_literals}
-use Rattle.fancy_search_words.specs.Rules.{the_app}
-use Rattle.fancy_search_words.specs.Words.{asked, asked_by, request_in, request_of, subcommand_named, is_given}
-use Rattle.fancy_search_words.specs.declared.asked.Subcommand.{Subcommand}
+use Rattle.fancy_search_words.specs.CommandLine.{the_app}
+use Rattle.fancy_search_words.specs.Requests.{requested, request_if_accepted, request_of_subcommand, request_of, subcommand_named, is_given}
+use Rattle.fancy_search_words.specs.declared.arguments.Subcommand.{Subcommand}
 
 pub is_read : is_simple_and_free the_app ≡ true
 unfolding clap_on_literals
@@ -37,24 +37,24 @@ pair_of (Some (a, b)) n r e f = cc
 
 -- a request, of its parts
 pub request_is : (name : Text) (rows : List Row) (s : Subcommand) (p : Text) → subcommand_named name ≡ Some s → first_of (codes "pattern") rows ≡ Some p
-    → request_in (name, rows) ≡ Some (request_of s rows p)
+    → request_of_subcommand (name, rows) ≡ Some (request_of s rows p)
 request_is name rows s p e f = rw (e, f) refl
 
-pub no_subcommand : (name : Text) (rows : List Row) → subcommand_named name ≡ None → request_in (name, rows) ≡ None
+pub no_subcommand : (name : Text) (rows : List Row) → subcommand_named name ≡ None → request_of_subcommand (name, rows) ≡ None
 no_subcommand name rows e = rw e refl
 
-pub no_pattern : (name : Text) (rows : List Row) (s : Subcommand) → subcommand_named name ≡ Some s → first_of (codes "pattern") rows ≡ None → request_in (name, rows) ≡ None
+pub no_pattern : (name : Text) (rows : List Row) (s : Subcommand) → subcommand_named name ≡ Some s → first_of (codes "pattern") rows ≡ None → request_of_subcommand (name, rows) ≡ None
 no_pattern name rows s e f = rw (e, f) refl
 
--- what is asked where `clap` takes the words
-pub asked_taken : (words : List Text) → fault_of the_app words ≡ [] → asked words ≡ option_and_then request_in (subcommand_of the_app words)
-asked_taken words e = ap (λ (ks : Kinds). asked_by ks (subcommand_of the_app words)) e
+-- what is requested where `clap` takes the words
+pub asked_taken : (words : List Text) → fault_of the_app words ≡ [] → requested words ≡ option_and_then request_of_subcommand (subcommand_of the_app words)
+asked_taken words e = ap (λ (ks : Kinds). request_if_accepted ks (subcommand_of the_app words)) e
 
 -- where it does not, nothing is
-pub asked_refused : (words : List Text) (k : ErrorKind) → IsAmong k (fault_of the_app words) → asked words ≡ None
+pub asked_refused : (words : List Text) (k : ErrorKind) → IsAmong k (fault_of the_app words) → requested words ≡ None
 asked_refused words k = go (fault_of the_app words)
   where
-    go : (ks : Kinds) → IsAmong k ks → asked_by ks (subcommand_of the_app words) ≡ None
+    go : (ks : Kinds) → IsAmong k ks → request_if_accepted ks (subcommand_of the_app words) ≡ None
     go [] h = absurd h
     go (x ∷ xs) h = refl
 

@@ -1,2 +1,2 @@
-pub mod Rules
-pub mod Words
+pub mod CommandLine
+pub mod Requests

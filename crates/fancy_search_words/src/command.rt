@@ -1,10 +1,11 @@
-//! The words that the program takes, as a command of `clap`.
+//! The program's command line as a `clap` command: two subcommands with the same pattern and options, and the help texts.
+//! Every function fails only if memory runs out.
 
 ghost use Rattle.std.specs.Prelude.{◌≡◌, false, IfOk};
 ghost use Rattle.clap.specs.Words.{app_of, rule_of, new_app, with_rule, with_subcommand};
 ghost use Rattle.clap.specs.declared.builder.command.Command.TheViews.{out-Command};
-ghost use Rattle.fancy_search_words.specs.Rules as rules;
-ghost use Rattle.fancy_search_words.specs.Rules.{the_app, short_rule, long_rule, limit_rule, pattern_rule};
+ghost use Rattle.fancy_search_words.specs.CommandLine as rules;
+ghost use Rattle.fancy_search_words.specs.CommandLine.{the_app, short_rule, long_rule, limit_rule, pattern_rule};
 
 use clap::builder::ValueParser;
 use clap::{Arg, ArgAction, Command};
@@ -54,12 +55,12 @@ const LONGEST: &str =
 const LIMIT: &str =
     "Ends in a fault where a search goes back more often than N times; 1000000 if left out. Example: find --limit 100 '(a|aa)+\\1'";
 
-/// The command of the program. Its words are those after the program's name.
+/// The command of the program, for the words after the program's name.
 pub fn command<'a>(alloc: Global) -> Result<Command<'a>, AllocError>
     ensures { IfOk result (λ c. app_of c ≡ the_app) }
 {
-    let find = searching(alloc, "find", FIND)?;
-    let captures = searching(alloc, "captures", CAPTURES)?;
+    let find = search_subcommand(alloc, "find", FIND)?;
+    let captures = search_subcommand(alloc, "captures", CAPTURES)?;
     let more = joined(top(alloc), find)?;
     joined(more, captures)
 }
@@ -83,17 +84,21 @@ fn joined<'a>(command: Command<'a>, subcommand: Command<'a>) -> Result<Command<'
     command.subcommand(subcommand)
 }
 
-/// A subcommand that searches with one pattern.
-fn searching<'a>(alloc: Global, name: &'a str, about: &'a str) -> Result<Command<'a>, AllocError>
-    ensures app { IfOk result (λ c. app_of c ≡ rules.searching name.entry.now) }
+/// A subcommand with a pattern and all options.
+fn search_subcommand<'a>(
+    alloc: Global,
+    name: &'a str,
+    about: &'a str,
+) -> Result<Command<'a>, AllocError>
+    ensures app { IfOk result (λ c. app_of c ≡ rules.search_subcommand name.entry.now) }
     ensures local { IfOk result (λ c. (out-Command c).has_globals ≡ false) }
 {
     let bare = with(bare(alloc, name, about), pattern(alloc))?;
-    let flagged = with_flags(alloc, bare)?;
-    with_wishes(alloc, flagged)
+    let flagged = with_short_options(alloc, bare)?;
+    with_long_options(alloc, flagged)
 }
 
-/// A command that takes no words.
+/// A command without arguments.
 fn bare<'a>(alloc: Global, name: &'a str, about: &'a str) -> Command<'a>
     ensures app { app_of result ≡ new_app name.entry.now }
     ensures local { (out-Command result).has_globals ≡ false }
@@ -111,10 +116,10 @@ fn with<'a>(command: Command<'a>, arg: Arg<'a>) -> Result<Command<'a>, AllocErro
     command.arg(arg)
 }
 
-/// The command with the options that a pattern can set for its parts too.
-fn with_flags<'a>(alloc: Global, command: Command<'a>) -> Result<Command<'a>, AllocError>
+/// The command with the options that have inline flags in a pattern too: `-i`, `-m`, `-s`, `-x`.
+fn with_short_options<'a>(alloc: Global, command: Command<'a>) -> Result<Command<'a>, AllocError>
     requires { (out-Command command).has_globals ≡ false }
-    ensures app { IfOk result (λ c. app_of c ≡ rules.with_flags (app_of command.entry)) }
+    ensures app { IfOk result (λ c. app_of c ≡ rules.with_short_options (app_of command.entry)) }
     ensures local { IfOk result (λ c. (out-Command c).has_globals ≡ false) }
 {
     let case_insensitive = letter(alloc, "case_insensitive", 'i', CASE_INSENSITIVE);
@@ -127,10 +132,10 @@ fn with_flags<'a>(alloc: Global, command: Command<'a>) -> Result<Command<'a>, Al
     with(three, ignore_whitespace)
 }
 
-/// The command with the other options.
-fn with_wishes<'a>(alloc: Global, command: Command<'a>) -> Result<Command<'a>, AllocError>
+/// The command with the options that have a long name: `--ascii`, `--oniguruma`, `--not-empty`, `--longest`, `--limit`.
+fn with_long_options<'a>(alloc: Global, command: Command<'a>) -> Result<Command<'a>, AllocError>
     requires { (out-Command command).has_globals ≡ false }
-    ensures app { IfOk result (λ c. app_of c ≡ rules.with_wishes (app_of command.entry)) }
+    ensures app { IfOk result (λ c. app_of c ≡ rules.with_long_options (app_of command.entry)) }
     ensures local { IfOk result (λ c. (out-Command c).has_globals ≡ false) }
 {
     let ascii = named(alloc, "ascii", "ascii", ASCII);
@@ -144,7 +149,7 @@ fn with_wishes<'a>(alloc: Global, command: Command<'a>) -> Result<Command<'a>, A
     with(four, limit(alloc))
 }
 
-/// The one word that is no option.
+/// The positional argument: the pattern.
 fn pattern<'a>(alloc: Global) -> Arg<'a>
     ensures rule { rule_of result ≡ pattern_rule }
     ensures local { result.global ≡ false }
@@ -155,7 +160,7 @@ fn pattern<'a>(alloc: Global) -> Arg<'a>
         .help(PATTERN)
 }
 
-/// An option without a value, by its one letter.
+/// A flag with a short name of one letter.
 fn letter<'a>(alloc: Global, id: &'a str, letter: char, help: &'a str) -> Arg<'a>
     ensures rule { rule_of result ≡ short_rule id.entry.now letter }
     ensures local { result.global ≡ false }
@@ -166,7 +171,7 @@ fn letter<'a>(alloc: Global, id: &'a str, letter: char, help: &'a str) -> Arg<'a
         .help(help)
 }
 
-/// An option without a value, by its name.
+/// A flag with a long name.
 fn named<'a>(alloc: Global, id: &'a str, name: &'a str, help: &'a str) -> Arg<'a>
     ensures rule { rule_of result ≡ long_rule id.entry.now name.entry.now }
     ensures local { result.global ≡ false }
@@ -177,7 +182,7 @@ fn named<'a>(alloc: Global, id: &'a str, name: &'a str, help: &'a str) -> Arg<'a
         .help(help)
 }
 
-/// The option with a number.
+/// The option `--limit` with its number.
 fn limit<'a>(alloc: Global) -> Arg<'a>
     ensures rule { rule_of result ≡ limit_rule }
     ensures local { result.global ≡ false }

@@ -1,13 +1,14 @@
-//! Reads the words of the program `fancy_search`.
+//! Parses the command-line words of the program `fancy_search` with `clap`: a subcommand, a pattern and options, or why there
+//! are none.
 #![tactic(auto)]
 
-mod asked;
+mod arguments;
 mod command;
 mod refusal;
 #[cfg(test)]
 mod tests;
 mod words;
 
-pub use asked::{Asked, Options, Subcommand};
+pub use arguments::{Arguments, Options, Subcommand};
 pub use refusal::Refusal;
 pub use words::read_words;

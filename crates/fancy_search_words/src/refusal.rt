@@ -1,4 +1,4 @@
-//! Why words ask nothing.
+//! `Refusal`: why the words give no command to run.
 
 ghost use Rattle.std.specs.Prelude.{◌≡◌};
 ghost use Rattle.fancy_search_words.specs.declared.refusal.Refusal.TheVariants.{Memory};
@@ -6,15 +6,16 @@ ghost use Rattle.fancy_search_words.specs.declared.refusal.Refusal.TheVariants.{
 use std::alloc::AllocError;
 use thiserror::Error;
 
-/// Why words ask nothing that the program does. It shows `clap`'s text.
+/// Why the words give no command to run. Its `Display` is the text of `clap`.
 #[derive(Debug, PartialEq, Eq, Drop, Error)]
 pub enum Refusal {
-    /// The words do not parse.
+    /// The words do not parse; the message.
     #[error("{0}")]
     Words(String),
-    /// The words ask for help.
+    /// The words request help; the help text.
     #[error("{0}")]
     Help(String),
+    /// Memory ran out.
     #[error("Out of memory")]
     Memory,
 }

@@ -1,4 +1,4 @@
-use crate::{Asked, Options, Refusal, Subcommand, read_words};
+use crate::{Arguments, Options, Refusal, Subcommand, read_words};
 use std::alloc::Global;
 
 /// No option.
@@ -15,13 +15,16 @@ const NONE: Options = Options {
 };
 
 /// What the words ask, apart from the pattern, or a word for why they ask nothing.
-fn asked(
+fn requested(
     alloc: Global,
     words: &[&str],
     pattern: &str,
 ) -> Result<(Subcommand, Options), &'static str> {
     match read_words(alloc, words) {
-        Ok(asked) if asked.pattern == pattern => Ok((asked.subcommand, asked.options)),
+        Ok(requested) if requested.pattern == pattern => Ok((
+            requested.subcommand,
+            requested.options,
+        )),
         Ok(_) => Err("another pattern"),
         Err(Refusal::Help(_)) => Err("help"),
         Err(Refusal::Words(_)) => Err("words"),
@@ -70,20 +73,20 @@ fn options_and_patterns(rt: HostRuntime) {
         ),
     ] {
         assert_eq!(rt;
-            asked(rt.alloc(), words, pattern),
+            requested(rt.alloc(), words, pattern),
             Ok((Subcommand::Find, options)),
             "{pattern}"
         );
     }
     assert_eq!(rt;
-        asked(rt.alloc(), &many, "(a)"),
+        requested(rt.alloc(), &many, "(a)"),
         Ok((Subcommand::Captures, all))
     );
 }
 
 #[test]
 fn words_that_do_not_parse(rt: HostRuntime) {
-    assert_eq!(rt; asked(rt.alloc(), &[], ""), Err("words"));
+    assert_eq!(rt; requested(rt.alloc(), &[], ""), Err("words"));
     for words in [
         ["find"].as_slice(),
         ["a"].as_slice(),
@@ -99,7 +102,7 @@ fn words_that_do_not_parse(rt: HostRuntime) {
         ["find", "--ascii=1", "a"].as_slice(),
         ["find", "-i", "-i", "a"].as_slice(),
     ] {
-        assert_eq!(rt; asked(rt.alloc(), words, ""), Err("words"));
+        assert_eq!(rt; requested(rt.alloc(), words, ""), Err("words"));
     }
 }
 
@@ -112,7 +115,7 @@ fn words_that_ask_for_help(rt: HostRuntime) {
         ["find", "--help"].as_slice(),
         ["captures", "a", "-h"].as_slice(),
     ] {
-        assert_eq!(rt; asked(rt.alloc(), words, ""), Err("help"));
+        assert_eq!(rt; requested(rt.alloc(), words, ""), Err("help"));
     }
 }
 

@@ -1,4 +1,4 @@
-use Rattle.fancy_regex_meaning.proofs.KeptProofs
+use Rattle.fancy_regex_meaning.proofs.MatchStartProofs
 use Rattle.fancy_regex_meaning.proofs.SearchProofs
 use Rattle.fancy_regex_meaning.proofs.laws_of_matches.Goals as goal
 

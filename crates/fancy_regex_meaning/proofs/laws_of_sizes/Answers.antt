@@ -1,6 +1,6 @@
 use Rattle.fancy_regex_meaning.proofs.SizeProofs
-use Rattle.fancy_regex_meaning.proofs.EndProofs
-use Rattle.fancy_regex_meaning.proofs.EndlessProofs
+use Rattle.fancy_regex_meaning.proofs.TerminationProofs
+use Rattle.fancy_regex_meaning.proofs.NonTerminationProofs
 use Rattle.fancy_regex_meaning.proofs.laws_of_sizes.Goals as goal
 
 pub returns : goal.returns

@@ -1,7 +1,7 @@
-use Rattle.fancy_regex_meaning.proofs.LawProofs
-use Rattle.fancy_regex_meaning.proofs.FirstProofs
-use Rattle.fancy_regex_meaning.proofs.OnwardProofs
-use Rattle.fancy_regex_meaning.proofs.KeptProofs
+use Rattle.fancy_regex_meaning.proofs.WayProofs
+use Rattle.fancy_regex_meaning.proofs.FirstWayProofs
+use Rattle.fancy_regex_meaning.proofs.ForwardProofs
+use Rattle.fancy_regex_meaning.proofs.MatchStartProofs
 use Rattle.fancy_regex_meaning.proofs.BoundProofs
 use Rattle.fancy_regex_meaning.proofs.ChoiceProofs
 use Rattle.fancy_regex_meaning.proofs.laws_of_ways.Goals as goal

@@ -1,4 +1,4 @@
-use Rattle.fancy_regex_meaning.proofs.RowProofs
+use Rattle.fancy_regex_meaning.proofs.ExampleProofs
 use Rattle.fancy_regex_meaning.proofs.worked_sizes.Goals as goal
 
 pub returns : goal.returns

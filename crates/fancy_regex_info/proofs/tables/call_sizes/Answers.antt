@@ -1,5 +1,5 @@
 use Rattle.std.proofs.Common.{map, length, refl, ap, sym, ◌∙◌, rules, arith}
-use Rattle.fancy_regex_info.specs.Rounds.{next_size, size_in_round}
+use Rattle.fancy_regex_info.specs.SizeFixpoint.{next_size, size_in_round}
 use Rattle.fancy_regex_info.specs.Views.{size_at, body_tree}
 use Rattle.fancy_regex_info.proofs.TableLemmas.{first_round, goes_on, is_last}
 use Rattle.fancy_regex_info.proofs.tables.call_sizes.Goals as goal

@@ -1,5 +1,5 @@
 use Rattle.std.proofs.Common.{◌≡◌, ℕ, map}
-use Rattle.fancy_regex_info.specs.Rounds.{size_in_round}
+use Rattle.fancy_regex_info.specs.SizeFixpoint.{size_in_round}
 use Rattle.fancy_regex_info.specs.Views.{size_at, body_tree}
 use Rattle.fancy_regex_info.proofs.tables.call_sizes.Given as goal
 

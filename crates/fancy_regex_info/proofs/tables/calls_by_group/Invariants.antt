@@ -1,6 +1,6 @@
 use Rattle.std.proofs.Common.{◌≡◌, map, take}
 use Rattle.fancy_regex_meaning.specs.Sizes.{calls_in}
-use Rattle.fancy_regex_info.specs.Reach.{rows}
+use Rattle.fancy_regex_info.specs.Reachability.{rows}
 use Rattle.fancy_regex_info.specs.Views.{body_tree}
 use Rattle.fancy_regex_info.proofs.tables.calls_by_group.Given as goal
 

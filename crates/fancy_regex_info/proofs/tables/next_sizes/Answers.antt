@@ -1,5 +1,5 @@
 use Rattle.std.proofs.Common.{ap₂, ◌∙◌, rules, arith}
-use Rattle.fancy_regex_info.specs.Rounds.{size_when}
+use Rattle.fancy_regex_info.specs.SizeFixpoint.{size_when}
 use Rattle.fancy_regex_info.specs.Views.{size_at}
 use Rattle.fancy_regex_info.proofs.TableLemmas.{sizes_more, sizes_all}
 use Rattle.fancy_regex_info.proofs.tables.next_sizes.Goals as goal

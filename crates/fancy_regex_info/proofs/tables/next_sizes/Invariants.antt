@@ -1,5 +1,5 @@
 use Rattle.std.proofs.Common.{◌≡◌, ℕ, ◌<◌, length, map}
-use Rattle.fancy_regex_info.specs.Rounds.{next_size}
+use Rattle.fancy_regex_info.specs.SizeFixpoint.{next_size}
 use Rattle.fancy_regex_info.specs.Views.{size_at, body_tree}
 use Rattle.fancy_regex_info.proofs.tables.next_sizes.Given as goal
 

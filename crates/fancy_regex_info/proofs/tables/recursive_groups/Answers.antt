@@ -1,5 +1,5 @@
 use Rattle.std.proofs.Common.{rules}
-use Rattle.fancy_regex_info.specs.Reach.{rows}
+use Rattle.fancy_regex_info.specs.Reachability.{rows}
 use Rattle.fancy_regex_info.proofs.TableLemmas.{marked_more}
 use Rattle.fancy_regex_info.proofs.tables.recursive_groups.Goals as goal
 

@@ -1,6 +1,6 @@
 use Rattle.std.proofs.Common.{rules, chars, string_bytes, length, sym, ◌∙◌, ◌<◌, ◌+◌, refl, arith}
 use Rattle.std.proofs.lemmas.Result.{err_from_is_err_and}
-use Rattle.fancy_regex_lex.proofs.Parts.{part_goes, part_ends, part_fails, level_step, chars_fit}
+use Rattle.fancy_regex_lex.proofs.ClassPartLemmas.{part_goes, part_ends, part_fails, level_step, chars_fit}
 use Rattle.fancy_regex_lex.proofs.classes.push_parts.Goals as goal
 
 pub loop-after-init : goal.loop-after-init
@@ -24,7 +24,7 @@ returns-in_default-clause-value c =
     let l = c.loop-after in
     let some : 0 < l.invariant.2 = omega (arith, l.invariant.3) in
     part_ends c.args.oniguruma l.invariant.2 l.level (chars (string_bytes l.out)) _ (chars l.rest.now) (chars c.in_ok-after.after.now) _ some
-    c.in_ok-after.ensures.value (sym c.level_behind.ensures ∙ c.in_default.is) l.invariant.4
+    c.in_ok-after.ensures.value (sym c.nesting_after.ensures ∙ c.in_default.is) l.invariant.4
 
 pub returns-in_default-clause-shorter : goal.returns-in_default-clause-shorter
 returns-in_default-clause-shorter c = let l = c.loop-after in omega (arith, l.invariant.1, c.in_ok-after.ensures.shorter)
@@ -36,7 +36,7 @@ pub loop-after-preserved : goal.loop-after-preserved
 loop-after-preserved c =
     let l = c.loop-after in
     let some : 0 < l.invariant.2 = omega (arith, l.invariant.3) in
-    let goes = sym c.level_behind.ensures ∙ c.in-Some.is in
+    let goes = sym c.nesting_after.ensures ∙ c.in-Some.is in
     let next = part_goes c.args.oniguruma l.invariant.2 l.level c.in-Some.next (chars (string_bytes l.out)) _ (chars l.rest.now) (chars c.in_ok-after.after.now) _ some
     c.in_ok-after.ensures.value goes l.invariant.4 in (
       search rules,

@@ -1,5 +1,5 @@
 use Rattle.std.proofs.Common.{◌≡◌, ◌≤◌, ◌<◌, ◌+◌, ℕ, length, chars, string_bytes, IsUtf8}
-use Rattle.fancy_regex_text.specs.Fault.{with_front}
+use Rattle.fancy_regex_text.specs.Fault.{prepend}
 use Rattle.fancy_regex_lex.specs.Classes.{class_parts}
 use Rattle.fancy_regex_lex.proofs.classes.push_parts.Given as goal
 
@@ -7,8 +7,8 @@ use Rattle.fancy_regex_lex.proofs.classes.push_parts.Given as goal
 abbrev pub invariant-loop-after : goal.invariant-loop-after
 invariant-loop-after l =
     IsUtf8 l.rest × (l.level + length (chars l.rest) ≤ length (chars l.text)) × (m : ℕ) × (length (chars l.rest) < m)
-    × (with_front (chars (string_bytes l.out)) (class_parts l.oniguruma m l.level (chars l.rest))
-    ≡ with_front (chars (string_bytes l.fn.out)) (class_parts l.oniguruma (length (chars l.text) + 1) 0 (chars l.text)))
+    × (prepend (chars (string_bytes l.out)) (class_parts l.oniguruma m l.level (chars l.rest))
+    ≡ prepend (chars (string_bytes l.fn.out)) (class_parts l.oniguruma (length (chars l.text) + 1) 0 (chars l.text)))
 
 abbrev pub decreases-loop-after : goal.decreases-loop-after
 decreases-loop-after l = length (chars l.rest)

@@ -1,5 +1,5 @@
 use Rattle.std.proofs.Common.{rules, chars, arith}
-use Rattle.fancy_regex_lex.proofs.Hexes.{hex_start, hex_next, hex_stops, hex_all, hex_fits, hex_small}
+use Rattle.fancy_regex_lex.proofs.HexDigitLemmas.{hex_start, hex_next, hex_stops, hex_all, hex_fits, hex_small}
 use Rattle.fancy_regex_lex.proofs.escapes.hex_digits.Goals as goal
 
 pub loop-found-init : goal.loop-found-init

@@ -1,5 +1,5 @@
 use Rattle.std.proofs.Common.{◌≤◌, ◌-◌, length, chars, IsUtf8}
-use Rattle.fancy_regex_lex.proofs.Hexes.{IsHexRead}
+use Rattle.fancy_regex_lex.proofs.HexDigitLemmas.{IsHexRead}
 use Rattle.fancy_regex_lex.proofs.escapes.hex_digits.Given as goal
 
 -- digits were taken from the front

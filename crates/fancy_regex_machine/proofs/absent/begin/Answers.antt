@@ -1,15 +1,15 @@
 use Rattle.std.proofs.Common.{◌≡◌, ◌+◌, ◌∷◌, ◌∙◌, sym, ap}
 use Rattle.std.specs.Prelude.{slice_set}
 use Rattle.fancy_regex_slots.specs.Memory.{Memory, Thread}
-use Rattle.fancy_regex_program.specs.Machine.{unset, Held}
+use Rattle.fancy_regex_program.specs.Machine.{unset, RunState}
 use Rattle.fancy_regex_machine.specs.Steps.{thread_of}
 use Rattle.fancy_regex_machine.proofs.absent.begin.Goals as goal
 
 pub returns : goal.returns
 returns c code longest go kept =
-    let t = thread_of c.args.place.now c.args.slots.now in
+    let t = thread_of c.args.cursor.now c.args.slots.now in
     let stack = c.args.slots.now.stack in
-    let held : Held = record { kept = kept; limit = unset } in
+    let held : RunState = record { kept = kept; limit = unset } in
     let body = λ (m : Memory). thread_of (record { pc = t.pc + 2; position = t.position }) m in
     let further = λ (m : Memory). thread_of (record { pc = t.pc + 1; position = t.position }) m in
     let on = λ (m : Memory). go held (body m ∷ further m ∷ m.stack) in

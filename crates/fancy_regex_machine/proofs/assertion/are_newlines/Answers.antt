@@ -1,6 +1,6 @@
 use Rattle.std.proofs.Common.{◌≡◌, ◌+◌, ◌==◌, ◌⊎◌, ◌&&◌, false, ◌∙◌, sym, ap, get_or, inl, inr, ne_eqb}
 use Rattle.std.proofs.lemmas.Bool.{and_left, and_right}
-use Rattle.fancy_regex_meaning.specs.Places.{is_before_byte}
+use Rattle.fancy_regex_meaning.specs.Positions.{is_before_byte}
 use Rattle.fancy_regex_machine.proofs.NewlineLemmas.{newline_more, both_more, no_newline}
 use Rattle.fancy_regex_machine.proofs.assertion.are_newlines.Goals as goal
 use Rattle.fancy_regex_machine.proofs.assertion.are_newlines.Goals.{else-crlf-via-then-crlf+then-text-at-eq13+else-is_before_byte, else-crlf-via-then-crlf+else-text-at-eq13, else-crlf-via-else-crlf}

@@ -1,5 +1,5 @@
 use Rattle.std.proofs.Common.{length, ◌-◌, ◌≡◌, drop}
-use Rattle.fancy_regex_meaning.specs.Places as places
+use Rattle.fancy_regex_meaning.specs.Positions as places
 use Rattle.fancy_regex_machine.proofs.assertion.are_newlines.Given as goal
 
 abbrev pub invariant-loop-at : goal.invariant-loop-at

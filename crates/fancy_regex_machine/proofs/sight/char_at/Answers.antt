@@ -1,8 +1,8 @@
 use Rattle.std.proofs.Common.{rules, ◌≡◌, IfSome, drop, sym, ◌∙◌}
 use Rattle.std.specs.Char.{IsScalar}
 use Rattle.std.proofs.lemmas.Bool.{false≢true}
-use Rattle.fancy_regex_class.proofs.LookLemmas.{is_char_at}
-use Rattle.fancy_regex_machine.proofs.PlaceLemmas.{none_at}
+use Rattle.fancy_regex_class.proofs.AdjacentCharLemmas.{is_char_at}
+use Rattle.fancy_regex_machine.proofs.BoundaryLemmas.{none_at}
 use Rattle.fancy_regex_machine.proofs.sight.char_at.Goals as goal
 
 pub returns-in_err-rest-clause-char : goal.returns-in_err-rest-clause-char

@@ -1,8 +1,8 @@
 use Rattle.std.proofs.Common.{rules, refl, ◌≡◌, IfSome, length, take, sym, ap, arith, ◌∙◌}
 use Rattle.std.specs.Char.{IsScalar}
 use Rattle.std.proofs.lemmas.Bool.{false≢true}
-use Rattle.fancy_regex_class.proofs.LookLemmas.{is_char_before}
-use Rattle.fancy_regex_machine.proofs.PlaceLemmas.{none_before, room_before}
+use Rattle.fancy_regex_class.proofs.AdjacentCharLemmas.{is_char_before}
+use Rattle.fancy_regex_machine.proofs.BoundaryLemmas.{none_before, room_before}
 use Rattle.fancy_regex_machine.proofs.sight.char_before.Goals as goal
 
 pub returns-in_err-front-clause-char : goal.returns-in_err-front-clause-char

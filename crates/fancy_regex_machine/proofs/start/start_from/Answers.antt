@@ -2,25 +2,25 @@ use Rattle.std.proofs.Common.{◌≡◌, ◌∙◌, true, false, refl, sym, arit
 use Rattle.std.proofs.lemmas.Bool.{false≢true, true≢false}
 use Rattle.regex_hir.specs.Text.{is_boundary}
 use Rattle.fancy_regex_meaning.proofs.BoundaryLemmas.{IsCharBoundary-of_test}
-use Rattle.fancy_regex_machine.specs.Plans.{may_start}
+use Rattle.fancy_regex_machine.specs.RunConfigs.{may_start}
 use Rattle.fancy_regex_machine.proofs.StartLemmas.{start_here, start_later}
 use Rattle.fancy_regex_machine.proofs.start.start_from.Goals as goal
 use Rattle.fancy_regex_machine.proofs.start.start_from.Goals.{else-is_char_boundary-via-then-is_char_boundary+else-is_sought, else-is_char_boundary-via-else-is_char_boundary}
 
 pub returns-then-is_sought : goal.returns-then-is_sought
 returns-then-is_sought c =
-    let p = c.args.plan.now in
-    sym (c.loop-place.invariant ∙ start_here p.scene.text.now (may_start p.scene.text.now p.seek) p.stop c.loop-place.place c.loop-place-test.true
+    let p = c.args.config.now in
+    sym (c.loop-cursor.invariant ∙ start_here p.haystack.text.now (may_start p.haystack.text.now p.seek) p.stop c.loop-cursor.cursor c.loop-cursor-test.true
     (c.if-is_char_boundary.ensures.test.0 refl) (sym c.if-is_sought.ensures))
 
-pub loop-place-preserved : goal.loop-place-preserved
-loop-place-preserved c =
-    let p = c.args.plan.now in
-    let text = p.scene.text.now in
-    let at = c.loop-place.place in
+pub loop-cursor-preserved : goal.loop-cursor-preserved
+loop-cursor-preserved c =
+    let p = c.args.config.now in
+    let text = p.haystack.text.now in
+    let at = c.loop-cursor.cursor in
     let never : is_boundary text at ≡ true → may_start text p.seek at ≡ false = elim c.else-is_char_boundary.branch [
       | else-is_char_boundary-via-then-is_char_boundary+else-is_sought w ↦ λ e. sym w.is_sought.ensures ∙ w.if-is_sought.false
       | else-is_char_boundary-via-else-is_char_boundary w ↦ λ e.
-          absurd (false≢true (sym w.if-is_char_boundary.false ∙ c.is_char_boundary.ensures.test.1 (IsCharBoundary-of_test text at (omega (arith, c.requires, c.loop-place-test.true)) e)))
+          absurd (false≢true (sym w.if-is_char_boundary.false ∙ c.is_char_boundary.ensures.test.1 (IsCharBoundary-of_test text at (omega (arith, c.requires, c.loop-cursor-test.true)) e)))
     ] in
-    c.loop-place.invariant ∙ start_later text (may_start text p.seek) p.stop at c.loop-place-test.true never
+    c.loop-cursor.invariant ∙ start_later text (may_start text p.seek) p.stop at c.loop-cursor-test.true never

@@ -1,14 +1,14 @@
 use Rattle.std.proofs.Common.{◌≡◌, ◌-◌, ◌+◌, ◌≤◌}
 use Rattle.std.specs.List.{filter}
-use Rattle.fancy_regex_meaning.specs.Places.{boundaries}
+use Rattle.fancy_regex_meaning.specs.Positions.{boundaries}
 use Rattle.fancy_regex_meaning.specs.Searches.{first_item}
-use Rattle.fancy_regex_machine.specs.Plans.{may_start}
+use Rattle.fancy_regex_machine.specs.RunConfigs.{may_start}
 use Rattle.fancy_regex_machine.proofs.start.start_from.Given as goal
 
-abbrev pub invariant-loop-place : goal.invariant-loop-place
-invariant-loop-place l =
-    first_item (filter (may_start l.plan.scene.text.now l.plan.seek) (boundaries l.plan.scene.text.now l.from l.plan.stop))
-    ≡ first_item (filter (may_start l.plan.scene.text.now l.plan.seek) (boundaries l.plan.scene.text.now l.place l.plan.stop))
+abbrev pub invariant-loop-cursor : goal.invariant-loop-cursor
+invariant-loop-cursor l =
+    first_item (filter (may_start l.config.haystack.text.now l.config.seek) (boundaries l.config.haystack.text.now l.from l.config.stop))
+    ≡ first_item (filter (may_start l.config.haystack.text.now l.config.seek) (boundaries l.config.haystack.text.now l.cursor l.config.stop))
 
-abbrev pub decreases-loop-place : goal.decreases-loop-place
-decreases-loop-place l = l.plan.stop + 1 - l.place
+abbrev pub decreases-loop-cursor : goal.decreases-loop-cursor
+decreases-loop-cursor l = l.config.stop + 1 - l.cursor

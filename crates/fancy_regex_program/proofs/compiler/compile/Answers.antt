@@ -2,7 +2,7 @@ use Rattle.std.proofs.Common.{arith, ◌≡◌, ◌++◌, ℕ, Bool, true, false
 use Rattle.std.specs.Prelude.{◌==◌}
 use Rattle.std.proofs.lemmas.List.{length-map}
 use Rattle.fancy_regex_tree.specs.Tree.{Tree}
-use Rattle.fancy_regex_info.specs.Infos.{info_of, facts_in}
+use Rattle.fancy_regex_info.specs.Infos.{info_of, properties_in}
 use Rattle.fancy_regex_info.specs.Views.{pattern_in}
 use Rattle.fancy_regex_program.specs.Known.{groups_in, pat_with}
 use Rattle.fancy_regex_program.specs.Writing.{info_at}
@@ -10,16 +10,16 @@ use Rattle.fancy_regex_program.proofs.ClassLemmas.{classes_are_read}
 use Rattle.fancy_regex_program.proofs.KnownLemmas.{count_is, start_is}
 use Rattle.fancy_regex_program.proofs.LengthLemmas.{made_short}
 use Rattle.fancy_regex_program.proofs.WholeLemmas.{made_from, pat_gathered}
-use Rattle.fancy_regex_pattern.specs.Rooms.{room}
-use Rattle.fancy_regex_pattern.proofs.RoomProofs.{pattern_has_room}
-use Rattle.fancy_regex_sizes.proofs.TellLemmas.{gives}
+use Rattle.fancy_regex_desugar.specs.ProgramSizes.{room}
+use Rattle.fancy_regex_desugar.proofs.ProgramSizeProofs.{pattern_size_is_bounded}
+use Rattle.fancy_regex_sizes.proofs.PartErrorLemmas.{gives}
 use Rattle.fancy_regex_program.specs.Programs.{IsTooLong}
 use Rattle.fancy_regex_program.specs.Shapes.{IsAllowed}
 use Rattle.fancy_regex_program.specs.Refusals.{IsClear, IsRefusal}
 use Rattle.fancy_regex_info.specs.Analysis.{analysis}
 use Rattle.fancy_regex_info.specs.declared.error.CompileError.{CompileError}
 use Rattle.fancy_regex_program.proofs.RefusalLemmas.{hands}
-use Rattle.fancy_regex_program.proofs.PlanLemmas.{told_of, refusal}
+use Rattle.fancy_regex_program.proofs.TreeContextLemmas.{told_of, refusal}
 use Rattle.fancy_regex_program.proofs.compiler.compile.Goals as goal
 
 whole_is : (n : ℕ) (explicit : Bool) (t : Tree) → n ≡ (pattern_in explicit t).first_group → not (n == 0) ≡ not explicit
@@ -31,7 +31,7 @@ returns-clause-tree c explicit t is =
     let n = c.start_group-whole.result in
     let gs = c.add_groups.new.groups.items in
     let x = info_of c.args.info.now in
-    let starts : n ≡ (pattern_in explicit t).first_group = c.start_group-whole.ensures ∙ ap (λ y. (facts_in y).start) is ∙ start_is explicit t in
+    let starts : n ≡ (pattern_in explicit t).first_group = c.start_group-whole.ensures ∙ ap (λ y. (properties_in y).start) is ∙ start_is explicit t in
     let whole : not (n == 0) ≡ not explicit = whole_is n explicit t starts in
     let gathered : map info_at gs ≡ groups_in (not (n == 0)) x =
     c.in_ok-add_groups.ensures ∙ ap (λ xs. map info_at xs ++ groups_in (not (n == 0)) x) c.new-groups.ensures.items in
@@ -46,7 +46,7 @@ returns-clause-classes c explicit t is clear =
     let n = c.start_group-whole.result in
     let gs = c.add_groups.new.groups.items in
     let x = info_of c.args.info.now in
-    let starts : n ≡ (pattern_in explicit t).first_group = c.start_group-whole.ensures ∙ ap (λ y. (facts_in y).start) is ∙ start_is explicit t in
+    let starts : n ≡ (pattern_in explicit t).first_group = c.start_group-whole.ensures ∙ ap (λ y. (properties_in y).start) is ∙ start_is explicit t in
     let gathered : map info_at gs ≡ groups_in (not (n == 0)) x =
     c.in_ok-add_groups.ensures ∙ ap (λ xs. map info_at xs ++ groups_in (not (n == 0)) x) c.new-groups.ensures.items in
     let pat = pat_gathered (map info_at gs) x (not (n == 0)) explicit t gathered (whole_is n explicit t starts) is in
@@ -64,10 +64,10 @@ returns-in_err-prog-clause-full c =
     let e = c.in_err-prog in
     gives r.result e.field-0.0 (IsTooLong c.args.options.now.max_prog_size x) r.ensures.1
     (λ explicit t is too.
-    let starts : n ≡ (pattern_in explicit t).first_group = c.start_group-whole.ensures ∙ ap (λ y. (facts_in y).start) is ∙ start_is explicit t in
+    let starts : n ≡ (pattern_in explicit t).first_group = c.start_group-whole.ensures ∙ ap (λ y. (properties_in y).start) is ∙ start_is explicit t in
     let pat = pat_gathered (map info_at gs) x (not (n == 0)) explicit t gathered (whole_is n explicit t starts) is in
     let lt = e.ensures.full too in
-    omega (arith, lt, ap room pat, pattern_has_room (pattern_in explicit t)))
+    omega (arith, lt, ap room pat, pattern_size_is_bounded (pattern_in explicit t)))
 
 pub returns-clause-short : goal.returns-clause-short
 returns-clause-short c explicit t is =
@@ -83,7 +83,7 @@ returns-in_err-prog-clause-refused c =
     IsRefusal c.args.options.now.bytes_mode u (pattern_in explicit t).groups t e in
     hands c.from_residual-in_err-prog.result c.in_err-prog.field-0.0 P c.from_residual-in_err-prog.ensures.1
     (λ explicit t is clear.
-    let starts : n ≡ (pattern_in explicit t).first_group = c.start_group-whole.ensures ∙ ap (λ y. (facts_in y).start) is ∙ start_is explicit t in
+    let starts : n ≡ (pattern_in explicit t).first_group = c.start_group-whole.ensures ∙ ap (λ y. (properties_in y).start) is ∙ start_is explicit t in
     let whole : not (n == 0) ≡ not explicit = whole_is n explicit t starts in
     let gathered : map info_at gs ≡ groups_in (not explicit) x =
     c.in_ok-add_groups.ensures ∙ ap (λ xs. map info_at xs ++ groups_in (not (n == 0)) x) c.new-groups.ensures.items ∙ ap (λ b. groups_in b x) whole in

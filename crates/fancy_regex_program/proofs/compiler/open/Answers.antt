@@ -4,7 +4,7 @@ use Rattle.fancy_regex_program.specs.Ops as op
 use Rattle.fancy_regex_program.specs.Code.{opening}
 use Rattle.fancy_regex_program.specs.Writing.{Draft, draft_of, with_op}
 use Rattle.fancy_regex_program.proofs.compiler.open.Goals as goal
-use Rattle.fancy_regex_program.proofs.compiler.open.Goals.{then-not-anchored+in_ok-put, else-not-anchored, then-whole+in_ok-put-2, else-whole}
+use Rattle.fancy_regex_program.proofs.compiler.open.Goals.{then-not-anchored+in_ok-push_insn, else-not-anchored, then-whole+in_ok-push_insn-2, else-whole}
 
 begun : (anchored whole : Bool) (d0 d1 d2 : Draft) → d0 ≡ record { ops = []; text = [] } →
     d1 ≡ cond anchored d0 (with_op op.split_unanchored d0) → d2 ≡ cond whole (with_op (op.save 0) d1) d1 →
@@ -20,16 +20,16 @@ returns-clause-draft c has_member fold begins =
     let d0 = draft_of c.args.body.now in
     let d1 = draft_of c.if-not-anchored.body in
     let first : d1 ≡ cond c.args.anchored d0 (with_op op.split_unanchored d0) = elim c.if-not-anchored.branch [
-      | then-not-anchored+in_ok-put w ↦
+      | then-not-anchored+in_ok-push_insn w ↦
           let e = w.if-not-anchored.true in
-          ap draft_of w.body-is ∙ w.in_ok-put.ensures.draft ∙ ap (λ b. cond b d0 (with_op op.split_unanchored d0)) (sym e)
+          ap draft_of w.body-is ∙ w.in_ok-push_insn.ensures.draft ∙ ap (λ b. cond b d0 (with_op op.split_unanchored d0)) (sym e)
       | else-not-anchored w ↦
           let e = w.if-not-anchored.false in
           ap draft_of w.body-is ∙ ap (λ b. cond b d0 (with_op op.split_unanchored d0)) (sym e)
     ] in
     let second : draft_of c.if-whole.body ≡ cond c.args.whole (with_op (op.save 0) d1) d1 = elim c.if-whole.branch [
-      | then-whole+in_ok-put-2 w ↦
-          ap draft_of w.body-is ∙ w.in_ok-put-2.ensures.draft ∙ ap (λ b. cond b (with_op (op.save 0) d1) d1) (sym w.if-whole.true)
+      | then-whole+in_ok-push_insn-2 w ↦
+          ap draft_of w.body-is ∙ w.in_ok-push_insn-2.ensures.draft ∙ ap (λ b. cond b (with_op (op.save 0) d1) d1) (sym w.if-whole.true)
       | else-whole w ↦ ap draft_of w.body-is ∙ ap (λ b. cond b (with_op (op.save 0) d1) d1) (sym w.if-whole.false)
     ] in
     begun c.args.anchored c.args.whole d0 d1 (draft_of c.if-whole.body) begins first second has_member fold

@@ -1,46 +1,46 @@
 use Rattle.std.proofs.Common.{rules, arith, ◌≡◌, ◌+◌, ◌*◌, ℕ, true, map, length, sym, ap, ap₂, subst, ◌∙◌}
 use Rattle.std.proofs.lemmas.List.{length-map}
 use Rattle.fancy_regex_class.specs.Classes.{in_class, folded}
-use Rattle.fancy_regex_pattern.specs.Pats.{Pat}
+use Rattle.fancy_regex_desugar.specs.CorePatterns.{CorePattern}
 use Rattle.fancy_regex_info.specs.Infos.{info_of}
 use Rattle.fancy_regex_program.specs.Code.{slots_in, program_of}
 use Rattle.fancy_regex_program.specs.Known.{most_calls_in}
 use Rattle.fancy_regex_program.specs.Shapes.{IsAllowed}
 use Rattle.fancy_regex_program.specs.Writing.{draft_of, info_at, infos_of}
 use Rattle.fancy_regex_program.proofs.WholeLemmas.{program_is, body_is}
-use Rattle.fancy_regex_pattern.specs.Rooms.{room}
+use Rattle.fancy_regex_desugar.specs.ProgramSizes.{room}
 use Rattle.fancy_regex_program.proofs.RoomLemmas.{took, late, extent_nothing}
 use Rattle.fancy_regex_program.proofs.compiler.write_program.Goals as goal
 
 pub returns-clause-wrote : goal.returns-clause-wrote
 returns-clause-wrote c =
-    let task = c.args.task.now in
-    let u = task.unicode in
-    let groups = task.groups.now.items in
+    let context = c.args.context.now in
+    let u = context.unicode in
+    let groups = context.groups.now.items in
     let count = length groups in
     let long : c.len.result ≡ count = search rules in
     let long-2 : c.len-2.result ≡ count = search rules in
-    let calls : c.in_ok-most_calls.field-0 ≡ most_calls_in (infos_of task) =
-    c.in_ok-most_calls.ensures.value ∙ ap (λ n. 19 * n) (long ∙ sym (length-map groups info_at)) in
+    let calls : c.in_ok-max_open_calls.field-0 ≡ most_calls_in (infos_of context) =
+    c.in_ok-max_open_calls.ensures.value ∙ ap (λ n. 19 * n) (long ∙ sym (length-map groups info_at)) in
     let slot : c.in_ok-slot.slot ≡ 2 * count = c.in_ok-slot.ensures.value ∙ ap (λ n. 2 * n) long-2 in
-    let p = body_is (infos_of task) (info_of c.args.info.now) c.in_ok-most_calls.field-0 c.new-2.result.items calls c.new-2.ensures.items in
+    let p = body_is (infos_of context) (info_of c.args.info.now) c.in_ok-max_open_calls.field-0 c.new-2.result.items calls c.new-2.ensures.items in
     let wrote = c.in_ok-slots.ensures.wrote in
-    let written = program_is u task.whole c.args.options.now.anchored _ count c.in_ok-slot.slot (draft_of c.open.new.body) _ _ slot
+    let written = program_is u context.whole c.args.options.now.anchored _ count c.in_ok-slot.slot (draft_of c.open.new.body) _ _ slot
     (c.in_ok-open.ensures.draft (in_class u) (folded u) c.new.ensures.draft) wrote.draft
     (c.into_insns.ensures.ops ∙ c.in_ok-close.ensures.draft (in_class u) (folded u)) in
     record {
-      ops = written ∙ ap (program_of (in_class u) (folded u) task.whole c.args.options.now.anchored count) p;
+      ops = written ∙ ap (program_of (in_class u) (folded u) context.whole c.args.options.now.anchored count) p;
       slots_are = wrote.slots ∙ ap₂ (λ s q. s + slots_in q) slot p;
     }
 
 pub returns-clause-allowed : goal.returns-clause-allowed
 returns-clause-allowed c =
-    let task = c.args.task.now in
-    let long : c.len.result ≡ length task.groups.now.items = search rules in
-    let calls : c.in_ok-most_calls.field-0 ≡ most_calls_in (infos_of task) =
-    c.in_ok-most_calls.ensures.value ∙ ap (λ n. 19 * n) (long ∙ sym (length-map task.groups.now.items info_at)) in
-    let p = body_is (infos_of task) (info_of c.args.info.now) c.in_ok-most_calls.field-0 c.new-2.result.items calls c.new-2.ensures.items in
-    subst (IsAllowed task.unicode true) p c.in_ok-slots.ensures.allowed
+    let context = c.args.context.now in
+    let long : c.len.result ≡ length context.groups.now.items = search rules in
+    let calls : c.in_ok-max_open_calls.field-0 ≡ most_calls_in (infos_of context) =
+    c.in_ok-max_open_calls.ensures.value ∙ ap (λ n. 19 * n) (long ∙ sym (length-map context.groups.now.items info_at)) in
+    let p = body_is (infos_of context) (info_of c.args.info.now) c.in_ok-max_open_calls.field-0 c.new-2.result.items calls c.new-2.ensures.items in
+    subst (IsAllowed context.unicode true) p c.in_ok-slots.ensures.allowed
 
 pub returns-in_err-open-clause-full : goal.returns-in_err-open-clause-full
 returns-in_err-open-clause-full c =
@@ -50,11 +50,11 @@ returns-in_err-open-clause-full c =
 
 pub returns-in_err-slots-clause-full : goal.returns-in_err-slots-clause-full
 returns-in_err-slots-clause-full c =
-    let task = c.args.task.now in
-    let long : c.len.result ≡ length task.groups.now.items = search rules in
-    let calls : c.in_ok-most_calls.field-0 ≡ most_calls_in (infos_of task) =
-    c.in_ok-most_calls.ensures.value ∙ ap (λ n. 19 * n) (long ∙ sym (length-map task.groups.now.items info_at)) in
-    let p = body_is (infos_of task) (info_of c.args.info.now) c.in_ok-most_calls.field-0 c.new-2.result.items calls c.new-2.ensures.items in
+    let context = c.args.context.now in
+    let long : c.len.result ≡ length context.groups.now.items = search rules in
+    let calls : c.in_ok-max_open_calls.field-0 ≡ most_calls_in (infos_of context) =
+    c.in_ok-max_open_calls.ensures.value ∙ ap (λ n. 19 * n) (long ∙ sym (length-map context.groups.now.items info_at)) in
+    let p = body_is (infos_of context) (info_of c.args.info.now) c.in_ok-max_open_calls.field-0 c.new-2.result.items calls c.new-2.ensures.items in
     let r = c.from_residual-in_err-slots in
     late r.result c.in_err-slots.field-0.0 _ _ r.ensures.1 c.in_err-slots.ensures.full
     (λ lt. omega (
@@ -69,11 +69,11 @@ returns-in_err-slots-clause-full c =
 
 pub returns-in_err-close-clause-full : goal.returns-in_err-close-clause-full
 returns-in_err-close-clause-full c =
-    let task = c.args.task.now in
-    let long : c.len.result ≡ length task.groups.now.items = search rules in
-    let calls : c.in_ok-most_calls.field-0 ≡ most_calls_in (infos_of task) =
-    c.in_ok-most_calls.ensures.value ∙ ap (λ n. 19 * n) (long ∙ sym (length-map task.groups.now.items info_at)) in
-    let p = body_is (infos_of task) (info_of c.args.info.now) c.in_ok-most_calls.field-0 c.new-2.result.items calls c.new-2.ensures.items in
+    let context = c.args.context.now in
+    let long : c.len.result ≡ length context.groups.now.items = search rules in
+    let calls : c.in_ok-max_open_calls.field-0 ≡ most_calls_in (infos_of context) =
+    c.in_ok-max_open_calls.ensures.value ∙ ap (λ n. 19 * n) (long ∙ sym (length-map context.groups.now.items info_at)) in
+    let p = body_is (infos_of context) (info_of c.args.info.now) c.in_ok-max_open_calls.field-0 c.new-2.result.items calls c.new-2.ensures.items in
     let r = c.from_residual-in_err-close in
     late r.result c.in_err-close.field-0.0 _ _ r.ensures.1 c.in_err-close.ensures.full
     (λ lt. omega (

@@ -1,7 +1,7 @@
 use Rattle.std.proofs.Common.{◌≡◌, ℕ, Bool, [], ◌∷◌, true, refl, sym, ap, ◌∙◌, subst, IfErr, arith}
 use Rattle.fancy_regex_tree.specs.Tree as tree
-use Rattle.fancy_regex_pattern.specs.Pats.{read, literal, fail}
-use Rattle.fancy_regex_pattern.specs.Rooms.{room}
+use Rattle.fancy_regex_desugar.specs.CorePatterns.{read, literal, fail}
+use Rattle.fancy_regex_desugar.specs.ProgramSizes.{room}
 use Rattle.fancy_regex_program.specs.Extents.{IsFull}
 use Rattle.fancy_regex_program.specs.Known.{front_of}
 use Rattle.fancy_regex_program.specs.Writing.{Wrote, draft_of, with_pat}
@@ -11,7 +11,7 @@ use Rattle.fancy_regex_program.proofs.Drafts.{pat_wait}
 use Rattle.fancy_regex_program.proofs.LeafLemmas.{leaf_caseless}
 use Rattle.fancy_regex_program.proofs.RoomLemmas.{late, room_leaf}
 use Rattle.fancy_regex_program.proofs.leaf.emit_literal.Goals as goal
-use Rattle.fancy_regex_program.proofs.leaf.emit_literal.Goals.{then-casei+in_ok-add, else-casei+in_ok-wait}
+use Rattle.fancy_regex_program.proofs.leaf.emit_literal.Goals.{then-casei+in_ok-flush_and_push, else-casei+in_ok-push_literal_char}
 
 drew : (u w casei : Bool) (first : ℕ) (old new : Emitter) (slot : ℕ) → draft_of new.body ≡ with_pat u w (read (literal first casei)) slot (draft_of old.body) →
     new.opened.items ≡ old.opened.items → Wrote u w old new slot slot (read (literal first casei))
@@ -24,32 +24,32 @@ drew u w casei first old new slot is opened = record {
 pub returns-clause-wrote : goal.returns-clause-wrote
 unfolding front_of
 returns-clause-wrote c slot =
-    let u = c.args.task.now.unicode in
-    let w = c.args.task.now.whole in
+    let u = c.args.context.now.unicode in
+    let w = c.args.context.now.whole in
     let old = c.args.emitter.now in
     let first = c.args.first in
     let d = draft_of old.body in
     elim c.if-casei.branch [
-      | then-casei+in_ok-add z ↦
+      | then-casei+in_ok-flush_and_push z ↦
           let is = leaf_caseless u z.new-literal.result (tree.literal (first ∷ []) true) (first ∷ []) first refl refl z.new-literal.ensures in
           drew u w c.args.casei first old c.if-casei.emitter slot
-          (ap (λ e. draft_of e.body) z.emitter-is ∙ z.in_ok-add.ensures.draft ∙ sym (is.draft w (λ _. fail) 0 slot [] d)
+          (ap (λ e. draft_of e.body) z.emitter-is ∙ z.in_ok-flush_and_push.ensures.draft ∙ sym (is.draft w (λ _. fail) 0 slot [] d)
           ∙ ap (λ b. with_pat u w (read (literal first b)) slot d) (sym z.if-casei.true))
           (ap (λ e. e.opened.items) z.emitter-is)
-      | else-casei+in_ok-wait z ↦ drew u w c.args.casei first old c.if-casei.emitter slot
-          (ap (λ e. draft_of e.body) z.emitter-is ∙ z.in_ok-wait.ensures.draft ∙ sym (pat_wait u w first slot d)
+      | else-casei+in_ok-push_literal_char z ↦ drew u w c.args.casei first old c.if-casei.emitter slot
+          (ap (λ e. draft_of e.body) z.emitter-is ∙ z.in_ok-push_literal_char.ensures.draft ∙ sym (pat_wait u w first slot d)
           ∙ ap (λ b. with_pat u w (read (literal first b)) slot d) (sym z.if-casei.false))
           (ap (λ e. e.opened.items) z.emitter-is)
     ]
 
-pub returns-in_err-add-clause-full : goal.returns-in_err-add-clause-full
+pub returns-in_err-flush_and_push-clause-full : goal.returns-in_err-flush_and_push-clause-full
 unfolding front_of
-returns-in_err-add-clause-full c =
-    let u = c.args.task.now.unicode in
+returns-in_err-flush_and_push-clause-full c =
+    let u = c.args.context.now.unicode in
     let first = c.args.first in
     let t = tree.literal (first ∷ []) true in
     let is = leaf_caseless u c.new-literal.result t (first ∷ []) first refl refl c.new-literal.ensures in
     let some = room_leaf u (insn.LitCasei c.new-literal.result) t is (λ _. fail) 0 [] in
     subst (λ b. IfErr c.from_residual.result (IsFull c.args.emitter.now.body (room (read (literal first b))))) (sym c.if-casei.true)
-    (late c.from_residual.result c.in_err-add.field-0.0 _ _ c.from_residual.ensures.1 c.in_err-add.ensures.full
+    (late c.from_residual.result c.in_err-flush_and_push.field-0.0 _ _ c.from_residual.ensures.1 c.in_err-flush_and_push.ensures.full
     (λ lt. omega (arith, lt, some)))

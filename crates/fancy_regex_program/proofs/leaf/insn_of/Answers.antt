@@ -14,17 +14,17 @@ use Rattle.fancy_regex_program.proofs.leaf.insn_of.Goals as goal
 
 pub returns-in-Any-clause-insn : goal.returns-in-Any-clause-insn
 returns-in-Any-clause-insn c =
-    leaf_any c.args.task.now.unicode c.any.result (tree_of c.args.leaf.now) c.in-Any.newline c.in-Any.crlf
+    leaf_any c.args.context.now.unicode c.any.result (tree_of c.args.leaf.now) c.in-Any.newline c.in-Any.crlf
     (ap tree_of c.in-Any.is ∙ tree_any c.in-Any.newline c.in-Any.crlf) c.any.ensures
 
 pub returns-in-Assertion-clause-insn : goal.returns-in-Assertion-clause-insn
 returns-in-Assertion-clause-insn c =
-    leaf_assertion c.args.task.now.unicode (insn.Assertion c.in-Assertion.assertion) (tree_of c.args.leaf.now) c.in-Assertion.assertion
+    leaf_assertion c.args.context.now.unicode (insn.Assertion c.in-Assertion.assertion) (tree_of c.args.leaf.now) c.in-Assertion.assertion
     (ap tree_of c.in-Assertion.is ∙ tree_assertion c.in-Assertion.assertion) refl
 
 pub returns-in-GeneralNewline-clause-insn : goal.returns-in-GeneralNewline-clause-insn
 returns-in-GeneralNewline-clause-insn c =
-    leaf_newline c.args.task.now.unicode (insn.GeneralNewline c.in-GeneralNewline.unicode) (tree_of c.args.leaf.now) c.in-GeneralNewline.unicode
+    leaf_newline c.args.context.now.unicode (insn.GeneralNewline c.in-GeneralNewline.unicode) (tree_of c.args.leaf.now) c.in-GeneralNewline.unicode
     (ap tree_of c.in-GeneralNewline.is ∙ tree_newline c.in-GeneralNewline.unicode) refl
 
 pub returns-in_ok-matcher-in-Delegate-clause-insn : goal.returns-in_ok-matcher-in-Delegate-clause-insn
@@ -32,43 +32,43 @@ returns-in_ok-matcher-in-Delegate-clause-insn c =
     let inner = c.in-Delegate.inner in
     let casei = c.in-Delegate.casei in
     let m = c.in_ok-matcher-in-Delegate.matcher in
-    let is : IsMatcherOf m c.args.task.now.unicode (chars (string_bytes inner)) casei =
+    let is : IsMatcherOf m c.args.context.now.unicode (chars (string_bytes inner)) casei =
     rw c.deref.ensures at c.in_ok-matcher-in-Delegate.ensures.members in
-    let readable : IsTrue (is_class c.args.task.now.unicode (chars (string_bytes inner)) casei) =
+    let readable : IsTrue (is_class c.args.context.now.unicode (chars (string_bytes inner)) casei) =
     rw c.deref.ensures at c.in_ok-matcher-in-Delegate.ensures.read in
-    leaf_class c.args.task.now.unicode m (tree_of c.args.leaf.now) (chars (string_bytes inner)) casei
+    leaf_class c.args.context.now.unicode m (tree_of c.args.leaf.now) (chars (string_bytes inner)) casei
     (ap tree_of c.in-Delegate.is ∙ tree_delegate inner casei) is readable
 
 pub returns-in_ok-slot-in-Backref-clause-insn : goal.returns-in_ok-slot-in-Backref-clause-insn
 returns-in_ok-slot-in-Backref-clause-insn c =
     let k = c.in-Backref.group in
     let casei = c.in-Backref.casei in
-    leaf_backref c.args.task.now.unicode (insn.Backref c.in_ok-slot-in-Backref.slot casei) (tree_of c.args.leaf.now) k casei
+    leaf_backref c.args.context.now.unicode (insn.Backref c.in_ok-slot-in-Backref.slot casei) (tree_of c.args.leaf.now) k casei
     (ap tree_of c.in-Backref.is ∙ tree_backref k casei) (ap (λ s. op.backref s casei) c.in_ok-slot-in-Backref.ensures.value)
 
 pub returns-in_ok-insn-in-BackrefExistsCondition-clause-insn : goal.returns-in_ok-insn-in-BackrefExistsCondition-clause-insn
 returns-in_ok-insn-in-BackrefExistsCondition-clause-insn c =
     let v = c.in-BackrefExistsCondition in
     let s = c.in_ok-insn-in-BackrefExistsCondition in
-    leaf_exists c.args.task.now.unicode s.insn (tree_of c.args.leaf.now) v.group
+    leaf_exists c.args.context.now.unicode s.insn (tree_of c.args.leaf.now) v.group
     (ap tree_of v.is ∙ tree_exists v.group v.relative_recursion_level ∙ ap (tree.backref_exists v.group) s.ensures.level)
     s.ensures.op
 
 pub returns-in-ContinueFromPreviousMatchEnd-clause-insn : goal.returns-in-ContinueFromPreviousMatchEnd-clause-insn
 returns-in-ContinueFromPreviousMatchEnd-clause-insn c =
-    leaf_continue c.args.task.now.unicode insn.ContinueFromPreviousMatchEnd (tree_of c.args.leaf.now)
+    leaf_continue c.args.context.now.unicode insn.ContinueFromPreviousMatchEnd (tree_of c.args.leaf.now)
     (ap tree_of c.in-ContinueFromPreviousMatchEnd.is ∙ tree_continue) refl
 
 pub returns-in_ok-insn-in-BacktrackingControlVerb-clause-insn : goal.returns-in_ok-insn-in-BacktrackingControlVerb-clause-insn
 returns-in_ok-insn-in-BacktrackingControlVerb-clause-insn c =
     let v = c.in-BacktrackingControlVerb.verb in
     let made = c.in_ok-insn-in-BacktrackingControlVerb in
-    leaf_verb c.args.task.now.unicode made.insn (tree_of c.args.leaf.now) v (ap tree_of c.in-BacktrackingControlVerb.is ∙ tree_verb v) made.ensures.op
+    leaf_verb c.args.context.now.unicode made.insn (tree_of c.args.leaf.now) v (ap tree_of c.in-BacktrackingControlVerb.is ∙ tree_verb v) made.ensures.op
 
 pub returns-in_err-insn-in-BacktrackingControlVerb-clause-refused : goal.returns-in_err-insn-in-BacktrackingControlVerb-clause-refused
 returns-in_err-insn-in-BacktrackingControlVerb-clause-refused c =
-    let u = c.args.task.now.unicode in
-    let count = length c.args.task.now.groups.now.items in
+    let u = c.args.context.now.unicode in
+    let count = length c.args.context.now.groups.now.items in
     let t = tree_of c.args.leaf.now in
     let v = c.in-BacktrackingControlVerb.verb in
     let r = c.from_residual-in_err-insn-in-BacktrackingControlVerb in

@@ -1,7 +1,7 @@
 use Rattle.std.proofs.Common.{◌≡◌, ℕ, ◌+◌, ◌-◌, ◌*◌, ◌^◌, ◌≤◌, ◌∷◌, false, None, length, min, vec_len}
 use Rattle.fancy_regex_class.specs.Looks.{looked_text, look_count, SameCounter}
 use Rattle.fancy_regex_runner.specs.Meaning.{View}
-use Rattle.fancy_regex_runner.specs.Attempt.{Rest, land}
+use Rattle.fancy_regex_runner.specs.Attempt.{Continuation, land}
 use Rattle.fancy_regex_runner.specs.Visited.{Has, members}
 use Rattle.fancy_regex_runner.specs.Search.{IsPair, AllWithin, AllFail, Explains, Dfs, top_first, ended}
 use Rattle.fancy_regex_runner.specs.declared.frame.Frame.TheVariants.{Explore}
@@ -9,18 +9,18 @@ use Rattle.fancy_regex_runner.proofs.search.attempt.Given as goal
 
 abbrev pub invariant-pairs : goal.invariant-pairs
 invariant-pairs l = record {
-  tracking : (view : View) (go : ℕ → Rest) → Explains l.plan (looked_text l.fn.text) view go
+  tracking : (view : View) (go : ℕ → Continuation) → Explains l.context (looked_text l.fn.text) view go
       → AllFail view.longest go (Has l.fn.visited)
-      → Dfs view.longest go (land l.fn.trail.slots.items (go l.plan.entry l.from).answer) (ended l.best l.farthest) l.fn.trail.slots.items (Has l.visited)
-      (Explore l.id l.at ∷ top_first l.trail.stack.items) l.trail.slots.items;
-  first : l.plan.rules.longest ≡ false → l.best ≡ None;
-  pair : IsPair (looked_text l.fn.text) (length l.plan.states.now) l.plan.stop l.fn.visited.base l.id l.at;
-  within : AllWithin (looked_text l.fn.text) (length l.plan.states.now) l.plan.stop l.fn.visited.base (top_first l.trail.stack.items);
-  count : l.visited.count ≡ length l.plan.states.now;
+      → Dfs view.longest go (land l.fn.backtrack.slots.items (go l.context.entry l.from).answer) (ended l.best l.farthest) l.fn.backtrack.slots.items (Has l.visited)
+      (Explore l.id l.at ∷ top_first l.backtrack.stack.items) l.backtrack.slots.items;
+  first : l.context.rules.longest ≡ false → l.best ≡ None;
+  pair : IsPair (looked_text l.fn.text) (length l.context.states.now) l.context.stop l.fn.visited.base l.id l.at;
+  within : AllWithin (looked_text l.fn.text) (length l.context.states.now) l.context.stop l.fn.visited.base (top_first l.backtrack.stack.items);
+  count : l.visited.count ≡ length l.context.states.now;
   base : l.visited.base ≡ l.fn.visited.base;
-  rows : l.visited.rows ≤ l.plan.stop - l.fn.visited.base + 1;
-  slots : vec_len l.trail.slots ≡ vec_len l.fn.trail.slots;
-  farthest : length l.farthest ≡ vec_len l.fn.trail.slots;
+  rows : l.visited.rows ≤ l.context.stop - l.fn.visited.base + 1;
+  slots : vec_len l.backtrack.slots ≡ vec_len l.fn.backtrack.slots;
+  farthest : length l.farthest ≡ vec_len l.fn.backtrack.slots;
   counted : look_count l.text + members l.fn.visited ≤ look_count l.fn.text + members l.visited;
   more : min (look_count l.fn.text) (2 ^ 64 - 1) ≤ look_count l.text;
   text : looked_text l.text ≡ looked_text l.fn.text;
@@ -28,4 +28,4 @@ invariant-pairs l = record {
 }
 
 abbrev pub decreases-pairs : goal.decreases-pairs
-decreases-pairs l = 2 * ((l.plan.stop - l.fn.visited.base + 1) * length l.plan.states.now - members l.visited) + vec_len l.trail.stack
+decreases-pairs l = 2 * ((l.context.stop - l.fn.visited.base + 1) * length l.context.states.now - members l.visited) + vec_len l.backtrack.stack

@@ -2,11 +2,11 @@ use Rattle.std.proofs.Common.{◌≡◌, ℕ, ◌+◌, ◌-◌, ◌*◌, ◌^◌
 use Rattle.std.specs.Char.{len_utf8}
 use Rattle.std.proofs.lemmas.Str.{len_utf8_bounds}
 use Rattle.regex_hir.specs.Text.{char_at}
-use Rattle.fancy_regex_meaning.specs.Places.{boundaries}
+use Rattle.fancy_regex_meaning.specs.Positions.{boundaries}
 use Rattle.fancy_regex_class.specs.Looks.{looked_text, look_count}
 use Rattle.fancy_regex_runner.specs.Meaning.{Spot, View}
-use Rattle.fancy_regex_runner.specs.Attempt.{Rest, land}
-use Rattle.fancy_regex_runner.specs.Find.{earliest, tried, places}
+use Rattle.fancy_regex_runner.specs.Attempt.{Continuation, land}
+use Rattle.fancy_regex_runner.specs.Find.{earliest, attempted, places}
 use Rattle.fancy_regex_runner.specs.Visited.{Has}
 use Rattle.fancy_regex_runner.specs.Search.{AllFail, Explains}
 use Rattle.fancy_regex_runner.proofs.VisitedLemmas.{members_cap, none_has}
@@ -30,10 +30,10 @@ starts-init c = record {
 }
 
 -- the bound, after an attempt
-bound : (c : After-attempt) → look_count c.attempt.new.text ≤ look_count c.args.text.now + (c.args.plan.now.stop - c.args.start + 1) * length c.args.plan.now.states.now + (c.args.plan.now.stop - c.args.start + 1)
+bound : (c : After-attempt) → look_count c.attempt.new.text ≤ look_count c.args.text.now + (c.args.context.now.stop - c.args.start + 1) * length c.args.context.now.states.now + (c.args.context.now.stop - c.args.start + 1)
 bound c =
     let rows = rw c.starts.invariant.base at c.attempt.ensures.rows in
-    let cap = members_cap c.attempt.new.visited (c.args.plan.now.stop - c.args.start + 1) (length c.args.plan.now.states.now) (omega (arith, rows)) (c.attempt.ensures.same.0 ∙ c.starts.invariant.count) in
+    let cap = members_cap c.attempt.new.visited (c.args.context.now.stop - c.args.start + 1) (length c.args.context.now.states.now) (omega (arith, rows)) (c.attempt.ensures.same.0 ∙ c.starts.invariant.count) in
     omega (arith, cap, c.attempt.ensures.counted, c.look-after.ensures.ticked, c.starts.invariant.at_most, c.starts.invariant.from.0, c.starts.invariant.from.1)
 
 pub returns-in_err-end-clause-at_most : goal.returns-in_err-end-clause-at_most
@@ -52,47 +52,47 @@ pub returns-in_default-after-2-clause-at_most : goal.returns-in_default-after-2-
 returns-in_default-after-2-clause-at_most c = bound (goal.at.returns-in_default-after-2-clause-at_most c).After-attempt
 
 -- what a place gives
-abbrev at_place : (c : In_ok-end) → (ℕ → Rest) → ℕ → Option Spot
-at_place c go i = land c.args.trail.now.slots.items (go c.args.plan.now.entry i).answer
+abbrev with_position : (c : In_ok-end) → (ℕ → Continuation) → ℕ → Option Spot
+with_position c go i = land c.args.backtrack.now.slots.items (go c.args.context.now.entry i).answer
 
 abbrev all_places : (c : In_ok-end) → List ℕ
-all_places c = places (looked_text c.args.text.now) c.args.anchored c.args.start c.args.plan.now.stop
+all_places c = places (looked_text c.args.text.now) c.args.anchored c.args.start c.args.context.now.stop
 
 abbrev these_places : (c : In_ok-end) → List ℕ
-these_places c = places (looked_text c.args.text.now) c.args.anchored c.starts.from c.args.plan.now.stop
+these_places c = places (looked_text c.args.text.now) c.args.anchored c.starts.from c.args.context.now.stop
 
 -- an attempt from the place that answered None
-record Failed (c : In_ok-end) (view : View) (go : ℕ → Rest) : Type 0 where
+record Failed (c : In_ok-end) (view : View) (go : ℕ → Continuation) : Type 0 where
   pub all : AllFail view.longest go (Has c.attempt.new.visited)
-  pub slots : c.attempt.new.trail.slots.items ≡ c.args.trail.now.slots.items
-  pub none : at_place c go c.starts.from ≡ None
+  pub slots : c.attempt.new.backtrack.slots.items ≡ c.args.backtrack.now.slots.items
+  pub none : with_position c go c.starts.from ≡ None
 
-failed : (c : In_ok-end) → c.in_ok-end.field-0 ≡ None → (view : View) (go : ℕ → Rest) → Explains c.args.plan.now (looked_text c.args.text.now) view go → Failed c view go
+failed : (c : In_ok-end) → c.in_ok-end.field-0 ≡ None → (view : View) (go : ℕ → Continuation) → Explains c.args.context.now (looked_text c.args.text.now) view go → Failed c view go
 failed c e view go explains =
     let inv = c.starts.invariant.found view go explains in
-    let here : Explains c.args.plan.now (looked_text c.look-after.new.self) view go = rw (c.look-after.ensures.text, c.starts.invariant.text) explains in
+    let here : Explains c.args.context.now (looked_text c.look-after.new.self) view go = rw (c.look-after.ensures.text, c.starts.invariant.text) explains in
     let value = rw e at (c.in_ok-end.ensures.value view go here inv.0) in
     let after = rw e at c.in_ok-end.ensures.failed in
     let both = after view go here inv.0 in
     record {
       all = both.0;
       slots = both.1 ∙ inv.1;
-      none = ap (λ s. land s (go c.args.plan.now.entry c.starts.from).answer) (sym inv.1) ∙ sym value;
+      none = ap (λ s. land s (go c.args.context.now.entry c.starts.from).answer) (sym inv.1) ∙ sym value;
     }
 
 -- no place has a way, and this one is the last
-none_found : (c : In_ok-end) → c.in_ok-end.field-0 ≡ None → (view : View) (go : ℕ → Rest) → Explains c.args.plan.now (looked_text c.args.text.now) view go
+none_found : (c : In_ok-end) → c.in_ok-end.field-0 ≡ None → (view : View) (go : ℕ → Continuation) → Explains c.args.context.now (looked_text c.args.text.now) view go
     → these_places c ≡ c.starts.from ∷ []
-    → (earliest (at_place c go) (all_places c) ≡ None)
-    × (min (look_count c.args.text.now + tried (at_place c go) (all_places c)) (2 ^ 64 - 1) ≤ look_count c.attempt.new.text)
+    → (earliest (with_position c go) (all_places c) ≡ None)
+    × (min (look_count c.args.text.now + attempted (with_position c go) (all_places c)) (2 ^ 64 - 1) ≤ look_count c.attempt.new.text)
 none_found c e view go explains last =
     let inv = c.starts.invariant.found view go explains in
     let f = failed c e view go explains in
-    let both = failed_last (at_place c go) c.starts.from (these_places c) last f.none in
+    let both = failed_last (with_position c go) c.starts.from (these_places c) last f.none in
     (inv.2 ∙ both.0, omega (arith, inv.3, both.1, c.look-after.ensures.ticked, c.attempt.ensures.more))
 
 one_place : (c : In_ok-end) → c.args.anchored ≡ true → these_places c ≡ c.starts.from ∷ []
-one_place c e = ap (λ a. places (looked_text c.args.text.now) a c.starts.from c.args.plan.now.stop) e
+one_place c e = ap (λ a. places (looked_text c.args.text.now) a c.starts.from c.args.context.now.stop) e
 
 pub returns-then-anchored-clause-answer : goal.returns-then-anchored-clause-answer
 returns-then-anchored-clause-answer c view go explains =
@@ -105,15 +105,15 @@ returns-then-anchored-clause-at_least c view go explains =
     (none_found d c.in_default.is view go explains (one_place d c.if-anchored.true)).1
 
 -- the place has a way
-some_found : (c : In_ok-end) (end : ℕ) → c.in_ok-end.field-0 ≡ Some end → (view : View) (go : ℕ → Rest) → Explains c.args.plan.now (looked_text c.args.text.now) view go
-    → (earliest (at_place c go) (all_places c) ≡ Some (record { start = c.starts.from; way = record { at = end; slots = c.attempt.new.trail.slots.items } }))
-    × (min (look_count c.args.text.now + tried (at_place c go) (all_places c)) (2 ^ 64 - 1) ≤ look_count c.attempt.new.text)
+some_found : (c : In_ok-end) (end : ℕ) → c.in_ok-end.field-0 ≡ Some end → (view : View) (go : ℕ → Continuation) → Explains c.args.context.now (looked_text c.args.text.now) view go
+    → (earliest (with_position c go) (all_places c) ≡ Some (record { start = c.starts.from; way = record { at = end; slots = c.attempt.new.backtrack.slots.items } }))
+    × (min (look_count c.args.text.now + attempted (with_position c go) (all_places c)) (2 ^ 64 - 1) ≤ look_count c.attempt.new.text)
 some_found c end e view go explains =
     let inv = c.starts.invariant.found view go explains in
-    let here : Explains c.args.plan.now (looked_text c.look-after.new.self) view go = rw (c.look-after.ensures.text, c.starts.invariant.text) explains in
+    let here : Explains c.args.context.now (looked_text c.look-after.new.self) view go = rw (c.look-after.ensures.text, c.starts.invariant.text) explains in
     let value = rw e at (c.in_ok-end.ensures.value view go here inv.0) in
-    let both = found_here (at_place c go) (looked_text c.args.text.now) c.args.anchored c.starts.from c.args.plan.now.stop _ c.starts.invariant.from.2 c.starts.invariant.from.1
-    (ap (λ s. land s (go c.args.plan.now.entry c.starts.from).answer) (sym inv.1) ∙ sym value) in
+    let both = found_here (with_position c go) (looked_text c.args.text.now) c.args.anchored c.starts.from c.args.context.now.stop _ c.starts.invariant.from.2 c.starts.invariant.from.1
+    (ap (λ s. land s (go c.args.context.now.entry c.starts.from).answer) (sym inv.1) ∙ sym value) in
     (inv.2 ∙ both.0, omega (arith, inv.3, both.1, c.look-after.ensures.ticked, c.attempt.ensures.more))
 
 pub returns-in-Some-clause-answer : goal.returns-in-Some-clause-answer
@@ -124,31 +124,31 @@ pub returns-in-Some-clause-at_least : goal.returns-in-Some-clause-at_least
 returns-in-Some-clause-at_least c view go explains =
     (some_found (goal.at.returns-in-Some-clause-at_least c).In_ok-end c.in-Some.end c.in-Some.is view go explains).1
 
--- what is looked at stands in the text
+-- each pair that is visited is in the text
 seen : (c : In_ok-end) (o : Option ℕ) → c.look-after.result.1 ≡ o → char_at (looked_text c.args.text.now) c.starts.from ≡ o
 seen c o e = ap (λ t. char_at t c.starts.from) (sym c.starts.invariant.text) ∙ sym c.look-after.ensures.after ∙ e
 
-many_places : (c : In_ok-end) → c.args.anchored ≡ false → these_places c ≡ boundaries (looked_text c.args.text.now) c.starts.from c.args.plan.now.stop
-many_places c e = ap (λ a. places (looked_text c.args.text.now) a c.starts.from c.args.plan.now.stop) e
+many_places : (c : In_ok-end) → c.args.anchored ≡ false → these_places c ≡ boundaries (looked_text c.args.text.now) c.starts.from c.args.context.now.stop
+many_places c e = ap (λ a. places (looked_text c.args.text.now) a c.starts.from c.args.context.now.stop) e
 
-too_late : (c : In_ok-end) (d : ℕ) → c.args.anchored ≡ false → c.look-after.result.1 ≡ Some d → c.args.plan.now.stop - c.starts.from < len_utf8 d → these_places c ≡ c.starts.from ∷ []
+too_late : (c : In_ok-end) (d : ℕ) → c.args.anchored ≡ false → c.look-after.result.1 ≡ Some d → c.args.context.now.stop - c.starts.from < len_utf8 d → these_places c ≡ c.starts.from ∷ []
 too_late c d a e late =
-    many_places c a ∙ last_place (looked_text c.args.text.now) c.starts.from c.args.plan.now.stop d c.starts.invariant.from.2 (seen c (Some d) e) late c.starts.invariant.from.1
+    many_places c a ∙ last_place (looked_text c.args.text.now) c.starts.from c.args.context.now.stop d c.starts.invariant.from.2 (seen c (Some d) e) late c.starts.invariant.from.1
 
 at_end : (c : In_ok-end) → c.args.anchored ≡ false → c.look-after.result.1 ≡ None → these_places c ≡ c.starts.from ∷ []
 at_end c a e =
     many_places c a
-    ∙ end_place (looked_text c.args.text.now) c.starts.from c.args.plan.now.stop c.requires.text c.starts.invariant.from.2 (seen c None e) c.starts.invariant.from.1 c.requires.range.1
+    ∙ end_place (looked_text c.args.text.now) c.starts.from c.args.context.now.stop c.requires.text c.starts.invariant.from.2 (seen c None e) c.starts.invariant.from.1 c.requires.range.1
 
 pub returns-in_default-after-clause-answer : goal.returns-in_default-after-clause-answer
 returns-in_default-after-clause-answer c view go explains =
     let d = (goal.at.returns-in_default-after-clause-answer c).In_ok-end in
-    sym (none_found d c.in_default.is view go explains (too_late d c.in-Some-after.c c.if-anchored.false c.in-Some-after.is (omega (arith, c.len_utf8.ensures.value, c.if-len_utf8-plan.false)))).0
+    sym (none_found d c.in_default.is view go explains (too_late d c.in-Some-after.c c.if-anchored.false c.in-Some-after.is (omega (arith, c.len_utf8.ensures.value, c.if-len_utf8-context.false)))).0
 
 pub returns-in_default-after-clause-at_least : goal.returns-in_default-after-clause-at_least
 returns-in_default-after-clause-at_least c view go explains =
     let d = (goal.at.returns-in_default-after-clause-at_least c).In_ok-end in
-    (none_found d c.in_default.is view go explains (too_late d c.in-Some-after.c c.if-anchored.false c.in-Some-after.is (omega (arith, c.len_utf8.ensures.value, c.if-len_utf8-plan.false)))).1
+    (none_found d c.in_default.is view go explains (too_late d c.in-Some-after.c c.if-anchored.false c.in-Some-after.is (omega (arith, c.len_utf8.ensures.value, c.if-len_utf8-context.false)))).1
 
 pub returns-in_default-after-2-clause-answer : goal.returns-in_default-after-2-clause-answer
 returns-in_default-after-2-clause-answer c view go explains =
@@ -164,9 +164,9 @@ pub starts-preserved : goal.starts-preserved
 starts-preserved c =
     let d = (goal.at.starts-preserved c).In_ok-end in
     let text = looked_text c.args.text.now in
-    let stop : ℕ = c.args.plan.now.stop in
+    let stop : ℕ = c.args.context.now.stop in
     let width : c.len_utf8-from.result ≡ len_utf8 c.in-Some-after.c = c.len_utf8-from.ensures.value in
-    let fits : len_utf8 c.in-Some-after.c ≤ stop - c.starts.from = omega (arith, c.len_utf8.ensures.value, c.if-len_utf8-plan.true) in
+    let fits : len_utf8 c.in-Some-after.c ≤ stop - c.starts.from = omega (arith, c.len_utf8.ensures.value, c.if-len_utf8-context.true) in
     let split : these_places d ≡ c.starts.from ∷ boundaries text (c.starts.from + len_utf8 c.in-Some-after.c) stop =
     many_places d c.if-anchored.false
     ∙ next_place text c.starts.from stop c.in-Some-after.c c.starts.invariant.from.2 (seen d (Some c.in-Some-after.c) c.in-Some-after.is) fits c.starts.invariant.from.1 in
@@ -176,7 +176,7 @@ starts-preserved c =
       found = λ view go explains.
           let inv = c.starts.invariant.found view go explains in
           let f = failed d c.in_default.is view go explains in
-          let both = failed_next (at_place d go) c.starts.from (these_places d) _ (split ∙ ap (λ ps. c.starts.from ∷ ps) later) f.none in (
+          let both = failed_next (with_position d go) c.starts.from (these_places d) _ (split ∙ ap (λ ps. c.starts.from ∷ ps) later) f.none in (
             f.all,
             f.slots,
             inv.2 ∙ both.0,

@@ -1,31 +1,31 @@
 use Rattle.std.proofs.Common.{◌≡◌, ℕ, ◌+◌, ◌-◌, ◌^◌, ◌≤◌, length, vec_len, min, IsCharBoundary}
 use Rattle.fancy_regex_class.specs.Looks.{looked_text, look_count, SameCounter}
 use Rattle.fancy_regex_runner.specs.Meaning.{View}
-use Rattle.fancy_regex_runner.specs.Attempt.{Rest, land}
-use Rattle.fancy_regex_runner.specs.Find.{earliest, tried, places}
+use Rattle.fancy_regex_runner.specs.Attempt.{Continuation, land}
+use Rattle.fancy_regex_runner.specs.Find.{earliest, attempted, places}
 use Rattle.fancy_regex_runner.specs.Visited.{Has, members}
 use Rattle.fancy_regex_runner.specs.Search.{AllFail, Explains}
 use Rattle.fancy_regex_runner.proofs.search.earliest_way.Given as goal
 
 abbrev pub invariant-starts : goal.invariant-starts
 invariant-starts l = record {
-  found : (view : View) (go : ℕ → Rest) → Explains l.plan (looked_text l.fn.text) view go
-      → AllFail view.longest go (Has l.visited) × (l.trail.slots.items ≡ l.fn.trail.slots.items)
-      × (earliest (λ i. land l.fn.trail.slots.items (go l.plan.entry i).answer) (places (looked_text l.fn.text) l.anchored l.start l.plan.stop)
-      ≡ earliest (λ i. land l.fn.trail.slots.items (go l.plan.entry i).answer) (places (looked_text l.fn.text) l.anchored l.from l.plan.stop))
-      × (min (look_count l.fn.text + tried (λ i. land l.fn.trail.slots.items (go l.plan.entry i).answer) (places (looked_text l.fn.text) l.anchored l.start l.plan.stop)) (2 ^ 64 - 1)
-      ≤ min (look_count l.text + tried (λ i. land l.fn.trail.slots.items (go l.plan.entry i).answer) (places (looked_text l.fn.text) l.anchored l.from l.plan.stop)) (2 ^ 64 - 1));
-  from : (l.start ≤ l.from) × (l.from ≤ l.plan.stop) × IsCharBoundary (looked_text l.fn.text) l.from;
-  count : l.visited.count ≡ length l.plan.states.now;
+  found : (view : View) (go : ℕ → Continuation) → Explains l.context (looked_text l.fn.text) view go
+      → AllFail view.longest go (Has l.visited) × (l.backtrack.slots.items ≡ l.fn.backtrack.slots.items)
+      × (earliest (λ i. land l.fn.backtrack.slots.items (go l.context.entry i).answer) (places (looked_text l.fn.text) l.anchored l.start l.context.stop)
+      ≡ earliest (λ i. land l.fn.backtrack.slots.items (go l.context.entry i).answer) (places (looked_text l.fn.text) l.anchored l.from l.context.stop))
+      × (min (look_count l.fn.text + attempted (λ i. land l.fn.backtrack.slots.items (go l.context.entry i).answer) (places (looked_text l.fn.text) l.anchored l.start l.context.stop)) (2 ^ 64 - 1)
+      ≤ min (look_count l.text + attempted (λ i. land l.fn.backtrack.slots.items (go l.context.entry i).answer) (places (looked_text l.fn.text) l.anchored l.from l.context.stop)) (2 ^ 64 - 1));
+  from : (l.start ≤ l.from) × (l.from ≤ l.context.stop) × IsCharBoundary (looked_text l.fn.text) l.from;
+  count : l.visited.count ≡ length l.context.states.now;
   base : l.visited.base ≡ l.start;
-  rows : l.visited.rows ≤ l.plan.stop - l.start + 1;
-  empty : vec_len l.trail.stack ≡ 0;
-  slots : vec_len l.trail.slots ≡ vec_len l.fn.trail.slots;
-  farthest : length l.farthest ≡ vec_len l.fn.trail.slots;
+  rows : l.visited.rows ≤ l.context.stop - l.start + 1;
+  empty : vec_len l.backtrack.stack ≡ 0;
+  slots : vec_len l.backtrack.slots ≡ vec_len l.fn.backtrack.slots;
+  farthest : length l.farthest ≡ vec_len l.fn.backtrack.slots;
   at_most : look_count l.text ≤ look_count l.fn.text + members l.visited + (l.from - l.start);
   text : looked_text l.text ≡ looked_text l.fn.text;
   same_counter : SameCounter l.fn.text l.text;
 }
 
 abbrev pub decreases-starts : goal.decreases-starts
-decreases-starts l = l.plan.stop - l.from
+decreases-starts l = l.context.stop - l.from

@@ -8,42 +8,42 @@ use Rattle.fancy_regex_runner.proofs.search.step.Goals as goal
 pub returns-in-Read-clause-tracking : goal.returns-in-Read-clause-tracking
 returns-in-Read-clause-tracking c view go id far shows does goal best bottom seen marked adds d =
     rw c.read.ensures
-    (read_tracked view c.args.plan.now.matchers.now c.args.plan.now.rules c.args.plan.now.stop c.in-Read.leaf c.in-Read.next c.args.at id c.args.before c.args.after go goal best bottom (Has seen) (Has marked) _ _
-    c.requires shows (does ∙ ap (λ s. state_visit view c.args.plan.now.stop go s c.args.at) c.in-Read.is) adds d)
+    (read_tracked view c.args.context.now.matchers.now c.args.context.now.rules c.args.context.now.stop c.in-Read.leaf c.in-Read.next c.args.at id c.args.before c.args.after go goal best bottom (Has seen) (Has marked) _ _
+    c.requires shows (does ∙ ap (λ s. state_visit view c.args.context.now.stop go s c.args.at) c.in-Read.is) adds d)
 
 pub returns-in-Read-clause-next : goal.returns-in-Read-clause-next
 returns-in-Read-clause-next c text count base names low bound next_bound =
     rw c.read.ensures
-    (read_within c.args.plan.now.rules.unicode text count c.args.plan.now.stop base c.in-Read.next c.args.at c.args.plan.now.matchers.now c.in-Read.leaf c.args.after (rw c.in-Read.is at names) low c.requires next_bound)
+    (read_within c.args.context.now.rules.unicode text count c.args.context.now.stop base c.in-Read.next c.args.at c.args.context.now.matchers.now c.in-Read.leaf c.args.after (rw c.in-Read.is at names) low c.requires next_bound)
 
-pub returns-then-stands-clause-tracking : goal.returns-then-stands-clause-tracking
-returns-then-stands-clause-tracking c view go id far shows does goal best bottom seen marked adds d =
-    let yes : view.holds c.in-Look.test c.args.at ≡ true = shows.holds c.in-Look.test ∙ sym c.stands.ensures ∙ c.if-stands.true in
-    let on = guard_yes _ _ _ (does ∙ ap (λ s. state_visit view c.args.plan.now.stop go s c.args.at) c.in-Look.is) yes in
+pub returns-then-test_holds-clause-tracking : goal.returns-then-test_holds-clause-tracking
+returns-then-test_holds-clause-tracking c view go id far shows does goal best bottom seen marked adds d =
+    let yes : view.holds c.in-Look.test c.args.at ≡ true = shows.holds c.in-Look.test ∙ sym c.test_holds.ensures ∙ c.if-test_holds.true in
+    let on = guard_yes _ _ _ (does ∙ ap (λ s. state_visit view c.args.context.now.stop go s c.args.at) c.in-Look.is) yes in
     Dfs-moved view.longest d adds c.in-Look.next c.args.at on.0 on.1
 
-pub returns-else-stands-clause-tracking : goal.returns-else-stands-clause-tracking
-returns-else-stands-clause-tracking c view go id far shows does goal best bottom seen marked adds d =
-    let no : view.holds c.in-Look.test c.args.at ≡ false = shows.holds c.in-Look.test ∙ sym c.stands.ensures ∙ c.if-stands.false in
-    Dfs-dead view.longest d adds (guard_no _ _ _ (does ∙ ap (λ s. state_visit view c.args.plan.now.stop go s c.args.at) c.in-Look.is) no)
+pub returns-else-test_holds-clause-tracking : goal.returns-else-test_holds-clause-tracking
+returns-else-test_holds-clause-tracking c view go id far shows does goal best bottom seen marked adds d =
+    let no : view.holds c.in-Look.test c.args.at ≡ false = shows.holds c.in-Look.test ∙ sym c.test_holds.ensures ∙ c.if-test_holds.false in
+    Dfs-dead view.longest d adds (guard_no _ _ _ (does ∙ ap (λ s. state_visit view c.args.context.now.stop go s c.args.at) c.in-Look.is) no)
 
 pub returns-in_ok-leave-in-Split-clause-tracking : goal.returns-in_ok-leave-in-Split-clause-tracking
 returns-in_ok-leave-in-Split-clause-tracking c view go id far shows does goal best bottom seen marked adds d =
     rw (c.in_ok-leave-in-Split.ensures.pushed, c.in_ok-leave-in-Split.ensures.slots)
-    (Dfs-split view.longest d adds c.in-Split.first c.in-Split.second (does ∙ ap (λ s. state_visit view c.args.plan.now.stop go s c.args.at) c.in-Split.is))
+    (Dfs-split view.longest d adds c.in-Split.first c.in-Split.second (does ∙ ap (λ s. state_visit view c.args.context.now.stop go s c.args.at) c.in-Split.is))
 
 pub returns-in_ok-write-in-Enter-clause-tracking : goal.returns-in_ok-write-in-Enter-clause-tracking
 returns-in_ok-write-in-Enter-clause-tracking c view go id far shows does goal best bottom seen marked adds d =
     write_tracked view.longest go goal best bottom (Has seen) (Has marked) id c.args.at c.in-Enter.next c.saturating_mul.result (2 * c.in-Enter.group) _ _ _ _ c.in_ok-write-in-Enter.field-0
-    (omega (arith, c.saturating_mul.ensures)) (omega (arith, c.args.trail.now.slots.ok.0, c.args.trail.now.slots.ok.1, c.args.trail.now.slots.small)) c.in_ok-write-in-Enter.ensures.small c.in_ok-write-in-Enter.ensures.pushed c.in_ok-write-in-Enter.ensures.written
-    (does ∙ ap (λ s. state_visit view c.args.plan.now.stop go s c.args.at) c.in-Enter.is) adds d
+    (omega (arith, c.saturating_mul.ensures)) (omega (arith, c.args.backtrack.now.slots.ok.0, c.args.backtrack.now.slots.ok.1, c.args.backtrack.now.slots.small)) c.in_ok-write-in-Enter.ensures.small c.in_ok-write-in-Enter.ensures.pushed c.in_ok-write-in-Enter.ensures.written
+    (does ∙ ap (λ s. state_visit view c.args.context.now.stop go s c.args.at) c.in-Enter.is) adds d
 
 pub returns-in_ok-write-in-Leave-clause-tracking : goal.returns-in_ok-write-in-Leave-clause-tracking
 returns-in_ok-write-in-Leave-clause-tracking c view go id far shows does goal best bottom seen marked adds d =
     write_tracked view.longest go goal best bottom (Has seen) (Has marked) id c.args.at c.in-Leave.next c.saturating_add.result (2 * c.in-Leave.group + 1) _ _ _ _ c.in_ok-write-in-Leave.field-0
-    (omega (arith, c.saturating_add.ensures, c.saturating_mul-in-Leave.ensures)) (omega (arith, c.args.trail.now.slots.ok.0, c.args.trail.now.slots.ok.1, c.args.trail.now.slots.small)) c.in_ok-write-in-Leave.ensures.small c.in_ok-write-in-Leave.ensures.pushed c.in_ok-write-in-Leave.ensures.written
-    (does ∙ ap (λ s. state_visit view c.args.plan.now.stop go s c.args.at) c.in-Leave.is) adds d
+    (omega (arith, c.saturating_add.ensures, c.saturating_mul-in-Leave.ensures)) (omega (arith, c.args.backtrack.now.slots.ok.0, c.args.backtrack.now.slots.ok.1, c.args.backtrack.now.slots.small)) c.in_ok-write-in-Leave.ensures.small c.in_ok-write-in-Leave.ensures.pushed c.in_ok-write-in-Leave.ensures.written
+    (does ∙ ap (λ s. state_visit view c.args.context.now.stop go s c.args.at) c.in-Leave.is) adds d
 
 pub returns-in-Match-clause-tracking : goal.returns-in-Match-clause-tracking
 returns-in-Match-clause-tracking c view go id far shows does goal best bottom seen marked adds d =
-    Dfs-matched view.longest d adds (does ∙ ap (λ s. state_visit view c.args.plan.now.stop go s c.args.at) c.in-Match.is)
+    Dfs-matched view.longest d adds (does ∙ ap (λ s. state_visit view c.args.context.now.stop go s c.args.at) c.in-Match.is)

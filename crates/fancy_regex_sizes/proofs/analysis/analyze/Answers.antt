@@ -1,17 +1,17 @@
 use Rattle.std.proofs.Common.{◌≡◌, false, length, map, ap, sym, subst, ◌∙◌, arith}
 use Rattle.fancy_regex_tree.specs.Tree.{Tree, tree_of}
 use Rattle.fancy_regex_meaning.specs.Sizes.{size_with}
-use Rattle.fancy_regex_sizes.specs.Endings.{never_ends}
+use Rattle.fancy_regex_sizes.specs.TerminationFixpoint.{never_ends}
 use Rattle.fancy_regex_info.specs.Infos.{info_of}
-use Rattle.fancy_regex_info.specs.Survey.{Knows}
+use Rattle.fancy_regex_info.specs.AnalysisRelations.{AreCallSizes}
 use Rattle.fancy_regex_info.specs.Views.{size_at, body_tree}
-use Rattle.fancy_regex_sizes.specs.NodeCauses.{some_node, is_faulty}
-use Rattle.fancy_regex_sizes.specs.PartCauses.{is_stopped}
-use Rattle.fancy_regex_sizes.specs.Written.{some_written, IsWhole}
-use Rattle.fancy_regex_sizes.specs.declared.written.Inside.{Inside}
-use Rattle.fancy_regex_sizes.proofs.CauseLemmas.{Told, node_told, root_told, start_told, part_told, none_passed, no_stopped_part}
-use Rattle.fancy_regex_sizes.proofs.TellLemmas.{gives}
-use Rattle.fancy_regex_info.proofs.WholeLemmas.{length_trees}
+use Rattle.fancy_regex_sizes.specs.NodeErrors.{some_node, is_invalid_node}
+use Rattle.fancy_regex_sizes.specs.UnsupportedParts.{is_unsupported}
+use Rattle.fancy_regex_sizes.specs.EmittedParts.{some_emitted, IsWhole}
+use Rattle.fancy_regex_sizes.specs.declared.emitted.Inside.{Inside}
+use Rattle.fancy_regex_sizes.proofs.AnalysisErrorLemmas.{Told, node_told, root_told, start_told, part_told, none_passed, no_stopped_part}
+use Rattle.fancy_regex_sizes.proofs.PartErrorLemmas.{gives}
+use Rattle.fancy_regex_info.proofs.AnalyzeTreeLemmas.{length_trees}
 use Rattle.fancy_regex_sizes.proofs.analysis.analyze.Goals as goal
 
 pub returns-in_err-check_nodes-clause-refused : goal.returns-in_err-check_nodes-clause-refused
@@ -32,33 +32,33 @@ returns-in_err-check_root-clause-refused c =
     gives c.from_residual-in_err-check_root.result e (Told c.args.context mark t) c.from_residual-in_err-check_root.ensures.1
     (root_told c.args.context mark t (info_of c.in_ok-info.info) e c.in_ok-info.ensures c.in_err-check_root.ensures.refused)
 
-pub returns-in_err-check_starts-clause-refused : goal.returns-in_err-check_starts-clause-refused
-returns-in_err-check_starts-clause-refused c =
-    let e = c.in_err-check_starts.field-0.0 in
+pub returns-in_err-check_left_recursion-clause-refused : goal.returns-in_err-check_left_recursion-clause-refused
+returns-in_err-check_left_recursion-clause-refused c =
+    let e = c.in_err-check_left_recursion.field-0.0 in
     let t = tree_of c.args.tree.now.expr in
     let mark = c.args.tree.now.named_backref_only in
     let gs = c.deref-5.result.now in
     let sizes = c.deref-6.result.now in
-    let known : Knows (map body_tree gs) sizes =
-    subst (λ g. Knows (map body_tree g) sizes) (c.deref-2.ensures.value ∙ sym c.deref-5.ensures.value)
-    (subst (λ s. Knows (map body_tree c.deref-2.result.now) s) (sym c.deref-6.ensures.value) c.in_ok-sizes.ensures) in
-    gives c.from_residual-in_err-check_starts.result e (Told c.args.context mark t) c.from_residual-in_err-check_starts.ensures.1
+    let known : AreCallSizes (map body_tree gs) sizes =
+    subst (λ g. AreCallSizes (map body_tree g) sizes) (c.deref-2.ensures.value ∙ sym c.deref-5.ensures.value)
+    (subst (λ s. AreCallSizes (map body_tree c.deref-2.result.now) s) (sym c.deref-6.ensures.value) c.in_ok-sizes.ensures) in
+    gives c.from_residual-in_err-check_left_recursion.result e (Told c.args.context mark t) c.from_residual-in_err-check_left_recursion.ensures.1
     (start_told c.args.context mark t (map body_tree gs) sizes e (ap (map body_tree) c.deref-5.ensures.value ∙ c.in_ok-groups.ensures) known
-    c.in_err-check_starts.ensures.refused)
+    c.in_err-check_left_recursion.ensures.refused)
 
-pub returns-in_err-check_written-clause-refused : goal.returns-in_err-check_written-clause-refused
-returns-in_err-check_written-clause-refused c =
-    let e = c.in_err-check_written.field-0.0 in
+pub returns-in_err-check_emitted_parts-clause-refused : goal.returns-in_err-check_emitted_parts-clause-refused
+returns-in_err-check_emitted_parts-clause-refused c =
+    let e = c.in_err-check_emitted_parts.field-0.0 in
     let t = tree_of c.args.tree.now.expr in
     let mark = c.args.tree.now.named_backref_only in
     let gs = c.deref-7.result.now in
     let sizes = c.deref-8.result.now in
-    let known : Knows (map body_tree gs) sizes =
-    subst (λ g. Knows (map body_tree g) sizes) (c.deref-2.ensures.value ∙ sym c.deref-7.ensures.value)
-    (subst (λ s. Knows (map body_tree c.deref-2.result.now) s) (sym c.deref-8.ensures.value) c.in_ok-sizes.ensures) in
-    gives c.from_residual-in_err-check_written.result e (Told c.args.context mark t) c.from_residual-in_err-check_written.ensures.1
+    let known : AreCallSizes (map body_tree gs) sizes =
+    subst (λ g. AreCallSizes (map body_tree g) sizes) (c.deref-2.ensures.value ∙ sym c.deref-7.ensures.value)
+    (subst (λ s. AreCallSizes (map body_tree c.deref-2.result.now) s) (sym c.deref-8.ensures.value) c.in_ok-sizes.ensures) in
+    gives c.from_residual-in_err-check_emitted_parts.result e (Told c.args.context mark t) c.from_residual-in_err-check_emitted_parts.ensures.1
     (part_told c.args.context mark t (map body_tree gs) sizes e (ap (map body_tree) c.deref-7.ensures.value ∙ c.in_ok-groups.ensures) known
-    c.in_err-check_written.ensures.refused)
+    c.in_err-check_emitted_parts.ensures.refused)
 
 pub returns-clause-complete : goal.returns-clause-complete
 returns-clause-complete c =
@@ -67,26 +67,26 @@ returns-clause-complete c =
     let own = c.in_ok-groups.groups in
     let gs = c.deref-5.result.now in
     let sizes = c.deref-6.result.now in
-    let known : Knows (map body_tree gs) sizes =
-    subst (λ g. Knows (map body_tree g) sizes) (c.deref-2.ensures.value ∙ sym c.deref-5.ensures.value)
-    (subst (λ s. Knows (map body_tree c.deref-2.result.now) s) (sym c.deref-6.ensures.value) c.in_ok-sizes.ensures) in
+    let known : AreCallSizes (map body_tree gs) sizes =
+    subst (λ g. AreCallSizes (map body_tree g) sizes) (c.deref-2.ensures.value ∙ sym c.deref-5.ensures.value)
+    (subst (λ s. AreCallSizes (map body_tree c.deref-2.result.now) s) (sym c.deref-6.ensures.value) c.in_ok-sizes.ensures) in
     none_passed c.args.context mark t (map body_tree gs) sizes (info_of c.in_ok-info.info) c.len.result
     (ap (map body_tree) c.deref-5.ensures.value ∙ c.in_ok-groups.ensures) known c.in_ok-info.ensures
     (omega (arith, c.len.ensures, own.ok.0, length_trees own.items, ap length c.in_ok-groups.ensures))
     c.if-tree.false c.in_ok-check_nodes.ensures.complete
-    (ap (λ g. never_ends (map body_tree g) t) (c.deref-5.ensures.value ∙ sym c.deref.ensures.value) ∙ c.in_ok-check_end.ensures.complete)
+    (ap (λ g. never_ends (map body_tree g) t) (c.deref-5.ensures.value ∙ sym c.deref.ensures.value) ∙ c.in_ok-check_termination.ensures.complete)
     c.in_ok-check_root.ensures.complete
-    (λ k lt. c.in_ok-check_starts.ensures.complete k (omega (arith, lt, length_trees gs)))
-    (subst (λ g. (i : Inside) (u : Tree) → IsWhole (map body_tree g) t i u → some_written (is_stopped (size_with (size_at sizes))) i u ≡ false)
+    (λ k lt. c.in_ok-check_left_recursion.ensures.complete k (omega (arith, lt, length_trees gs)))
+    (subst (λ g. (i : Inside) (u : Tree) → IsWhole (map body_tree g) t i u → some_emitted (is_unsupported (size_with (size_at sizes))) i u ≡ false)
     (c.deref-7.ensures.value ∙ sym c.deref-5.ensures.value)
-    (subst (λ s. (i : Inside) (u : Tree) → IsWhole (map body_tree c.deref-7.result.now) t i u → some_written (is_stopped (size_with (size_at s))) i u ≡ false)
-    (c.deref-8.ensures.value ∙ sym c.deref-6.ensures.value) c.in_ok-check_written.ensures.complete))
+    (subst (λ s. (i : Inside) (u : Tree) → IsWhole (map body_tree c.deref-7.result.now) t i u → some_emitted (is_unsupported (size_with (size_at s))) i u ≡ false)
+    (c.deref-8.ensures.value ∙ sym c.deref-6.ensures.value) c.in_ok-check_emitted_parts.ensures.complete))
 
 pub returns-clause-nodes : goal.returns-clause-nodes
 returns-clause-nodes c =
     let t = tree_of c.args.tree.now.expr in
     let own = c.in_ok-groups.groups in
-    subst (λ n. some_node (is_faulty n) t ≡ false)
+    subst (λ n. some_node (is_invalid_node n) t ≡ false)
     (omega (arith, c.len.ensures, own.ok.0, length_trees own.items, ap length c.in_ok-groups.ensures))
     c.in_ok-check_nodes.ensures.complete
 
@@ -95,12 +95,12 @@ returns-clause-parts c =
     let t = tree_of c.args.tree.now.expr in
     let gs = c.deref-5.result.now in
     let sizes = c.deref-6.result.now in
-    let known : Knows (map body_tree gs) sizes =
-    subst (λ g. Knows (map body_tree g) sizes) (c.deref-2.ensures.value ∙ sym c.deref-5.ensures.value)
-    (subst (λ s. Knows (map body_tree c.deref-2.result.now) s) (sym c.deref-6.ensures.value) c.in_ok-sizes.ensures) in
+    let known : AreCallSizes (map body_tree gs) sizes =
+    subst (λ g. AreCallSizes (map body_tree g) sizes) (c.deref-2.ensures.value ∙ sym c.deref-5.ensures.value)
+    (subst (λ s. AreCallSizes (map body_tree c.deref-2.result.now) s) (sym c.deref-6.ensures.value) c.in_ok-sizes.ensures) in
     no_stopped_part c.args.context c.args.tree.now.named_backref_only t (map body_tree gs) sizes
     (ap (map body_tree) c.deref-5.ensures.value ∙ c.in_ok-groups.ensures) known
-    (subst (λ g. (i : Inside) (u : Tree) → IsWhole (map body_tree g) t i u → some_written (is_stopped (size_with (size_at sizes))) i u ≡ false)
+    (subst (λ g. (i : Inside) (u : Tree) → IsWhole (map body_tree g) t i u → some_emitted (is_unsupported (size_with (size_at sizes))) i u ≡ false)
     (c.deref-7.ensures.value ∙ sym c.deref-5.ensures.value)
-    (subst (λ s. (i : Inside) (u : Tree) → IsWhole (map body_tree c.deref-7.result.now) t i u → some_written (is_stopped (size_with (size_at s))) i u ≡ false)
-    (c.deref-8.ensures.value ∙ sym c.deref-6.ensures.value) c.in_ok-check_written.ensures.complete))
+    (subst (λ s. (i : Inside) (u : Tree) → IsWhole (map body_tree c.deref-7.result.now) t i u → some_emitted (is_unsupported (size_with (size_at s))) i u ≡ false)
+    (c.deref-8.ensures.value ∙ sym c.deref-6.ensures.value) c.in_ok-check_emitted_parts.ensures.complete))

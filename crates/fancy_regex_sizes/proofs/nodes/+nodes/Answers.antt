@@ -1,9 +1,9 @@
 use Rattle.std.proofs.Common.{⊎_elim, ap, ◌∙◌, map, arith}
 use Rattle.fancy_regex_tree.specs.Tree.{tree_of, absent_tree_of, trees}
-use Rattle.fancy_regex_sizes.specs.NodeCauses.{some_node, some_node_of, is_memory, is_faulty, shows}
-use Rattle.fancy_regex_sizes.proofs.TellLemmas.{tells, hands_on, stays_clear, row_has, row_goes_on, row_ends, no_row_node, more_row_node, in_group, in_repeat, in_repeater, in_stopper, in_condition, in_yes, in_no, in_absent, in_expression, clear_repeat, clear_conditional, clear_expression, not_less}
+use Rattle.fancy_regex_sizes.specs.NodeErrors.{some_node, some_node_of, is_memory, is_invalid_node, shows}
+use Rattle.fancy_regex_sizes.proofs.PartErrorLemmas.{tells, hands_on, stays_clear, row_has, row_goes_on, row_ends, no_row_node, more_row_node, in_group, in_repeat, in_repeater, in_stopper, in_condition, in_yes, in_no, in_absent, in_expression, clear_repeat, clear_conditional, clear_expression, not_less}
 use Rattle.fancy_regex_info.proofs.TreeLemmas.{tree_group, tree_repeat, tree_conditional, tree_repeater, tree_stopper, tree_expression, tree_ast}
-use Rattle.fancy_regex_info.proofs.ReachLemmas.{or_right}
+use Rattle.fancy_regex_info.proofs.ReachabilityLemmas.{or_right}
 use Rattle.fancy_regex_sizes.proofs.nodes.+nodes.Goals as goal
 
 pub check_absent-returns-in_err-check_nodes-in-Expression-clause-refused : goal.check_absent-returns-in_err-check_nodes-in-Expression-clause-refused
@@ -39,7 +39,7 @@ check_absent-returns-in_ok-check_nodes-in-Expression-clause-complete t c =
     let b = tree_of c.in-Expression.exp.value in
     let x = tree_of c.deref.result.now in
     let y = tree_of c.deref-in-Expression.result.now in
-    stays_clear c.check_nodes-in-Expression.result (some_node (is_faulty g) y) (some_node (is_faulty g) root)
+    stays_clear c.check_nodes-in-Expression.result (some_node (is_invalid_node g) y) (some_node (is_invalid_node g) root)
     (clear_expression g root a b x y is (ap tree_of c.deref.ensures) (ap tree_of c.deref-in-Expression.ensures)
     c.in_ok-check_nodes-in-Expression.ensures.complete) c.check_nodes-in-Expression.ensures.complete
 
@@ -113,7 +113,7 @@ check_nodes-returns-in_ok-check_nodes-in-Conditional-2-clause-complete t c =
     let x = tree_of c.deref-in-Conditional.result.now in
     let y = tree_of c.deref-in-Conditional-2.result.now in
     let z = tree_of c.deref-in-Conditional-3.result.now in
-    stays_clear c.check_nodes-in-Conditional-3.result (some_node (is_faulty g) z) (some_node (is_faulty g) root)
+    stays_clear c.check_nodes-in-Conditional-3.result (some_node (is_invalid_node g) z) (some_node (is_invalid_node g) root)
     (clear_conditional g root p q r x y z is (ap tree_of c.deref-in-Conditional.ensures) (ap tree_of c.deref-in-Conditional-2.ensures)
     (ap tree_of c.deref-in-Conditional-3.ensures) c.in_ok-check_nodes-in-Conditional.ensures.complete
     c.in_ok-check_nodes-in-Conditional-2.ensures.complete)
@@ -135,7 +135,7 @@ check_nodes-returns-else-lo-hi-clause-complete t c =
     let root = tree_of c.args.expr.now in
     let is = ap tree_of c.in-Repeat.is ∙ tree_repeat c.in-Repeat.child c.in-Repeat.lo c.in-Repeat.hi c.in-Repeat.greedy in
     let x = tree_of c.deref.result.now in
-    stays_clear c.check_nodes.result (some_node (is_faulty g) x) (some_node (is_faulty g) root)
+    stays_clear c.check_nodes.result (some_node (is_invalid_node g) x) (some_node (is_invalid_node g) root)
     (clear_repeat g root (tree_of c.in-Repeat.child.value) x c.in-Repeat.lo c.in-Repeat.hi c.in-Repeat.greedy is (ap tree_of c.deref.ensures)
     (not_less c.in-Repeat.hi c.in-Repeat.lo (omega arith)))
     c.check_nodes.ensures.complete
@@ -163,13 +163,13 @@ check_each-returns-in_err-check_nodes-clause-refused t c =
 
 pub check_each-loop-part-preserved : goal.check_each-loop-part-preserved
 check_each-loop-part-preserved t c =
-    let f = is_faulty c.args.groups in
+    let f = is_invalid_node c.args.groups in
     row_goes_on (some_node f) (some_node_of f) (no_row_node f) (more_row_node f) c.args.parts.now c.loop-part.part-index c.part-item.result
     c.loop-part-test.true c.part-item.is c.loop-part.invariant c.in_ok-check_nodes.ensures.complete
 
 pub check_each-returns-clause-complete : goal.check_each-returns-clause-complete
 check_each-returns-clause-complete t c =
-    let f = is_faulty c.args.groups in
+    let f = is_invalid_node c.args.groups in
     row_ends (some_node f) (some_node_of f) (no_row_node f) (more_row_node f) c.args.parts.now c.loop-part.part-index c.loop-part-test.false
     c.loop-part.invariant
 

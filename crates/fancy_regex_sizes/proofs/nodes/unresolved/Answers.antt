@@ -1,6 +1,6 @@
 use Rattle.std.proofs.Common.{ap, ◌∙◌, chars, string_bytes, option_map}
 use Rattle.fancy_regex_tree.specs.Tree.{ast_tree_of, tree_of, target_of}
-use Rattle.fancy_regex_sizes.proofs.TellLemmas.{group_shows, condition_shows, call_shows}
+use Rattle.fancy_regex_sizes.proofs.PartErrorLemmas.{group_shows, condition_shows, call_shows}
 use Rattle.fancy_regex_info.proofs.TreeLemmas.{tree_ast_group, tree_ast_call, tree_ast_condition}
 use Rattle.fancy_regex_sizes.proofs.nodes.unresolved.Goals as goal
 

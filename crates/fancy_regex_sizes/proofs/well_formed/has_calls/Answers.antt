@@ -1,7 +1,7 @@
 use Rattle.std.proofs.Common.{arith, rules, sym, ◌∙◌}
-use Rattle.fancy_regex_tree.specs.Marks.{is_call}
+use Rattle.fancy_regex_tree.specs.ReferenceSummary.{is_call}
 use Rattle.fancy_regex_tree.specs.Tree.{tree_of}
-use Rattle.fancy_regex_sizes.proofs.FoundLemmas.{found_below}
+use Rattle.fancy_regex_sizes.proofs.DescendantLemmas.{found_below}
 use Rattle.fancy_regex_sizes.proofs.well_formed.has_calls.Goals as goal
 
 pub returns-else-is_call : goal.returns-else-is_call

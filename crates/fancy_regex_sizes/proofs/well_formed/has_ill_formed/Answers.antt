@@ -1,7 +1,7 @@
 use Rattle.std.proofs.Common.{arith, rules, sym, ◌∙◌}
 use Rattle.fancy_regex_tree.specs.Tree.{tree_of}
 use Rattle.fancy_regex_sizes.specs.WellFormed.{is_ill_formed}
-use Rattle.fancy_regex_sizes.proofs.FoundLemmas.{found_below}
+use Rattle.fancy_regex_sizes.proofs.DescendantLemmas.{found_below}
 use Rattle.fancy_regex_sizes.proofs.well_formed.has_ill_formed.Goals as goal
 
 pub returns-else-is_ill_formed : goal.returns-else-is_ill_formed

@@ -2,7 +2,7 @@ use Rattle.std.proofs.Common.{◌≡◌, suc, ◌==◌, List, [], ◌∷◌, len
 use Rattle.fancy_regex_tree.specs.Tree.{tree_of, trees, alt}
 use Rattle.fancy_regex_tree.specs.declared.expr.Expr.{Expr}
 use Rattle.fancy_regex_sizes.specs.WellFormed.{is_ill_formed}
-use Rattle.fancy_regex_sizes.proofs.StartLemmas.{not_zero}
+use Rattle.fancy_regex_sizes.proofs.LeftRecursionLemmas.{not_zero}
 use Rattle.fancy_regex_info.proofs.TreeLemmas.{tree_alt}
 use Rattle.fancy_regex_sizes.proofs.well_formed.is_ill_formed.Goals as goal
 

@@ -1,7 +1,7 @@
 use Rattle.std.proofs.Common.{arith, rules, sym, ◌∙◌}
-use Rattle.fancy_regex_tree.specs.Marks.{refers_to}
+use Rattle.fancy_regex_tree.specs.ReferenceSummary.{refers_to}
 use Rattle.fancy_regex_tree.specs.Tree.{tree_of}
-use Rattle.fancy_regex_sizes.proofs.FoundLemmas.{found_below}
+use Rattle.fancy_regex_sizes.proofs.DescendantLemmas.{found_below}
 use Rattle.fancy_regex_sizes.proofs.well_formed.names.Goals as goal
 
 pub returns-else-refers_to : goal.returns-else-refers_to

@@ -5,21 +5,21 @@ use Rattle.fancy_regex_tree.specs.Tree.{tree_of}
 use Rattle.fancy_regex_sizes.proofs.ReferenceLemmas.{all_named, none_left_out, no_other, not_true, had_set, has_set}
 use Rattle.fancy_regex_sizes.proofs.well_formed.references_agree.Goals as goal
 
-pub returns-then-not-leaves_out : goal.returns-then-not-leaves_out
-returns-then-not-leaves_out c =
+pub returns-then-not-has_unlisted_reference : goal.returns-then-not-has_unlisted_reference
+returns-then-not-has_unlisted_reference c =
     let t = tree_of c.args.tree.now.expr in
     let total = c.args.tree.now.total_groups in
     let s = c.args.tree.now.backrefs in (
       (λ h. all_named t total (contains nat_cmp s) s.keys (has_set s) (had_set s)
-          (sym c.leaves_out.ensures ∙ c.if-not-leaves_out.true) (sym c.has_others.ensures ∙ not_true c.has_others.result h)),
-      (λ h. ap not (c.has_others.ensures ∙ no_other t total (contains nat_cmp s) s.keys (has_set s) (had_set s) h)),
+          (sym c.has_unlisted_reference.ensures ∙ c.if-not-has_unlisted_reference.true) (sym c.has_unknown_reference.ensures ∙ not_true c.has_unknown_reference.result h)),
+      (λ h. ap not (c.has_unknown_reference.ensures ∙ no_other t total (contains nat_cmp s) s.keys (has_set s) (had_set s) h)),
     )
 
-pub returns-else-not-leaves_out : goal.returns-else-not-leaves_out
-returns-else-not-leaves_out c =
+pub returns-else-not-has_unlisted_reference : goal.returns-else-not-has_unlisted_reference
+returns-else-not-has_unlisted_reference c =
     let t = tree_of c.args.tree.now.expr in
     let total = c.args.tree.now.total_groups in
     let s = c.args.tree.now.backrefs in (
-      (λ h. let none : c.leaves_out.result ≡ false = not_true c.leaves_out.result h in let some = c.if-not-leaves_out.false in cc),
-      (λ h. ap not (c.leaves_out.ensures ∙ none_left_out t total (contains nat_cmp s) s.keys (has_set s) (had_set s) h)),
+      (λ h. let none : c.has_unlisted_reference.result ≡ false = not_true c.has_unlisted_reference.result h in let some = c.if-not-has_unlisted_reference.false in cc),
+      (λ h. ap not (c.has_unlisted_reference.ensures ∙ none_left_out t total (contains nat_cmp s) s.keys (has_set s) (had_set s) h)),
     )

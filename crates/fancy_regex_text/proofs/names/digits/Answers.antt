@@ -1,5 +1,5 @@
 use Rattle.std.proofs.Common.{rules, chars, arith}
-use Rattle.fancy_regex_text.proofs.Spans.{count_start, count_next, count_end}
+use Rattle.fancy_regex_text.proofs.SpanLemmas.{count_start, count_next, count_end}
 use Rattle.fancy_regex_text.proofs.names.digits.Goals as goal
 
 pub loop-digit-init : goal.loop-digit-init
@@ -10,7 +10,7 @@ loop-digit-preserved c =
     let l = c.loop-digit in (
       search rules,
       omega (arith, l.invariant.1, c.in-Some.ensures.shorter),
-      rw c.more_digits.ensures (count_next l.number (chars c.args.text.now) (chars l.rest.now) (chars c.in-Some.after.now) c.in-Some.digit
+      rw c.append_digit.ensures (count_next l.number (chars c.args.text.now) (chars l.rest.now) (chars c.in-Some.after.now) c.in-Some.digit
           c.in-Some.ensures.value c.in-Some.ensures.digit l.invariant.2),
     )
 

@@ -1,5 +1,5 @@
 use Rattle.std.proofs.Common.{◌≤◌, length, chars, IsUtf8}
-use Rattle.fancy_regex_text.proofs.Spans.{IsCounted}
+use Rattle.fancy_regex_text.proofs.SpanLemmas.{IsCounted}
 use Rattle.fancy_regex_text.proofs.names.digits.Given as goal
 
 abbrev pub decreases-loop-digit : goal.decreases-loop-digit

@@ -1,6 +1,6 @@
 use Rattle.std.proofs.Common.{length, chars, IsUtf8}
 use Rattle.fancy_regex_text.specs.Names.{is_name_char}
-use Rattle.fancy_regex_text.proofs.Spans.{IsSpanned}
+use Rattle.fancy_regex_text.proofs.SpanLemmas.{IsSpanned}
 use Rattle.fancy_regex_text.proofs.names.split_name.Given as goal
 
 abbrev pub decreases-loop-after : goal.decreases-loop-after

@@ -1,5 +1,5 @@
 use Rattle.std.proofs.Common.{sym, ap}
-use Rattle.fancy_regex_text.proofs.Texts.{bytes-chars}
+use Rattle.fancy_regex_text.proofs.TextLemmas.{bytes-chars}
 use Rattle.fancy_regex_text.proofs.text.fault_at.Goals as goal
 
 pub returns : goal.returns

@@ -1,5 +1,5 @@
 use Rattle.std.proofs.Common.{sym, ◌∙◌}
-use Rattle.fancy_regex_text.proofs.Texts.{empty_chars}
+use Rattle.fancy_regex_text.proofs.TextLemmas.{empty_chars}
 use Rattle.fancy_regex_text.proofs.text.is_empty.Goals as goal
 
 pub returns : goal.returns

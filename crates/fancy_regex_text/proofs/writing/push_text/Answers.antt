@@ -1,6 +1,6 @@
 use Rattle.std.proofs.Common.{string_bytes}
 use Rattle.std.proofs.lemmas.Str.{IsUtf8-string_bytes}
-use Rattle.fancy_regex_text.proofs.Texts.{joined_chars}
+use Rattle.fancy_regex_text.proofs.TextLemmas.{joined_chars}
 use Rattle.fancy_regex_text.proofs.writing.push_text.Goals as goal
 
 pub returns-clause-added : goal.returns-clause-added

@@ -1,4 +1,4 @@
-use Rattle.fancy_regex_tree.proofs.Lent.{lent}
+use Rattle.fancy_regex_tree.proofs.BorrowedChildren.{lent}
 use Rattle.fancy_regex_tree.proofs.child.item.Goals as goal
 
 pub returns : goal.returns

@@ -1,5 +1,5 @@
 use Rattle.std.proofs.Common.{map, rules, sym}
-use Rattle.fancy_regex_tree.specs.Walks.{tree_at}
+use Rattle.fancy_regex_tree.specs.Traversal.{tree_at}
 use Rattle.fancy_regex_tree.proofs.NodeRows.{nodes_next}
 use Rattle.fancy_regex_tree.proofs.nodes.+nodes.Goals as goal
 

@@ -1,6 +1,6 @@
 use Rattle.std.proofs.Common.{string_bytes}
 use Rattle.std.proofs.lemmas.Str.{IsUtf8-string_bytes}
-use Rattle.fancy_regex_text.proofs.Texts.{pushed_chars}
+use Rattle.fancy_regex_text.proofs.TextLemmas.{pushed_chars}
 use Rattle.fancy_regex_tree.proofs.print_text.print_char.Goals as goal
 
 pub returns : goal.returns

@@ -1,6 +1,6 @@
 use Rattle.std.proofs.Common.{ap, ◌∙◌, ◌++◌, chars, string_bytes, decimal, arith}
 use Rattle.std.proofs.lemmas.Str.{IsUtf8-string_bytes}
-use Rattle.fancy_regex_text.proofs.Texts.{joined_chars}
+use Rattle.fancy_regex_text.proofs.TextLemmas.{joined_chars}
 use Rattle.fancy_regex_tree.proofs.PrintedTexts.{chars-decimal}
 use Rattle.fancy_regex_tree.proofs.print_text.print_number.Goals as goal
 

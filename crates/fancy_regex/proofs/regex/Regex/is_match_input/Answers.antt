@@ -1,15 +1,15 @@
 use Rattle.std.proofs.Common.{◌≡◌, ◌∙◌, max, sym, ap, false}
 use Rattle.std.specs.Prelude.{option_map, is_some}
 use Rattle.fancy_regex_runner.specs.Plain.{places_of}
-use Rattle.fancy_regex_search.specs.Owned.{own_pattern, own_found_from}
-use Rattle.fancy_regex.proofs.PlaceLemmas.{some-same, found-is}
+use Rattle.fancy_regex_meta.specs.MetaMatches.{meta_pattern, meta_match_from}
+use Rattle.fancy_regex.proofs.OffsetLemmas.{some-same, found-is}
 use Rattle.fancy_regex.proofs.regex.Regex.is_match_input.Goals as goal
 
 pub returns-clause-answer : goal.returns-clause-answer
 returns-clause-answer g c =
-    let s = c.args.self.now.searcher in
+    let s = c.args.self.now.meta in
     let text = g.S.Input.text c.args.input.haystack in
-    let a = c.args.input.asked in
-    let told = rw (c.haystack.ensures, c.asked.ensures) at (c.in_ok-found.ensures.answer) in
-    c.is_some.ensures ∙ some-same (λ w. w.items) (places_of (own_pattern s)) c.in_ok-found.found (own_found_from s text a (max a.start a.range_start) false) told
+    let a = c.args.input.config in
+    let told = rw (c.haystack.ensures, c.config.ensures) at (c.in_ok-found.ensures.answer) in
+    c.is_some.ensures ∙ some-same (λ w. w.items) (places_of (meta_pattern s)) c.in_ok-found.found (meta_match_from s text a (max a.start a.range_start) false) told
     ∙ ap is_some (sym (found-is s text a))

@@ -8,24 +8,24 @@ use Rattle.fancy_regex_runner.specs.Re.{shape}
 use Rattle.fancy_regex_runner.specs.Program.{emitted}
 use Rattle.fancy_regex_runner.specs.Plain.{IsPlain, classes, re_of}
 use Rattle.fancy_regex_meaning.specs.Groups.{group_count}
-use Rattle.fancy_regex_runner.specs.Easy.{Serve}
-use Rattle.fancy_regex_runner.specs.Made.{Extends}
-use Rattle.fancy_regex_runner.specs.Refused.{IsClassCause, IsCause}
+use Rattle.fancy_regex_runner.specs.Easy.{HaveMatchers}
+use Rattle.fancy_regex_runner.specs.Translation.{Extends}
+use Rattle.fancy_regex_runner.specs.Refusals.{IsClassCause, IsCause}
 use Rattle.fancy_regex_runner.specs.declared.state.State.{State}
 use Rattle.fancy_regex_runner.specs.declared.state.State.TheVariants.{Match as End}
-use Rattle.fancy_regex_runner.proofs.MadeLemmas.{is_made, count_is, whole_is, program_is, serves_all, serves}
+use Rattle.fancy_regex_runner.proofs.TranslationLemmas.{is_made, count_is, whole_is, program_is, serves_all, serves}
 use Rattle.fancy_regex_runner.proofs.ServedLemmas.{info_is_of, info_plain, light_by, heavy_by, read_by, cause_of}
 use Rattle.fancy_regex_runner.proofs.easy.Easy.new.Goals as goal
 use Rattle.fancy_regex_runner.proofs.easy.Easy.new.Goals.{In_ok-entry}
 
--- the states of the part
-states : (c : In_ok-entry) → emitted (shape c.in_ok-part.part.node) (End ∷ []) 0 ≡ (c.emit.new.states.items, c.in_ok-entry.entry)
+-- the states of the translated tree
+states : (c : In_ok-entry) → emitted (shape c.in_ok-translated.translated.node) (End ∷ []) 0 ≡ (c.emit.new.states.items, c.in_ok-entry.entry)
 states c =
     let one : c.add.new.states.items ≡ End ∷ [] = c.in_ok-add.ensures.states ∙ ap (λ (xs : List State). xs ++ End ∷ []) c.new-states.ensures.items in
     rw one at c.in_ok-entry.ensures.made
 
 pub invariant_of-result : goal.invariant_of-result
-invariant_of-result c = record { made = is_made (shape c.in_ok-part.part.node) c.emit.new.states.items c.in_ok-entry.entry c.in_ok-part.ensures.sound (states c) }
+invariant_of-result c = record { made = is_made (shape c.in_ok-translated.translated.node) c.emit.new.states.items c.in_ok-entry.entry c.in_ok-translated.ensures.sound (states c) }
 
 pub returns-clause-made : goal.returns-clause-made
 returns-clause-made c = λ explicit t is.
@@ -33,15 +33,15 @@ returns-clause-made c = λ explicit t is.
     let plain : IsPlain t = info_plain c.args.info.now explicit t is c.requires.easy in
     let unicode = c.args.options.now.unicode in
     let begins : (c.start_group-explicit.result == 0) ≡ explicit = ap (λ (n : ℕ). n == 0) c.start_group-explicit.ensures ∙ of.start in
-    let first : c.new-walk.result.next_group ≡ (if explicit then 0 else 1) = c.new-walk.ensures.first ∙ ap (λ b. if b then 0 else 1) begins in
-    let built = subst (λ u. IsPlain u → (groups : List Tree) → shape c.in_ok-part.part.node
-    ≡ re_of c.new-walk.result.unicode groups c.new-walk.result.next_group (length c.new-walk.result.matchers.items) u) of.tree c.in_ok-part.ensures.shape plain in
-    let added = subst (λ u. Extends c.new-walk.result.unicode c.new-walk.result.matchers.items c.part.new.self.matchers.items (classes u)) of.tree c.in_ok-part.ensures.matchers in
-    let count = subst (λ u. IsPlain u → c.part.new.self.next_group ≡ c.new-walk.result.next_group + group_count u) of.tree c.in_ok-part.ensures.groups plain in
-    let program = program_is unicode explicit t c.new-walk.result c.in_ok-part.part.node c.emit.new.states.items c.in_ok-entry.entry
-    c.new-walk.ensures.unicode first c.new-walk.ensures.matchers built (states (goal.at.returns-clause-made c).In_ok-entry) in
-    let matchers : Serve unicode c.part.new.self.matchers.items (classes t) =
-    serves_all _ _ _ _ c.new-walk.ensures.matchers (rw c.new-walk.ensures.unicode at added) in
+    let first : c.new-translator.result.next_group ≡ (if explicit then 0 else 1) = c.new-translator.ensures.first ∙ ap (λ b. if b then 0 else 1) begins in
+    let built = subst (λ u. IsPlain u → (groups : List Tree) → shape c.in_ok-translated.translated.node
+    ≡ re_of c.new-translator.result.unicode groups c.new-translator.result.next_group (length c.new-translator.result.matchers.items) u) of.tree c.in_ok-translated.ensures.shape plain in
+    let added = subst (λ u. Extends c.new-translator.result.unicode c.new-translator.result.matchers.items c.translated.new.self.matchers.items (classes u)) of.tree c.in_ok-translated.ensures.matchers in
+    let count = subst (λ u. IsPlain u → c.translated.new.self.next_group ≡ c.new-translator.result.next_group + group_count u) of.tree c.in_ok-translated.ensures.groups plain in
+    let program = program_is unicode explicit t c.new-translator.result c.in_ok-translated.translated.node c.emit.new.states.items c.in_ok-entry.entry
+    c.new-translator.ensures.unicode first c.new-translator.ensures.matchers built (states (goal.at.returns-clause-made c).In_ok-entry) in
+    let matchers : HaveMatchers unicode c.translated.new.self.matchers.items (classes t) =
+    serves_all _ _ _ _ c.new-translator.ensures.matchers (rw c.new-translator.ensures.unicode at added) in
     record {
       serves = serves unicode explicit t _ _ _ plain program matchers;
       groups = count ∙ count_is explicit t _ first;
@@ -51,8 +51,8 @@ returns-clause-made c = λ explicit t is.
 pub returns-clause-taken : goal.returns-clause-taken
 returns-clause-taken c = λ explicit t is.
     let of = info_is_of c.args.info.now explicit t is in
-    let added = subst (λ u. Extends c.new-walk.result.unicode c.new-walk.result.matchers.items c.part.new.self.matchers.items (classes u)) of.tree c.in_ok-part.ensures.matchers in
-    let here : Extends c.args.options.now.unicode c.new-walk.result.matchers.items c.part.new.self.matchers.items (classes t) = rw c.new-walk.ensures.unicode at added in
+    let added = subst (λ u. Extends c.new-translator.result.unicode c.new-translator.result.matchers.items c.translated.new.self.matchers.items (classes u)) of.tree c.in_ok-translated.ensures.matchers in
+    let here : Extends c.args.options.now.unicode c.new-translator.result.matchers.items c.translated.new.self.matchers.items (classes t) = rw c.new-translator.ensures.unicode at added in
     record {
       bytes_mode = search rules;
       light = light_by explicit t _ c.saturating_add.result of.weight c.saturating_add.ensures (omega (arith, c.if-saturating_add-gt-GREATEST_WEIGHT.false));
@@ -64,12 +64,12 @@ returns-then-saturating_add-gt-GREATEST_WEIGHT-clause-refused c = λ explicit t 
     let of = info_is_of c.args.info.now explicit t is in
     heavy_by explicit t _ c.saturating_add.result of.weight c.saturating_add.ensures (omega (arith, c.if-saturating_add-gt-GREATEST_WEIGHT.true))
 
-pub returns-in_err-part-clause-refused : goal.returns-in_err-part-clause-refused
-returns-in_err-part-clause-refused c =
-    let cause : IsClassCause c.args.options.now.unicode (classes (tree_of (out-Info c.args.info.now).expr.now)) c.in_err-part.field-0.0 =
-    rw c.new-walk.ensures.unicode at c.in_err-part.ensures.refused in
-    let all : (explicit : Bool) (t : Tree) → info_of c.args.info.now ≡ analysis explicit t → IsCause c.args.options.now (pattern_in explicit t) c.in_err-part.field-0.0 =
+pub returns-in_err-translated-clause-refused : goal.returns-in_err-translated-clause-refused
+returns-in_err-translated-clause-refused c =
+    let cause : IsClassCause c.args.options.now.unicode (classes (tree_of (out-Info c.args.info.now).expr.now)) c.in_err-translated.field-0.0 =
+    rw c.new-translator.ensures.unicode at c.in_err-translated.ensures.refused in
+    let all : (explicit : Bool) (t : Tree) → info_of c.args.info.now ≡ analysis explicit t → IsCause c.args.options.now (pattern_in explicit t) c.in_err-translated.field-0.0 =
     λ explicit t is.
-    cause_of c.args.options.now explicit t c.in_err-part.field-0.0
-    (subst (λ u. IsClassCause c.args.options.now.unicode (classes u) c.in_err-part.field-0.0) (info_is_of c.args.info.now explicit t is).tree cause) in
+    cause_of c.args.options.now explicit t c.in_err-translated.field-0.0
+    (subst (λ u. IsClassCause c.args.options.now.unicode (classes u) c.in_err-translated.field-0.0) (info_is_of c.args.info.now explicit t is).tree cause) in
     search rules

@@ -7,12 +7,12 @@ use Rattle.fancy_regex_class.specs.Looks.{looked_text, look_count}
 use Rattle.fancy_regex_runner.specs.Meaning.{Spot}
 use Rattle.fancy_regex_runner.specs.Attempt.{land}
 use Rattle.fancy_regex_runner.specs.Plain.{classes, re_of, places_of}
-use Rattle.fancy_regex_runner.specs.Sees.{view_of}
-use Rattle.fancy_regex_runner.specs.Find.{earliest, tried, places, hit_of_span}
+use Rattle.fancy_regex_runner.specs.SettingView.{view_of}
+use Rattle.fancy_regex_runner.specs.Find.{earliest, attempted, places, hit_of_span}
 use Rattle.fancy_regex_runner.specs.Easy.{setting_for, search_for, hit_places}
 use Rattle.fancy_regex_runner.specs.Runner.{IsEasyOf}
 use Rattle.fancy_regex_runner.proofs.PlainLemmas.{sound}
-use Rattle.fancy_regex_runner.proofs.SightLemmas.{shows_all}
+use Rattle.fancy_regex_runner.proofs.CharTestLemmas.{shows_all}
 use Rattle.fancy_regex_runner.proofs.AnswerLemmas.{program_does, closed, entry_in, found_is_match, tried_is_same, none_past, none_tried, states_weigh, steps_bound}
 use Rattle.fancy_regex_runner.proofs.easy.Easy.search.Goals as goal
 use Rattle.fancy_regex_runner.proofs.easy.Easy.search.Goals.{After-earliest_way, In_ok-span}
@@ -32,7 +32,7 @@ earliest_way-requires-clause-entry c = rw c.deref.ensures.value (entry_in c.args
 pub earliest_way-requires-clause-closed : goal.earliest_way-requires-clause-closed
 earliest_way-requires-clause-closed c = rw c.deref.ensures.value (closed c.args.self.now.states.items c.args.self.now.entry c.args.self.now.made)
 
--- the bound, after the walk
+-- the bound, after the search
 bound : (c : After-earliest_way) (pattern : Pattern) → IsEasyOf c.args.self.now pattern
     → look_count c.earliest_way.new.text ≤ c.args.steps.now + tree_weight pattern.groups pattern.tree * (c.args.input.now.range.end - c.args.input.now.first + 1)
 bound c pattern is =
@@ -51,11 +51,11 @@ returns-in-Some-clause-at_most c pattern is = let b = bound (goal.at.returns-in-
 pub returns-clause-at_most : goal.returns-clause-at_most
 returns-clause-at_most c pattern is = let b = bound (goal.at.returns-clause-at_most c).After-earliest_way pattern is in search rules
 
--- what the walk found
+-- what the search found
 walked : (c : In_ok-span) (pattern : Pattern) → IsEasyOf c.args.self.now pattern
-    → (option_map (hit_places c.args.self.now.whole) (hit_of_span c.in_ok-span.span c.earliest_way.new.trail.slots.items)
+    → (option_map (hit_places c.args.self.now.whole) (hit_of_span c.in_ok-span.span c.earliest_way.new.backtrack.slots.items)
     ≡ option_map (places_of pattern) (first_match (setting_for c.args.self.now.unicode c.args.text.now c.args.input.now) pattern (search_for c.args.self.now.longest c.args.input.now)))
-    × (min (c.args.steps.now + tried (match_at (setting_for c.args.self.now.unicode c.args.text.now c.args.input.now) pattern (search_for c.args.self.now.longest c.args.input.now))
+    × (min (c.args.steps.now + attempted (match_at (setting_for c.args.self.now.unicode c.args.text.now c.args.input.now) pattern (search_for c.args.self.now.longest c.args.input.now))
     (starts (setting_for c.args.self.now.unicode c.args.text.now c.args.input.now) pattern (search_for c.args.self.now.longest c.args.input.now))) (2 ^ 64 - 1) ≤ look_count c.earliest_way.new.text)
 walked c pattern is =
     let self = c.args.self.now in
@@ -80,10 +80,10 @@ walked c pattern is =
     c.in_ok-slots.ensures ∙ ap (λ (n : ℕ). replicate {A = ℕ} (2 * n) 18446744073709551615) is.groups in
     let at : List ℕ → ℕ → Option Spot = λ xs i. land xs (d.go self.entry i).answer in
     let free : List ℕ = replicate (2 * length pattern.groups) 18446744073709551615 in
-    let same_tries : tried (at c.in_ok-slots.slots.items) (places (looked_text c.new-counted.result) input.anchored input.first input.range.end)
-    ≡ tried (match_at (setting_for self.unicode text input) pattern (search_for self.longest input)) (starts (setting_for self.unicode text input) pattern (search_for self.longest input)) =
-    ap (λ xs. tried (at xs) (places (looked_text c.new-counted.result) input.anchored input.first input.range.end)) unset
-    ∙ ap (λ t. tried (at free) (places t input.anchored input.first input.range.end)) c.new-counted.ensures.text
+    let same_tries : attempted (at c.in_ok-slots.slots.items) (places (looked_text c.new-counted.result) input.anchored input.first input.range.end)
+    ≡ attempted (match_at (setting_for self.unicode text input) pattern (search_for self.longest input)) (starts (setting_for self.unicode text input) pattern (search_for self.longest input)) =
+    ap (λ xs. attempted (at xs) (places (looked_text c.new-counted.result) input.anchored input.first input.range.end)) unset
+    ∙ ap (λ t. attempted (at free) (places t input.anchored input.first input.range.end)) c.new-counted.ensures.text
     ∙ sym (tried_is_same self.unicode self.longest text input self.states.items self.entry pattern is.serves.plain c.requires.range d below) in (
       ap (option_map (hit_places self.whole))
           (answer

@@ -1,8 +1,8 @@
 use Rattle.std.proofs.Common.{◌∙◌, ap, rules, slice_get}
-use Rattle.fancy_regex_tree.specs.Walks.{children}
+use Rattle.fancy_regex_tree.specs.Traversal.{children}
 use Rattle.fancy_regex_tree.specs.Tree.{tree_of}
 use Rattle.fancy_regex_tree.proofs.Children.{children_of_concat, children_of_alt}
-use Rattle.fancy_regex_tree.proofs.Lent.{in_concat, in_alt}
+use Rattle.fancy_regex_tree.proofs.BorrowedChildren.{in_concat, in_alt}
 use Rattle.fancy_regex_tree.proofs.expr.Expr.child_mut.Goals as goal
 
 pub returns-in-Concat : goal.returns-in-Concat

@@ -1,7 +1,7 @@
 use Rattle.std.proofs.Common.{◌∙◌, ◌&&◌, ap, refl, chars, nat_le}
 use Rattle.std.specs.List.{list_any}
-use Rattle.fancy_regex_tree.specs.Walks.{nodes}
-use Rattle.fancy_regex_tree.specs.Marks.{refers_to, is_above}
+use Rattle.fancy_regex_tree.specs.Traversal.{nodes}
+use Rattle.fancy_regex_tree.specs.ReferenceSummary.{refers_to, is_reference_above}
 use Rattle.fancy_regex_tree.specs.Tree.{tree_of}
 use Rattle.fancy_regex_tree.specs.Numbering.{counted, openings}
 use Rattle.fancy_regex_tree.specs.Parse.{options_of}
@@ -26,14 +26,14 @@ returns c = (
     named = c.in_ok-groups.ensures.named;
     keys = c.in_ok-groups.ensures.keys;
     total = c.in_ok-groups.ensures.total;
-    backrefs = λ k. c.in_ok-marks.ensures.backrefs k ∙ ap (λ n. nat_le k n && list_any (refers_to k) (nodes (tree_of c.resolve.new.expr))) c.in_ok-groups.ensures.total;
-    subroutines = c.in_ok-marks.ensures.subroutines;
-    above = c.in_ok-marks.ensures.above ∙ ap (λ n. list_any (is_above n) (nodes (tree_of c.resolve.new.expr))) c.in_ok-groups.ensures.total;
+    backrefs = λ k. c.in_ok-summary.ensures.backrefs k ∙ ap (λ n. nat_le k n && list_any (refers_to k) (nodes (tree_of c.resolve.new.expr))) c.in_ok-groups.ensures.total;
+    subroutines = c.in_ok-summary.ensures.subroutines;
+    above = c.in_ok-summary.ensures.above ∙ ap (λ n. list_any (is_reference_above n) (nodes (tree_of c.resolve.new.expr))) c.in_ok-groups.ensures.total;
     by_number =
         elim c.if-groups.branch [
           | then-groups w ↦ rw w.if-groups.true (w.result-is ∙ c.in_ok-groups.ensures.numbered)
           | else-groups w ↦ rw w.if-groups.false (w.result-is ∙ w.if-groups.false)
         ];
-    whole = c.in_ok-marks.ensures.whole;
+    whole = c.in_ok-summary.ensures.whole;
   },
 )

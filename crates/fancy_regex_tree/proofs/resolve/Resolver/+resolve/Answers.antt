@@ -1,7 +1,7 @@
 use Rattle.std.proofs.Common.{ℕ, rules, arith, ap, ◌∙◌, refl, sym, Ok}
 use Rattle.std.proofs.lemmas.List.{get_or-set_other}
 use Rattle.fancy_regex_tree.proofs.Children.{ast_group_is, tree_of_group, tree_of_look_around, tree_of_repeat, tree_of_atomic_group, tree_of_define_group, tree_of_conditional, tree_of_repeater, tree_of_stopper, tree_of_expression}
-use Rattle.fancy_regex_tree.proofs.Meets.{resolved_counting, same_error}
+use Rattle.fancy_regex_tree.proofs.Agreeing.{resolved_counting, same_error}
 use Rattle.fancy_regex_tree.proofs.Prefixes.{prefixed_none, row_next, row_end, row_fails}
 use Rattle.fancy_regex_tree.specs.Tree.{Tree, tree_of, no_trees}
 use Rattle.fancy_regex_tree.specs.Numbering.{lookup_in}

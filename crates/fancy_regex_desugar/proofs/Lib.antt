@@ -1,0 +1,5 @@
+pub mod WaysProofs
+pub mod ChoiceProofs
+pub mod ProgramSizeProofs
+pub mod StepBackProofs
+pub mod GroupProofs

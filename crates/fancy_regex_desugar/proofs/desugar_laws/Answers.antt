@@ -1,0 +1,13 @@
+use Rattle.fancy_regex_desugar.proofs.WaysProofs
+use Rattle.fancy_regex_desugar.proofs.ChoiceProofs
+use Rattle.fancy_regex_desugar.proofs.ProgramSizeProofs
+use Rattle.fancy_regex_desugar.proofs.GroupProofs
+use Rattle.fancy_regex_desugar.proofs.desugar_laws.Goals as goal
+
+pub returns : goal.returns
+returns c = record {
+  ways = WaysProofs.pattern_has_the_ways;
+  choices = ChoiceProofs.pattern_has_the_choices;
+  room = RoomProofs.pattern_size_is_bounded;
+  groups = GroupProofs.pattern_groups_are_in_range;
+}

@@ -1,0 +1,56 @@
+-- A desugared pattern has the same matches as its tree.
+use Rattle.std.specs.Prelude.{◌≡◌, ◌≤◌, ◌+◌, ◌*◌, ℕ, true, false, List, length}
+use Rattle.fancy_regex_tree.specs.Tree.{Tree}
+use Rattle.fancy_regex_meaning.specs.Groups.{Pattern, pattern_of, explicit_pattern_of}
+use Rattle.fancy_regex_meaning.specs.Ways.{MatchState, Setting, meaning, call_ways, ways}
+use Rattle.fancy_regex_meaning.specs.Choices.{count, call_choices, choices_at, nodes_with, nodes_of_call, program_nodes}
+use Rattle.fancy_regex_meaning.specs.Searches.{start_way}
+use Rattle.fancy_regex_desugar.specs.CoreWays.{core_ways, core_choices}
+use Rattle.fancy_regex_desugar.specs.ProgramSizes.{room}
+use Rattle.fancy_regex_desugar.specs.Shapes.{StepsBackOnlyFirst, HasGroups}
+use Rattle.fancy_regex_desugar.specs.Unfolded.{unfolded, unfolded_behind, core_pattern_of}
+
+-- A desugared part has the ordered matches of its tree, both forwards from a position and, for look-behind, ending at it.
+abbrev pub UnfoldedKeepsWays : Type 0
+UnfoldedKeepsWays = (s : Setting) (groups : List Tree) (m : ℕ) (opened : List ℕ) (n : ℕ) (t : Tree) (w : MatchState) →
+    ((meaning s groups (call_ways s groups m opened) n t).from w ≡ core_ways s (unfolded groups m opened n t) w)
+    × ((meaning s groups (call_ways s groups m opened) n t).behind w ≡ core_ways s (unfolded_behind groups m opened n t) w)
+
+-- It has the same number of choices as its tree, in both directions.
+abbrev pub UnfoldedKeepsChoices : Type 0
+UnfoldedKeepsChoices = (s : Setting) (groups : List Tree) (m : ℕ) (opened : List ℕ) (n : ℕ) (t : Tree) (w : MatchState) →
+    ((count s groups (call_ways s groups m opened) (call_choices s groups m opened) n t).from w
+    ≡ core_choices s (unfolded groups m opened n t) w)
+    × ((count s groups (call_ways s groups m opened) (call_choices s groups m opened) n t).behind w
+    ≡ core_choices s (unfolded_behind groups m opened n t) w)
+
+-- The whole pattern has the ordered matches of its tree.
+abbrev pub PatternKeepsWays : Type 0
+PatternKeepsWays = (s : Setting) (pattern : Pattern) (w : MatchState) →
+    ways s pattern.groups pattern.first_group pattern.tree w ≡ core_ways s (core_pattern_of pattern) w
+
+-- It has the same number of choices as its tree from each position.
+abbrev pub PatternKeepsChoices : Type 0
+PatternKeepsChoices = (s : Setting) (pattern : Pattern) (p : ℕ) →
+    choices_at s pattern p ≡ core_choices s (core_pattern_of pattern) (start_way pattern p)
+
+-- A program has at most 16 instructions for each node of the tree; a call counts the nodes of its target's body.
+abbrev pub UnfoldedSizeIsBounded : Type 0
+UnfoldedSizeIsBounded = (groups : List Tree) (m : ℕ) (opened : List ℕ) (n : ℕ) (t : Tree) →
+    (room (unfolded groups m opened n t) + 3 ≤ 16 * nodes_with (nodes_of_call groups m opened) t)
+    × (room (unfolded_behind groups m opened n t) + 2 ≤ 16 * nodes_with (nodes_of_call groups m opened) t)
+
+-- The same for a whole pattern.
+abbrev pub PatternSizeIsBounded : Type 0
+PatternSizeIsBounded = (pattern : Pattern) → room (core_pattern_of pattern) + 3 ≤ 16 * program_nodes pattern
+
+-- It steps back only at the beginning of a look-around; the form for look-behind also at its own beginning.
+abbrev pub UnfoldedStepsBackOnlyFirst : Type 0
+UnfoldedStepsBackOnlyFirst = (groups : List Tree) (m : ℕ) (opened : List ℕ) (n : ℕ) (t : Tree) →
+    StepsBackOnlyFirst false (unfolded groups m opened n t) × StepsBackOnlyFirst true (unfolded_behind groups m opened n t)
+
+-- Each of its group numbers is one of the pattern's, for patterns whose groups count from 1 and for those whose groups count from 0.
+abbrev pub PatternGroupsAreInRange : Type 0
+PatternGroupsAreInRange = (t : Tree) →
+    HasGroups 1 (length ((pattern_of t).groups)) (core_pattern_of (pattern_of t))
+    × HasGroups 0 (length ((explicit_pattern_of t).groups)) (core_pattern_of (explicit_pattern_of t))

@@ -1,0 +1,23 @@
+//! Desugaring: the small core language that programs are compiled from, and the translation of syntax trees to it. Subroutine calls are
+//! inlined, and a look-behind becomes a step back by a fixed number of characters. Definitions and laws only.
+#![tactic(auto)]
+
+ghost use Rattle.fancy_regex_desugar.specs.DesugarLaws.{UnfoldedKeepsWays, UnfoldedKeepsChoices, PatternKeepsWays, PatternKeepsChoices, UnfoldedSizeIsBounded, UnfoldedStepsBackOnlyFirst, PatternSizeIsBounded, PatternGroupsAreInRange};
+
+/// For a part of a pattern, desugared forwards or for look-behind: it has the same ordered matches and the same number of choices as its
+/// tree, at most 16 instructions for each node of the tree, and steps back only at the beginning of a look-around.
+pub fn unfolding_laws()
+    ensures ways { UnfoldedKeepsWays }
+    ensures choices { UnfoldedKeepsChoices }
+    ensures room { UnfoldedSizeIsBounded }
+    ensures placed { UnfoldedStepsBackOnlyFirst }
+{}
+
+/// A whole desugared pattern has the same ordered matches and the same number of choices as its tree, at most 16 instructions for each
+/// node of the tree, and no groups but those of the pattern.
+pub fn desugar_laws()
+    ensures ways { PatternKeepsWays }
+    ensures choices { PatternKeepsChoices }
+    ensures room { PatternSizeIsBounded }
+    ensures groups { PatternGroupsAreInRange }
+{}

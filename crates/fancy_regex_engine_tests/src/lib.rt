@@ -1,0 +1,14 @@
+//! Tests of the analysis of patterns, the runner, the compiler and the machine, by their public calls. They are a crate of
+//! their own so that the crates that they test are proved once. There is no code here.
+#![tactic(auto)]
+
+#[cfg(test)]
+mod analysis;
+#[cfg(test)]
+mod machine;
+#[cfg(test)]
+mod memory;
+#[cfg(test)]
+mod program;
+#[cfg(test)]
+mod runner;

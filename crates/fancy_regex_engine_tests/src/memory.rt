@@ -1,0 +1,89 @@
+//! Searches where memory may run out: the call that failed is repeated, and gives the right answer.
+
+use fancy_regex_info::{AnalyzeContext, CompileError, CompileOptions, Info};
+use fancy_regex_machine::{RunOptions, RuntimeError, run};
+use fancy_regex_program::{Prog, compile};
+use fancy_regex_runner::RunInput;
+use fancy_regex_sizes::analyze;
+use fancy_regex_tree::{Error, Expr, ExprTree};
+use std::alloc::Global;
+
+/// Parses a pattern, a second time if memory ran out.
+fn read(alloc: Global, pattern: &str) -> Result<ExprTree, Error> {
+    match Expr::parse_tree(alloc, pattern) {
+        Err(Error::Memory) => Expr::parse_tree(alloc, pattern),
+        read => read,
+    }
+}
+
+/// Analyzes a tree, a second time if memory ran out.
+fn analyzed<'t>(alloc: Global, tree: &'t ExprTree) -> Result<Info<'t>, CompileError> {
+    match analyze(alloc, tree, AnalyzeContext::default()) {
+        Err(CompileError::Memory) => analyze(alloc, tree, AnalyzeContext::default()),
+        analyzed => analyzed,
+    }
+}
+
+/// Compiles a pattern, a second time if memory ran out.
+fn compiled(alloc: Global, info: &Info<'_>) -> Result<Prog, CompileError> {
+    let options = CompileOptions::default();
+    match compile(alloc, info, &options) {
+        Err(CompileError::Memory) => compile(alloc, info, &options),
+        compiled => compiled,
+    }
+}
+
+/// Runs a program on a text, a second time if memory ran out.
+fn searched(alloc: Global, prog: &Prog, text: &str) -> Result<Option<Vec<usize>>, RuntimeError> {
+    let input = RunInput {
+        first: 0,
+        continue_at: None,
+        range: 0..text.len(),
+        anchored: false,
+        no_start_text: false,
+        no_end_text: false,
+    };
+    let options = RunOptions {
+        backtrack_limit: 1_000_000,
+        find_not_empty: false,
+        seek: None,
+    };
+    match run(alloc, prog, text, &input, &options) {
+        Err(RuntimeError::Memory) => run(alloc, prog, text, &input, &options),
+        searched => searched,
+    }
+}
+
+/// Whether the pattern matches with these byte offsets of its groups.
+fn finds(alloc: Global, pattern: &str, text: &str, wanted: &[usize]) -> bool {
+    let Ok(tree) = read(alloc, pattern) else {
+        return false;
+    };
+    let Ok(info) = analyzed(alloc, &tree) else {
+        return false;
+    };
+    let Ok(prog) = compiled(alloc, &info) else {
+        return false;
+    };
+    match &searched(alloc, &prog, text) {
+        Ok(Some(places)) => places.as_slice() == wanted,
+        _ => false,
+    }
+}
+
+#[test]
+fn finds_the_first_way_unless_memory_runs_out(rt: HostRuntime) {
+    let alloc = rt.alloc();
+    assert!(rt; finds(alloc, "(?=(a|ab)(?!x))\\1c", "abc", &[0, 3, 0, 2]));
+    assert!(rt; finds(alloc, "(a)?(?(1)b|c)", "ab", &[0, 2, 0, 1]));
+    assert!(rt;
+        finds(
+            alloc,
+            "(\\((?:[^()]|\\g<1>)*\\))",
+            "x(a(b)c)y",
+            &[1, 8, 1, 8]
+        )
+    );
+    assert!(rt; finds(alloc, "(?<=a|bc)d", "bcd", &[2, 3]));
+    assert!(rt; finds(alloc, "(?~abc)", "xabcx", &[0, 3]));
+}

@@ -1,0 +1,66 @@
+-- The analysis of the whole tree is that of the definitions.
+use Rattle.std.proofs.Common.{◌≡◌, ℕ, suc, ◌+◌, ◌^◌, ◌<◌, Bool, true, false, List, [], ◌∷◌, map, length, get_or, Vec, Global, Bor, Result, Ok, Err, IfOk, refl, sym, ap, ap₂, ◌∙◌, arith}
+use Rattle.std.specs.declared.alloc.AllocError.{AllocError}
+use Rattle.std.proofs.Math.Path.{fun_ext}
+use Rattle.fancy_regex_tree.specs.Tree.{Tree}
+use Rattle.fancy_regex_tree.specs.declared.expr.Expr.{Expr}
+use Rattle.fancy_regex_meaning.specs.Groups.{group_count}
+use Rattle.fancy_regex_meaning.specs.Sizes.{calls_in}
+use Rattle.fancy_regex_meaning.proofs.GroupProofs.{groups_are_counted}
+use Rattle.fancy_regex_info.specs.Analysis.{analysis}
+use Rattle.fancy_regex_info.specs.Infos.{info_of, expected_info}
+use Rattle.fancy_regex_info.specs.Reachability.{rows}
+use Rattle.fancy_regex_info.specs.References.{is_read}
+use Rattle.fancy_regex_info.specs.SizeFixpoint.{is_on_cycle, size_in_round}
+use Rattle.fancy_regex_info.specs.AnalysisRelations.{AreCallSizes, mark_at, IsAnalysisOf}
+use Rattle.fancy_regex_info.specs.Views.{size_at, body_tree, pattern_in}
+use Rattle.fancy_regex_info.specs.declared.info.Info.{Info}
+use Rattle.fancy_regex_info.specs.declared.size.Size as code
+use Rattle.fancy_regex_info.proofs.CallSizeLemmas.{knows}
+use Rattle.fancy_regex_info.proofs.ReachabilityLemmas.{length_rows}
+use Rattle.fancy_regex_info.proofs.TableLemmas.{reads_at}
+
+pub length_trees : (gs : List (Bor Expr)) → length (map body_tree gs) ≡ length gs
+length_trees [] = refl
+length_trees (g ∷ gs) = ap suc (length_trees gs)
+
+length_calls_in : (ts : List Tree) → length (map calls_in ts) ≡ length ts
+length_calls_in [] = refl
+length_calls_in (t ∷ ts) = ap suc (length_calls_in ts)
+
+numbers_fit : (explicit : Bool) (t : Tree) → (pattern_in explicit t).first_group + group_count t ≡ length (pattern_in explicit t).groups
+numbers_fit true t = omega (arith, groups_are_counted t)
+numbers_fit false t = omega (arith, groups_are_counted t)
+
+pub sizes_known : (gs : List (Bor Expr)) (calls : List (Vec ℕ Global)) (recursive : List Bool) (sizes : List code.Size) →
+    rows calls ≡ map calls_in (map body_tree gs) →
+    ((k : ℕ) → k < length calls → get_or recursive k false ≡ is_on_cycle (rows calls) k) →
+    ((k : ℕ) → size_at sizes k ≡ size_in_round (map body_tree gs) recursive (length gs) k) → AreCallSizes (map body_tree gs) sizes
+sizes_known gs calls recursive sizes made flags settled =
+    let ts : List Tree = map body_tree gs in
+    let long : length ts ≡ length gs = length_trees gs in
+    let lines : length calls ≡ length ts = sym (length_rows calls) ∙ ap length made ∙ length_calls_in ts in
+    knows ts recursive
+    (λ k lt. reads_at recursive k ∙ flags k (omega (arith, lines)) ∙ ap (λ edges. is_on_cycle edges k) made)
+    sizes (λ k. settled k ∙ ap (λ m. size_in_round ts recursive m k) (sym long))
+
+pub sizes_known_of : (gs : List (Bor Expr)) (calls : List (Vec ℕ Global)) (recursive : List Bool) (r : Result (Vec code.Size Global) AllocError) →
+    rows calls ≡ map calls_in (map body_tree gs) →
+    ((k : ℕ) → k < length calls → get_or recursive k false ≡ is_on_cycle (rows calls) k) →
+    IfOk r (λ sizes. (k : ℕ) → size_at sizes.items k ≡ size_in_round (map body_tree gs) recursive (length gs) k) →
+    IfOk r (λ sizes. AreCallSizes (map body_tree gs) sizes.items)
+sizes_known_of gs calls recursive (Err e) made flags settled = tt
+sizes_known_of gs calls recursive (Ok sizes) made flags settled = sizes_known gs calls recursive sizes.items made flags settled
+
+pub whole : (explicit : Bool) (t : Tree) (gs : List (Bor Expr)) (read : List Bool) (sizes : List code.Size)
+    (r : Result Info AllocError) (n : ℕ) → map body_tree gs ≡ (pattern_in explicit t).groups → AreCallSizes (map body_tree gs) sizes →
+    ((k : ℕ) → mark_at read k ≡ is_read (length gs) t k) → n ≡ (pattern_in explicit t).first_group → length gs < 2 ^ 64 →
+    IfOk r (λ i. IsAnalysisOf sizes read n t (info_of i)) → IfOk r (λ i. info_of i ≡ analysis explicit t)
+whole explicit t gs read sizes (Err e) n is known reads first fits h = tt
+whole explicit t gs read sizes (Ok i) n is known reads first fits h =
+    let ts : List Tree = map body_tree gs in
+    let all : length (pattern_in explicit t).groups ≡ length gs = ap length (sym is) ∙ length_trees gs in
+    h ts known (omega (arith, first, numbers_fit explicit t, all))
+    ∙ ap (λ us. expected_info us (mark_at read) n t) is
+    ∙ ap₂ (λ f m. expected_info (pattern_in explicit t).groups f m t)
+    (fun_ext (λ k. reads k ∙ ap (λ m. is_read m t k) (sym all))) first

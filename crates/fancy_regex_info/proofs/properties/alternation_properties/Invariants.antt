@@ -1,0 +1,7 @@
+use Rattle.std.proofs.Common.{◌≡◌, map, drop}
+use Rattle.fancy_regex_info.specs.PropertyRules.{alternation_properties}
+use Rattle.fancy_regex_info.specs.Infos.{properties_of, properties_in, info_of}
+use Rattle.fancy_regex_info.proofs.properties.alternation_properties.Given as goal
+
+abbrev pub invariant-loop-i : goal.invariant-loop-i
+invariant-loop-i l = properties_of l.all ≡ alternation_properties l.start l.end (map (λ i. properties_in (info_of i)) (drop l.i l.branches))

@@ -1,0 +1,12 @@
+pub mod ReadingLemmas
+pub mod LayoutProofs
+pub mod PrefixProofs
+pub mod NameProofs
+pub mod FlagProofs
+pub mod CountProofs
+pub mod CharacterEscapeProofs
+pub mod HexProofs
+pub mod EscapeProofs
+pub mod ClassProofs
+pub mod OpeningProofs
+pub mod EndProofs

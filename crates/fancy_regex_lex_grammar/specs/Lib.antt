@@ -1,0 +1,10 @@
+pub mod Exact
+pub mod Prefixes
+pub mod Layout
+pub mod Names
+pub mod Flags
+pub mod Counts
+pub mod Escapes
+pub mod Classes
+pub mod Openings
+pub mod TokenBounds

@@ -1,0 +1,5 @@
+pub mod ProgramLemmas
+pub mod AnalysisLemmas
+pub mod SearchLemmas
+pub mod MatchOffsetLemmas
+pub mod RefusalLemmas

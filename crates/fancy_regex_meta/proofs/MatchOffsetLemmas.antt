@@ -1,0 +1,136 @@
+-- A match lies in the range of its search, and its offsets begin with its span.
+use Rattle.std.proofs.Common.{◌≡◌, ◌⊎◌, ⊎_elim, ℕ, ◌+◌, ◌*◌, ◌<◌, ◌≤◌, max, Bool, true, false, List, [], ◌∷◌, length, Option, Some, None, refl, sym, ap, subst, ◌∙◌, arith, nat_lt}
+use Rattle.std.specs.Prelude.{slice_set, slice_index, option_map, IfSome, IsCharBoundary, IsUtf8, string_bytes, Vec}
+use Rattle.std.specs.declared.alloc.Global.{Global}
+use Rattle.std.proofs.lemmas.Bool.{cases_lt}
+use Rattle.std.proofs.lemmas.List.{length-set, length-replicate}
+use Rattle.std.proofs.lemmas.Option.{same_Some, none-some}
+use Rattle.fancy_regex_tree.specs.Tree.{Tree}
+use Rattle.fancy_regex_meaning.specs.Groups.{Pattern, pattern_of}
+use Rattle.fancy_regex_meaning.specs.WayLaws.{Each}
+use Rattle.fancy_regex_meaning.specs.Searches.{Match, Search, match_at, match_of, is_admitted, ways_at, start_way, starts, first_match, search_from}
+use Rattle.fancy_regex_meaning.specs.Ways.{Pairs, MatchState, Setting}
+use Rattle.fancy_regex_meaning.proofs.BoundaryLemmas.{IsCharBoundary-of_test}
+use Rattle.fancy_regex_meaning.proofs.EachLemmas.{Each-weaker, Each-filter, Each-cond, boundaries_pass}
+use Rattle.fancy_regex_meaning.proofs.MatchStartProofs.{chosen_holds, found_in_list, first_in_list, matches_are_spans}
+use Rattle.fancy_regex_meaning.proofs.WayProofs.{Keeps, ways_go_well}
+use Rattle.fancy_regex_meaning.proofs.SearchProofs.{matches_are_admitted, matches_cut_well}
+use Rattle.fancy_regex_runner.specs.Plain.{flat, places_of}
+use Rattle.fancy_regex_input.specs.SearchInputs.{FitsText}
+use Rattle.fancy_regex_input.specs.declared.config.SearchConfig.{SearchConfig}
+use Rattle.fancy_regex_meta.specs.MetaMatches.{meta_pattern, meta_match_from}
+use Rattle.fancy_regex_meta.specs.Patterns.{tree_in}
+use Rattle.fancy_regex_meta.specs.MatchOffsets.{AreBoundaries, IsMatchWithin}
+use Rattle.fancy_regex_meta.specs.declared.meta_regex.MetaRegex.{MetaRegex}
+
+-- each way has as many pairs as it began with
+keeps_count : (s : Setting) (n : ℕ) → Keeps s (λ w. length w.pairs ≡ n)
+keeps_count s n = record {
+  past_char = λ w c h e. h;
+  before_char = λ w c h e. h;
+  goes_back = λ w v h k. k;
+  pair = λ k w v h i le. length-set v.pairs k (Some (w.position, v.position)) ∙ i;
+  keep = λ w h. h;
+  again = λ k casei a b w h e same. h;
+  jump = λ w q h le e. h;
+}
+
+module _ (s : Setting) (pattern : Pattern) (find : Search) where
+  -- Where a match is found.
+  pub record Lies (m : Match) : Type 0 where
+    pub behind : find.first ≤ m.start
+    pub ordered : m.start ≤ m.end
+    pub inside : m.end ≤ find.stop
+    pub starts_well : IsCharBoundary s.text m.start
+    pub ends_well : IsCharBoundary s.text m.end
+    pub many : length m.pairs ≡ length pattern.groups
+
+  has_pairs : (p : ℕ) (m : Match) → match_at s pattern find p ≡ Some m → length m.pairs ≡ length pattern.groups
+  unfolding match_at
+  has_pairs p m e =
+      let n = length pattern.groups in
+      let Good : MatchState → Type 0 = λ w. length w.pairs ≡ n in
+      let found = found_in_list match_of _ m e in
+      let lead = ways_go_well s Good (keeps_count s n) pattern.groups pattern.first_group pattern.tree (start_way pattern p) (length-replicate n None) in
+      let all = Each-filter Good (is_admitted find) _ (Each-weaker _ Good (λ w o. o.1) _ lead) in
+      let well = chosen_holds Good find.options.longest _ all found.0 found.1 in
+      subst (λ (x : Match). length x.pairs ≡ n) found.2 well
+
+  starts_lie : IsCharBoundary s.text find.first → find.stop ≤ length s.text → Each (λ p. (find.first ≤ p) × IsCharBoundary s.text p) (starts s pattern find)
+  starts_lie h inside =
+      Each-cond _ (nat_lt find.stop find.first) [] _ tt
+      (Each-cond _ find.anchored (find.first ∷ []) _ ((omega arith, h), tt)
+      (Each-weaker _ _ (λ b o. (o.0.0, IsCharBoundary-of_test s.text b (omega (arith, o.0.1)) o.1)) _ (boundaries_pass s.text find.first find.stop)))
+
+  pub first_lies : IsUtf8 s.text → IsCharBoundary s.text find.first → find.stop ≤ length s.text → (m : Match) →
+      first_match s pattern find ≡ Some m → Lies m
+  unfolding first_match
+  first_lies utf8 h inside m e =
+      let found = first_in_list _ _ _ (starts_lie h inside) m e in
+      let span = matches_are_spans s pattern find found.0 m found.2 in
+      let cuts = matches_cut_well s pattern find found.0 m utf8 found.1.1 found.2 in
+      record {
+        behind = omega (arith, found.1.0, span.0);
+        ordered = span.1;
+        inside = (matches_are_admitted s pattern find found.0 m found.2).3;
+        starts_well = cuts.0;
+        ends_well = cuts.1;
+        many = has_pairs found.0 m found.2;
+      }
+
+length-flat : (ps : Pairs) → length (flat ps) ≡ 2 * length ps
+length-flat [] = refl
+length-flat (None ∷ ps) = omega (arith, length-flat ps)
+length-flat (Some pair ∷ ps) = omega (arith, length-flat ps)
+
+-- The list begins with these two.
+record Begins (xs : List ℕ) (a b : ℕ) : Type 0 where
+  long : 2 ≤ length xs
+  first : slice_index xs 0 ≡ a
+  second : slice_index xs 1 ≡ b
+
+begins_so : (xs : List ℕ) (a b : ℕ) → 2 ≤ length xs → Begins (slice_set (slice_set xs 0 a) 1 b) a b
+begins_so [] a b h = absurd (omega (arith, h))
+begins_so (x ∷ []) a b h = absurd (omega (arith, h))
+begins_so (x ∷ y ∷ xs) a b h = record { long = omega (arith, h); first = refl; second = refl }
+
+-- the group offsets of a match of a tree
+places_begin : (t : Tree) (m : Match) → length m.pairs ≡ length (pattern_of t).groups → Begins (places_of (pattern_of t) m) m.start m.end
+places_begin t m many = begins_so (flat m.pairs) m.start m.end (omega (arith, many, length-flat m.pairs))
+
+some-of : {A B : Type 0} (f : A → B) (o : Option A) (v : B) → Some v ≡ option_map f o → (m : A) × (o ≡ Some m) × (v ≡ f m)
+some-of f None v e = absurd (none-some v (sym e))
+some-of f (Some m) v e = (m, refl, same_Some v (f m) e)
+
+-- a search begins between two characters
+pub first_fits : (text : List ℕ) (a : SearchConfig) → FitsText text a → max a.start a.range_start ≤ a.range_end → IsCharBoundary text (max a.start a.range_start)
+first_fits text a fits inside =
+    ⊎_elim
+    (λ (lt : a.start < a.range_start). let e : a.range_start ≡ max a.start a.range_start = omega arith in subst (IsCharBoundary text) e fits.range_start)
+    (λ (ge : a.range_start ≤ a.start).
+    let e : a.start ≡ max a.start a.range_start = omega arith in
+    subst (IsCharBoundary text) e (fits.start (omega (arith, inside, fits.range_end.0))))
+    (cases_lt a.start a.range_start)
+
+-- what a search has found lies where it was looked for
+pub found_within : (s : MetaRegex) (text : List ℕ) (a : SearchConfig) (continue_disabled : Bool) (found : Option (Vec ℕ Global)) →
+    IsUtf8 text → IsCharBoundary text (max a.start a.range_start) → a.range_end ≤ length text →
+    option_map (λ (v : Vec ℕ Global). v.items) found ≡ option_map (places_of (meta_pattern s)) (meta_match_from s text a (max a.start a.range_start) continue_disabled) →
+    IfSome found (λ v. IsMatchWithin text a v.items)
+unfolding search_from
+found_within s text a continue_disabled None utf8 h inside e = tt
+found_within s text a continue_disabled (Some v) utf8 h inside e =
+    let f = some-of (places_of (meta_pattern s)) (meta_match_from s text a (max a.start a.range_start) continue_disabled) v.items e in
+    let m : Match = f.0 in
+    let lies = first_lies _ (meta_pattern s) _ utf8 h inside m f.1 in
+    let begins = subst (λ (xs : List ℕ). Begins xs m.start m.end) (sym f.2) (places_begin (tree_in s.options (string_bytes s.pattern)) m lies.many) in
+    record {
+      whole = begins.long;
+      behind = omega (arith, begins.first, lies.behind);
+      cuts = record {
+        ordered = omega (arith, begins.first, begins.second, lies.ordered);
+        starts = subst (IsCharBoundary text) (sym begins.first) lies.starts_well;
+        ends = subst (IsCharBoundary text) (sym begins.second) lies.ends_well;
+      };
+      inside = omega (arith, begins.second, lies.inside);
+    }

@@ -1,0 +1,11 @@
+pub mod ErrorConversions
+pub mod Patterns
+pub mod Strategies
+pub mod MatchOffsets
+pub mod PatternMatches
+pub mod MetaMatches
+pub mod Defaults
+pub mod EasyPatterns
+pub mod Refusals
+pub mod GroupNames
+pub mod SearchLimits

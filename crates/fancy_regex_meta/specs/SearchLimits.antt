@@ -1,0 +1,87 @@
+-- Which errors a search may return, and how often the linear-time matcher looks at the haystack.
+use Rattle.std.specs.Prelude.{◌≡◌, ℕ, ◌+◌, ◌-◌, ◌*◌, ◌<◌, Bool, true, false, not, ◌||◌, List, Some, None, max, string_bytes, if◌then◌else◌}
+use Rattle.fancy_regex_tree.specs.Tree.{Tree}
+use Rattle.fancy_regex_meaning.specs.Groups.{pattern_of}
+use Rattle.fancy_regex_meaning.specs.Ways.{Setting}
+use Rattle.fancy_regex_meaning.specs.Searches.{Search, match_at, starts}
+use Rattle.fancy_regex_meaning.specs.Choices.{choices}
+use Rattle.fancy_regex_meaning.specs.Sizes.{tree_weight}
+use Rattle.fancy_regex_runner.specs.Easy.{setting_for}
+use Rattle.fancy_regex_runner.specs.Find.{attempted}
+use Rattle.fancy_regex_runner.specs.declared.input.RunInput.{RunInput}
+use Rattle.fancy_regex_machine.specs.declared.error.RuntimeError.TheVariants.{BacktrackLimitExceeded, StackOverflow, Memory}
+use Rattle.fancy_regex_input.specs.declared.config.SearchConfig.{SearchConfig}
+use Rattle.fancy_regex_meta.specs.Patterns.{tree_in, pattern_in, options_in, setting_in}
+use Rattle.fancy_regex_meta.specs.Strategies.{search_of}
+use Rattle.fancy_regex_meta.specs.EasyPatterns.{pattern_uses_easy}
+use Rattle.fancy_regex_meta.specs.declared.options.RegexOptions.{RegexOptions}
+use Rattle.fancy_regex_meta.specs.declared.error.Error.{Error}
+use Rattle.fancy_regex_meta.specs.declared.error.Error.TheVariants as told
+use Rattle.fancy_regex_meta.specs.declared.meta_regex.MetaRegex.{MetaRegex}
+
+-- the limit of open branches (saved backtrack points) of a program
+abbrev pub max_open_branches : ℕ
+max_open_branches = 1000000
+
+-- An error that a search with this number of choices may return: a limit only where the choices exceed it and the pattern
+-- runs a program; otherwise only `Memory`.
+abbrev pub IsSearchError : Bool → ℕ → ℕ → Error → Type 0
+IsSearchError served limit choices (told.RuntimeError BacktrackLimitExceeded) = (served ≡ false) × (limit < choices)
+IsSearchError served limit choices (told.RuntimeError StackOverflow) = (served ≡ false) × (max_open_branches < choices)
+IsSearchError served limit choices (told.RuntimeError Memory) = ⊥
+IsSearchError served limit choices told.Memory = Unit {0}
+IsSearchError served limit choices _ = ⊥
+
+-- the weight of a tree: the looks per position that the linear-time matcher needs at most
+abbrev pub weight_of : Tree → ℕ
+weight_of t = tree_weight (pattern_of t).groups t
+
+-- the number of start offsets attempted, up to that of the match
+abbrev pub starts_tried : Tree → Setting → Search → ℕ
+starts_tried t s find = attempted (match_at s (pattern_of t) find) (starts s (pattern_of t) find)
+
+-- the number of choices of a strategy's search
+abbrev pub run_choices : RegexOptions → List ℕ → RunInput → Tree → ℕ
+run_choices o text input t = choices (setting_for o.unicode_mode text input) (pattern_of t) (search_of o input)
+
+-- the number of start offsets that a strategy's search tries
+abbrev pub run_tried : RegexOptions → List ℕ → RunInput → Tree → ℕ
+run_tried o text input t = starts_tried t (setting_for o.unicode_mode text input) (search_of o input)
+
+-- the setting of a search from an offset, where `\G` may be disabled
+abbrev pub setting_from : RegexOptions → List ℕ → SearchConfig → ℕ → Bool → Setting
+setting_from o text config q continue_disabled = record (setting_in o text config) { continue_at = if continue_disabled || not config.continues then None else Some q }
+
+-- the search of the definitions from an offset
+abbrev pub search_at : RegexOptions → SearchConfig → ℕ → Search
+search_at o config q = record { first = q; stop = config.range_end; anchored = config.anchored; options = options_in o }
+
+-- the tree of a compiled pattern
+abbrev pub meta_tree : MetaRegex → Tree
+meta_tree s = tree_in s.options (string_bytes s.pattern)
+
+-- a compiled pattern is searched by the linear-time matcher
+abbrev pub meta_uses_easy : MetaRegex → Bool
+meta_uses_easy s = pattern_uses_easy s.options (string_bytes s.pattern)
+
+-- the offset at which a search starts
+abbrev pub effective_start : SearchConfig → ℕ
+effective_start config = max config.start config.range_start
+
+-- the number of choices of a search, where `\G` may be disabled
+abbrev pub meta_choices : MetaRegex → List ℕ → SearchConfig → Bool → ℕ
+meta_choices s text config continue_disabled =
+    choices (setting_from s.options text config (effective_start config) continue_disabled) (pattern_of (meta_tree s)) (search_at s.options config (effective_start config))
+
+-- the number of start offsets that a search tries
+abbrev pub meta_starts_tried : MetaRegex → List ℕ → SearchConfig → Bool → ℕ
+meta_starts_tried s text config continue_disabled =
+    starts_tried (meta_tree s) (setting_from s.options text config (effective_start config) continue_disabled) (search_at s.options config (effective_start config))
+
+-- the most looks of the linear-time matcher: the weight of the tree for each position of the range
+abbrev pub max_looks : MetaRegex → SearchConfig → ℕ
+max_looks s config = weight_of (meta_tree s) * (config.range_end - effective_start config + 1)
+
+-- the error is one that a search may return
+abbrev pub IsMetaSearchError : MetaRegex → List ℕ → SearchConfig → Bool → Error → Type 0
+IsMetaSearchError s text config continue_disabled = IsSearchError (meta_uses_easy s) s.options.backtrack_limit (meta_choices s text config continue_disabled)

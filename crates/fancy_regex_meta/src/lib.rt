@@ -1,0 +1,14 @@
+//! The meta layer: it parses, analyzes and compiles a pattern, chooses the linear-time matcher (for patterns without
+//! look-around, backreferences and the like) or a backtracking program, and searches with it. Both give the match of the
+//! definitions. It also has the options and the errors of the library.
+#![tactic(auto)]
+
+mod error;
+mod flags;
+mod meta_regex;
+mod options;
+mod strategy;
+
+pub use error::{Error, Result};
+pub use meta_regex::MetaRegex;
+pub use options::RegexOptions;

@@ -1,0 +1,130 @@
+//! What executes a compiled pattern: the linear-time matcher in bounded steps, or a backtracking program.
+
+ghost use Rattle.std.specs.Prelude.{◌≡◌, ◌≤◌, ◌+◌, ◌-◌, ◌*◌, ◌^◌, ◌<◌, min, true, false, not, length, IfOk, IfErr, option_map, IsCharBoundary};
+ghost use Rattle.fancy_regex_tree.specs.Tree.{Tree, tree_of};
+ghost use Rattle.fancy_regex_meaning.specs.Choices.{program_nodes};
+ghost use Rattle.fancy_regex_meaning.specs.Groups.{pattern_of};
+ghost use Rattle.fancy_regex_meaning.specs.Searches.{first_match};
+ghost use Rattle.fancy_regex_program.specs.Caps.{cap_of};
+ghost use Rattle.fancy_regex_program.specs.Refusals.{IsClear, ReadsClasses};
+ghost use Rattle.fancy_regex_info.specs.Analysis.{analysis};
+ghost use Rattle.fancy_regex_sizes.specs.AnalysisErrors.{is_too_complex};
+ghost use Rattle.fancy_regex_info.specs.Infos.{info_of};
+ghost use Rattle.fancy_regex_info.specs.declared.options.BytesMode.TheVariants.{Unicode};
+ghost use Rattle.fancy_regex_info.specs.declared.info.Info.{out-Info};
+ghost use Rattle.fancy_regex_runner.specs.Easy.{setting_for};
+ghost use Rattle.fancy_regex_runner.specs.Plain.{places_of};
+ghost use Rattle.fancy_regex_runner.specs.Refusals.{IsTaken, IsCause};
+ghost use Rattle.fancy_regex_runner.specs.Runner.{IsEasyOf};
+ghost use Rattle.fancy_regex_meta.specs.Refusals.{compile_options_of, IsCompileRefusal};
+
+use crate::error::Result;
+use crate::options::RegexOptions;
+use fancy_regex_class::Steps;
+use fancy_regex_info::{CompileError, CompileOptions, Info};
+use fancy_regex_machine::{RunOptions, run};
+use fancy_regex_program::{Prog, compile};
+use fancy_regex_runner::{Easy, RunInput};
+use std::alloc::Global;
+
+/// What executes a compiled pattern.
+#[derive(Drop)]
+pub enum Strategy {
+    /// The linear-time matcher, for an easy pattern without `find_not_empty`.
+    Easy(Easy),
+    /// The backtracking program of any other pattern.
+    Program(Prog),
+}
+
+/// The options for compiling a tree; the flag says whether the tree has subroutine calls.
+fn compile_options(options: &RegexOptions, calls: bool) -> CompileOptions
+    ensures unicode { result.unicode ≡ options.now.unicode_mode }
+    ensures longest { result.leftmost_longest ≡ options.now.leftmost_longest }
+    ensures cap { result.max_prog_size ≡ options.now.max_prog_size }
+    ensures anchored { result.anchored ≡ false }
+    ensures all { result ≡ compile_options_of options.now calls }
+{
+    CompileOptions {
+        anchored: false,
+        contains_subroutines: calls,
+        bytes_mode: options.bytes_mode,
+        unicode: options.unicode_mode,
+        max_prog_size: options.max_prog_size,
+        leftmost_longest: options.leftmost_longest,
+    }
+}
+
+impl Strategy {
+    ghost use Rattle.fancy_regex_program.specs.Programs.{RefersToGroups};
+    ghost use Rattle.fancy_regex_meta.specs.Strategies.{Executes, search_of};
+    ghost use Rattle.fancy_regex_meta.specs.EasyPatterns.{uses_easy, is_easy_strategy};
+    ghost use Rattle.fancy_regex_meta.specs.SearchLimits.{IsSearchError, weight_of, run_choices, run_tried};
+
+    /// Compiles an analyzed tree, all of whose references must be to existing groups: for the linear-time matcher if the
+    /// tree is easy and empty matches are allowed, otherwise to a program. The error says why the tree cannot be compiled,
+    /// or is `Memory`.
+    pub fn new(
+        alloc: Global,
+        info: &Info<'_>,
+        options: &RegexOptions,
+        calls: bool,
+    ) -> std::result::Result<Strategy, CompileError>
+        ensures runs { IfOk result (λ strategy. (t : Tree) → info_of info.now ≡ analysis false t → RefersToGroups false t
+            → Executes strategy options.now t) }
+        ensures served { IfOk result (λ strategy. (t : Tree) → info_of info.now ≡ analysis false t → is_easy_strategy strategy ≡ uses_easy options.now t) }
+        ensures taken { IfOk result (λ _. (t : Tree) → info_of info.now ≡ analysis false t → uses_easy options.now t ≡ true
+            → IsTaken (compile_options_of options.now calls) (pattern_of t)) }
+        ensures refused { IfErr result (λ cause. (t : Tree) → info_of info.now ≡ analysis false t → uses_easy options.now t ≡ true
+            → IsCause (compile_options_of options.now calls) (pattern_of t) cause) }
+        ensures long { IfErr result (λ cause. (t : Tree) → info_of info.now ≡ analysis false t → uses_easy options.now t ≡ false
+            → is_too_complex cause ≡ true → cap_of options.now.max_prog_size < 16 * (program_nodes (pattern_of t) + 1)) }
+        ensures mode { IfOk result (λ _. (t : Tree) → info_of info.now ≡ analysis false t → options.now.bytes_mode ≡ Unicode) }
+        ensures classes { IfOk result (λ _. (t : Tree) → info_of info.now ≡ analysis false t → uses_easy options.now t ≡ false
+            → IsClear (pattern_of t).groups t → ReadsClasses options.now.unicode_mode (pattern_of t).groups t) }
+        ensures reason { IfErr result (λ cause. (t : Tree) → info_of info.now ≡ analysis false t → uses_easy options.now t ≡ false
+            → IsClear (pattern_of t).groups t → IsCompileRefusal (compile_options_of options.now calls) t cause) }
+    {
+        if info.hard || options.find_not_empty {
+            let prog = compile(alloc, info, &compile_options(options, calls))?;
+            return Ok(Strategy::Program(prog));
+        }
+        Ok(Strategy::Easy(Easy::new(alloc, info, &compile_options(options, calls))?))
+    }
+
+    /// The start and end byte offsets of each group of the first match, both `usize::MAX` for a group that did not
+    /// participate; `None` if there is no match. The counter is raised by one for each look of the linear-time matcher at the
+    /// haystack. Errors: `RuntimeError` at a limit of the program, or `Memory`.
+    pub fn search(
+        &self,
+        alloc: Global,
+        text: &str,
+        input: &RunInput,
+        options: &RegexOptions,
+        steps: &mut Steps,
+    ) -> Result<Option<Vec<usize>>>
+        requires first { IsCharBoundary text.now input.now.first }
+        requires range { input.now.range.end ≤ length text.now }
+        ensures answer { IfOk result (λ found. (t : Tree) → Executes self.now options.now t
+            → option_map (λ v. v.items) found ≡ option_map (places_of (pattern_of t))
+            (first_match (setting_for options.now.unicode_mode text.now input.now) (pattern_of t) (search_of options.now input.now))) }
+        ensures limits { IfErr result (λ e. (t : Tree) → Executes self.now options.now t
+            → IsSearchError (is_easy_strategy self.now) options.now.backtrack_limit (run_choices options.now text.now input.now t) e) }
+        ensures looks_most { (t : Tree) → Executes self.now options.now t → is_easy_strategy self.now ≡ true
+            → steps.new ≤ steps.old + weight_of t * (input.now.range.end - input.now.first + 1) }
+        ensures looks_least { IfOk result (λ _. (t : Tree) → Executes self.now options.now t → is_easy_strategy self.now ≡ true
+            → min (steps.old + run_tried options.now text.now input.now t) (2 ^ 64 - 1) ≤ steps.new) }
+        ensures looks_none { is_easy_strategy self.now ≡ false → steps.new ≡ steps.old }
+    {
+        match self {
+            Strategy::Easy(easy) => Ok(easy.search(alloc, text, input, steps)?),
+            Strategy::Program(prog) => {
+                let options = RunOptions {
+                    backtrack_limit: options.backtrack_limit,
+                    find_not_empty: options.find_not_empty,
+                    seek: None,
+                };
+                Ok(run(alloc, prog, text, input, &options)?)
+            }
+        }
+    }
+}

@@ -1,0 +1,17 @@
+pub mod NormalFormGroupProofs
+pub mod NormalFormWayProofs
+pub mod NormalFormSearchProofs
+pub mod CountBounds
+pub mod NamelessTrees
+pub mod GroupNumbers
+pub mod Starts
+pub mod Tokens
+pub mod Longer
+pub mod PrintedQuantifiers
+pub mod Repeats
+pub mod Nodes
+pub mod Atoms
+pub mod PlainStarts
+pub mod Reading
+pub mod ReadsBack
+pub mod TooDeepProofs

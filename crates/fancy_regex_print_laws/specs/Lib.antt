@@ -1,0 +1,2 @@
+pub mod NormalFormLaws
+pub mod ReprintLaws

@@ -1,3 +1,0 @@
-pub mod GroupsStayProof
-pub mod WaysStayProof
-pub mod SearchesStayProof

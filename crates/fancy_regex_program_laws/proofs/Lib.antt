@@ -1,0 +1,14 @@
+mod Denote
+mod Runs
+mod PairsInSlots
+mod ProgramParts
+mod Loops
+mod ReadingOperations
+mod TextPositions
+mod Absents
+mod Emitted
+mod Trail
+mod AbsentWays
+mod WaysOf
+mod StartByStart
+mod WholeProgram

@@ -1,0 +1,247 @@
+-- What a search tells, start after start.
+use Rattle.std.proofs.Common.{◌≡◌, ℕ, ◌+◌, ◌<◌, ◌≤◌, Bool, true, false, List, [], ◌∷◌, map, length, Option, Some, None, refl, sym, ap, ◌∙◌, arith, cond, ⊎_elim}
+use Rattle.std.specs.Prelude.{nat_lt, option_map, is_some}
+use Rattle.std.specs.List.{filter}
+use Rattle.std.proofs.lemmas.Bool.{cases_lt}
+use Rattle.fancy_regex_meaning.specs.Ways.{MatchState}
+use Rattle.fancy_regex_meaning.specs.Searches.{Search, first_some, first_item, farther, first_longest, chosen, is_admitted}
+use Rattle.fancy_regex_desugar.specs.CorePatterns.{CorePattern}
+use Rattle.fancy_regex_program.specs.Machine.{unset, RunParameters}
+use Rattle.fancy_regex_program.specs.SlotLayout.{slots_of_match}
+use Rattle.fancy_regex_program.specs.Shapes.{IsWritable}
+use Rattle.fancy_regex_program_laws.specs.ProgramLaws.{FoundMatch, entry_way, way_at, choices_up_to}
+use Rattle.fancy_regex_program_laws.proofs.Denote.{Told, Known, Tale, Follow, opens}
+use Rattle.fancy_regex_program_laws.proofs.Runs.{lt_yes, lt_no}
+use Rattle.fancy_regex_program_laws.proofs.Trail.{Open, Close, At, Trail, folded, states, opened, trail}
+use Rattle.fancy_regex_program_laws.proofs.WaysOf.{states_trail, opened_trail}
+
+abbrev pub told : Option FoundMatch → Told
+told answer = record { answer = answer; branches = 0 }
+
+abbrev pub better : Option FoundMatch → FoundMatch → Option FoundMatch
+better None h = Some h
+better (Some b) h = cond (nat_lt b.position h.position) (Some h) (Some b)
+
+abbrev bests : Option FoundMatch → List FoundMatch → Option FoundMatch
+bests kept [] = kept
+bests kept (h ∷ hs) = bests (better kept h) hs
+
+-- what is held with that way, and that limit
+abbrev pub holding : ℕ → Option FoundMatch → Known
+holding l kept = record { kept = kept; limit = l }
+
+module _ (find : Search) (whole : Bool) where
+  abbrev pub found_by_way : MatchState → FoundMatch
+  found_by_way w = record { position = w.position; start = cond whole w.kept 0; slots = slots_of_match whole w }
+
+  -- what follows a way at the program's end
+  abbrev pub at_end : Bool → Follow
+  at_end longest v x known =
+      cond (is_admitted find v) (cond longest (x (holding known.limit (better known.kept (found_by_way v)))) (told (Some (found_by_way v)))) (x known)
+
+  abbrev wanted : Trail → List MatchState
+  wanted es = filter (is_admitted find) (states es)
+
+  -- with longest, all ways are seen
+  all_answer : (r : Tale) (es : Trail) (l : ℕ) (kept : Option FoundMatch) →
+      (folded (at_end true) r es (holding l kept)).answer ≡ (r (holding l (bests kept (map found_by_way (wanted es))))).answer
+  all_answer r [] l kept = refl
+  all_answer r (Open ∷ es) l kept = all_answer r es l kept
+  all_answer r (Close ∷ es) l kept = all_answer r es l kept
+  all_answer r (At w ∷ es) l kept =
+      elim (is_admitted find w) as (λ b. (cond b (folded (at_end true) r es (holding l (better kept (found_by_way w)))) (folded (at_end true) r es (holding l kept))).answer
+      ≡ (r (holding l (bests kept (map found_by_way (cond b (w ∷ wanted es) (wanted es)))))).answer) [
+        | true ↦ all_answer r es l (better kept (found_by_way w))
+        | false ↦ all_answer r es l kept
+      ]
+
+  all_opened : (r : Tale) (es : Trail) (l : ℕ) (kept : Option FoundMatch) →
+      (folded (at_end true) r es (holding l kept)).branches ≤ opened es + (r (holding l (bests kept (map found_by_way (wanted es))))).branches
+  all_opened r [] l kept = omega arith
+  all_opened r (Open ∷ es) l kept = omega (arith, all_opened r es l kept)
+  all_opened r (Close ∷ es) l kept = omega (arith, all_opened r es l kept)
+  all_opened r (At w ∷ es) l kept =
+      elim (is_admitted find w) as (λ b. (cond b (folded (at_end true) r es (holding l (better kept (found_by_way w)))) (folded (at_end true) r es (holding l kept))).branches
+      ≤ opened es + (r (holding l (bests kept (map found_by_way (cond b (w ∷ wanted es) (wanted es)))))).branches) [
+        | true ↦ all_opened r es l (better kept (found_by_way w))
+        | false ↦ all_opened r es l kept
+      ]
+
+  -- else the first
+  abbrev first_told : Told → List MatchState → Told
+  first_told t [] = t
+  first_told t (w ∷ ws) = told (Some (found_by_way w))
+
+  first_answer : (r : Tale) (es : Trail) (known : Known) → (folded (at_end false) r es known).answer ≡ (first_told (r known) (wanted es)).answer
+  first_answer r [] known = refl
+  first_answer r (Open ∷ es) known = first_answer r es known
+  first_answer r (Close ∷ es) known = first_answer r es known
+  first_answer r (At w ∷ es) known =
+      elim (is_admitted find w) as (λ b. (cond b (told (Some (found_by_way w))) (folded (at_end false) r es known)).answer
+      ≡ (first_told (r known) (cond b (w ∷ wanted es) (wanted es))).answer) [
+        | true ↦ refl
+        | false ↦ first_answer r es known
+      ]
+
+  first_opened : (r : Tale) (es : Trail) (known : Known) → (folded (at_end false) r es known).branches ≤ opened es + (first_told (r known) (wanted es)).branches
+  first_opened r [] known = omega arith
+  first_opened r (Open ∷ es) known = omega (arith, first_opened r es known)
+  first_opened r (Close ∷ es) known = omega (arith, first_opened r es known)
+  first_opened r (At w ∷ es) known =
+      elim (is_admitted find w) as (λ b. (cond b (told (Some (found_by_way w))) (folded (at_end false) r es known)).branches
+      ≤ opened es + (first_told (r known) (cond b (w ∷ wanted es) (wanted es))).branches) [
+        | true ↦ omega arith
+        | false ↦ first_opened r es known
+      ]
+
+  -- keeping the one that ends farther, one after the other, gives the first of those that end farthest
+  bests_some : (b : MatchState) (ws : List MatchState) → bests (Some (found_by_way b)) (map found_by_way ws) ≡ Some (found_by_way (farther b (first_longest ws)))
+  bests_some b [] = refl
+  bests_some b (w ∷ ws) =
+      ⊎_elim
+      (λ (lt : b.position < w.position).
+      ap (λ c. bests (cond c (Some (found_by_way w)) (Some (found_by_way b))) (map found_by_way ws)) (lt_yes b.position w.position lt)
+      ∙ bests_some w ws ∙ ap (λ v. Some (found_by_way v)) (sym (past b w (first_longest ws) lt)))
+      (λ (ge : w.position ≤ b.position).
+      ap (λ c. bests (cond c (Some (found_by_way w)) (Some (found_by_way b))) (map found_by_way ws)) (lt_no b.position w.position ge)
+      ∙ bests_some b ws ∙ ap (λ v. Some (found_by_way v)) (sym (stays b w (first_longest ws) ge)))
+      (cases_lt b.position w.position)
+    where
+      past : (b w : MatchState) (o : Option MatchState) → b.position < w.position → farther b (Some (farther w o)) ≡ farther w o
+      past b w None lt = ap (λ c. cond c w b) (lt_yes b.position w.position lt)
+      past b w (Some v) lt =
+          ⊎_elim
+          (λ (further : w.position < v.position).
+          ap (λ c. farther b (Some (cond c v w))) (lt_yes w.position v.position further) ∙ ap (λ c. cond c v b) (lt_yes b.position v.position (omega arith))
+          ∙ sym (ap (λ c. cond c v w) (lt_yes w.position v.position further)))
+          (λ (ge : v.position ≤ w.position).
+          ap (λ c. farther b (Some (cond c v w))) (lt_no w.position v.position ge) ∙ ap (λ c. cond c w b) (lt_yes b.position w.position lt)
+          ∙ sym (ap (λ c. cond c v w) (lt_no w.position v.position ge)))
+          (cases_lt w.position v.position)
+
+      stays : (b w : MatchState) (o : Option MatchState) → w.position ≤ b.position → farther b (Some (farther w o)) ≡ farther b o
+      stays b w None ge = ap (λ c. cond c w b) (lt_no b.position w.position ge)
+      stays b w (Some v) ge =
+          ⊎_elim
+          (λ (further : w.position < v.position). ap (λ c. farther b (Some (cond c v w))) (lt_yes w.position v.position further))
+          (λ (le : v.position ≤ w.position).
+          ap (λ c. farther b (Some (cond c v w))) (lt_no w.position v.position le) ∙ ap (λ c. cond c w b) (lt_no b.position w.position ge)
+          ∙ sym (ap (λ c. cond c v b) (lt_no b.position v.position (omega arith))))
+          (cases_lt w.position v.position)
+
+  bests_none : (ws : List MatchState) → bests None (map found_by_way ws) ≡ option_map found_by_way (first_longest ws)
+  bests_none [] = refl
+  bests_none (w ∷ ws) = bests_some w ws
+
+  abbrev chosen_told : Told → Option MatchState → Told
+  chosen_told t None = t
+  chosen_told t (Some w) = told (Some (found_by_way w))
+
+  first_chosen : (t : Told) (ws : List MatchState) → first_told t ws ≡ chosen_told t (first_item ws)
+  first_chosen t [] = refl
+  first_chosen t (w ∷ ws) = refl
+
+  module _ (l : ℕ) (r : Tale) (over : (h : FoundMatch) → r (holding l (Some h)) ≡ told (Some h)) where
+    longest_chosen : (o : Option MatchState) → r (holding l (option_map found_by_way o)) ≡ chosen_told (r (holding l None)) o
+    longest_chosen None = refl
+    longest_chosen (Some w) = over (found_by_way w)
+
+    attempt_answer : (longest : Bool) (es : Trail) →
+        (folded (at_end longest) r es (holding l None)).answer ≡ (chosen_told (r (holding l None)) (chosen longest (wanted es))).answer
+    attempt_answer false es = first_answer r es (holding l None) ∙ ap (λ t. t.answer) (first_chosen (r (holding l None)) (wanted es))
+    attempt_answer true es =
+        all_answer r es l None ∙ ap (λ o. (r (holding l o)).answer) (bests_none (wanted es)) ∙ ap (λ t. t.answer) (longest_chosen (first_longest (wanted es)))
+
+    attempt_opened : (longest : Bool) (es : Trail) →
+        (folded (at_end longest) r es (holding l None)).branches ≤ opened es + (chosen_told (r (holding l None)) (chosen longest (wanted es))).branches
+    attempt_opened false es = omega (arith, first_opened r es (holding l None), ap (λ t. t.branches) (first_chosen (r (holding l None)) (wanted es)))
+    attempt_opened true es =
+        omega (arith, all_opened r es l None, ap (λ o. (r (holding l o)).branches) (bests_none (wanted es)), ap (λ t. t.branches) (longest_chosen (first_longest (wanted es))))
+
+abbrev pub else_told : Option FoundMatch → Told → Told
+else_told None t = t
+else_told (Some h) t = told (Some h)
+
+module _ (r : RunParameters) (p : CorePattern) (whole : Bool) (count : ℕ) (first : ℕ) (ok : IsWritable first count p) (small : length r.setting.text < unset) where
+  abbrev pub end_follow : Follow
+  end_follow = at_end r.find whole r.find.options.longest
+
+  abbrev pub trail_from : ℕ → Trail
+  trail_from q = trail r.setting p (entry_way count q)
+
+  -- a branch for the next start, if there is one
+  abbrev pub with_next : List ℕ → Tale → Tale
+  with_next [] x = x
+  with_next (q ∷ qs) x = opens x
+
+  -- what is told where the start before has no way left: a way that is kept, or what the other starts tell
+  abbrev pub after : List ℕ → Tale
+  after [] known = told known.kept
+  after (q ∷ qs) known = else_told known.kept (with_next qs (folded end_follow (after qs) (trail_from q)) known)
+
+  abbrev pub search_tale : ℕ → List ℕ → Tale
+  search_tale q qs = with_next qs (folded end_follow (after qs) (trail_from q))
+
+  next_answer : (qs : List ℕ) (x : Tale) (known : Known) → (with_next qs x known).answer ≡ (x known).answer
+  next_answer [] x known = refl
+  next_answer (q ∷ qs) x known = refl
+
+  next_opened : (qs : List ℕ) (x : Tale) (known : Known) → (with_next qs x known).branches ≤ 1 + (x known).branches
+  next_opened [] x known = omega arith
+  next_opened (q ∷ qs) x known = omega arith
+
+  after_kept : (qs : List ℕ) (l : ℕ) (h : FoundMatch) → after qs (holding l (Some h)) ≡ told (Some h)
+  after_kept [] l h = refl
+  after_kept (q ∷ qs) l h = refl
+
+  ways_are : (q : ℕ) → chosen r.find.options.longest (filter (is_admitted r.find) (states (trail_from q))) ≡ way_at r p count q
+  ways_are q = ap (λ ws. chosen r.find.options.longest (filter (is_admitted r.find) ws)) (states_trail r.setting small first count p ok (entry_way count q))
+
+  module _ (l : ℕ) where
+    abbrev fresh : Known
+    fresh = holding l None
+
+    abbrev Finds : List ℕ → Type 0
+    Finds qs = (after qs fresh).answer ≡ option_map (found_by_way r.find whole) (first_some (way_at r p count) qs)
+
+    picked : (o : Option MatchState) (qs : List ℕ) → Finds qs →
+        (chosen_told r.find whole (after qs fresh) o).answer ≡ option_map (found_by_way r.find whole) (elim o [ None ↦ first_some (way_at r p count) qs | Some y ↦ Some y ])
+    picked None qs h = h
+    picked (Some w) qs h = refl
+
+    one_start : (q : ℕ) (qs : List ℕ) → Finds qs → (search_tale q qs fresh).answer ≡ option_map (found_by_way r.find whole) (first_some (way_at r p count) (q ∷ qs))
+    one_start q qs h =
+        next_answer qs (folded end_follow (after qs) (trail_from q)) fresh
+        ∙ attempt_answer r.find whole l (after qs) (after_kept qs l) r.find.options.longest (trail_from q)
+        ∙ ap (λ o. (chosen_told r.find whole (after qs fresh) o).answer) (ways_are q)
+        ∙ picked (way_at r p count q) qs h
+
+    finds : (qs : List ℕ) → Finds qs
+    finds [] = refl
+    finds (q ∷ qs) = one_start q qs (finds qs)
+
+    pub search_answer : (q : ℕ) (qs : List ℕ) → (search_tale q qs fresh).answer ≡ option_map (found_by_way r.find whole) (first_some (way_at r p count) (q ∷ qs))
+    search_answer q qs = one_start q qs (finds qs)
+
+    counted : (o : Option MatchState) (qs : List ℕ) (n : ℕ) → (after qs fresh).branches ≤ n →
+        (chosen_told r.find whole (after qs fresh) o).branches ≤ cond (is_some o) 0 n
+    counted None qs n h = h
+    counted (Some w) qs n h = omega arith
+
+    one_start_opened : (q : ℕ) (qs : List ℕ) → (after qs fresh).branches ≤ choices_up_to r p count qs → (search_tale q qs fresh).branches ≤ choices_up_to r p count (q ∷ qs)
+    one_start_opened q qs h =
+        omega (
+          arith,
+          next_opened qs (folded end_follow (after qs) (trail_from q)) fresh,
+          attempt_opened r.find whole l (after qs) (after_kept qs l) r.find.options.longest (trail_from q),
+          ap (λ o. (chosen_told r.find whole (after qs fresh) o).branches) (ways_are q),
+          counted (way_at r p count q) qs (choices_up_to r p count qs) h,
+          opened_trail r.setting small first count p ok (entry_way count q),
+        )
+
+    opens_few : (qs : List ℕ) → (after qs fresh).branches ≤ choices_up_to r p count qs
+    opens_few [] = omega arith
+    opens_few (q ∷ qs) = one_start_opened q qs (opens_few qs)
+
+    pub search_opened : (q : ℕ) (qs : List ℕ) → (search_tale q qs fresh).branches ≤ choices_up_to r p count (q ∷ qs)
+    search_opened q qs = one_start_opened q qs (opens_few qs)

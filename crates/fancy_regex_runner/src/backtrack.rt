@@ -1,0 +1,73 @@
+//! The backtrack stack and the slots of the capture groups.
+
+ghost use Rattle.std.specs.Prelude.{◌≡◌, ℕ, List, ◌∷◌, ◌<◌, ◌≤◌, ◌+◌, vec_len, IfSome, IfNone, IfOk, OnOk, slice_set, slice_index, length};
+ghost use Rattle.std.specs.Bool.{MatchBool};
+ghost use Rattle.fancy_regex_runner.specs.Search.{top_first, put_back, resume_result};
+ghost use Rattle.fancy_regex_runner.specs.declared.frame.Frame.TheVariants.{Explore, Restore};
+
+use crate::frame::Frame;
+use std::alloc::AllocError;
+
+/// The backtrack stack, and two slots for each capture group: the start of group k in slot 2k, its end in slot 2k + 1.
+#[derive(Drop)]
+pub struct BacktrackState {
+    /// The frames, the next one last.
+    pub stack: Vec<Frame>,
+    /// Byte offsets, `usize::MAX` for an unset slot.
+    pub slots: Vec<usize>,
+}
+
+impl BacktrackState {
+    /// Pops frames, undoing writes, up to the next pair to explore, and returns its state and byte offset; `None` if the
+    /// stack is empty.
+    pub fn pop_explore(&mut self) -> Option<(usize, usize)>
+        ensures popped { resume_result (top_first self.old.stack.items) self.old.slots.items
+            ≡ (put_back result (top_first self.new.stack.items), self.new.slots.items) }
+        ensures shorter { IfSome result (λ _. vec_len self.new.stack < vec_len self.old.stack) }
+        ensures empty { IfNone result (vec_len self.new.stack ≡ 0) }
+        ensures slots { vec_len self.new.slots ≡ vec_len self.old.slots }
+    {
+        while let Some(frame) = self.stack.pop() {
+            match frame {
+                Frame::Explore { state, at } => return Some((state, at)),
+                Frame::Restore { slot, old } => {
+                    if slot < self.slots.len() {
+                        self.slots[slot] = old;
+                    }
+                }
+            }
+        }
+        None
+    }
+
+    /// Pushes a pair to explore later. The error is want of memory.
+    pub fn leave(&mut self, state: usize, at: usize) -> Result<(), AllocError>
+        ensures pushed { OnOk result (top_first self.new.stack.items ≡ Explore state at ∷ top_first self.old.stack.items) }
+        ensures len { OnOk result (vec_len self.new.stack ≡ vec_len self.old.stack + 1) }
+        ensures slots { self.new.slots ≡ self.old.slots }
+    {
+        self.stack.push(Frame::Explore { state, at })?;
+        Ok(())
+    }
+
+    /// Writes to a slot and pushes its old value; returns whether the slot exists. The error is want of memory.
+    pub fn write(&mut self, slot: usize, at: usize) -> Result<bool, AllocError>
+        ensures pushed { IfOk result (λ kept. MatchBool kept
+            (top_first self.new.stack.items ≡ Restore slot (slice_index self.old.slots.items slot) ∷ top_first self.old.stack.items)
+            (top_first self.new.stack.items ≡ top_first self.old.stack.items)) }
+        ensures written { OnOk result (self.new.slots.items ≡ slice_set self.old.slots.items slot at) }
+        ensures small { IfOk result (λ kept. MatchBool kept (slot < length self.old.slots.items) (length self.old.slots.items ≤ slot)) }
+        ensures len { OnOk result (vec_len self.new.stack ≤ vec_len self.old.stack + 1) }
+        ensures slots { vec_len self.new.slots ≡ vec_len self.old.slots }
+    {
+        if slot >= self.slots.len() {
+            return Ok(false);
+        }
+        self.stack.push(Frame::Restore {
+            slot,
+            old: self.slots[slot],
+        })?;
+        self.slots[slot] = at;
+        Ok(true)
+    }
+}

@@ -1,0 +1,67 @@
+//! Tests of single characters and of zero-width assertions.
+
+ghost use Rattle.std.specs.Prelude.{◌≡◌};
+ghost use Rattle.regex_hir.specs.Text.{is_some_and};
+ghost use Rattle.fancy_regex_runner.specs.CharTests.{leaf_matches_char, passes, is_word_char, is_char as is_char_of};
+
+use crate::node::{Leaf, Test};
+use crate::rules::Rules;
+use fancy_regex_class::{CharClassMatcher, fold, is_word};
+
+/// Whether the leaf matches the character.
+pub fn leaf_matches(matchers: &[CharClassMatcher], unicode: bool, leaf: Leaf, c: char) -> bool
+    ensures { result ≡ leaf_matches_char unicode matchers.now leaf c }
+{
+    match leaf {
+        Leaf::Any { newline, crlf } => newline || !(c == '\n' || (crlf && c == '\r')),
+        Leaf::Char(wanted) => c == wanted,
+        Leaf::Folded(wanted) => fold(c, unicode) == wanted,
+        Leaf::Class(number) => match matchers.get(number) {
+            Some(matcher) => matcher.contains(c),
+            None => false,
+        },
+    }
+}
+
+fn is_char(wanted: char, c: Option<char>) -> bool
+    ensures { result ≡ is_char_of wanted c }
+{
+    match c {
+        Some(c) => c == wanted,
+        None => false,
+    }
+}
+
+fn is_word_at(rules: Rules, c: Option<char>) -> bool
+    ensures { result ≡ is_some_and c (is_word_char rules.unicode) }
+{
+    match c {
+        Some(c) => is_word(c, rules.unicode),
+        None => false,
+    }
+}
+
+/// Whether the assertion holds between the characters `before` and `after`; `None` is the start or the end of the text.
+pub fn test_holds(rules: Rules, test: Test, before: Option<char>, after: Option<char>) -> bool
+    ensures { result ≡ passes rules test before after }
+{
+    match test {
+        Test::StartText => before.is_none() && !rules.no_start_text,
+        Test::EndText => after.is_none() && !rules.no_end_text,
+        Test::StartLine { crlf } => {
+            before.is_none()
+                || is_char('\n', before)
+                || (crlf && is_char('\r', before) && !is_char('\n', after))
+        }
+        Test::EndLine { crlf: false } => after.is_none() || is_char('\n', after),
+        Test::EndLine { crlf: true } => {
+            after.is_none()
+                || is_char('\r', after)
+                || (is_char('\n', after) && !is_char('\r', before))
+        }
+        Test::WordBoundary => is_word_at(rules, before) != is_word_at(rules, after),
+        Test::NotWordBoundary => is_word_at(rules, before) == is_word_at(rules, after),
+        Test::LeftWordBoundary => !is_word_at(rules, before) && is_word_at(rules, after),
+        Test::RightWordBoundary => is_word_at(rules, before) && !is_word_at(rules, after),
+    }
+}

@@ -1,0 +1,170 @@
+//! Left recursion: groups that can call themselves before any character is matched.
+
+ghost use Rattle.std.specs.Prelude.{◌≡◌, ℕ, ◌<◌, ◌⊎◌, ◌++◌, length, map, IfOk, IfErr, IfSome, IfNone, true, false};
+ghost use Rattle.fancy_regex_tree.specs.Tree.{tree_of, trees, absent_tree_of, ast_tree_of};
+ghost use Rattle.fancy_regex_meaning.specs.Sizes.{size_with};
+ghost use Rattle.fancy_regex_sizes.specs.NodeErrors.{is_memory};
+ghost use Rattle.fancy_regex_info.specs.Reachability.{rows};
+ghost use Rattle.fancy_regex_info.specs.SizeFixpoint.{is_on_cycle};
+ghost use Rattle.fancy_regex_sizes.specs.LeftRecursion.{first_calls, first_calls_in_row, first_calls_in_branches};
+ghost use Rattle.fancy_regex_info.specs.AnalysisRelations.{mark_at};
+ghost use Rattle.fancy_regex_info.specs.Views.{size_at, body_tree};
+
+use fancy_regex_info::{CompileError, Size, recursive_groups, size_in};
+use fancy_regex_tree::{Absent, AstNode, Expr};
+use std::alloc::{AllocError, Global};
+
+/// Refuses a pattern with a group that can call itself before any character is matched, with
+/// `LeftRecursiveSubroutineCall`. `groups` holds the bodies of the groups and `sizes` the sizes of calls, by group
+/// number. The other error is `Memory`.
+pub(crate) fn check_left_recursion(
+    alloc: Global,
+    groups: &[&Expr],
+    sizes: &[Size],
+) -> Result<(), CompileError>
+    ensures refused { IfErr result (λ e. (is_memory e ≡ true) ⊎ ((k : ℕ) × (e ≡ CompileError.LeftRecursiveSubroutineCall k)
+        × (is_on_cycle (map (first_calls (size_with (size_at sizes.now))) (map body_tree groups.now)) k ≡ true))) }
+    ensures complete { IfOk result (λ _. (k : ℕ) → k < length groups.now →
+        is_on_cycle (map (first_calls (size_with (size_at sizes.now))) (map body_tree groups.now)) k ≡ false) }
+{
+    let calls = first_calls_by_group(alloc, groups, sizes)?;
+    let recursive = recursive_groups(alloc, &calls)?;
+    match first_marked(&recursive) {
+        Some(group) => Err(CompileError::LeftRecursiveSubroutineCall(group)),
+        None => Ok(()),
+    }
+}
+
+/// The least group number that is marked, if any is.
+fn first_marked(marks: &[bool]) -> Option<usize>
+    ensures found { IfSome result (λ k. mark_at marks.now k ≡ true) }
+    ensures none { IfNone result ((k : ℕ) → mark_at marks.now k ≡ false) }
+{
+    for (group, is_marked) in marks.iter().enumerate() {
+        if *is_marked {
+            return Some(group);
+        }
+    }
+    None
+}
+
+/// For each group, the groups that its body can call before any character is matched.
+fn first_calls_by_group(
+    alloc: Global,
+    groups: &[&Expr],
+    sizes: &[Size],
+) -> Result<Vec<Vec<usize>>, AllocError>
+    ensures { IfOk result (λ all. rows all.items ≡ map (first_calls (size_with (size_at sizes.now))) (map body_tree groups.now)) }
+{
+    let mut all = Vec::new(alloc);
+    for body in groups {
+        let mut calls = Vec::new(alloc);
+        add_first_calls(body, sizes, &mut calls)?;
+        all.push(calls)?;
+    }
+    Ok(all)
+}
+
+/// Appends the groups of the calls that the node can reach before any character is matched, in pattern order: only nodes of
+/// least size 0 come before such a call.
+#[tactic(auto, unfolding(crate::specs::LeftRecursion::first_calls))]
+#[cycle(starts)]
+fn add_first_calls(expr: &Expr, sizes: &[Size], calls: &mut Vec<usize>) -> Result<(), AllocError>
+    ensures { IfOk result (λ _. calls.new.items ≡ calls.old.items ++ first_calls (size_with (size_at sizes.now)) (tree_of expr.now)) }
+{
+    match expr {
+        Expr::SubroutineCall(group) => {
+            calls.push(*group)?;
+            Ok(())
+        }
+        Expr::Concat(parts) => add_row_starts(parts, sizes, calls),
+        Expr::Alt(branches) => add_branch_starts(branches, sizes, calls),
+        Expr::Conditional {
+            condition,
+            true_branch,
+            false_branch,
+        } => {
+            add_first_calls(condition, sizes, calls)?;
+            if size_in(condition, sizes).least == 0 {
+                add_first_calls(true_branch, sizes, calls)?;
+            }
+            add_first_calls(false_branch, sizes, calls)
+        }
+        Expr::Group(child) | Expr::LookAround(child, _) | Expr::AtomicGroup(child) => {
+            add_first_calls(child, sizes, calls)
+        }
+        Expr::Repeat { child, .. } => add_first_calls(child, sizes, calls),
+        Expr::Absent(absent) => add_absent_starts(absent, sizes, calls),
+        Expr::DefineGroup { definitions } => add_first_calls(definitions, sizes, calls),
+        Expr::AstNode(node, _) => add_unresolved_starts(node, sizes, calls),
+        Expr::Empty | Expr::Any { .. } | Expr::Assertion(_) | Expr::GeneralNewline { .. } => Ok(()),
+        Expr::Literal { .. } | Expr::LiteralBytes { .. } | Expr::Delegate { .. } => Ok(()),
+        Expr::Backref { .. } | Expr::BackrefWithRelativeRecursionLevel { .. } => Ok(()),
+        Expr::KeepOut | Expr::ContinueFromPreviousMatchEnd => Ok(()),
+        Expr::BackrefExistsCondition { .. } | Expr::BacktrackingControlVerb(_) => Ok(()),
+    }
+}
+
+#[tactic(auto, unfolding(crate::specs::LeftRecursion::first_calls))]
+#[cycle(starts)]
+fn add_absent_starts(
+    absent: &Absent,
+    sizes: &[Size],
+    calls: &mut Vec<usize>,
+) -> Result<(), AllocError>
+    ensures { IfOk result (λ _. calls.new.items ≡ calls.old.items ++ first_calls (size_with (size_at sizes.now)) (absent_tree_of absent.now)) }
+{
+    match absent {
+        Absent::Repeater(child) | Absent::Stopper(child) => add_first_calls(child, sizes, calls),
+        Absent::Expression { absent, exp } => {
+            add_first_calls(absent, sizes, calls)?;
+            add_first_calls(exp, sizes, calls)
+        }
+        Absent::Clear => Ok(()),
+    }
+}
+
+#[tactic(auto, unfolding(crate::specs::LeftRecursion::first_calls))]
+#[cycle(starts)]
+fn add_unresolved_starts(
+    node: &AstNode,
+    sizes: &[Size],
+    calls: &mut Vec<usize>,
+) -> Result<(), AllocError>
+    ensures { IfOk result (λ _. (position : ℕ) →
+        calls.new.items ≡ calls.old.items ++ first_calls (size_with (size_at sizes.now)) (ast_tree_of node.now position)) }
+{
+    match node {
+        AstNode::AstGroup { inner, .. } => add_first_calls(inner, sizes, calls),
+        AstNode::Backref { .. } | AstNode::SubroutineCall(_) => Ok(()),
+        AstNode::BackrefExistsCondition { .. } => Ok(()),
+    }
+}
+
+/// The calls of a concatenation, up to the first item of least size above 0.
+#[cycle(starts)]
+fn add_row_starts(parts: &[Expr], sizes: &[Size], calls: &mut Vec<usize>) -> Result<(), AllocError>
+    ensures { IfOk result (λ _. calls.new.items ≡ calls.old.items ++ first_calls_in_row (size_with (size_at sizes.now)) (trees (map tree_of parts.now))) }
+{
+    for part in parts {
+        add_first_calls(part, sizes, calls)?;
+        if size_in(part, sizes).least > 0 {
+            return Ok(());
+        }
+    }
+    Ok(())
+}
+
+#[cycle(starts)]
+fn add_branch_starts(
+    branches: &[Expr],
+    sizes: &[Size],
+    calls: &mut Vec<usize>,
+) -> Result<(), AllocError>
+    ensures { IfOk result (λ _. calls.new.items ≡ calls.old.items ++ first_calls_in_branches (size_with (size_at sizes.now)) (trees (map tree_of branches.now))) }
+{
+    for branch in branches {
+        add_first_calls(branch, sizes, calls)?;
+    }
+    Ok(())
+}

@@ -1,6 +1,0 @@
-use Rattle.std.proofs.Common.{◌∙◌, ap, sym, is_some, chars}
-use Rattle.fancy_regex_text.proofs.Texts.{is_some-map}
-use Rattle.fancy_regex_text.proofs.text.begins.Goals as goal
-
-pub returns : goal.returns
-returns c = c.is_some.ensures ∙ sym (is_some-map (λ rest. chars rest.now) c.behind.result) ∙ ap is_some c.behind.ensures.value

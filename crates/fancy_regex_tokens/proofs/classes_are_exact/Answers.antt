@@ -1,5 +1,0 @@
-use Rattle.fancy_regex_tokens.proofs.classes_are_exact.Goals as goal
-use Rattle.fancy_regex_tokens.proofs.ClassProofs.{classes_are_exact}
-
-pub returns : goal.returns
-returns c = classes_are_exact

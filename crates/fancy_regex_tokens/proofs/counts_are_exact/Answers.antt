@@ -1,8 +1,0 @@
-use Rattle.fancy_regex_tokens.proofs.counts_are_exact.Goals as goal
-use Rattle.fancy_regex_tokens.proofs.CountProofs.{quantifiers_are_exact, marks_are_exact}
-
-pub returns-clause-quantifiers : goal.returns-clause-quantifiers
-returns-clause-quantifiers c = quantifiers_are_exact
-
-pub returns-clause-marks : goal.returns-clause-marks
-returns-clause-marks c = marks_are_exact

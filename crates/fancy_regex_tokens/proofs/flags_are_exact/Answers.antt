@@ -1,5 +1,0 @@
-use Rattle.fancy_regex_tokens.proofs.flags_are_exact.Goals as goal
-use Rattle.fancy_regex_tokens.proofs.FlagProofs.{flags_are_exact}
-
-pub returns : goal.returns
-returns c = flags_are_exact

@@ -1,5 +1,0 @@
-use Rattle.fancy_regex_tokens.proofs.openings_are_exact.Goals as goal
-use Rattle.fancy_regex_tokens.proofs.OpeningProofs.{openings_are_exact}
-
-pub returns : goal.returns
-returns c = openings_are_exact

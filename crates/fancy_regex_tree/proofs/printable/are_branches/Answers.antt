@@ -1,6 +1,0 @@
-use Rattle.fancy_regex_tree.specs.Tree.{tree_of}
-use Rattle.fancy_regex_tree.proofs.PrintableLists.{branches-leb}
-use Rattle.fancy_regex_tree.proofs.printable.are_branches.Goals as goal
-
-pub returns : goal.returns
-returns c = branches-leb tree_of c.args.branches.now

@@ -1,8 +1,0 @@
-use Rattle.std.proofs.Common.{arith}
-use Rattle.fancy_regex_lex.proofs.Parts.{chars_fit}
-use Rattle.fancy_regex_tree.proofs.TreeBounds.{if_ok}
-use Rattle.fancy_regex_tree.proofs.read.read_pattern.Goals as goal
-
-pub returns-clause-small : goal.returns-clause-small
-returns-clause-small c =
-    if_ok _ _ c.whole_pattern.result (λ e small. omega (arith, small, chars_fit _ c.utf8.text)) c.whole_pattern.ensures.small

@@ -1,0 +1,11 @@
+pub mod Computing
+pub mod ParseComputing
+pub mod PrintingComputing
+pub mod ErrorExampleProofs
+pub mod AtomExampleProofs
+pub mod QuantifierExampleProofs
+pub mod GroupExampleProofs
+pub mod ReferenceExampleProofs
+pub mod NameExampleProofs
+pub mod ReferenceSummaryExampleProofs
+pub mod PrintingExampleProofs

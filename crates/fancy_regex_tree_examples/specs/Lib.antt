@@ -1,0 +1,10 @@
+pub mod PatternNotation
+pub mod ErrorExamples
+pub mod AtomExamples
+pub mod QuantifierExamples
+pub mod GroupExamples
+pub mod ParseNotation
+pub mod ReferenceExamples
+pub mod NameExamples
+pub mod ReferenceSummaryExamples
+pub mod PrintingExamples

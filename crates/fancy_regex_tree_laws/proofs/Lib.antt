@@ -1,0 +1,14 @@
+pub mod ResolvedBounds
+pub mod NodeBounds
+pub mod DepthBounds
+pub mod PositionBounds
+pub mod PatternBounds
+pub mod GroupRanks
+pub mod ResolvedGroupProofs
+pub mod ParsedGroupProofs
+pub mod WeightUnits
+pub mod BranchWeights
+pub mod ConstructWeights
+pub mod ResolvedWeights
+pub mod TreeWeights
+pub mod PatternWeights

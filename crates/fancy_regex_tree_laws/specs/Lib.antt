@@ -1,0 +1,6 @@
+pub mod Positions
+pub mod ParseBounds
+pub mod References
+pub mod ResolvedGroups
+pub mod UncountedRepeats
+pub mod WeightBounds

@@ -1,2 +1,0 @@
-pub mod Uncounted
-pub mod WeightBounds

@@ -1,0 +1,5 @@
+pub mod FaultConversions
+pub mod Lines
+pub mod Spans
+pub mod Requests
+pub mod RunOutcome
