@@ -7,7 +7,7 @@ use Rattle.fancy_regex_meaning.specs.Searches.{Match, find_input}
 use Rattle.fancy_regex_input.specs.declared.config.SearchConfig.{SearchConfig}
 use Rattle.fancy_regex_meta.specs.MetaMatches.{meta_match, meta_match_from}
 use Rattle.fancy_regex_meta.specs.declared.meta_regex.MetaRegex.{MetaRegex}
-use Rattle.fancy_regex_runner.specs.Plain.{places_of}
+use Rattle.fancy_regex_class.specs.RunInputs.{match_slots}
 
 starts-with : (xs : List ℕ) (a b : ℕ) → 2 ≤ length (slice_set (slice_set xs 0 a) 1 b) →
     (slice_index (slice_set (slice_set xs 0 a) 1 b) 0 ≡ a) × (slice_index (slice_set (slice_set xs 0 a) 1 b) 1 ≡ b)
@@ -16,7 +16,7 @@ starts-with (x ∷ []) a b h = absurd (omega arith)
 starts-with (x ∷ y ∷ xs) a b h = (refl, refl)
 
 -- they begin with the span of the match
-pub span-is : (t : Tree) (m : Match) (v : List ℕ) → v ≡ places_of (pattern_of t) m → 2 ≤ length v → (slice_index v 0 ≡ m.start) × (slice_index v 1 ≡ m.end)
+pub span-is : (t : Tree) (m : Match) (v : List ℕ) → v ≡ match_slots (pattern_of t) m → 2 ≤ length v → (slice_index v 0 ≡ m.start) × (slice_index v 1 ≡ m.end)
 span-is t m v e h = rw e (starts-with _ m.start m.end (rw e at h))
 
 -- a place where there is one

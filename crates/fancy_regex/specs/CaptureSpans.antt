@@ -2,7 +2,7 @@
 use Rattle.std.specs.Prelude.{◌≡◌, ℕ, ◌+◌, ◌*◌, ◌<◌, List, length, slice_index, Option, Some, None, MatchOption}
 use Rattle.fancy_regex_meaning.specs.Searches.{Match}
 use Rattle.fancy_regex_meaning.specs.Groups.{Pattern}
-use Rattle.fancy_regex_runner.specs.Plain.{places_of}
+use Rattle.fancy_regex_class.specs.RunInputs.{match_slots}
 use Rattle.fancy_regex_meta.specs.MatchOffsets.{AreBoundaries}
 
 -- The group participated in the match: it has offsets, which are character boundaries in order.
@@ -21,7 +21,7 @@ span_in m = (m.start, m.end)
 
 -- these are the start and end offsets of the groups of a match
 abbrev pub AreGroupsOf : Pattern → List ℕ → Match → Type 0
-AreGroupsOf pattern slots m = slots ≡ places_of pattern m
+AreGroupsOf pattern slots m = slots ≡ match_slots pattern m
 
 -- A value for the wanted match, or `None` if there is no match.
 abbrev pub IsResultFor : {A : Type 0} → (A → Match → Type 0) → Option A → Option Match → Type 0

@@ -4,7 +4,7 @@ use Rattle.std.specs.declared.result.Result.{Result}
 use Rattle.fancy_regex_meaning.specs.Groups.{Pattern}
 use Rattle.fancy_regex_meaning.specs.Positions.{position_after}
 use Rattle.fancy_regex_meaning.specs.Searches.{Match}
-use Rattle.fancy_regex_runner.specs.Plain.{places_of}
+use Rattle.fancy_regex_class.specs.RunInputs.{match_slots}
 use Rattle.fancy_regex_input.specs.declared.config.SearchConfig.{SearchConfig}
 use Rattle.fancy_regex_meta.specs.MatchOffsets.{IsMatchWithin}
 use Rattle.fancy_regex.specs.RemainingMatches.{next_start}
@@ -14,7 +14,7 @@ use Rattle.fancy_regex.specs.declared.match_iter.Step.TheVariants.{Item, Skip, E
 
 -- The result of the step, by the matches that remained before and remain after it.
 abbrev pub StepGives : Pattern → List Match → Step → List Match → Type 0
-StepGives pattern before (Item v) after = (m : Match) × (before ≡ m ∷ after) × (v.items ≡ places_of pattern m)
+StepGives pattern before (Item v) after = (m : Match) × (before ≡ m ∷ after) × (v.items ≡ match_slots pattern m)
 StepGives pattern before Skip after = before ≡ after
 StepGives pattern before End after = (before ≡ []) × (after ≡ [])
 StepGives pattern before (Fault e) after = after ≡ []

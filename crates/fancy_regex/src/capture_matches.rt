@@ -2,7 +2,7 @@
 
 ghost use Rattle.std.specs.Prelude.{◌≡◌, ◌≤◌, false, IfSome, IfOk, IfErr};
 ghost use Rattle.std.specs.Iterator.{at_most};
-ghost use Rattle.fancy_regex_runner.specs.Plain.{places_of};
+ghost use Rattle.fancy_regex_class.specs.RunInputs.{match_slots};
 ghost use Rattle.fancy_regex_meta.specs.MetaMatches.{meta_pattern};
 ghost use Rattle.fancy_regex.specs.IterationErrors.{IsItemError};
 ghost use Rattle.fancy_regex.specs.IterationSearches.{KeepsSearches};
@@ -59,7 +59,7 @@ impl<'r, S: Input> CaptureMatches<'r, S> {
 impl<'r, S: Input> Iterator for CaptureMatches<'r, S> {
     type Item = Result<Captures<'r, S>>;
 
-    ghost next_gives = { λ s r t. (Yields (λ c m. c.slots.items ≡ places_of (meta_pattern s.match_iter.regex.now.meta) m)
+    ghost next_gives = { λ s r t. (Yields (λ c m. c.slots.items ≡ match_slots (meta_pattern s.match_iter.regex.now.meta) m)
         (remaining_matches s.match_iter.regex.now.meta (S.text s.match_iter.input.haystack) s.match_iter.input.config s.match_iter.state) r
         (remaining_matches t.match_iter.regex.now.meta (S.text t.match_iter.input.haystack) t.match_iter.input.config t.match_iter.state))
         × IfSome r (λ item. IfOk item (λ c. (c.haystack ≡ s.match_iter.input.haystack) × (c.regex ≡ s.match_iter.regex)))

@@ -1,7 +1,7 @@
 //! Searches a haystack with a regex, and turns the start and end offsets of groups into matches of the haystack.
 
 ghost use Rattle.std.specs.Prelude.{◌≡◌, ◌≤◌, ◌+◌, ◌-◌, ◌^◌, true, false, IfOk, IfErr, IfSome, IsUtf8, option_map, min, max, slice_index};
-ghost use Rattle.fancy_regex_runner.specs.Plain.{places_of};
+ghost use Rattle.fancy_regex_class.specs.RunInputs.{match_slots};
 ghost use Rattle.fancy_regex_input.specs.SearchInputs.{FitsText};
 ghost use Rattle.fancy_regex_meta.specs.SearchLimits.{IsMetaSearchError, meta_uses_easy, meta_starts_tried, max_looks};
 ghost use Rattle.fancy_regex_meta.specs.MetaMatches.{meta_pattern, meta_match_from};
@@ -34,7 +34,7 @@ pub fn find_slots<S: Input>(
 ) -> Result<Option<Vec<usize>>>
     requires { FitsText (S.text haystack) config }
     ensures answer { IfOk result (λ found. option_map (λ v. v.items) found
-        ≡ option_map (places_of (meta_pattern regex.now.meta)) (meta_match_from regex.now.meta (S.text haystack) config (max config.start config.range_start) continue_disabled)) }
+        ≡ option_map (match_slots (meta_pattern regex.now.meta)) (meta_match_from regex.now.meta (S.text haystack) config (max config.start config.range_start) continue_disabled)) }
     ensures within { IfOk result (λ found. IfSome found (λ v. IsMatchWithin (S.text haystack) config v.items)) }
     ensures limits { IfErr result (λ e. IsMetaSearchError regex.now.meta (S.text haystack) config continue_disabled e) }
     ensures looks_most { meta_uses_easy regex.now.meta ≡ true → steps.new ≤ steps.old + max_looks regex.now.meta config }

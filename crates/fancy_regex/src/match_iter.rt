@@ -2,7 +2,7 @@
 //! end of the previous match is skipped, and after an error the iteration is over.
 
 ghost use Rattle.std.specs.Prelude.{◌≡◌, ◌≤◌, ◌<◌, max, option_map, None, Some, true, false, slice_index, MatchOption, MatchResult, IfSome, IfOk, IfErr};
-ghost use Rattle.fancy_regex_runner.specs.Plain.{places_of};
+ghost use Rattle.fancy_regex_class.specs.RunInputs.{match_slots};
 ghost use Rattle.fancy_regex_meta.specs.MetaMatches.{meta_pattern, meta_match_from};
 ghost use Rattle.fancy_regex_meta.specs.MatchOffsets.{IsMatchWithin};
 
@@ -129,7 +129,7 @@ impl<'r, S: Input> MatchIter<'r, S> {
         requires going { self.old.state.is_done ≡ false }
         requires inside { max self.old.input.config.start self.old.input.config.range_start ≤ self.old.input.config.range_end }
         requires found { None
-            ≡ option_map (places_of (meta_pattern self.old.regex.now.meta)) (meta_match_from self.old.regex.now.meta (S.text self.old.input.haystack) self.old.input.config
+            ≡ option_map (match_slots (meta_pattern self.old.regex.now.meta)) (meta_match_from self.old.regex.now.meta (S.text self.old.input.haystack) self.old.input.config
             (max self.old.input.config.start self.old.input.config.range_start) self.old.state.continue_disabled) }
         ensures gives { StepGives (meta_pattern self.old.regex.now.meta)
             (remaining_matches self.old.regex.now.meta (S.text self.old.input.haystack) self.old.input.config self.old.state) result
@@ -154,7 +154,7 @@ impl<'r, S: Input> MatchIter<'r, S> {
     fn step_past_match(&mut self, slots: Vec<usize>) -> Step
         requires going { self.old.state.is_done ≡ false }
         requires found { Some slots.items
-            ≡ option_map (places_of (meta_pattern self.old.regex.now.meta)) (meta_match_from self.old.regex.now.meta (S.text self.old.input.haystack) self.old.input.config
+            ≡ option_map (match_slots (meta_pattern self.old.regex.now.meta)) (meta_match_from self.old.regex.now.meta (S.text self.old.input.haystack) self.old.input.config
             (max self.old.input.config.start self.old.input.config.range_start) self.old.state.continue_disabled) }
         requires within { IsMatchWithin (S.text self.old.input.haystack) self.old.input.config slots.items }
         ensures gives { StepGives (meta_pattern self.old.regex.now.meta)
@@ -193,7 +193,7 @@ impl<'r, S: Input> MatchIter<'r, S> {
 
     /// The start and end byte offsets of each group of the next match. `None` after the last match and after an error.
     pub fn advance(&mut self) -> Option<Result<Vec<usize>>>
-        ensures gives { Yields (λ v m. v.items ≡ places_of (meta_pattern self.old.regex.now.meta) m)
+        ensures gives { Yields (λ v m. v.items ≡ match_slots (meta_pattern self.old.regex.now.meta) m)
             (remaining_matches self.old.regex.now.meta (S.text self.old.input.haystack) self.old.input.config self.old.state) result
             (remaining_matches self.new.regex.now.meta (S.text self.new.input.haystack) self.new.input.config self.new.state) }
         ensures within { IfSome result (λ item. IfOk item (λ v. IsMatchWithin (S.text self.old.input.haystack) self.old.input.config v.items)) }

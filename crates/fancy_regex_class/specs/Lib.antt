@@ -1,3 +1,4 @@
 pub mod Looks
 pub mod Classes
 pub mod Matchers
+pub mod RunInputs

@@ -1,5 +1,5 @@
-//! Character matching: members of character classes, case folding, word characters, and a haystack whose reads are
-//! counted. The meaning of a class text is that of the crate `regex`. Of these functions only `CharClassMatcher::new`
+//! What both engines share: members of character classes, case folding, word characters, a haystack whose reads are
+//! counted, and the input of a search. The meaning of a class text is that of the crate `regex`. Of these functions only `CharClassMatcher::new`
 //! allocates, so only it can run out of memory.
 #![tactic(auto)]
 
@@ -8,6 +8,7 @@ ghost use Rattle.fancy_regex_class.specs.Classes.{RegexMatchesMembers};
 mod class;
 mod counted;
 mod folding;
+mod input;
 mod matcher;
 #[cfg(test)]
 mod tests;
@@ -15,6 +16,7 @@ mod tests;
 pub use class::{CharClassMatcher, ClassError};
 pub use counted::{Counted, Steps};
 pub use folding::{CaseiLiteral, fold, is_word};
+pub use input::RunInput;
 
 /// Law: a `regex::Regex` that is parsed from a class's text matches the text of a single character exactly if the class
 /// contains that character.

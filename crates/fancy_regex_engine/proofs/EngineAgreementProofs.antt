@@ -5,32 +5,23 @@ use Rattle.std.specs.List.{filter}
 use Rattle.fancy_regex_meaning.specs.Groups.{Pattern}
 use Rattle.fancy_regex_meaning.specs.Positions.{boundaries}
 use Rattle.fancy_regex_meaning.specs.Searches.{Match, Search, first_match, first_some, match_at}
-use Rattle.fancy_regex_meaning.specs.Ways.{Pairs}
 use Rattle.fancy_regex_program.specs.Machine.{tried}
-use Rattle.fancy_regex_program.specs.SlotLayout as program
-use Rattle.fancy_regex_runner.specs.Easy.{setting_for, search_for}
-use Rattle.fancy_regex_runner.specs.Plain as runner
-use Rattle.fancy_regex_runner.specs.Plain.{places_of}
-use Rattle.fancy_regex_runner.specs.declared.input.RunInput.{RunInput}
+use Rattle.fancy_regex_class.specs.RunInputs.{setting_for, search_for, group_slots, match_slots}
+use Rattle.fancy_regex_class.specs.declared.input.RunInput.{RunInput}
 use Rattle.fancy_regex_machine.specs.SearchAnswers.{match_places}
 use Rattle.fancy_regex_machine.specs.RunArguments.{run_parameters_for}
 use Rattle.fancy_regex_machine.specs.RunConfigs.{may_start}
 use Rattle.fancy_regex_machine.specs.declared.search.RunOptions.{RunOptions}
 use Rattle.fancy_regex_engine.specs.EngineAgreement.{EnginesAgree, TriesAllStarts}
 
-flat_same : (ps : Pairs) → program.flat ps ≡ runner.flat ps
-flat_same [] = refl
-flat_same (None ∷ ps) = ap (λ xs. 18446744073709551615 ∷ 18446744073709551615 ∷ xs) (flat_same ps)
-flat_same (Some pair ∷ ps) = ap (λ xs. pair.0 ∷ pair.1 ∷ xs) (flat_same ps)
-
 -- the places of a match are told alike
 chosen_same : (b : Bool) (m : Match) → match_places (not b) m
-    ≡ cond b (runner.flat m.pairs) (slice_set (slice_set (runner.flat m.pairs) 0 m.start) 1 m.end)
-chosen_same true m = flat_same m.pairs
-chosen_same false m = ap (λ xs. slice_set (slice_set xs 0 m.start) 1 m.end) (flat_same m.pairs)
+    ≡ cond b (group_slots m.pairs) (slice_set (slice_set (group_slots m.pairs) 0 m.start) 1 m.end)
+chosen_same true m = refl
+chosen_same false m = refl
 
 places_same : (pattern : Pattern) (whole : Bool) → whole ≡ not (pattern.first_group == 0) → (o : Option Match)
-    → option_map (match_places whole) o ≡ option_map (places_of pattern) o
+    → option_map (match_places whole) o ≡ option_map (match_slots pattern) o
 places_same pattern whole is None = refl
 places_same pattern whole is (Some m) = ap (λ b. Some (match_places b m)) is ∙ ap Some (chosen_same (pattern.first_group == 0) m)
 
@@ -73,5 +64,5 @@ one_answer prog easy pattern text input options ran searched of free asked runs 
     runs pattern false of.program asked
     ∙ ap (option_map (match_places prog.whole)) (match_is prog.unicode prog.longest text input options pattern free)
     ∙ places_same pattern prog.whole (of.whole ∙ of.runner.whole) _
-    ∙ ap₂ (λ (u l : Bool). option_map (places_of pattern) (first_match (setting_for u text input) pattern (search_for l input))) of.unicode of.longest
+    ∙ ap₂ (λ (u l : Bool). option_map (match_slots pattern) (first_match (setting_for u text input) pattern (search_for l input))) of.unicode of.longest
     ∙ sym (searches pattern of.runner)

@@ -7,11 +7,10 @@ use Rattle.fancy_regex_meaning.specs.Searches.{first_match}
 use Rattle.fancy_regex_desugar.specs.Unfolded.{core_pattern_of}
 use Rattle.fancy_regex_program_laws.specs.ProgramLaws.{RunRequirements}
 use Rattle.fancy_regex_program.specs.declared.prog.Prog.{Prog}
-use Rattle.fancy_regex_runner.specs.Easy.{setting_for, search_for}
-use Rattle.fancy_regex_runner.specs.Plain.{places_of}
+use Rattle.fancy_regex_class.specs.RunInputs.{setting_for, search_for, match_slots}
 use Rattle.fancy_regex_runner.specs.Runner.{IsEasyOf}
 use Rattle.fancy_regex_runner.specs.declared.easy.Easy.{Easy}
-use Rattle.fancy_regex_runner.specs.declared.input.RunInput.{RunInput}
+use Rattle.fancy_regex_class.specs.declared.input.RunInput.{RunInput}
 use Rattle.fancy_regex_program.specs.Programs.{IsProgramOf}
 use Rattle.fancy_regex_machine.specs.SearchAnswers.{Answered}
 use Rattle.fancy_regex_machine.specs.RunArguments.{run_parameters_for}
@@ -35,7 +34,7 @@ RunAnswers prog text input options result = (pattern : Pattern) (anchored : Bool
 -- the contract of `Easy::search` on its result
 abbrev pub SearchAnswers : Easy → List ℕ → RunInput → Result Places AllocError → Type 0
 SearchAnswers easy text input result = IfOk result (λ found. (pattern : Pattern) → IsEasyOf easy pattern
-    → listed found ≡ option_map (places_of pattern) (first_match (setting_for easy.unicode text input) pattern (search_for easy.longest input)))
+    → listed found ≡ option_map (match_slots pattern) (first_match (setting_for easy.unicode text input) pattern (search_for easy.longest input)))
 
 -- The program and the runner were made from one pattern, with the same options.
 pub record AreOfSamePattern (prog : Prog) (easy : Easy) (pattern : Pattern) : Type 0 where

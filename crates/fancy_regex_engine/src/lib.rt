@@ -5,14 +5,14 @@
 ghost use Rattle.fancy_regex_engine.specs.EngineAgreement.{EnginesAgree};
 
 pub use fancy_regex_class::{
-    CaseiLiteral, CharClassMatcher, ClassError, Counted, Steps, fold, is_word,
+    CaseiLiteral, CharClassMatcher, ClassError, Counted, RunInput, Steps, fold, is_word,
 };
 pub use fancy_regex_info::{AnalyzeContext, BytesMode, CompileError, CompileOptions, Info};
 pub use fancy_regex_machine::{RunOptions, RuntimeError, run, run_default, run_spans};
 pub use fancy_regex_program::{
     AbsentRepeater, CaptureGroupRange, Insn, Prog, Repeat, RepeatEpsilon, compile,
 };
-pub use fancy_regex_runner::{Easy, RunInput};
+pub use fancy_regex_runner::Easy;
 pub use fancy_regex_sizes::{analyze, can_compile_as_anchored, is_well_formed};
 
 /// Wherever both succeed, a run of a pattern's program and an `Easy` search of the same pattern return the same spans of all groups. The run

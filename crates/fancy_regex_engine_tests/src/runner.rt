@@ -2,7 +2,8 @@
 
 use fancy_regex_class::Steps;
 use fancy_regex_info::{AnalyzeContext, BytesMode, CompileError, CompileOptions};
-use fancy_regex_runner::{Easy, RunInput};
+use fancy_regex_class::RunInput;
+use fancy_regex_runner::Easy;
 use fancy_regex_sizes::analyze;
 use fancy_regex_tree::{Error, Expr};
 use std::alloc::{AllocError, Global};

@@ -2,6 +2,7 @@ pub mod ExampleProofs
 pub mod EachLemmas
 pub mod WayProofs
 pub mod BoundaryLemmas
+pub mod NextBoundaryLemmas
 pub mod ForwardProofs
 pub mod ListProofs
 pub mod FirstWayProofs

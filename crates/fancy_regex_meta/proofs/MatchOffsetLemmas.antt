@@ -15,7 +15,7 @@ use Rattle.fancy_regex_meaning.proofs.EachLemmas.{Each-weaker, Each-filter, Each
 use Rattle.fancy_regex_meaning.proofs.MatchStartProofs.{chosen_holds, found_in_list, first_in_list, matches_are_spans}
 use Rattle.fancy_regex_meaning.proofs.WayProofs.{Keeps, ways_go_well}
 use Rattle.fancy_regex_meaning.proofs.SearchProofs.{matches_are_admitted, matches_cut_well}
-use Rattle.fancy_regex_runner.specs.Plain.{flat, places_of}
+use Rattle.fancy_regex_class.specs.RunInputs.{group_slots, match_slots}
 use Rattle.fancy_regex_input.specs.SearchInputs.{FitsText}
 use Rattle.fancy_regex_input.specs.declared.config.SearchConfig.{SearchConfig}
 use Rattle.fancy_regex_meta.specs.MetaMatches.{meta_pattern, meta_match_from}
@@ -78,7 +78,7 @@ module _ (s : Setting) (pattern : Pattern) (find : Search) where
         many = has_pairs found.0 m found.2;
       }
 
-length-flat : (ps : Pairs) → length (flat ps) ≡ 2 * length ps
+length-flat : (ps : Pairs) → length (group_slots ps) ≡ 2 * length ps
 length-flat [] = refl
 length-flat (None ∷ ps) = omega (arith, length-flat ps)
 length-flat (Some pair ∷ ps) = omega (arith, length-flat ps)
@@ -95,8 +95,8 @@ begins_so (x ∷ []) a b h = absurd (omega (arith, h))
 begins_so (x ∷ y ∷ xs) a b h = record { long = omega (arith, h); first = refl; second = refl }
 
 -- the group offsets of a match of a tree
-places_begin : (t : Tree) (m : Match) → length m.pairs ≡ length (pattern_of t).groups → Begins (places_of (pattern_of t) m) m.start m.end
-places_begin t m many = begins_so (flat m.pairs) m.start m.end (omega (arith, many, length-flat m.pairs))
+places_begin : (t : Tree) (m : Match) → length m.pairs ≡ length (pattern_of t).groups → Begins (match_slots (pattern_of t) m) m.start m.end
+places_begin t m many = begins_so (group_slots m.pairs) m.start m.end (omega (arith, many, length-flat m.pairs))
 
 some-of : {A B : Type 0} (f : A → B) (o : Option A) (v : B) → Some v ≡ option_map f o → (m : A) × (o ≡ Some m) × (v ≡ f m)
 some-of f None v e = absurd (none-some v (sym e))
@@ -115,12 +115,12 @@ first_fits text a fits inside =
 -- what a search has found lies where it was looked for
 pub found_within : (s : MetaRegex) (text : List ℕ) (a : SearchConfig) (continue_disabled : Bool) (found : Option (Vec ℕ Global)) →
     IsUtf8 text → IsCharBoundary text (max a.start a.range_start) → a.range_end ≤ length text →
-    option_map (λ (v : Vec ℕ Global). v.items) found ≡ option_map (places_of (meta_pattern s)) (meta_match_from s text a (max a.start a.range_start) continue_disabled) →
+    option_map (λ (v : Vec ℕ Global). v.items) found ≡ option_map (match_slots (meta_pattern s)) (meta_match_from s text a (max a.start a.range_start) continue_disabled) →
     IfSome found (λ v. IsMatchWithin text a v.items)
 unfolding search_from
 found_within s text a continue_disabled None utf8 h inside e = tt
 found_within s text a continue_disabled (Some v) utf8 h inside e =
-    let f = some-of (places_of (meta_pattern s)) (meta_match_from s text a (max a.start a.range_start) continue_disabled) v.items e in
+    let f = some-of (match_slots (meta_pattern s)) (meta_match_from s text a (max a.start a.range_start) continue_disabled) v.items e in
     let m : Match = f.0 in
     let lies = first_lies _ (meta_pattern s) _ utf8 h inside m f.1 in
     let begins = subst (λ (xs : List ℕ). Begins xs m.start m.end) (sym f.2) (places_begin (tree_in s.options (string_bytes s.pattern)) m lies.many) in

@@ -7,14 +7,12 @@ use Rattle.fancy_regex_tree.specs.Tree.{Tree}
 use Rattle.fancy_regex_meaning.specs.Groups.{Pattern, pattern_of}
 use Rattle.fancy_regex_meaning.specs.Ways.{Pairs, Setting}
 use Rattle.fancy_regex_meaning.specs.Searches.{Match, first_match, first_some, match_at, Search}
-use Rattle.fancy_regex_runner.specs.Plain as plain
-use Rattle.fancy_regex_runner.specs.Easy.{setting_for}
-use Rattle.fancy_regex_runner.specs.declared.input.RunInput.{RunInput}
+use Rattle.fancy_regex_class.specs.RunInputs.{setting_for, match_slots}
+use Rattle.fancy_regex_class.specs.declared.input.RunInput.{RunInput}
 use Rattle.fancy_regex_meaning.specs.Choices.{choices, choices_through}
 use Rattle.fancy_regex_desugar.specs.Unfolded.{core_pattern_of}
 use Rattle.fancy_regex_program.specs.Machine.{unset, RunParameters}
 use Rattle.fancy_regex_program.specs.Shapes.{IsWritable}
-use Rattle.fancy_regex_program.specs.SlotLayout as program
 use Rattle.fancy_regex_program.specs.declared.prog.Prog.{Prog}
 use Rattle.fancy_regex_program_laws.specs.ProgramLaws.{first_group_number, RunRequirements}
 use Rattle.fancy_regex_machine.specs.RunArguments.{run_parameters_for}
@@ -27,16 +25,11 @@ use Rattle.fancy_regex_meta.specs.Strategies.{search_of, IsCompiled}
 use Rattle.fancy_regex_meta.specs.SearchLimits.{IsSearchError, run_choices}
 use Rattle.fancy_regex_meta.specs.declared.options.RegexOptions.{RegexOptions}
 
-flat-same : (ps : Pairs) → program.flat ps ≡ plain.flat ps
-flat-same [] = refl
-flat-same (None ∷ ps) = ap (λ (xs : List ℕ). 18446744073709551615 ∷ 18446744073709551615 ∷ xs) (flat-same ps)
-flat-same (Some pair ∷ ps) = ap (λ (xs : List ℕ). pair.0 ∷ pair.1 ∷ xs) (flat-same ps)
-
 -- where group 0 is the whole match, both give the same offsets
-slots-same : (t : Tree) (m : Match) → match_places true m ≡ plain.places_of (pattern_of t) m
-slots-same t m = ap (λ (xs : List ℕ). slice_set (slice_set xs 0 m.start) 1 m.end) (flat-same m.pairs)
+slots-same : (t : Tree) (m : Match) → match_places true m ≡ match_slots (pattern_of t) m
+slots-same t m = refl
 
-map-same : (t : Tree) (o : Option Match) → option_map (match_places true) o ≡ option_map (plain.places_of (pattern_of t)) o
+map-same : (t : Tree) (o : Option Match) → option_map (match_places true) o ≡ option_map (match_slots (pattern_of t)) o
 map-same t None = refl
 map-same t (Some m) = ap Some (slots-same t m)
 
@@ -60,7 +53,7 @@ found-same o t text input limit =
 pub program-answers : (o : RegexOptions) (t : Tree) (text : List ℕ) (input : RunInput) (limit : ℕ) (unicode longest whole : Bool) →
     unicode ≡ o.unicode_mode → longest ≡ o.leftmost_longest → whole ≡ true → (slots : Option (List ℕ)) →
     slots ≡ option_map (match_places whole) (found_match (run_parameters_for unicode longest text input (record { backtrack_limit = limit; find_not_empty = o.find_not_empty; seek = None })) (pattern_of t) false) →
-    slots ≡ option_map (plain.places_of (pattern_of t)) (first_match (setting_for o.unicode_mode text input) (pattern_of t) (search_of o input))
+    slots ≡ option_map (match_slots (pattern_of t)) (first_match (setting_for o.unicode_mode text input) (pattern_of t) (search_of o input))
 program-answers o t text input limit unicode longest whole u l w slots e =
     (rw (u, l, w) at e) ∙ ap (option_map (match_places true)) (found-same o t text input limit) ∙ map-same t _
 

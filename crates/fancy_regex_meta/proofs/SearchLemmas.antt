@@ -5,8 +5,8 @@ use Rattle.fancy_regex_meaning.specs.Groups.{Pattern}
 use Rattle.fancy_regex_meaning.specs.Ways.{Setting}
 use Rattle.fancy_regex_meaning.specs.Searches.{Search, first_match, search_from}
 use Rattle.fancy_regex_class.specs.Classes.{setting_of}
-use Rattle.fancy_regex_runner.specs.Easy.{setting_for}
-use Rattle.fancy_regex_runner.specs.declared.input.RunInput.{RunInput}
+use Rattle.fancy_regex_class.specs.RunInputs.{setting_for}
+use Rattle.fancy_regex_class.specs.declared.input.RunInput.{RunInput}
 use Rattle.fancy_regex_input.specs.SearchInputs.{input_of}
 use Rattle.fancy_regex_input.specs.declared.config.SearchConfig.{SearchConfig}
 use Rattle.fancy_regex_meta.specs.Patterns.{options_in, setting_in, pattern_in}

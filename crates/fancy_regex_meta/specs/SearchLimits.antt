@@ -6,9 +6,9 @@ use Rattle.fancy_regex_meaning.specs.Ways.{Setting}
 use Rattle.fancy_regex_meaning.specs.Searches.{Search, match_at, starts}
 use Rattle.fancy_regex_meaning.specs.Choices.{choices}
 use Rattle.fancy_regex_meaning.specs.Sizes.{tree_weight}
-use Rattle.fancy_regex_runner.specs.Easy.{setting_for}
+use Rattle.fancy_regex_class.specs.RunInputs.{setting_for}
 use Rattle.fancy_regex_runner.specs.Find.{attempted}
-use Rattle.fancy_regex_runner.specs.declared.input.RunInput.{RunInput}
+use Rattle.fancy_regex_class.specs.declared.input.RunInput.{RunInput}
 use Rattle.fancy_regex_machine.specs.declared.error.RuntimeError.TheVariants.{BacktrackLimitExceeded, StackOverflow, Memory}
 use Rattle.fancy_regex_input.specs.declared.config.SearchConfig.{SearchConfig}
 use Rattle.fancy_regex_meta.specs.Patterns.{tree_in, pattern_in, options_in, setting_in}

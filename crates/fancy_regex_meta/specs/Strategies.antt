@@ -9,7 +9,7 @@ use Rattle.fancy_regex_program.specs.Programs.{IsProgramOf}
 use Rattle.fancy_regex_program.specs.Shapes.{IsWritable}
 use Rattle.fancy_regex_program.specs.declared.prog.Prog.{Prog}
 use Rattle.fancy_regex_runner.specs.Runner.{IsEasyOf}
-use Rattle.fancy_regex_runner.specs.declared.input.RunInput.{RunInput}
+use Rattle.fancy_regex_class.specs.declared.input.RunInput.{RunInput}
 use Rattle.fancy_regex_meta.specs.Patterns.{options_in}
 use Rattle.fancy_regex_meta.specs.declared.options.RegexOptions.{RegexOptions}
 use Rattle.fancy_regex_meta.specs.declared.strategy.Strategy.{Strategy}

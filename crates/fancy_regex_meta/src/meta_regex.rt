@@ -3,7 +3,7 @@
 ghost use Rattle.std.specs.Prelude.{◌≡◌, ◌≤◌, ◌+◌, ◌-◌, ◌^◌, true, false, min, max, not, ◌&&◌, Some, None, length, IfOk, IfErr, IfSome, option_map, string_bytes, if◌then◌else◌, IsCharBoundary};
 ghost use Rattle.fancy_regex_tree.specs.Tree.{tree_of};
 ghost use Rattle.fancy_regex_meaning.specs.Groups.{pattern_of};
-ghost use Rattle.fancy_regex_runner.specs.Plain.{places_of};
+ghost use Rattle.fancy_regex_class.specs.RunInputs.{match_slots};
 ghost use Rattle.fancy_regex_input.specs.SearchInputs.{FitsText};
 ghost use Rattle.fancy_regex_meta.specs.Strategies.{Executes};
 ghost use Rattle.fancy_regex_meta.specs.GroupNames.{AreGroupNumbersOf};
@@ -15,11 +15,10 @@ use crate::error::Result;
 use crate::flags::flags_of;
 use crate::options::RegexOptions;
 use crate::strategy::Strategy;
-use fancy_regex_class::Steps;
+use fancy_regex_class::{RunInput, Steps};
 use fancy_regex_info::AnalyzeContext;
 use fancy_regex_input::SearchConfig;
 use fancy_regex_meaning::laws_of_groups;
-use fancy_regex_runner::RunInput;
 use fancy_regex_sizes::analyze;
 use fancy_regex_tree::{Expr, ExprTree, NamedGroups};
 use std::alloc::Global;
@@ -152,7 +151,7 @@ impl MetaRegex {
     ) -> Result<Option<Vec<usize>>>
         requires { FitsText text.now config }
         ensures answer { IfOk result (λ found. option_map (λ v. v.items) found
-            ≡ option_map (places_of (meta_pattern self.now)) (meta_match_from self.now text.now config (max config.start config.range_start) continue_disabled)) }
+            ≡ option_map (match_slots (meta_pattern self.now)) (meta_match_from self.now text.now config (max config.start config.range_start) continue_disabled)) }
         ensures within { IfOk result (λ found. IfSome found (λ v. IsMatchWithin text.now config v.items)) }
         ensures limits { IfErr result (λ e. IsMetaSearchError self.now text.now config continue_disabled e) }
         ensures looks_most { meta_uses_easy self.now ≡ true → steps.new ≤ steps.old + max_looks self.now config }

@@ -12,19 +12,18 @@ ghost use Rattle.fancy_regex_sizes.specs.AnalysisErrors.{is_too_complex};
 ghost use Rattle.fancy_regex_info.specs.Infos.{info_of};
 ghost use Rattle.fancy_regex_info.specs.declared.options.BytesMode.TheVariants.{Unicode};
 ghost use Rattle.fancy_regex_info.specs.declared.info.Info.{out-Info};
-ghost use Rattle.fancy_regex_runner.specs.Easy.{setting_for};
-ghost use Rattle.fancy_regex_runner.specs.Plain.{places_of};
+ghost use Rattle.fancy_regex_class.specs.RunInputs.{setting_for, match_slots};
 ghost use Rattle.fancy_regex_runner.specs.Refusals.{IsTaken, IsCause};
 ghost use Rattle.fancy_regex_runner.specs.Runner.{IsEasyOf};
 ghost use Rattle.fancy_regex_meta.specs.Refusals.{compile_options_of, IsCompileRefusal};
 
 use crate::error::Result;
 use crate::options::RegexOptions;
-use fancy_regex_class::Steps;
+use fancy_regex_class::{RunInput, Steps};
 use fancy_regex_info::{CompileError, CompileOptions, Info};
 use fancy_regex_machine::{RunOptions, run};
 use fancy_regex_program::{Prog, compile};
-use fancy_regex_runner::{Easy, RunInput};
+use fancy_regex_runner::Easy;
 use std::alloc::Global;
 
 /// What executes a compiled pattern.
@@ -105,7 +104,7 @@ impl Strategy {
         requires first { IsCharBoundary text.now input.now.first }
         requires range { input.now.range.end ≤ length text.now }
         ensures answer { IfOk result (λ found. (t : Tree) → Executes self.now options.now t
-            → option_map (λ v. v.items) found ≡ option_map (places_of (pattern_of t))
+            → option_map (λ v. v.items) found ≡ option_map (match_slots (pattern_of t))
             (first_match (setting_for options.now.unicode_mode text.now input.now) (pattern_of t) (search_of options.now input.now))) }
         ensures limits { IfErr result (λ e. (t : Tree) → Executes self.now options.now t
             → IsSearchError (is_easy_strategy self.now) options.now.backtrack_limit (run_choices options.now text.now input.now t) e) }

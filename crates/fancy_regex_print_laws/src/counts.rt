@@ -9,7 +9,7 @@ use fancy_regex_tree::Expr;
 
 /// Walks the tree, to show that the upper bound of each quantifier fits `usize`, whose largest value means unbounded.
 #[cycle(counts_fit)]
-#[tactic(auto, unfolding(crate::specs::Reprint::CountsFit))]
+#[tactic(auto, unfolding(crate::specs::ReprintLaws::CountsFit))]
 pub fn counts_fit(expr: &Expr)
     ensures { CountsFit (tree_of expr.now) }
 {

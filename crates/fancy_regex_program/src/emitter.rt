@@ -43,7 +43,7 @@ pub(crate) struct Scope {
     pub may_be_absent: bool,
 }
 
-/// One level of nesting descend. The error is `Memory` at the limit, since the call stack is limited too.
+/// One level of nesting deeper. The error is `Memory` at the limit, since the call stack is limited too.
 pub(crate) fn descend(depth_left: usize) -> Result<usize, CompileError>
     ensures left { IfOk result (λ left. left + 1 ≡ depth_left) }
     ensures full { IfErr result (λ e. is_too_complex e ≡ false) }

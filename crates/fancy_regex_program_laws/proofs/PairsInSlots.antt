@@ -3,7 +3,8 @@ use Rattle.std.proofs.Common.{◌≡◌, ℕ, zero, suc, ◌+◌, ◌*◌, ◌<�
 use Rattle.std.proofs.Math.Seq.{take-set-lt}
 use Rattle.fancy_regex_meaning.specs.Ways.{Pairs, MatchState, set_pair, pair_of}
 use Rattle.fancy_regex_program.specs.Machine.{unset}
-use Rattle.fancy_regex_program.specs.SlotLayout.{flat, slots_of_way}
+use Rattle.fancy_regex_program.specs.SlotLayout.{slots_of_way}
+use Rattle.fancy_regex_class.specs.RunInputs.{group_slots}
 
 pub set_commutes : (xs : List ℕ) (i j a b : ℕ) → (i ≡ j → ⊥) → set (set xs i a) j b ≡ set (set xs j b) i a
 set_commutes [] i j a b ne = refl
@@ -17,13 +18,13 @@ set_twice [] i a b = refl
 set_twice (x ∷ xs) zero a b = refl
 set_twice (x ∷ xs) (suc i) a b = ap (λ l. x ∷ l) (set_twice xs i a b)
 
-pub length_flat : (ps : Pairs) → length (flat ps) ≡ 2 * length ps
+pub length_flat : (ps : Pairs) → length (group_slots ps) ≡ 2 * length ps
 length_flat [] = refl
 length_flat (None ∷ ps) = omega (arith, length_flat ps)
 length_flat (Some p ∷ ps) = omega (arith, length_flat ps)
 
 flat_set : (ps : Pairs) (k i j a b : ℕ) → k < length ps → i ≡ 2 * k → j ≡ 2 * k + 1 →
-    flat (set ps k (Some (a, b))) ≡ set (set (flat ps) i a) j b
+    group_slots (set ps k (Some (a, b))) ≡ set (set (group_slots ps) i a) j b
 flat_set [] k i j a b lt e f = absurd (omega arith)
 flat_set (None ∷ ps) zero zero (suc zero) a b lt e f = refl
 flat_set (Some p ∷ ps) zero zero (suc zero) a b lt e f = refl
@@ -47,7 +48,7 @@ abbrev pub end_of : Option (ℕ × ℕ) → ℕ
 end_of None = unset
 end_of (Some p) = p.1
 
-flat_start : (ps : Pairs) (k i : ℕ) → k < length ps → i ≡ 2 * k → get_or (flat ps) i 0 ≡ start_of (get_or ps k None)
+flat_start : (ps : Pairs) (k i : ℕ) → k < length ps → i ≡ 2 * k → get_or (group_slots ps) i 0 ≡ start_of (get_or ps k None)
 flat_start [] k i lt e = absurd (omega arith)
 flat_start (None ∷ ps) zero zero lt e = refl
 flat_start (Some p ∷ ps) zero zero lt e = refl
@@ -57,7 +58,7 @@ flat_start (p ∷ ps) zero (suc i) lt e = absurd (omega arith)
 flat_start (p ∷ ps) (suc k) zero lt e = absurd (omega arith)
 flat_start (p ∷ ps) (suc k) (suc zero) lt e = absurd (omega arith)
 
-flat_end : (ps : Pairs) (k i : ℕ) → k < length ps → i ≡ 2 * k + 1 → get_or (flat ps) i 0 ≡ end_of (get_or ps k None)
+flat_end : (ps : Pairs) (k i : ℕ) → k < length ps → i ≡ 2 * k + 1 → get_or (group_slots ps) i 0 ≡ end_of (get_or ps k None)
 flat_end [] k i lt e = absurd (omega arith)
 flat_end (None ∷ ps) zero (suc zero) lt e = refl
 flat_end (Some p ∷ ps) zero (suc zero) lt e = refl
@@ -75,7 +76,7 @@ laid_start false w k apart lt = flat_start w.pairs k (2 * k) lt refl
 laid_start true w k apart lt =
     let far = apart refl in
     let ne : 2 * k ≡ 0 → ⊥ = λ (e : 2 * k ≡ 0). omega arith in
-    get_or-set_other (flat w.pairs) 0 (2 * k) w.kept 0 ne ∙ flat_start w.pairs k (2 * k) lt refl
+    get_or-set_other (group_slots w.pairs) 0 (2 * k) w.kept 0 ne ∙ flat_start w.pairs k (2 * k) lt refl
 
 pub laid_end : (whole : Bool) (w : MatchState) (k : ℕ) → (whole ≡ true → 1 ≤ k) → k < length w.pairs →
     get_or (slots_of_way whole w) (2 * k + 1) 0 ≡ end_of (pair_of w k)
@@ -83,7 +84,7 @@ laid_end false w k apart lt = flat_end w.pairs k (2 * k + 1) lt refl
 laid_end true w k apart lt =
     let far = apart refl in
     let ne : 2 * k + 1 ≡ 0 → ⊥ = λ (e : 2 * k + 1 ≡ 0). omega arith in
-    get_or-set_other (flat w.pairs) 0 (2 * k + 1) w.kept 0 ne ∙ flat_end w.pairs k (2 * k + 1) lt refl
+    get_or-set_other (group_slots w.pairs) 0 (2 * k + 1) w.kept 0 ne ∙ flat_end w.pairs k (2 * k + 1) lt refl
 
 laid_set : (whole : Bool) (v : MatchState) (k a b : ℕ) → (whole ≡ true → 1 ≤ k) → k < length v.pairs →
     set (set (slots_of_way whole v) (2 * k) a) (2 * k + 1) b ≡ slots_of_way whole (set_pair k (a, b) v)
@@ -92,8 +93,8 @@ laid_set true v k a b apart lt =
     let far = apart refl in
     let ne : 0 ≡ 2 * k → ⊥ = λ (e : 0 ≡ 2 * k). omega arith in
     let ne1 : 0 ≡ 2 * k + 1 → ⊥ = λ (e : 0 ≡ 2 * k + 1). omega arith in
-    ap (λ l. set l (2 * k + 1) b) (set_commutes (flat v.pairs) 0 (2 * k) v.kept a ne)
-    ∙ set_commutes (set (flat v.pairs) (2 * k) a) 0 (2 * k + 1) v.kept b ne1
+    ap (λ l. set l (2 * k + 1) b) (set_commutes (group_slots v.pairs) 0 (2 * k) v.kept a ne)
+    ∙ set_commutes (set (group_slots v.pairs) (2 * k) a) 0 (2 * k + 1) v.kept b ne1
     ∙ ap (λ l. set l 0 v.kept) (sym (flat_set v.pairs k (2 * k) (2 * k + 1) a b lt refl refl))
 
 -- the slots after a pair is written
@@ -108,4 +109,4 @@ take_pair whole count n v k a b apart lt many fits =
 pub take_kept : (count : ℕ) (n : List ℕ) (v : MatchState) (p : ℕ) → 1 ≤ count → take (2 * count) n ≡ slots_of_way true v →
     take (2 * count) (set n 0 p) ≡ slots_of_way true (record v { kept = p })
 take_kept count n v p some fits =
-    take-set-lt (2 * count) n 0 p (omega arith) ∙ ap (λ x. set x 0 p) fits ∙ set_twice (flat v.pairs) 0 v.kept p
+    take-set-lt (2 * count) n 0 p (omega arith) ∙ ap (λ x. set x 0 p) fits ∙ set_twice (group_slots v.pairs) 0 v.kept p

@@ -9,7 +9,7 @@ use Rattle.regex_hir.specs.Text.{char_at, is_boundary}
 use Rattle.regex_hir.proofs.TextLemmas.{char_at_fits, char_at_parts}
 use Rattle.fancy_regex_meaning.specs.Positions.{numbers_from, boundaries, position_before}
 use Rattle.fancy_regex_class.proofs.AdjacentCharLemmas.{char_before_past}
-use Rattle.fancy_regex_runner.proofs.StartLemmas.{next_place, end_place}
+use Rattle.fancy_regex_meaning.proofs.NextBoundaryLemmas.{next_place, end_place}
 use Rattle.fancy_regex_program.specs.Machine.{match_char}
 use Rattle.fancy_regex_program_laws.proofs.Runs.{boundary_is}
 

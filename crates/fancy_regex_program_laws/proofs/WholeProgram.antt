@@ -18,7 +18,8 @@ use Rattle.fancy_regex_program.specs.Ops as op
 use Rattle.fancy_regex_program.specs.Ops.{Op}
 use Rattle.fancy_regex_program.specs.Machine.{unset, RunParameters, Ending, ended, initial_run_state, Move, goes, forks, fails, accepts, wrote, act, with_slot, starts_here, next_start, farther, is_start, is_scan, back, pop, exec, tried, first_thread}
 use Rattle.fancy_regex_program.specs.Code.{slots_in, opening, closing, program_of}
-use Rattle.fancy_regex_program.specs.SlotLayout.{flat, slots_of_way, slots_of_match}
+use Rattle.fancy_regex_program.specs.SlotLayout.{slots_of_way, slots_of_match}
+use Rattle.fancy_regex_class.specs.RunInputs.{group_slots}
 use Rattle.fancy_regex_program_laws.specs.ProgramLaws.{FoundMatch, found_by_thread, entry_way, way_at, choices_up_to, first_group_number, RunRequirements, attempted_starts, Terminates, ProgramsAnswerSearches}
 use Rattle.fancy_regex_program_laws.proofs.Denote.{Tale, Follow, ending}
 use Rattle.fancy_regex_program_laws.proofs.Runs.{thread, Within, IsPlain, Sound, Comes, known, Pops, Follows, forked, by_move, Does}
@@ -39,7 +40,7 @@ has_all (x ∷ xs) pre =
     let rest' = subst (λ l. HasAt l (length (pre ++ x ∷ [])) xs) (append_assoc pre (x ∷ []) xs) rest in
     (here, subst (λ m. HasAt (pre ++ x ∷ xs) m xs) n rest')
 
-flat_none : (count : ℕ) → flat (replicate count None) ≡ replicate (2 * count) unset
+flat_none : (count : ℕ) → group_slots (replicate count None) ≡ replicate (2 * count) unset
 flat_none zero = refl
 flat_none (suc count) =
     let e : 2 * suc count ≡ suc (suc (2 * count)) = omega arith in
@@ -238,8 +239,8 @@ module _ (r : RunParameters) (p : CorePattern) (whole anchored : Bool) (count : 
   kept_there : (v : MatchState) (n : List ℕ) → whole ≡ true → length v.pairs ≡ count → take (2 * count) n ≡ slots_of_way whole v → get_or n 0 0 ≡ v.kept
   kept_there v n is many fits =
       let some = asked.groups is in
-      let long : 0 < length (flat v.pairs) = omega (arith, length_flat v.pairs) in
-      sym (get_or-take (2 * count) n 0 0 (omega arith)) ∙ ap (λ l. get_or l 0 0) (fits ∙ ap (λ b. slots_of_way b v) is) ∙ get_or-set_same (flat v.pairs) 0 v.kept 0 long
+      let long : 0 < length (group_slots v.pairs) = omega (arith, length_flat v.pairs) in
+      sym (get_or-take (2 * count) n 0 0 (omega arith)) ∙ ap (λ l. get_or l 0 0) (fits ∙ ap (λ b. slots_of_way b v) is) ∙ get_or-set_same (group_slots v.pairs) 0 v.kept 0 long
 
   close_comes : (b : Bool) → whole ≡ b → (pc : ℕ) → HasAt code pc (cond b (op.save 1 ∷ []) [] ++ op.finish ∷ []) → (v : MatchState) (n : List ℕ) (stack : List Thread) (x : Tale) →
       2 * count ≤ length n → Sound r.setting.text count v → take (2 * count) n ≡ slots_of_way whole v → Pops code r whole count stack x →
@@ -282,7 +283,7 @@ module _ (r : RunParameters) (p : CorePattern) (whole anchored : Bool) (count : 
   abbrev slots : List ℕ
   slots = replicate (2 * count + slots_in p) unset
 
-  slots_fit : take (2 * count) slots ≡ flat (no_pairs count)
+  slots_fit : take (2 * count) slots ≡ group_slots (no_pairs count)
   slots_fit = take_unset (2 * count) (slots_in p) ∙ sym (flat_none count)
 
   -- from the operation behind the one that tries starts

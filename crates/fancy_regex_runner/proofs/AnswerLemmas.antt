@@ -22,10 +22,11 @@ use Rattle.fancy_regex_runner.specs.Attempt.{Continuation, accept, attempt, bett
 use Rattle.fancy_regex_runner.specs.Program.{emitted, NamesBelow, AgreeBut}
 use Rattle.fancy_regex_runner.specs.Search.{Closed, AllAgree}
 use Rattle.fancy_regex_runner.specs.Find.{Hit, earliest, attempted, places}
-use Rattle.fancy_regex_runner.specs.Plain.{IsPlain, classes, re_of, flat, places_of}
+use Rattle.fancy_regex_runner.specs.Plain.{IsPlain, classes, re_of}
+use Rattle.fancy_regex_class.specs.RunInputs.{group_slots, match_slots, setting_for, search_for}
 use Rattle.fancy_regex_runner.specs.SettingView.{view_of}
-use Rattle.fancy_regex_runner.specs.Easy.{AreStatesOf, IsMade, setting_for, search_for, hit_places}
-use Rattle.fancy_regex_runner.specs.declared.input.RunInput.{RunInput}
+use Rattle.fancy_regex_runner.specs.Easy.{AreStatesOf, IsMade, hit_places}
+use Rattle.fancy_regex_class.specs.declared.input.RunInput.{RunInput}
 use Rattle.fancy_regex_runner.specs.declared.state.State.{State}
 use Rattle.fancy_regex_runner.specs.declared.state.State.TheVariants.{Split, Enter, Leave}
 use Rattle.fancy_regex_runner.specs.declared.state.State.TheVariants as S
@@ -106,7 +107,7 @@ unfolding kept
 admitted_same longest input [] = refl
 admitted_same longest input (w ∷ ws) = admitted_here (nat_le w.position input.range.end) w _ _ (admitted_same longest input ws)
 
-flat_none : (n : ℕ) → flat (replicate n None) ≡ replicate (2 * n) 18446744073709551615
+flat_none : (n : ℕ) → group_slots (replicate n None) ≡ replicate (2 * n) 18446744073709551615
 flat_none zero = refl
 flat_none (suc n) =
     let two : 2 * suc n ≡ suc (suc (2 * n)) = omega arith in
@@ -114,16 +115,16 @@ flat_none (suc n) =
 
 -- two answers at a place say the same
 answer_here : (p : ℕ) (whole : Bool) (pattern : Pattern) (a : Option Match) (b : Option Spot) (r : Option Match) (q : Option Hit)
-    → option_map (places_of pattern) a ≡ option_map (λ w. hit_places whole (record { start = p; way = w })) b
-    → option_map (places_of pattern) r ≡ option_map (hit_places whole) q
-    → option_map (places_of pattern) (elim a [ None ↦ r | Some y ↦ Some y ]) ≡ option_map (hit_places whole) (elim b [ None ↦ q | Some w ↦ Some (record { start = p; way = w }) ])
+    → option_map (match_slots pattern) a ≡ option_map (λ w. hit_places whole (record { start = p; way = w })) b
+    → option_map (match_slots pattern) r ≡ option_map (hit_places whole) q
+    → option_map (match_slots pattern) (elim a [ None ↦ r | Some y ↦ Some y ]) ≡ option_map (hit_places whole) (elim b [ None ↦ q | Some w ↦ Some (record { start = p; way = w }) ])
 answer_here p whole pattern None None r q e f = f
 answer_here p whole pattern (Some y) (Some w) r q e f = e
 answer_here p whole pattern None (Some w) r q e f = cc
 answer_here p whole pattern (Some y) None r q e f = cc
 
 tried_same_here : (p : ℕ) (whole : Bool) (pattern : Pattern) (a : Option Match) (b : Option Spot) (r q : ℕ)
-    → option_map (places_of pattern) a ≡ option_map (λ w. hit_places whole (record { start = p; way = w })) b → r ≡ q
+    → option_map (match_slots pattern) a ≡ option_map (λ w. hit_places whole (record { start = p; way = w })) b → r ≡ q
     → 1 + elim a [ None ↦ r | Some y ↦ 0 ] ≡ 1 + elim b [ None ↦ q | Some w ↦ 0 ]
 tried_same_here p whole pattern None None r q e f = ap (λ n. 1 + n) f
 tried_same_here p whole pattern (Some y) (Some w) r q e f = refl
@@ -132,9 +133,9 @@ tried_same_here p whole pattern (Some y) None r q e f = cc
 
 module _ (whole : Bool) (pattern : Pattern) (g : ℕ → Option Match) (f : ℕ → Option Spot) where
   abbrev Agree : ℕ → Type 0
-  Agree p = option_map (places_of pattern) (g p) ≡ option_map (λ w. hit_places whole (record { start = p; way = w })) (f p)
+  Agree p = option_map (match_slots pattern) (g p) ≡ option_map (λ w. hit_places whole (record { start = p; way = w })) (f p)
 
-  found_same : (ps : List ℕ) → Each Agree ps → option_map (places_of pattern) (first_some g ps) ≡ option_map (hit_places whole) (earliest f ps)
+  found_same : (ps : List ℕ) → Each Agree ps → option_map (match_slots pattern) (first_some g ps) ≡ option_map (hit_places whole) (earliest f ps)
   unfolding earliest
   found_same [] h = refl
   found_same (p ∷ ps) h = answer_here p whole pattern (g p) (f p) (first_some g ps) (earliest f ps) h.0 (found_same ps h.1)
@@ -197,13 +198,13 @@ module _ (unicode longest : Bool) (text : List ℕ) (input : RunInput) (states :
     start_kept p = Each-filter (λ v. v.kept ≡ p) (is_admitted find) _ (keeps_start s pattern.groups (call_ways s pattern.groups (max_open_calls pattern.groups) []) pattern.first_group pattern.tree is_plain (start_way pattern p))
 
     same_here : (p : ℕ) (o : Option MatchState) (b : Option Spot) → option_map spot_of o ≡ b → ((v : MatchState) → o ≡ Some v → v.kept ≡ p)
-        → option_map (places_of pattern) (option_map match_of o) ≡ option_map (λ w. hit_places whole (record { start = p; way = w })) b
+        → option_map (match_slots pattern) (option_map match_of o) ≡ option_map (λ w. hit_places whole (record { start = p; way = w })) b
     same_here p None b e h = ap (option_map (λ w. hit_places whole (record { start = p; way = w }))) e
     same_here p (Some v) b e h =
-        ap Some (places_here (pattern.first_group == 0) (flat v.pairs) p v.kept v.position (h v refl))
+        ap Some (places_here (pattern.first_group == 0) (group_slots v.pairs) p v.kept v.position (h v refl))
         ∙ ap (option_map (λ w. hit_places whole (record { start = p; way = w }))) e
 
-    agree_at : (p : ℕ) → p ≤ stop → option_map (places_of pattern) (match_at s pattern find p) ≡ option_map (λ w. hit_places whole (record { start = p; way = w })) (from_place p)
+    agree_at : (p : ℕ) → p ≤ stop → option_map (match_slots pattern) (match_at s pattern find p) ≡ option_map (λ w. hit_places whole (record { start = p; way = w })) (from_place p)
     unfolding match_at
     agree_at p h =
         same_here p (chosen longest (filter (is_admitted find) (ways_at s pattern find p))) (from_place p) (wanted p h)
@@ -220,10 +221,10 @@ module _ (unicode longest : Bool) (text : List ℕ) (input : RunInput) (states :
 
     -- what a search finds is the match
     pub found_is_match : input.first ≤ stop
-        → option_map (places_of pattern) (first_match s pattern find) ≡ option_map (hit_places whole) (earliest from_place (places text input.anchored input.first stop))
+        → option_map (match_slots pattern) (first_match s pattern find) ≡ option_map (hit_places whole) (earliest from_place (places text input.anchored input.first stop))
     unfolding first_match
     found_is_match h =
-        ap (λ ps. option_map (places_of pattern) (first_some (match_at s pattern find) ps)) (starts_are h)
+        ap (λ ps. option_map (match_slots pattern) (first_some (match_at s pattern find) ps)) (starts_are h)
         ∙ found_same whole pattern (match_at s pattern find) from_place (places text input.anchored input.first stop) (agree_all input.anchored h)
 
     -- and tries as many places

@@ -20,13 +20,14 @@ use Rattle.fancy_regex_class.specs.declared.class.CharClassMatcher.{CharClassMat
 use Rattle.fancy_regex_class.proofs.AdjacentCharLemmas.{char_before_past}
 use Rattle.fancy_regex_runner.specs.CharTests.{leaf_matches_char, is_char, passes, ShowsAll}
 use Rattle.fancy_regex_runner.specs.SettingView.{leaf_matches, view_of, assertion_of}
-use Rattle.fancy_regex_runner.specs.Easy.{HaveMatchers, setting_for, rules_for}
+use Rattle.fancy_regex_runner.specs.Easy.{HaveMatchers, rules_for}
+use Rattle.fancy_regex_class.specs.RunInputs.{setting_for}
 use Rattle.fancy_regex_runner.specs.declared.node.Leaf.{Leaf}
 use Rattle.fancy_regex_runner.specs.declared.node.Leaf.TheVariants.{Any, Char, Folded, Class}
 use Rattle.fancy_regex_runner.specs.declared.node.Test.{Test}
 use Rattle.fancy_regex_runner.specs.declared.node.Test.TheVariants.{StartText, EndText, StartLine, EndLine, WordBoundary, NotWordBoundary, LeftWordBoundary, RightWordBoundary}
-use Rattle.fancy_regex_runner.specs.declared.input.RunInput.{RunInput}
-use Rattle.fancy_regex_runner.proofs.StartLemmas.{char_of}
+use Rattle.fancy_regex_class.specs.declared.input.RunInput.{RunInput}
+use Rattle.fancy_regex_meaning.proofs.NextBoundaryLemmas.{char_of}
 
 -- the byte at a place, by the character there
 byte_at : (text : List ℕ) (b p c : ℕ) → b < 128 → char_at text p ≡ Some c → is_before_byte text b p ≡ (c == b)

@@ -19,7 +19,8 @@ use Rattle.fancy_regex_runner.specs.Re.{Re, nothing, read, test, cat}
 use Rattle.fancy_regex_runner.specs.Re as re
 use Rattle.fancy_regex_runner.specs.Meaning.{Spot, View, each, in_order, after_round, loop_ways, times_ways, upto_ways, tail_ways, is_unbounded, reads}
 use Rattle.fancy_regex_runner.specs.Meaning as plain
-use Rattle.fancy_regex_runner.specs.Plain.{IsPlain, ArePlain, IsServed, test_of, served, has_no_iteration, unless, classes, row_classes, re_of, row_of, branches_of, flat}
+use Rattle.fancy_regex_runner.specs.Plain.{IsPlain, ArePlain, IsServed, test_of, served, has_no_iteration, unless, classes, row_classes, re_of, row_of, branches_of}
+use Rattle.fancy_regex_class.specs.RunInputs.{group_slots}
 use Rattle.fancy_regex_runner.specs.SettingView.{view_of, leaf_matches}
 use Rattle.fancy_regex_runner.specs.declared.node.Leaf.{Leaf}
 use Rattle.fancy_regex_runner.specs.declared.node.Leaf.TheVariants.{Any, Char, Folded, Class}
@@ -29,7 +30,7 @@ use Rattle.fancy_regex_runner.proofs.CarryLemmas.{Lacks, put, ways_carry, map_tw
 
 -- where a way is, with its pairs as places
 abbrev pub spot_of : MatchState → Spot
-spot_of w = record { at = w.position; slots = flat w.pairs }
+spot_of w = record { at = w.position; slots = group_slots w.pairs }
 
 -- these moves have those ways
 abbrev pub Same : ℕ → Moves → (Spot → List Spot) → Type 0
@@ -113,7 +114,7 @@ out_by s lo hi g f view a true zeros h w p = rw ((zeros refl).0, (zeros refl).1)
 out_by s lo hi g f view a false zeros h w p = h refl w p
 
 -- places of a pair that is written
-flat_set : (ps : Pairs) (k a b : ℕ) → flat (set ps k (Some (a, b))) ≡ set (set (flat ps) (2 * k) a) (2 * k + 1) b
+flat_set : (ps : Pairs) (k a b : ℕ) → group_slots (set ps k (Some (a, b))) ≡ set (set (group_slots ps) (2 * k) a) (2 * k + 1) b
 flat_set [] k a b = refl
 flat_set (None ∷ ps) zero a b = refl
 flat_set (Some q ∷ ps) zero a b = refl
@@ -154,7 +155,7 @@ taken_same false w = refl
 module _ (s : Setting) (cs : List (Text × Bool)) (far : Bool) where
   char_same : (leaf : Leaf) (w : MatchState) (o : Option ℕ) → char_at s.text w.position ≡ o → (is_taken : ℕ → Bool) → ((c : ℕ) → o ≡ Some c → is_taken c ≡ leaf_matches s cs leaf c)
       → map spot_of (ways.for_some (λ c. if is_taken c then with_position w (w.position + len_utf8 c) ∷ [] else []) o)
-      ≡ (if reads (view_of s cs far) (length s.text) leaf w.position then record { at = (view_of s cs far).next w.position; slots = flat w.pairs } ∷ [] else [])
+      ≡ (if reads (view_of s cs far) (length s.text) leaf w.position then record { at = (view_of s cs far).next w.position; slots = group_slots w.pairs } ∷ [] else [])
   unfolding reads
   char_same leaf w None e is_taken same = rw e refl
   char_same leaf w (Some c) e is_taken same =

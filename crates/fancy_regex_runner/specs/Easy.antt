@@ -14,7 +14,7 @@ use Rattle.fancy_regex_runner.specs.Find.{Hit}
 use Rattle.fancy_regex_runner.specs.declared.state.State.{State}
 use Rattle.fancy_regex_runner.specs.declared.state.State.TheVariants.{Match as End}
 use Rattle.fancy_regex_runner.specs.declared.rules.Rules.{Rules}
-use Rattle.fancy_regex_runner.specs.declared.input.RunInput.{RunInput}
+use Rattle.fancy_regex_class.specs.declared.input.RunInput.{RunInput}
 
 -- these are the states of the pattern, which continue at the final state
 abbrev pub AreStatesOf : List State → ℕ → Re → Type 0
@@ -37,14 +37,6 @@ pub record IsCompiledPattern (unicode : Bool) (states : List State) (entry : ℕ
   pub program : emitted (re_of unicode pattern.groups pattern.first_group 0 pattern.tree) (End ∷ []) 0 ≡ (states, entry)
   pub matchers_are : HaveMatchers unicode matchers (classes pattern.tree)
 
--- the setting on which the matches of a search depend
-abbrev pub setting_for : Bool → List ℕ → RunInput → Setting
-setting_for unicode text input = record (setting_of unicode text) {
-  no_start_text = input.no_start_text;
-  no_end_text = input.no_end_text;
-  continue_at = input.continue_at;
-}
-
 -- the flags of a search
 abbrev pub rules_for : Bool → Bool → RunInput → Rules
 rules_for unicode longest input = record {
@@ -52,15 +44,6 @@ rules_for unicode longest input = record {
   no_start_text = input.no_start_text;
   no_end_text = input.no_end_text;
   longest = longest;
-}
-
--- the search that the input asks for
-abbrev pub search_for : Bool → RunInput → Search
-search_for longest input = record {
-  first = input.first;
-  stop = input.range.end;
-  anchored = input.anchored;
-  options = record { find_not_empty = false; longest = longest };
 }
 
 -- the byte offsets of the groups of a match

@@ -102,14 +102,3 @@ module _ (unicode : Bool) (groups : List Tree) where
     branches_of n k (more_trees t no_trees) = re_of n k t
     branches_of n k (more_trees t (more_trees u us)) =
         re.alt (re_of n k t) (branches_of (n + group_count t) (k + length (classes t)) (more_trees u us))
-
--- two places for each group, and the last value of `usize` for what is unset
-abbrev pub flat : Pairs → List ℕ
-flat [] = []
-flat (None ∷ ps) = 18446744073709551615 ∷ 18446744073709551615 ∷ flat ps
-flat (Some pair ∷ ps) = pair.0 ∷ pair.1 ∷ flat ps
-
--- The places of a match: those of group 0 are its span, unless group 0 is written in the pattern.
-abbrev pub places_of : Pattern → Match → List ℕ
-places_of pattern m =
-    if pattern.first_group == 0 then flat m.pairs else slice_set (slice_set (flat m.pairs) 0 m.start) 1 m.end

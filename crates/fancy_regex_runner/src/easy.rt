@@ -4,20 +4,19 @@ ghost use Rattle.std.specs.Prelude.{◌≡◌, Bool, false, IfErr, ◌+◌, ◌-
 ghost use Rattle.fancy_regex_meaning.specs.Groups.{Pattern};
 ghost use Rattle.fancy_regex_meaning.specs.Sizes.{tree_weight};
 ghost use Rattle.fancy_regex_meaning.specs.Searches.{first_match, match_at, starts};
-ghost use Rattle.fancy_regex_runner.specs.Easy.{IsMade, setting_for, search_for, rules_for, hit_places, hit_at};
+ghost use Rattle.fancy_regex_runner.specs.Easy.{IsMade, rules_for, hit_places, hit_at};
+ghost use Rattle.fancy_regex_class.specs.RunInputs.{setting_for, search_for, match_slots};
 ghost use Rattle.fancy_regex_runner.specs.Find.{attempted};
-ghost use Rattle.fancy_regex_runner.specs.Plain.{places_of};
 ghost use Rattle.fancy_regex_tree.specs.Tree.{Tree};
 
 use crate::backtrack::BacktrackState;
 use crate::build::Translator;
 use crate::emit::emit;
-use crate::input::RunInput;
 use crate::rules::Rules;
 use crate::search::{SearchContext, earliest_way};
 use crate::state::{State, add};
 use crate::visited::Visited;
-use fancy_regex_class::{CharClassMatcher, Counted, Steps};
+use fancy_regex_class::{CharClassMatcher, Counted, RunInput, Steps};
 use fancy_regex_info::{BytesMode, CompileError, CompileOptions, Info};
 use std::alloc::{AllocError, Global};
 
@@ -101,7 +100,7 @@ impl Easy {
         requires first { IsCharBoundary text.now input.now.first }
         requires range { input.now.range.end ≤ length text.now }
         ensures answer { IfOk result (λ found. (pattern : Pattern) → IsEasyOf self.now pattern
-            → option_map (λ v. v.items) found ≡ option_map (places_of pattern)
+            → option_map (λ v. v.items) found ≡ option_map (match_slots pattern)
             (first_match (setting_for self.now.unicode text.now input.now) pattern (search_for self.now.longest input.now))) }
         ensures at_most { (pattern : Pattern) → IsEasyOf self.now pattern
             → steps.new ≤ steps.old + tree_weight pattern.groups pattern.tree * (input.now.range.end - input.now.first + 1) }

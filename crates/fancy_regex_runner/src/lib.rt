@@ -11,7 +11,6 @@ mod easy;
 mod emit;
 mod emit_both;
 mod frame;
-mod input;
 mod node;
 mod rules;
 mod search;
@@ -19,4 +18,3 @@ mod state;
 mod visited;
 
 pub use easy::Easy;
-pub use input::RunInput;

@@ -76,7 +76,7 @@ module _ (p : ParserConfig) (inner : Option AlternationParser) (in_look : Bool) 
   unfolding parse_branch
   pieces_go zero f g t here after before tree all some skips goes reads now = absurd (omega arith)
   pieces_go (suc n) f g t here after before tree all some skips goes reads now =
-      (n, omega arith, sym (with_before-append before (tree ∷ []) (parse_branch p inner n in_look g after)) ∙ (rw (pieces, skips, goes, reads) at now))
+      (n, omega arith, sym (with_before-append before (tree ∷ []) (parse_branch p inner n in_look g after)) ∙ (rw (parse_branch, skips, goes, reads) at now))
 
   -- a branch is not read
   pub branches_fail : (m : ℕ) (f : Flags) (t : Text) (before : Branches) (e : ReadError) (all : Many (List Tree)) → 0 < m →

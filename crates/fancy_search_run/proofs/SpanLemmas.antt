@@ -6,25 +6,25 @@ use Rattle.fancy_regex_meaning.specs.ItemLaws.{AreInOrder, Ascends}
 use Rattle.fancy_regex_meaning.specs.SearchLaws.{MatchHasCharBoundaries}
 use Rattle.fancy_regex_meaning.specs.Searches.{Match}
 use Rattle.fancy_regex_meaning.specs.Ways.{Pairs}
-use Rattle.fancy_regex_runner.specs.Plain.{flat}
+use Rattle.fancy_regex_class.specs.RunInputs.{group_slots}
 use Rattle.fancy_regex.specs.CaptureSpans.{IsSpanAt, Participated}
 use Rattle.fancy_search_run.specs.Lines.{spans_of}
 use Rattle.fancy_search_run.specs.Spans.{AreGroupSpans}
 
-pub flat_length : (ps : Pairs) → length (flat ps) ≡ 2 * length ps
+pub flat_length : (ps : Pairs) → length (group_slots ps) ≡ 2 * length ps
 flat_length [] = refl
 flat_length (None ∷ ps) = let h = flat_length ps in omega arith
 flat_length (Some p ∷ ps) = let h = flat_length ps in omega arith
 
 -- the offsets of a group that did not participate
-unset_places : (ps : Pairs) (k : ℕ) → k < length ps → get_or ps k None ≡ None → get_or (flat ps) (2 * k) 0 ≡ 18446744073709551615
+unset_places : (ps : Pairs) (k : ℕ) → k < length ps → get_or ps k None ≡ None → get_or (group_slots ps) (2 * k) 0 ≡ 18446744073709551615
 unset_places [] k h e = absurd (omega arith)
 unset_places (None ∷ ps) zero h e = refl
 unset_places (Some p ∷ ps) zero h e = cc
 unset_places (None ∷ ps) (suc k) h e = let d : 2 * suc k ≡ suc (suc (2 * k)) = omega arith in rw d (unset_places ps k (omega arith) e)
 unset_places (Some p ∷ ps) (suc k) h e = let d : 2 * suc k ≡ suc (suc (2 * k)) = omega arith in rw d (unset_places ps k (omega arith) e)
 
-unset_ends : (ps : Pairs) (k : ℕ) → k < length ps → get_or ps k None ≡ None → get_or (flat ps) (2 * k + 1) 0 ≡ 18446744073709551615
+unset_ends : (ps : Pairs) (k : ℕ) → k < length ps → get_or ps k None ≡ None → get_or (group_slots ps) (2 * k + 1) 0 ≡ 18446744073709551615
 unset_ends [] k h e = absurd (omega arith)
 unset_ends (None ∷ ps) zero h e = refl
 unset_ends (Some p ∷ ps) zero h e = cc
@@ -32,14 +32,14 @@ unset_ends (None ∷ ps) (suc k) h e = let d : 2 * suc k + 1 ≡ suc (suc (2 * k
 unset_ends (Some p ∷ ps) (suc k) h e = let d : 2 * suc k + 1 ≡ suc (suc (2 * k + 1)) = omega arith in rw d (unset_ends ps k (omega arith) e)
 
 -- and of one that is set
-set_starts : (ps : Pairs) (k a b : ℕ) → get_or ps k None ≡ Some (a, b) → get_or (flat ps) (2 * k) 0 ≡ a
+set_starts : (ps : Pairs) (k a b : ℕ) → get_or ps k None ≡ Some (a, b) → get_or (group_slots ps) (2 * k) 0 ≡ a
 set_starts [] k a b e = cc
 set_starts (None ∷ ps) zero a b e = cc
 set_starts (Some p ∷ ps) zero a b e = ap (λ (o : Option (ℕ × ℕ)). elim o [ None ↦ 0 | Some q ↦ q.0 ]) e
 set_starts (None ∷ ps) (suc k) a b e = let d : 2 * suc k ≡ suc (suc (2 * k)) = omega arith in rw d (set_starts ps k a b e)
 set_starts (Some p ∷ ps) (suc k) a b e = let d : 2 * suc k ≡ suc (suc (2 * k)) = omega arith in rw d (set_starts ps k a b e)
 
-set_ends : (ps : Pairs) (k a b : ℕ) → get_or ps k None ≡ Some (a, b) → get_or (flat ps) (2 * k + 1) 0 ≡ b
+set_ends : (ps : Pairs) (k a b : ℕ) → get_or ps k None ≡ Some (a, b) → get_or (group_slots ps) (2 * k + 1) 0 ≡ b
 set_ends [] k a b e = cc
 set_ends (None ∷ ps) zero a b e = cc
 set_ends (Some p ∷ ps) zero a b e = ap (λ (o : Option (ℕ × ℕ)). elim o [ None ↦ 0 | Some q ↦ q.1 ]) e
@@ -53,16 +53,16 @@ set_within (x ∷ ps) (suc k) p e = let h = set_within ps k p e in omega arith
 
 module _ (text : List ℕ) (ps : Pairs) where
   -- no place of a text stands for a group that is not set
-  took_none : AreGroupSpans text (flat ps) ps → (k : ℕ) → k < length ps → get_or ps k None ≡ None → Participated text (flat ps) k → ⊥
+  took_none : AreGroupSpans text (group_slots ps) ps → (k : ℕ) → k < length ps → get_or ps k None ≡ None → Participated text (group_slots ps) k → ⊥
   took_none are k h e took =
-      let start : get_or (flat ps) (2 * k) 0 ≡ 18446744073709551615 = unset_places ps k h e in
-      let inside : get_or (flat ps) (2 * k) 0 ≤ length text = took.cuts.starts.0 in
+      let start : get_or (group_slots ps) (2 * k) 0 ≡ 18446744073709551615 = unset_places ps k h e in
+      let inside : get_or (group_slots ps) (2 * k) 0 ≤ length text = took.cuts.starts.0 in
       omega arith
 
-  took_some : AreGroupSpans text (flat ps) ps → (k a b : ℕ) → get_or ps k None ≡ Some (a, b) → Participated text (flat ps) k
+  took_some : AreGroupSpans text (group_slots ps) ps → (k a b : ℕ) → get_or ps k None ≡ Some (a, b) → Participated text (group_slots ps) k
   took_some are k a b e =
-      let start : get_or (flat ps) (2 * k) 0 ≡ a = set_starts ps k a b e in
-      let end : get_or (flat ps) (2 * k + 1) 0 ≡ b = set_ends ps k a b e in
+      let start : get_or (group_slots ps) (2 * k) 0 ≡ a = set_starts ps k a b e in
+      let end : get_or (group_slots ps) (2 * k + 1) 0 ≡ b = set_ends ps k a b e in
       let within : k < length ps = set_within ps k (a, b) e in
       let cut = are.cut k a b e in
       record {
@@ -71,24 +71,24 @@ module _ (text : List ℕ) (ps : Pairs) where
       }
 
   -- what is told of a group is its span
-  span_told : AreGroupSpans text (flat ps) ps → (k : ℕ) → k < length ps → (told : Option (ℕ × ℕ)) → IsSpanAt text (flat ps) k told → told ≡ get_or ps k None
+  span_told : AreGroupSpans text (group_slots ps) ps → (k : ℕ) → k < length ps → (told : Option (ℕ × ℕ)) → IsSpanAt text (group_slots ps) k told → told ≡ get_or ps k None
   span_told are k h told is = by_cases told (get_or ps k None) refl is
     where
-      by_cases : (o w : Option (ℕ × ℕ)) → get_or ps k None ≡ w → IsSpanAt text (flat ps) k o → o ≡ w
+      by_cases : (o w : Option (ℕ × ℕ)) → get_or ps k None ≡ w → IsSpanAt text (group_slots ps) k o → o ≡ w
       by_cases None None e s = refl
       by_cases None (Some (a, b)) e s = absurd (s (took_some are k a b e))
       by_cases (Some x) None e s = absurd (took_none are k h e s.0)
       by_cases (Some x) (Some (a, b)) e s =
           ap Some (s.1 ∙ (λ i. (set_starts ps k a b e i, set_ends ps k a b e i)))
 
-flat_whole : (ps : Pairs) (a b : ℕ) → slice_set (slice_set (flat ps) 0 a) 1 b ≡ flat (slice_set ps 0 (Some (a, b)))
+flat_whole : (ps : Pairs) (a b : ℕ) → slice_set (slice_set (group_slots ps) 0 a) 1 b ≡ group_slots (slice_set ps 0 (Some (a, b)))
 flat_whole [] a b = refl
 flat_whole (None ∷ ps) a b = refl
 flat_whole (Some p ∷ ps) a b = refl
 
 -- the offsets of a match are those of its spans, which lie between character boundaries
 abbrev pub HasSpans : List ℕ → Match → Type 0
-HasSpans text m = AreGroupSpans text (slice_set (slice_set (flat m.pairs) 0 m.start) 1 m.end) (spans_of m)
+HasSpans text m = AreGroupSpans text (slice_set (slice_set (group_slots m.pairs) 0 m.start) 1 m.end) (spans_of m)
 
 whole_cut : (text : List ℕ) (m : Match) → MatchHasCharBoundaries text m → m.start ≤ m.end →
     (ps : Pairs) → ps ≡ m.pairs → (k a b : ℕ) → get_or (slice_set ps 0 (Some (m.start, m.end))) k None ≡ Some (a, b) → IsCharBoundary text a × IsCharBoundary text b × (a ≤ b)
@@ -122,7 +122,7 @@ pub shown : (text slots : List ℕ) (ps : Pairs) → AreGroupSpans text slots ps
     → (told : Option (ℕ × ℕ)) → IsSpanAt text slots k told → (k < length ps) × (told ≡ get_or ps k None)
 shown text slots ps are k h told is =
     let all = flat_length ps in
-    let same : length slots ≡ length (flat ps) = ap length are.places_are in
+    let same : length slots ≡ length (group_slots ps) = ap length are.places_are in
     let within : k < length ps = omega arith in (
       within,
       span_told text ps (record { places_are = refl; cut = are.cut; fits = are.fits }) k within told (subst (λ (xs : List ℕ). IsSpanAt text xs k told) are.places_are is),
@@ -132,12 +132,12 @@ shown text slots ps are k h told is =
 pub groups_all : (text slots : List ℕ) (ps : Pairs) → AreGroupSpans text slots ps → length slots / 2 ≡ length ps
 groups_all text slots ps are =
     let all = flat_length ps in
-    let same : length slots ≡ length (flat ps) = ap length are.places_are in
+    let same : length slots ≡ length (group_slots ps) = ap length are.places_are in
     omega arith
 
 -- the offsets of the first remaining match are those of its spans
 pub first_spans : (text seen slots : List ℕ) (m : Match) (before after : List Match) → Each (HasSpans text) before → before ≡ m ∷ after → seen ≡ text
-    → slots ≡ slice_set (slice_set (flat m.pairs) 0 m.start) 1 m.end → AreGroupSpans seen slots (spans_of m)
+    → slots ≡ slice_set (slice_set (group_slots m.pairs) 0 m.start) 1 m.end → AreGroupSpans seen slots (spans_of m)
 first_spans text seen slots m before after all e t p = rw (t, p) (each_first before all e)
   where
     each_first : (ms : List Match) → Each (HasSpans text) ms → ms ≡ m ∷ after → HasSpans text m

@@ -8,6 +8,6 @@ pub returns : goal.returns
 returns c = record {
   ways = WaysProofs.pattern_has_the_ways;
   choices = ChoiceProofs.pattern_has_the_choices;
-  room = RoomProofs.pattern_size_is_bounded;
+  room = ProgramSizeProofs.pattern_size_is_bounded;
   groups = GroupProofs.pattern_groups_are_in_range;
 }

@@ -8,6 +8,6 @@ pub returns : goal.returns
 returns c = record {
   ways = WaysProofs.unfolded_has_the_ways;
   choices = ChoiceProofs.unfolded_has_the_choices;
-  room = RoomProofs.unfolded_has_room;
-  placed = PlaceProofs.unfolded_steps_back_only_first;
+  room = ProgramSizeProofs.unfolded_has_room;
+  placed = StepBackProofs.unfolded_steps_back_only_first;
 }

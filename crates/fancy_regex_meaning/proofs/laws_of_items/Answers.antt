@@ -5,7 +5,7 @@ use Rattle.fancy_regex_meaning.proofs.laws_of_items.Goals as goal
 
 pub returns : goal.returns
 returns c = record {
-  ascend = KeptProofs.patterns_ascend;
+  ascend = MatchStartProofs.patterns_ascend;
   first = ItemBound.first_item_is_found;
   more = ItemBound.items_need_no_more;
   bound = ItemBound.items_are_unbounded;

@@ -10,9 +10,9 @@ returns c = record {
   always = SizeProofs.always_is_exact;
   moves = SizeProofs.non_empty_moves;
   endless = SizeProofs.endless_has_none;
-  ends = EndProofs.ends_unfold;
-  others = EndProofs.others_do_not;
-  deeper = EndProofs.ends_are_unbounded;
-  still = EndProofs.still_is_settled;
-  no_least = EndlessProofs.endless_is_unbounded;
+  ends = TerminationProofs.ends_unfold;
+  others = TerminationProofs.others_do_not;
+  deeper = TerminationProofs.ends_are_unbounded;
+  still = TerminationProofs.still_is_settled;
+  no_least = NonTerminationProofs.endless_is_unbounded;
 }

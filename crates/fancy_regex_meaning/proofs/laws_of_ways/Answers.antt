@@ -8,14 +8,14 @@ use Rattle.fancy_regex_meaning.proofs.laws_of_ways.Goals as goal
 
 pub returns : goal.returns
 returns c = record {
-  atomic = LawProofs.atomic_has_one;
-  look_around = LawProofs.look_around_has_each;
-  negative = LawProofs.negative_stays;
-  rows = LawProofs.row_splits;
-  first = FirstProofs.first_goes_by_parts;
-  onward = OnwardProofs.ways_go_onward;
-  cuts = OnwardProofs.ways_cut_well;
-  kept = KeptProofs.keeps_start;
+  atomic = WayProofs.atomic_has_one;
+  look_around = WayProofs.look_around_has_each;
+  negative = WayProofs.negative_stays;
+  rows = WayProofs.row_splits;
+  first = FirstWayProofs.first_goes_by_parts;
+  onward = ForwardProofs.ways_go_onward;
+  cuts = ForwardProofs.ways_cut_well;
+  kept = MatchStartProofs.keeps_start;
   repeats = BoundProofs.repeats_unroll;
   loops = BoundProofs.loops_unbounded;
   calls = BoundProofs.calls_are_unbounded;

@@ -3,7 +3,7 @@ use Rattle.fancy_regex_meaning.proofs.worked_lists.Goals as goal
 
 pub returns : goal.returns
 returns c = record {
-  iterations = RowProofs.iterations;
-  sets = RowProofs.sets;
-  pieces = RowProofs.pieces;
+  iterations = ExampleProofs.iterations;
+  sets = ExampleProofs.sets;
+  pieces = ExampleProofs.pieces;
 }

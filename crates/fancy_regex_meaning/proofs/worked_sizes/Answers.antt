@@ -3,8 +3,8 @@ use Rattle.fancy_regex_meaning.proofs.worked_sizes.Goals as goal
 
 pub returns : goal.returns
 returns c = record {
-  weights = RowProofs.weights;
-  chosen = RowProofs.chosen;
-  nodes = RowProofs.nodes;
-  sizes = RowProofs.sizes_of_patterns;
+  weights = ExampleProofs.weights;
+  chosen = ExampleProofs.chosen;
+  nodes = ExampleProofs.nodes;
+  sizes = ExampleProofs.sizes_of_patterns;
 }

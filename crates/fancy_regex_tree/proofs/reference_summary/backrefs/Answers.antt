@@ -2,8 +2,8 @@ use Rattle.std.proofs.Common.{◌∙◌, ap, rules, sym}
 use Rattle.std.specs.BTreeSet.{contains}
 use Rattle.std.specs.Ordering.{nat_cmp}
 use Rattle.fancy_regex_tree.proofs.Backrefs.{backref_next, no_backref_next}
-use Rattle.fancy_regex_tree.proofs.summary.backrefs.Goals as goal
-use Rattle.fancy_regex_tree.proofs.summary.backrefs.Goals.{in-Some+in_ok-insert, in_default}
+use Rattle.fancy_regex_tree.proofs.reference_summary.backrefs.Goals as goal
+use Rattle.fancy_regex_tree.proofs.reference_summary.backrefs.Goals.{in-Some+in_ok-insert, in_default}
 
 pub loop-i-preserved : goal.loop-i-preserved
 loop-i-preserved c =

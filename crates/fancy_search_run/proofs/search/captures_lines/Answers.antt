@@ -5,7 +5,7 @@ use Rattle.fancy_regex_input.specs.declared.config.SearchConfig.{SearchConfig}
 use Rattle.fancy_regex_input.specs.SearchInputs.{whole, input_of}
 use Rattle.fancy_regex_meaning.specs.WayLaws.{Each}
 use Rattle.fancy_regex_meaning.specs.Searches.{Match}
-use Rattle.fancy_regex_runner.specs.Plain.{flat}
+use Rattle.fancy_regex_class.specs.RunInputs.{group_slots}
 use Rattle.fancy_regex_meta.specs.MetaMatches.{meta_pattern}
 use Rattle.fancy_regex_meta.specs.Patterns.{options_in, setting_in}
 use Rattle.fancy_regex.specs.RemainingMatches.{remaining_matches, all_matches}
@@ -54,7 +54,7 @@ loop-found-preserved c =
     let searches : new.regex.now ≡ old.regex.now = λ i. (steps.4 i).now in
     let before = remaining_matches old.regex.now.meta text old.input.config old.state in
     let after = remaining_matches new.regex.now.meta new.input.haystack.now new.input.config new.state in
-    let gave : (m : Match) × (before ≡ m ∷ after) × (c.in_ok-found.field-0.slots.items ≡ slice_set (slice_set (flat m.pairs) 0 m.start) 1 m.end) =
+    let gave : (m : Match) × (before ≡ m ∷ after) × (c.in_ok-found.field-0.slots.items ≡ slice_set (slice_set (group_slots m.pairs) 0 m.start) 1 m.end) =
     rw c.in_ok-found.was at steps.0 in
     let of = rw c.in_ok-found.was at steps.1 in
     let shown : c.in_ok-found.field-0.haystack.now ≡ text = λ i. (of.0 i).now in

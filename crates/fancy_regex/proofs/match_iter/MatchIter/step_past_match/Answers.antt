@@ -4,7 +4,7 @@ use Rattle.std.specs.Option.{option_eq}
 use Rattle.std.proofs.lemmas.List.{get_or_default}
 use Rattle.fancy_regex_meaning.specs.Positions.{position_after}
 use Rattle.fancy_regex_meaning.specs.Searches.{Match}
-use Rattle.fancy_regex_runner.specs.Plain.{places_of}
+use Rattle.fancy_regex_class.specs.RunInputs.{match_slots}
 use Rattle.fancy_regex_meta.specs.MetaMatches.{meta_pattern, meta_match_from}
 use Rattle.fancy_regex_meta.specs.Patterns.{tree_in}
 use Rattle.fancy_regex.proofs.OffsetLemmas.{some-of, span-is}
@@ -18,7 +18,7 @@ returns-then-start-end-clause-gives g c =
     let s = self.regex.now.meta in
     let text = g.S.Input.text self.input.haystack in
     let a = self.input.config in
-    let f = some-of (places_of (meta_pattern s)) (meta_match_from s text a (max a.start a.range_start) self.state.continue_disabled) c.args.slots.items c.requires.found in
+    let f = some-of (match_slots (meta_pattern s)) (meta_match_from s text a (max a.start a.range_start) self.state.continue_disabled) c.args.slots.items c.requires.found in
     let m : Match = f.0 in
     let k = span-is (tree_in s.options (string_bytes s.pattern)) m c.args.slots.items f.2 c.requires.within.whole in
     let start : c.index-start.result.now ≡ m.start = c.index-start.ensures ∙ sym (get_or_default c.args.slots.items 0 0 c.index-start.result.now (omega (arith, c.requires.within.whole))) ∙ k.0 in
@@ -38,7 +38,7 @@ returns-then-is_repeated-clause-gives g c =
     let s = self.regex.now.meta in
     let text = g.S.Input.text self.input.haystack in
     let a = self.input.config in
-    let f = some-of (places_of (meta_pattern s)) (meta_match_from s text a (max a.start a.range_start) self.state.continue_disabled) c.args.slots.items c.requires.found in
+    let f = some-of (match_slots (meta_pattern s)) (meta_match_from s text a (max a.start a.range_start) self.state.continue_disabled) c.args.slots.items c.requires.found in
     let m : Match = f.0 in
     let k = span-is (tree_in s.options (string_bytes s.pattern)) m c.args.slots.items f.2 c.requires.within.whole in
     let start : c.index-start.result.now ≡ m.start = c.index-start.ensures ∙ sym (get_or_default c.args.slots.items 0 0 c.index-start.result.now (omega (arith, c.requires.within.whole))) ∙ k.0 in
@@ -59,7 +59,7 @@ returns-clause-gives g c =
     let s = self.regex.now.meta in
     let text = g.S.Input.text self.input.haystack in
     let a = self.input.config in
-    let f = some-of (places_of (meta_pattern s)) (meta_match_from s text a (max a.start a.range_start) self.state.continue_disabled) c.args.slots.items c.requires.found in
+    let f = some-of (match_slots (meta_pattern s)) (meta_match_from s text a (max a.start a.range_start) self.state.continue_disabled) c.args.slots.items c.requires.found in
     let m : Match = f.0 in
     let k = span-is (tree_in s.options (string_bytes s.pattern)) m c.args.slots.items f.2 c.requires.within.whole in
     let start : c.index-start.result.now ≡ m.start = c.index-start.ensures ∙ sym (get_or_default c.args.slots.items 0 0 c.index-start.result.now (omega (arith, c.requires.within.whole))) ∙ k.0 in
@@ -83,7 +83,7 @@ returns-then-start-end-clause-passes g c =
     let s = self.regex.now.meta in
     let text = g.S.Input.text self.input.haystack in
     let a = self.input.config in
-    let f = some-of (places_of (meta_pattern s)) (meta_match_from s text a (max a.start a.range_start) self.state.continue_disabled) c.args.slots.items c.requires.found in
+    let f = some-of (match_slots (meta_pattern s)) (meta_match_from s text a (max a.start a.range_start) self.state.continue_disabled) c.args.slots.items c.requires.found in
     let m : Match = f.0 in
     let k = span-is (tree_in s.options (string_bytes s.pattern)) m c.args.slots.items f.2 c.requires.within.whole in
     let start : c.index-start.result.now ≡ m.start = c.index-start.ensures ∙ sym (get_or_default c.args.slots.items 0 0 c.index-start.result.now (omega (arith, c.requires.within.whole))) ∙ k.0 in
@@ -99,7 +99,7 @@ returns-then-is_repeated-clause-passes g c =
     let s = self.regex.now.meta in
     let text = g.S.Input.text self.input.haystack in
     let a = self.input.config in
-    let f = some-of (places_of (meta_pattern s)) (meta_match_from s text a (max a.start a.range_start) self.state.continue_disabled) c.args.slots.items c.requires.found in
+    let f = some-of (match_slots (meta_pattern s)) (meta_match_from s text a (max a.start a.range_start) self.state.continue_disabled) c.args.slots.items c.requires.found in
     let m : Match = f.0 in
     let k = span-is (tree_in s.options (string_bytes s.pattern)) m c.args.slots.items f.2 c.requires.within.whole in
     let start : c.index-start.result.now ≡ m.start = c.index-start.ensures ∙ sym (get_or_default c.args.slots.items 0 0 c.index-start.result.now (omega (arith, c.requires.within.whole))) ∙ k.0 in
@@ -117,7 +117,7 @@ returns-clause-passes g c =
     let s = self.regex.now.meta in
     let text = g.S.Input.text self.input.haystack in
     let a = self.input.config in
-    let f = some-of (places_of (meta_pattern s)) (meta_match_from s text a (max a.start a.range_start) self.state.continue_disabled) c.args.slots.items c.requires.found in
+    let f = some-of (match_slots (meta_pattern s)) (meta_match_from s text a (max a.start a.range_start) self.state.continue_disabled) c.args.slots.items c.requires.found in
     let m : Match = f.0 in
     let k = span-is (tree_in s.options (string_bytes s.pattern)) m c.args.slots.items f.2 c.requires.within.whole in
     let start : c.index-start.result.now ≡ m.start = c.index-start.ensures ∙ sym (get_or_default c.args.slots.items 0 0 c.index-start.result.now (omega (arith, c.requires.within.whole))) ∙ k.0 in

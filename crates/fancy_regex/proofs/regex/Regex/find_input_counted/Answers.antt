@@ -1,6 +1,6 @@
 use Rattle.std.proofs.Common.{◌≡◌, ◌∙◌, ℕ, max, refl, sym, ap, Some, None, false, List}
 use Rattle.std.specs.Prelude.{slice_index, option_map, string_bytes}
-use Rattle.fancy_regex_runner.specs.Plain.{places_of}
+use Rattle.fancy_regex_class.specs.RunInputs.{match_slots}
 use Rattle.fancy_regex_meta.specs.MetaMatches.{meta_pattern, meta_match_from}
 use Rattle.fancy_regex_meta.specs.Patterns.{tree_in}
 use Rattle.fancy_regex_meta.specs.MatchOffsets.{IsMatchWithin}
@@ -15,9 +15,9 @@ returns-in-Some-clause-answer g c =
     let text = g.S.Input.text c.args.input.haystack in
     let a = c.args.input.config in
     let v = c.in-Some.slots.items in
-    let told : Some v ≡ option_map (places_of (meta_pattern s)) (meta_match_from s text a (max a.start a.range_start) false) =
+    let told : Some v ≡ option_map (match_slots (meta_pattern s)) (meta_match_from s text a (max a.start a.range_start) false) =
     rw (c.haystack-haystack.ensures, c.config-config.ensures) at (sym (ap (option_map (λ w. w.items)) c.in-Some.is) ∙ c.in_ok-slots.ensures.answer) in
-    let f = some-of (places_of (meta_pattern s)) (meta_match_from s text a (max a.start a.range_start) false) v told in
+    let f = some-of (match_slots (meta_pattern s)) (meta_match_from s text a (max a.start a.range_start) false) v told in
     let within = rw c.in-Some.is at c.in_ok-slots.ensures.within in
     let k = span-is (tree_in s.options (string_bytes s.pattern)) f.0 v f.2 within.whole in
     ap Some (c.whole_match.ensures.span ∙ (λ i. (slice_index (c.deref.ensures.value i) 0, slice_index (c.deref.ensures.value i) 1)) ∙ (λ i. (k.0 i, k.1 i)))
@@ -28,9 +28,9 @@ returns-in-None-clause-answer g c =
     let s = c.args.self.now.meta in
     let text = g.S.Input.text c.args.input.haystack in
     let a = c.args.input.config in
-    let told : None ≡ option_map (places_of (meta_pattern s)) (meta_match_from s text a (max a.start a.range_start) false) =
+    let told : None ≡ option_map (match_slots (meta_pattern s)) (meta_match_from s text a (max a.start a.range_start) false) =
     rw (c.haystack-haystack.ensures, c.config-config.ensures) at (sym (ap (option_map (λ w. w.items)) c.in-None.is) ∙ c.in_ok-slots.ensures.answer) in
-    sym (ap (option_map span_in) (found-is s text a ∙ none-of (places_of (meta_pattern s)) _ told))
+    sym (ap (option_map span_in) (found-is s text a ∙ none-of (match_slots (meta_pattern s)) _ told))
 
 pub returns-in_err-slots-clause-looks_plain : goal.returns-in_err-slots-clause-looks_plain
 returns-in_err-slots-clause-looks_plain g c light served =

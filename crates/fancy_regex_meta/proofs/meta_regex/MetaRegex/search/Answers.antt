@@ -3,7 +3,7 @@ use Rattle.std.specs.Prelude.{option_map, string_bytes, length, IfOk, IfErr, IsC
 use base.Stored.{Coded-set}
 use Rattle.std.specs.Coded.{coded_option, coded_list, coded_ℕ}
 use mathlib.Core.Logic.{∥∥₁_elim}
-use Rattle.fancy_regex_runner.specs.Plain.{places_of}
+use Rattle.fancy_regex_class.specs.RunInputs.{match_slots}
 use Rattle.fancy_regex_meta.specs.Patterns.{tree_in}
 use Rattle.fancy_regex_meta.specs.MetaMatches.{meta_pattern, meta_match_from}
 use Rattle.std.proofs.Math.Bridge.{le_prop}
@@ -20,7 +20,7 @@ returns-then-config-first-clause-answer c =
     let s = c.args.self.now in
     let a = c.args.config in
     let past : a.range_end < max a.start a.range_start = omega (arith, c.max-first.ensures, c.if-config-first.true) in
-    sym (ap (option_map (places_of (meta_pattern s))) (none-past s.options (string_bytes s.pattern) c.args.text.now a (max a.start a.range_start) c.args.continue_disabled past))
+    sym (ap (option_map (match_slots (meta_pattern s))) (none-past s.options (string_bytes s.pattern) c.args.text.now a (max a.start a.range_start) c.args.continue_disabled past))
 
 if_ok : {A E : Type 0} {P Q : A → Type 0} (r : Result A E) → IfOk r P → ((x : A) → P x → Q x) → IfOk r Q
 if_ok (Ok x) h f = f x h
@@ -39,7 +39,7 @@ returns-clause-answer c =
     if_ok c.search.result c.search.ensures.answer (λ found told.
     ∥∥₁_elim s.made (Coded-set (coded_option (coded_list coded_ℕ)) _ _) (λ made.
     told (tree_in s.options (string_bytes s.pattern)) made.runs
-    ∙ ap (option_map (places_of (meta_pattern s))) (input-same s.options (meta_pattern s) c.args.text.now a (max a.start a.range_start) c.args.continue_disabled input.result
+    ∙ ap (option_map (match_slots (meta_pattern s))) (input-same s.options (meta_pattern s) c.args.text.now a (max a.start a.range_start) c.args.continue_disabled input.result
     (input.ensures.first ∙ c.max-first.ensures) (rw (← c.max-first.ensures) input.ensures.continues) input.ensures.range input.ensures.anchored input.ensures.start_text input.ensures.end_text)))
 
 pub returns-clause-within : goal.returns-clause-within

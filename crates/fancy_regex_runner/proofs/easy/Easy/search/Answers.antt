@@ -6,10 +6,11 @@ use Rattle.fancy_regex_meaning.specs.Searches.{first_match, match_at, starts}
 use Rattle.fancy_regex_class.specs.Looks.{looked_text, look_count}
 use Rattle.fancy_regex_runner.specs.Meaning.{Spot}
 use Rattle.fancy_regex_runner.specs.Attempt.{land}
-use Rattle.fancy_regex_runner.specs.Plain.{classes, re_of, places_of}
+use Rattle.fancy_regex_runner.specs.Plain.{classes, re_of}
+use Rattle.fancy_regex_class.specs.RunInputs.{match_slots, setting_for, search_for}
 use Rattle.fancy_regex_runner.specs.SettingView.{view_of}
 use Rattle.fancy_regex_runner.specs.Find.{earliest, attempted, places, hit_of_span}
-use Rattle.fancy_regex_runner.specs.Easy.{setting_for, search_for, hit_places}
+use Rattle.fancy_regex_runner.specs.Easy.{hit_places}
 use Rattle.fancy_regex_runner.specs.Runner.{IsEasyOf}
 use Rattle.fancy_regex_runner.proofs.PlainLemmas.{sound}
 use Rattle.fancy_regex_runner.proofs.CharTestLemmas.{shows_all}
@@ -19,7 +20,7 @@ use Rattle.fancy_regex_runner.proofs.easy.Easy.search.Goals.{After-earliest_way,
 
 pub returns-then-input-stop-clause-answer : goal.returns-then-input-stop-clause-answer
 returns-then-input-stop-clause-answer c pattern is =
-    sym (ap (option_map (places_of pattern)) (none_past c.args.self.now.unicode c.args.self.now.longest c.args.text.now c.args.input.now c.args.self.now.states.items c.args.self.now.entry pattern is.serves.plain c.requires.range c.if-input-stop.true))
+    sym (ap (option_map (match_slots pattern)) (none_past c.args.self.now.unicode c.args.self.now.longest c.args.text.now c.args.input.now c.args.self.now.states.items c.args.self.now.entry pattern is.serves.plain c.requires.range c.if-input-stop.true))
 
 pub returns-then-input-stop-clause-at_least : goal.returns-then-input-stop-clause-at_least
 returns-then-input-stop-clause-at_least c pattern is =
@@ -54,7 +55,7 @@ returns-clause-at_most c pattern is = let b = bound (goal.at.returns-clause-at_m
 -- what the search found
 walked : (c : In_ok-span) (pattern : Pattern) → IsEasyOf c.args.self.now pattern
     → (option_map (hit_places c.args.self.now.whole) (hit_of_span c.in_ok-span.span c.earliest_way.new.backtrack.slots.items)
-    ≡ option_map (places_of pattern) (first_match (setting_for c.args.self.now.unicode c.args.text.now c.args.input.now) pattern (search_for c.args.self.now.longest c.args.input.now)))
+    ≡ option_map (match_slots pattern) (first_match (setting_for c.args.self.now.unicode c.args.text.now c.args.input.now) pattern (search_for c.args.self.now.longest c.args.input.now)))
     × (min (c.args.steps.now + attempted (match_at (setting_for c.args.self.now.unicode c.args.text.now c.args.input.now) pattern (search_for c.args.self.now.longest c.args.input.now))
     (starts (setting_for c.args.self.now.unicode c.args.text.now c.args.input.now) pattern (search_for c.args.self.now.longest c.args.input.now))) (2 ^ 64 - 1) ≤ look_count c.earliest_way.new.text)
 walked c pattern is =
