@@ -10,8 +10,6 @@ mod counted;
 mod folding;
 mod input;
 mod matcher;
-#[cfg(test)]
-mod tests;
 
 pub use class::{CharClassMatcher, ClassError};
 pub use counted::{Counted, Steps};

@@ -1,9 +1,11 @@
-//! Tests of the analysis of patterns, the runner, the compiler and the machine, by their public calls. They are a crate of
+//! Tests of character classes, the analysis of patterns, the runner, the compiler and the machine, by their public calls. They are a crate of
 //! their own so that the crates that they test are proved once. There is no code here.
 #![tactic(auto)]
 
 #[cfg(test)]
 mod analysis;
+#[cfg(test)]
+mod class;
 #[cfg(test)]
 mod machine;
 #[cfg(test)]

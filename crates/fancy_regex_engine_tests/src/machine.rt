@@ -1,9 +1,9 @@
 //! Searches of the backtracking machine, from the texts of patterns on.
 
+use fancy_regex_class::RunInput;
 use fancy_regex_info::{AnalyzeContext, CompileOptions};
 use fancy_regex_machine::{RunOptions, RuntimeError, run, run_default, run_spans};
 use fancy_regex_program::{Prog, compile};
-use fancy_regex_class::RunInput;
 use fancy_regex_sizes::analyze;
 use fancy_regex_tree::{Expr, FLAG_UNICODE};
 use std::alloc::Global;

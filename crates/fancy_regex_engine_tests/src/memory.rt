@@ -1,9 +1,9 @@
 //! Searches where memory may run out: the call that failed is repeated, and gives the right answer.
 
+use fancy_regex_class::RunInput;
 use fancy_regex_info::{AnalyzeContext, CompileError, CompileOptions, Info};
 use fancy_regex_machine::{RunOptions, RuntimeError, run};
 use fancy_regex_program::{Prog, compile};
-use fancy_regex_class::RunInput;
 use fancy_regex_sizes::analyze;
 use fancy_regex_tree::{Error, Expr, ExprTree};
 use std::alloc::Global;

@@ -1,8 +1,7 @@
 //! Searches of the runner, from the texts of patterns on.
 
-use fancy_regex_class::Steps;
+use fancy_regex_class::{RunInput, Steps};
 use fancy_regex_info::{AnalyzeContext, BytesMode, CompileError, CompileOptions};
-use fancy_regex_class::RunInput;
 use fancy_regex_runner::Easy;
 use fancy_regex_sizes::analyze;
 use fancy_regex_tree::{Error, Expr};

@@ -79,7 +79,7 @@ skipped text (suc m) (suc n) i h le =
     ∙ ap (λ k. filter (is_boundary text) (numbers_from (suc n - suc m) k)) b
 
 -- the boundaries from one on
-from_here : (text : List ℕ) (from stop : ℕ) → IsCharBoundary text from → from ≤ stop
+pub from_here : (text : List ℕ) (from stop : ℕ) → IsCharBoundary text from → from ≤ stop
     → boundaries text from stop ≡ from ∷ filter (is_boundary text) (numbers_from (stop - from) (from + 1))
 from_here text from stop b le =
     let n : stop + 1 - from ≡ suc (stop - from) = omega arith in

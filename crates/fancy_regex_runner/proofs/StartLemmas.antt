@@ -1,20 +1,9 @@
 -- The starts that a search tries, one character after another.
-use Rattle.std.proofs.Common.{◌≡◌, ℕ, zero, suc, ◌+◌, ◌-◌, ◌<◌, ◌≤◌, Bool, true, false, List, [], ◌∷◌, length, drop, Option, Some, None, refl, sym, ap, ◌∙◌, inl, inr, ⊎_elim, arith, lt-ltb, le-ltb, length-drop, slice_index, IsUtf8, IsCharBoundary}
-use Rattle.std.specs.List.{filter}
-use Rattle.std.specs.Str.{encode_utf8_all}
-use lib.Utf8.{scalars}
-use Rattle.std.specs.Char.{len_utf8}
-use Rattle.std.proofs.lemmas.Bool.{cond-true, cond-false, cases_lt, and_parts}
-use Rattle.std.proofs.lemmas.Bool.Decides.{nat_tests}
-use Rattle.std.proofs.lemmas.Option.{slice_get-get_or, slice_get_past, none-some}
-use Rattle.std.proofs.lemmas.Str.{IsUtf8-drop, len_utf8_bounds}
-use Rattle.regex_hir.specs.Text.{char_at, is_boundary}
-use Rattle.regex_hir.proofs.TextLemmas.{char_at_from}
-use Rattle.regex_hir.proofs.Utf8Lemmas.{char_at_cases, IsOneByteAt, IsTwoBytesAt, IsThreeBytesAt, IsFourBytesAt}
-use Rattle.fancy_regex_meaning.specs.Positions.{numbers_from, boundaries}
+use Rattle.std.proofs.Common.{◌≡◌, ℕ, ◌+◌, ◌≤◌, Bool, true, false, List, [], ◌∷◌, Option, Some, None, refl, ap, ◌∙◌, arith, IsCharBoundary}
+use Rattle.fancy_regex_meaning.specs.Positions.{boundaries}
+use Rattle.fancy_regex_meaning.proofs.NextBoundaryLemmas.{from_here}
 use Rattle.fancy_regex_runner.specs.Meaning.{Spot}
 use Rattle.fancy_regex_runner.specs.Find.{earliest, attempted, places}
-use Rattle.fancy_regex_meaning.proofs.NextBoundaryLemmas.{test_of_IsCharBoundary, next_place, last_place, end_place}
 
 pub earliest_next : (f : ℕ → Option Spot) (p : ℕ) (ps : List ℕ) → f p ≡ None → earliest f (p ∷ ps) ≡ earliest f ps
 unfolding earliest

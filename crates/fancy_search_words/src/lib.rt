@@ -5,8 +5,6 @@
 mod arguments;
 mod command;
 mod refusal;
-#[cfg(test)]
-mod tests;
 mod words;
 
 pub use arguments::{Arguments, Options, Subcommand};

@@ -10,7 +10,8 @@ use Rattle.fancy_regex_runner.specs.Find.{earliest, attempted, places}
 use Rattle.fancy_regex_runner.specs.Visited.{Has}
 use Rattle.fancy_regex_runner.specs.Search.{AllFail, Explains}
 use Rattle.fancy_regex_runner.proofs.VisitedLemmas.{members_cap, none_has}
-use Rattle.fancy_regex_runner.proofs.StartLemmas.{found_here, failed_next, failed_last, next_place, last_place, end_place}
+use Rattle.fancy_regex_meaning.proofs.NextBoundaryLemmas.{next_place, last_place, end_place}
+use Rattle.fancy_regex_runner.proofs.StartLemmas.{found_here, failed_next, failed_last}
 use Rattle.fancy_regex_runner.proofs.search.earliest_way.Goals as goal
 use Rattle.fancy_regex_runner.proofs.search.earliest_way.Goals.{After-attempt, In_ok-end}
 

@@ -1,6 +1,6 @@
 //! Tests of class matchers, folding and counted reads.
 
-use crate::{CaseiLiteral, CharClassMatcher, ClassError, Counted, Steps, is_word};
+use fancy_regex_class::{CaseiLiteral, CharClassMatcher, ClassError, Counted, Steps, is_word};
 use std::alloc::Global;
 
 fn has(alloc: Global, text: &str, casei: bool, unicode: bool, c: char) -> bool {

@@ -1,4 +1,6 @@
-use crate::{Arguments, Options, Refusal, Subcommand, read_words};
+//! What the words on the command line ask for, or why they are refused.
+
+use fancy_search_words::{Arguments, Options, Refusal, Subcommand, read_words};
 use std::alloc::Global;
 
 /// No option.
