@@ -5,3 +5,23 @@ pub mod GroupLookup
 pub mod Looks
 pub mod IterationSearches
 pub mod IterationErrors
+-- what the public clauses cite of the crates below, under this crate's name
+pub use Rattle.fancy_regex_meaning.specs.Ways
+pub use Rattle.fancy_regex_meaning.specs.WayLaws
+pub use Rattle.fancy_regex_meaning.specs.Searches
+pub use Rattle.fancy_regex_meaning.specs.SearchLaws
+pub use Rattle.fancy_regex_meaning.specs.ItemLaws
+pub use Rattle.fancy_regex_meaning.specs.Choices
+pub use Rattle.fancy_regex_class.specs.RunInputs
+pub use Rattle.fancy_regex_input.specs.SearchInputs
+pub use Rattle.fancy_regex_input.specs.declared.config.SearchConfig
+pub use Rattle.fancy_regex_meta.specs.Patterns
+pub use Rattle.fancy_regex_meta.specs.PatternMatches
+pub use Rattle.fancy_regex_meta.specs.MetaMatches
+pub use Rattle.fancy_regex_meta.specs.Defaults
+pub use Rattle.fancy_regex_meta.specs.EasyPatterns
+pub use Rattle.fancy_regex_meta.specs.Refusals
+pub use Rattle.fancy_regex_meta.specs.SearchLimits
+pub use Rattle.fancy_regex_meta.specs.declared.options.RegexOptions
+pub use Rattle.fancy_regex_meta.specs.declared.error.Error
+pub use Rattle.fancy_regex_meta.specs.declared.meta_regex.MetaRegex

@@ -20,12 +20,16 @@ pub use capture_matches::CaptureMatches;
 pub use captures::{Captures, SubCaptureMatches};
 pub use fancy_regex_class::Steps;
 pub use fancy_regex_info::{BytesMode, CompileError};
-pub use fancy_regex_input::{Input, Match, RegexInput};
+pub use fancy_regex_input::{Input, Match, RegexInput, SearchConfig};
 pub use fancy_regex_machine::RuntimeError;
+pub use fancy_regex_meaning::laws_of_items;
 pub use fancy_regex_meta::{Error, Result};
 pub use fancy_regex_tree::{
-    Absent, Assertion, AstNode, BacktrackingControlVerb, CaptureGroupTarget, Expr,
-    ExprChildrenIter, ExprTree, LookAround, NamedGroups, ParseError, ParseErrorPosition,
+    Absent, Assertion, AstNode, BacktrackingControlVerb, CaptureGroupTarget, Error as ExprError,
+    Expr, ExprChildrenIter, ExprTree, FLAG_CASEI, FLAG_CRLF, FLAG_DOTNL,
+    FLAG_IGNORE_NUMBERED_GROUPS_WHEN_NAMED_GROUPS_EXIST, FLAG_IGNORE_SPACE, FLAG_MULTI,
+    FLAG_ONIGURUMA_MODE, FLAG_SWAP_GREED, FLAG_UNICODE, LookAround, NamedGroups, ParseError,
+    ParseErrorPosition,
 };
 pub use matches::Matches;
 pub use names::CaptureNames;

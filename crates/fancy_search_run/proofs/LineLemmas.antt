@@ -2,8 +2,8 @@
 use Rattle.std.proofs.Common.{◌≡◌, ℕ, zero, suc, ◌<◌, ◌≤◌, List, [], ◌∷◌, ◌++◌, None, length, get_or, take, ap, sym, ◌∙◌, append_assoc, append-nil, arith}
 use Rattle.std.specs.Prelude.{codes}
 use Rattle.std.specs.List.{flat_map, join_by}
-use Rattle.fancy_regex_meaning.specs.Searches.{Match}
-use Rattle.fancy_regex_meaning.specs.Ways.{Pairs}
+use Rattle.fancy_regex.specs.Searches.{Match}
+use Rattle.fancy_regex.specs.Ways.{Pairs}
 use Rattle.fancy_search_run.specs.Lines.{line_of, lines_of, groups_text, group_text}
 use Rattle.fancy_search_words.specs.declared.arguments.Subcommand.{Subcommand}
 

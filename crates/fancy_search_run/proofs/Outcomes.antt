@@ -1,15 +1,15 @@
 -- How a call ends by what its parts did.
 use Rattle.std.proofs.Common.{inl, inr, ◌≡◌, ℕ, Bool, false, List, [], Option, Some, None, Err, max, refl, subst, arith}
 use Rattle.std.specs.Prelude.{IfSome, IsUtf8, string_bytes}
-use Rattle.fancy_regex_input.specs.SearchInputs.{whole}
-use Rattle.fancy_regex_input.specs.declared.config.SearchConfig.{SearchConfig}
-use Rattle.fancy_regex_meta.specs.SearchLimits.{IsSearchError, IsMetaSearchError}
-use Rattle.fancy_regex_meta.specs.EasyPatterns.{pattern_uses_easy}
-use Rattle.fancy_regex_meta.specs.Refusals as building
-use Rattle.fancy_regex_meta.specs.declared.error.Error.{Error}
-use Rattle.fancy_regex_meta.specs.declared.error.Error.TheVariants as errors
-use Rattle.fancy_regex_meta.specs.declared.options.RegexOptions.{RegexOptions}
-use Rattle.fancy_regex_meta.specs.declared.meta_regex.MetaRegex.{MetaRegex}
+use Rattle.fancy_regex.specs.SearchInputs.{whole}
+use Rattle.fancy_regex.specs.SearchConfig.{SearchConfig}
+use Rattle.fancy_regex.specs.SearchLimits.{IsSearchError, IsMetaSearchError}
+use Rattle.fancy_regex.specs.EasyPatterns.{pattern_uses_easy}
+use Rattle.fancy_regex.specs.Refusals as building
+use Rattle.fancy_regex.specs.Error.{Error}
+use Rattle.fancy_regex.specs.Error.TheVariants as errors
+use Rattle.fancy_regex.specs.RegexOptions.{RegexOptions}
+use Rattle.fancy_regex.specs.MetaRegex.{MetaRegex}
 use Rattle.fancy_regex.specs.IterationErrors.{IsItemError}
 use Rattle.fancy_regex.specs.IterationSearches.{KeepsSearches}
 use Rattle.fancy_search_words.specs.Requests.{Request, Refuses, requested}

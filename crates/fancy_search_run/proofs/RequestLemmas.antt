@@ -1,9 +1,9 @@
 -- The matches and lines found are those of the request.
 use Rattle.std.proofs.Common.{◌≡◌, ℕ, List, [], ◌∷◌, ◌++◌, ap, sym, ◌∙◌, refl}
 use Rattle.std.specs.Prelude.{codes, string_bytes}
-use Rattle.fancy_regex_input.specs.SearchInputs.{whole}
-use Rattle.fancy_regex_meaning.specs.Searches.{Match}
-use Rattle.fancy_regex_meta.specs.declared.meta_regex.MetaRegex.{MetaRegex}
+use Rattle.fancy_regex.specs.SearchInputs.{whole}
+use Rattle.fancy_regex.specs.Searches.{Match}
+use Rattle.fancy_regex.specs.MetaRegex.{MetaRegex}
 use Rattle.fancy_regex.specs.RemainingMatches.{all_matches}
 use Rattle.fancy_search_run.specs.RunOutcome.{status_of, status_of_lines}
 use Rattle.fancy_search_run.specs.Lines.{line_of, lines_of}

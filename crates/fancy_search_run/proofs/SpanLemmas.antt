@@ -1,12 +1,12 @@
 -- The spans of the groups of a match, and their start and end offsets.
 use Rattle.std.proofs.Common.{◌≡◌, ℕ, zero, suc, ◌+◌, ◌*◌, ◌/◌, ◌<◌, ◌≤◌, List, [], ◌∷◌, length, get_or, Option, Some, None, ap, refl, sym, subst, arith, ◌∙◌}
 use Rattle.std.specs.Prelude.{slice_set, IsCharBoundary}
-use Rattle.fancy_regex_meaning.specs.WayLaws.{Each}
-use Rattle.fancy_regex_meaning.specs.ItemLaws.{AreInOrder, Ascends}
-use Rattle.fancy_regex_meaning.specs.SearchLaws.{MatchHasCharBoundaries}
-use Rattle.fancy_regex_meaning.specs.Searches.{Match}
-use Rattle.fancy_regex_meaning.specs.Ways.{Pairs}
-use Rattle.fancy_regex_class.specs.RunInputs.{group_slots}
+use Rattle.fancy_regex.specs.WayLaws.{Each}
+use Rattle.fancy_regex.specs.ItemLaws.{AreInOrder, Ascends}
+use Rattle.fancy_regex.specs.SearchLaws.{MatchHasCharBoundaries}
+use Rattle.fancy_regex.specs.Searches.{Match}
+use Rattle.fancy_regex.specs.Ways.{Pairs}
+use Rattle.fancy_regex.specs.RunInputs.{group_slots}
 use Rattle.fancy_regex.specs.CaptureSpans.{IsSpanAt, Participated}
 use Rattle.fancy_search_run.specs.Lines.{spans_of}
 use Rattle.fancy_search_run.specs.Spans.{AreGroupSpans}

@@ -1,6 +1,6 @@
 -- The fault for each refusal or error of the libraries.
-use Rattle.fancy_regex_meta.specs.declared.error.Error.{Error}
-use Rattle.fancy_regex_meta.specs.declared.error.Error.TheVariants as errors
+use Rattle.fancy_regex.specs.Error.{Error}
+use Rattle.fancy_regex.specs.Error.TheVariants as errors
 use Rattle.fancy_search_words.specs.declared.refusal.Refusal.{Refusal}
 use Rattle.fancy_search_words.specs.declared.refusal.Refusal.TheVariants as refusals
 use Rattle.fancy_search_run.specs.declared.fault.Fault.{Fault}

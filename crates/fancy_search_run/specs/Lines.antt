@@ -2,8 +2,8 @@
 use Rattle.std.specs.Prelude.{ℕ, List, ◌++◌, Option, Some, None, codes, slice_set}
 use Rattle.std.specs.Fmt.{decimal}
 use Rattle.std.specs.List.{flat_map, join_by}
-use Rattle.fancy_regex_meaning.specs.Ways.{Pairs}
-use Rattle.fancy_regex_meaning.specs.Searches.{Match}
+use Rattle.fancy_regex.specs.Ways.{Pairs}
+use Rattle.fancy_regex.specs.Searches.{Match}
 use Rattle.fancy_search_words.specs.declared.arguments.Subcommand.{Subcommand}
 use Rattle.fancy_search_words.specs.declared.arguments.Subcommand.TheVariants.{Find, Captures}
 

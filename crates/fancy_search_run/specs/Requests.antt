@@ -1,10 +1,10 @@
 -- The regex options, the matches and the output lines of a request.
 use Rattle.std.specs.Prelude.{ℕ, not, List, unwrap_or}
-use Rattle.fancy_regex_meaning.specs.Searches.{Match, all_items}
-use Rattle.fancy_regex_input.specs.SearchInputs.{whole, input_of}
-use Rattle.fancy_regex_meta.specs.Defaults.{default_options}
-use Rattle.fancy_regex_meta.specs.Patterns.{pattern_in, options_in, setting_in}
-use Rattle.fancy_regex_meta.specs.declared.options.RegexOptions.{RegexOptions}
+use Rattle.fancy_regex.specs.Searches.{Match, all_items}
+use Rattle.fancy_regex.specs.SearchInputs.{whole, input_of}
+use Rattle.fancy_regex.specs.Defaults.{default_options}
+use Rattle.fancy_regex.specs.Patterns.{pattern_in, options_in, setting_in}
+use Rattle.fancy_regex.specs.RegexOptions.{RegexOptions}
 use Rattle.fancy_search_words.specs.Requests.{Request}
 use Rattle.fancy_search_words.specs.declared.arguments.Options.{Options}
 use Rattle.fancy_search_run.specs.Lines.{lines_of}

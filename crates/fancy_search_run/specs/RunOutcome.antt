@@ -1,16 +1,16 @@
 -- What `run` writes, and the status or fault that it returns.
 use Rattle.std.specs.Prelude.{◌≡◌, ◌⊎◌, ℕ, Bool, false, ◌<◌, List, [], ◌∷◌, length, take, Option, Result, Ok, Err, IsUtf8}
 use Rattle.std.specs.Io.KnownBytes.{Appends}
-use Rattle.fancy_regex_meaning.specs.Choices.{choices}
-use Rattle.fancy_regex_meaning.specs.Searches.{Match}
-use Rattle.fancy_regex_input.specs.SearchInputs.{whole}
-use Rattle.fancy_regex_meta.specs.SearchLimits.{IsSearchError, setting_from, search_at}
-use Rattle.fancy_regex_meta.specs.Patterns.{pattern_in}
-use Rattle.fancy_regex_meta.specs.PatternMatches.{match_from}
-use Rattle.fancy_regex_meta.specs.Refusals as building
-use Rattle.fancy_regex_meta.specs.EasyPatterns.{pattern_uses_easy}
-use Rattle.fancy_regex_meta.specs.declared.error.Error.{Error}
-use Rattle.fancy_regex_meta.specs.declared.options.RegexOptions.{RegexOptions}
+use Rattle.fancy_regex.specs.Choices.{choices}
+use Rattle.fancy_regex.specs.Searches.{Match}
+use Rattle.fancy_regex.specs.SearchInputs.{whole}
+use Rattle.fancy_regex.specs.SearchLimits.{IsSearchError, setting_from, search_at}
+use Rattle.fancy_regex.specs.Patterns.{pattern_in}
+use Rattle.fancy_regex.specs.PatternMatches.{match_from}
+use Rattle.fancy_regex.specs.Refusals as building
+use Rattle.fancy_regex.specs.EasyPatterns.{pattern_uses_easy}
+use Rattle.fancy_regex.specs.Error.{Error}
+use Rattle.fancy_regex.specs.RegexOptions.{RegexOptions}
 use Rattle.fancy_regex.specs.IterationSearches.{MakesSearch}
 use Rattle.fancy_search_run.specs.Requests.{regex_options, matches_of, lines_in}
 use Rattle.fancy_search_run.specs.declared.fault.Fault.{Fault}

@@ -1,7 +1,7 @@
 -- The spans of the groups of a match, from their start and end offsets.
 use Rattle.std.specs.Prelude.{◌≡◌, ◌<◌, ◌≤◌, ℕ, List, Some, None, length, slice_index_or, IsCharBoundary}
-use Rattle.fancy_regex_meaning.specs.Ways.{Pairs}
-use Rattle.fancy_regex_class.specs.RunInputs.{group_slots}
+use Rattle.fancy_regex.specs.Ways.{Pairs}
+use Rattle.fancy_regex.specs.RunInputs.{group_slots}
 
 -- These are the spans of groups with these start and end offsets. Each span lies between character boundaries, and the text is
 -- so short that no offset in it equals the one that marks a group that did not participate.

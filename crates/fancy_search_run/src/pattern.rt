@@ -1,7 +1,7 @@
 //! Compiles the pattern that the words give.
 
 ghost use Rattle.std.specs.Prelude.{◌≡◌, IfOk, IfErr, string_bytes};
-ghost use Rattle.fancy_regex_meta.specs.Refusals.{Accepts, Refuses};
+ghost use Rattle.fancy_regex.specs.Refusals.{Accepts, Refuses};
 ghost use Rattle.fancy_search_run.specs.Requests.{regex_options};
 
 use fancy_regex::{Regex, RegexOptionsBuilder, Result};

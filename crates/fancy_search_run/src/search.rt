@@ -1,8 +1,8 @@
 //! Searches a text and formats the matches as lines. Offsets are in bytes, in decimal digits.
 
 ghost use Rattle.std.specs.Prelude.{◌≡◌, ◌++◌, IfOk, IfErr, OnOk, codes, string_bytes};
-ghost use Rattle.fancy_regex_input.specs.SearchInputs.{whole};
-ghost use Rattle.fancy_regex_meaning.specs.Ways.{Pairs};
+ghost use Rattle.fancy_regex.specs.SearchInputs.{whole};
+ghost use Rattle.fancy_regex.specs.Ways.{Pairs};
 ghost use Rattle.fancy_regex.specs.RemainingMatches.{all_matches};
 ghost use Rattle.fancy_search_run.specs.RunOutcome.{IsSearchFault};
 ghost use Rattle.fancy_search_run.specs.Lines.{lines_of, groups_text, span_text};
@@ -10,8 +10,7 @@ ghost use Rattle.fancy_search_run.specs.Spans.{AreGroupSpans};
 ghost use Rattle.fancy_search_words.specs.declared.arguments.Subcommand.TheVariants as subcommand;
 
 use crate::fault::Fault;
-use fancy_regex::{Captures, Match, Regex};
-use fancy_regex_meaning::laws_of_items;
+use fancy_regex::{Captures, Match, Regex, laws_of_items};
 use std::alloc::{AllocError, Global};
 
 /// A line `START..END` for each match in the text. `Fault::Regex` if a search exceeds a limit, or `Fault::Memory`.

@@ -1,7 +1,7 @@
 use Rattle.std.proofs.Common.{ℕ, List, subst}
 use Rattle.std.specs.Prelude.{IfOk, IfErr, string_bytes}
-use Rattle.fancy_regex_meta.specs.Refusals.{Accepts, Refuses}
-use Rattle.fancy_regex_meta.specs.declared.options.RegexOptions.{RegexOptions}
+use Rattle.fancy_regex.specs.Refusals.{Accepts, Refuses}
+use Rattle.fancy_regex.specs.RegexOptions.{RegexOptions}
 use Rattle.fancy_search_run.specs.Requests.{regex_options}
 use Rattle.fancy_search_run.proofs.pattern.regex.Goals as goal
 

@@ -1,13 +1,13 @@
 use Rattle.std.proofs.Common.{◌≡◌, ◌++◌, ◌∷◌, ◌<◌, ◌≤◌, ℕ, Bool, length, arith, ap, sym, subst, refl, ◌∙◌}
 use Rattle.std.specs.Prelude.{codes, string_bytes, slice_set}
 use Rattle.std.proofs.lemmas.Str.{IsCharBoundary-start}
-use Rattle.fancy_regex_input.specs.declared.config.SearchConfig.{SearchConfig}
-use Rattle.fancy_regex_input.specs.SearchInputs.{whole, input_of}
-use Rattle.fancy_regex_meaning.specs.WayLaws.{Each}
-use Rattle.fancy_regex_meaning.specs.Searches.{Match}
-use Rattle.fancy_regex_class.specs.RunInputs.{group_slots}
-use Rattle.fancy_regex_meta.specs.MetaMatches.{meta_pattern}
-use Rattle.fancy_regex_meta.specs.Patterns.{options_in, setting_in}
+use Rattle.fancy_regex.specs.SearchConfig.{SearchConfig}
+use Rattle.fancy_regex.specs.SearchInputs.{whole, input_of}
+use Rattle.fancy_regex.specs.WayLaws.{Each}
+use Rattle.fancy_regex.specs.Searches.{Match}
+use Rattle.fancy_regex.specs.RunInputs.{group_slots}
+use Rattle.fancy_regex.specs.MetaMatches.{meta_pattern}
+use Rattle.fancy_regex.specs.Patterns.{options_in, setting_in}
 use Rattle.fancy_regex.specs.RemainingMatches.{remaining_matches, all_matches}
 use Rattle.fancy_regex.specs.IterationSearches.{MakesSearchFrom}
 use Rattle.std.proofs.lemmas.Result.{err_from_is_err_and}

@@ -1,6 +1,6 @@
 use Rattle.std.proofs.Common.{◌≡◌, ◌++◌}
 use Rattle.std.specs.Prelude.{false, string_bytes}
-use Rattle.fancy_regex_input.specs.SearchInputs.{whole}
+use Rattle.fancy_regex.specs.SearchInputs.{whole}
 use Rattle.fancy_regex.specs.RemainingMatches.{remaining_matches, all_matches}
 use Rattle.fancy_regex.specs.IterationSearches.{KeepsSearches}
 use Rattle.fancy_search_run.specs.Lines.{lines_of}

@@ -1,7 +1,7 @@
 use Rattle.std.proofs.Common.{◌≡◌, ◌++◌, ◌+◌, ◌<◌, ◌≤◌, ◌/◌, ℕ, length, get_or, take, Option, Some, None, add-one, arith, ap, ◌∙◌}
 use Rattle.std.specs.Prelude.{string_bytes}
 use Rattle.std.proofs.Math.Seq.{take_all}
-use Rattle.fancy_regex_meaning.specs.Ways.{Pairs}
+use Rattle.fancy_regex.specs.Ways.{Pairs}
 use Rattle.fancy_search_run.proofs.SpanLemmas.{shown, groups_all}
 use Rattle.fancy_search_run.proofs.LineLemmas.{group_first, group_more}
 use Rattle.fancy_search_run.specs.Lines.{groups_text, group_text}

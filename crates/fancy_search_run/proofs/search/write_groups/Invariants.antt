@@ -1,6 +1,6 @@
 use Rattle.std.proofs.Common.{◌≡◌, ◌++◌, take}
 use Rattle.std.specs.Prelude.{string_bytes}
-use Rattle.fancy_regex_meaning.specs.Ways.{Pairs}
+use Rattle.fancy_regex.specs.Ways.{Pairs}
 use Rattle.fancy_search_run.specs.Lines.{groups_text}
 use Rattle.fancy_search_run.specs.Spans.{AreGroupSpans}
 use Rattle.fancy_search_run.proofs.search.write_groups.Given as goal
