@@ -1,6 +1,6 @@
 pub mod RowLemmas
 pub mod SizeLemmas
-pub mod WalkLemmas
+pub mod NodeListLemmas
 pub mod PropertyLemmas
 pub mod ReachabilityLemmas
 pub mod WorklistLemmas

@@ -5,7 +5,6 @@ use Rattle.fancy_regex_tree.specs.declared.expr.BacktrackingControlVerb.{Backtra
 use Rattle.fancy_regex_tree.specs.declared.expr.CaptureGroupTarget.{CaptureGroupTarget}
 use Rattle.fancy_regex_tree.specs.declared.expr.Expr.{Expr}
 use Rattle.fancy_regex_tree.specs.declared.expr.LookAround.{LookAround}
-use Rattle.fancy_regex_tree.specs.declared.expr.AstNode.{AstNode}
 use Rattle.fancy_regex_tree.specs.declared.expr.Expr.TheVariants as view
 use Rattle.fancy_regex_tree.specs.declared.expr.Absent.TheVariants as absent
 use Rattle.fancy_regex_tree.specs.declared.expr.AstNode.TheVariants as ast
@@ -40,9 +39,6 @@ tree_verb v = ap tree_of (sym (view.rolls-BacktrackingControlVerb v)) ∙ fold-r
 
 pub tree_define : (t : Box Expr Global) → tree_of (view.DefineGroup t) ≡ define_group (tree_of t.value)
 tree_define t = ap tree_of (sym (view.rolls-DefineGroup t)) ∙ fold-roll-Expr Tree (ℕ → Tree) Tree absent_tree ast_tree node_tree (Expr-F.DefineGroup t)
-
-pub tree_ast : (n : AstNode) (position : ℕ) → tree_of (view.AstNode n position) ≡ ast_tree_of n position
-tree_ast n position = ap tree_of (sym (view.rolls-AstNode n position)) ∙ fold-roll-Expr Tree (ℕ → Tree) Tree absent_tree ast_tree node_tree (Expr-F.AstNode n position)
 
 pub tree_repeater : (t : Box Expr Global) → absent_tree_of (absent.Repeater t) ≡ absent_repeater (tree_of t.value)
 tree_repeater t = ap absent_tree_of (sym (absent.rolls-Repeater t)) ∙ fold-roll-Absent Tree (ℕ → Tree) Tree absent_tree ast_tree node_tree (Absent-F.Repeater t)

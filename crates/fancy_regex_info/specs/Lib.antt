@@ -4,6 +4,7 @@ pub mod Infos
 pub mod PropertyRules
 pub mod AnalysisRelations
 pub mod References
+pub mod GroupNodes
 pub mod Reachability
 pub mod SizeFixpoint
 pub mod Analysis

@@ -2,13 +2,14 @@
 use Rattle.std.proofs.Common.{◌≡◌, ℕ, ◌+◌, ◌<◌, min, ◌⊎◌, ⊎_elim, inl, inr, Bool, true, false, not, ◌&&◌, ◌||◌, ◌==◌, nat_lt, List, map, length, refl, sym, ap, subst, ◌∙◌, arith, eqb-true, eq-eqb}
 use borrow.Author.Tests.{ltb-true, lt-ltb}
 use Rattle.std.proofs.Math.Path.{fun_ext}
-use Rattle.fancy_regex_tree.specs.Tree.{Tree, Trees, concat, alt, group, look_around, repeat, atomic_group, backref, backref_with_level, backref_exists, conditional, subroutine_call, absent_repeater, absent_expression, absent_stopper, define_group, ast_group, ast_backref, ast_call, ast_condition, no_trees, more_trees}
+use Rattle.fancy_regex_tree.specs.Tree.{Tree, repeat, backref, backref_with_level, backref_exists, subroutine_call, ast_group, ast_backref, ast_call, ast_condition}
+use Rattle.fancy_regex_tree.specs.Traversal.{nodes}
 use Rattle.fancy_regex_meaning.specs.Sizes.{unbounded, size, size_with, weight}
 use Rattle.fancy_regex_info.specs.Analysis.{analysis}
 use Rattle.fancy_regex_sizes.specs.AnalysisErrors.{TreeHasError, is_too_heavy, is_always_empty, is_too_complex, is_never_matching, is_root_refused, is_root_error, ErrorHolds}
 use Rattle.fancy_regex_sizes.specs.TerminationFixpoint.{never_ends, is_never_ending}
 use Rattle.fancy_regex_info.specs.Infos.{InfoTree, properties_in}
-use Rattle.fancy_regex_sizes.specs.NodeErrors.{some_node, some_node_of, is_memory, is_invalid_node, shows, is_no_group, is_reversed, is_invalid}
+use Rattle.fancy_regex_sizes.specs.NodeErrors.{some_node, is_memory, is_invalid_node, shows, is_no_group, is_reversed, is_invalid}
 use Rattle.fancy_regex_sizes.specs.UnsupportedParts.{is_unsupported, stops}
 use Rattle.fancy_regex_info.specs.References.{is_read}
 use Rattle.fancy_regex_info.specs.SizeFixpoint.{is_on_cycle}
@@ -24,7 +25,8 @@ use Rattle.fancy_regex_sizes.specs.declared.emitted.Inside.{Inside}
 use Rattle.fancy_regex_info.proofs.AnalyzeNodeLemmas.{own}
 use Rattle.fancy_regex_sizes.proofs.EmittedPartLemmas.{whole_found}
 use Rattle.fancy_regex_info.proofs.ReachabilityLemmas.{or_left, or_right, or_cases}
-use Rattle.fancy_regex_sizes.proofs.PartErrorLemmas.{or_keeps}
+use Rattle.fancy_regex_sizes.proofs.AnyLemmas.{any_has, any_finds}
+use Rattle.fancy_regex_sizes.proofs.NodeListLemmas.{some_node_is}
 use Rattle.fancy_regex_sizes.proofs.PartLemmas.{some_written_keeps, stops_stopped}
 use Rattle.fancy_regex_sizes.proofs.LeftRecursionLemmas.{left_recursive, reached_again, target_inside}
 
@@ -56,41 +58,10 @@ never_matching_is : (e : CompileError) → is_never_matching e ≡ true → e �
 never_matching_is PatternCanNeverMatch h = refl
 never_matching_is e h = cc
 
-module _ (f g : Tree → Bool) (keeps : (t : Tree) → f t ≡ true → g t ≡ true) where
-  mutual
-    unfolding some_node some_node_of
-
-    pub some_node_keeps : (t : Tree) → some_node f t ≡ true → some_node g t ≡ true
-    some_node_keeps (concat ts) = or_keeps (f (concat ts)) (some_node_of f ts) (g (concat ts)) (some_node_of g ts) (keeps (concat ts)) (row_keeps ts)
-    some_node_keeps (alt ts) = or_keeps (f (alt ts)) (some_node_of f ts) (g (alt ts)) (some_node_of g ts) (keeps (alt ts)) (row_keeps ts)
-    some_node_keeps (group t) = or_keeps (f (group t)) (some_node f t) (g (group t)) (some_node g t) (keeps (group t)) (some_node_keeps t)
-    some_node_keeps (look_around t how) =
-        or_keeps (f (look_around t how)) (some_node f t) (g (look_around t how)) (some_node g t) (keeps (look_around t how)) (some_node_keeps t)
-    some_node_keeps (repeat t lo hi greedy) =
-        or_keeps (f (repeat t lo hi greedy)) (some_node f t) (g (repeat t lo hi greedy)) (some_node g t) (keeps (repeat t lo hi greedy)) (some_node_keeps t)
-    some_node_keeps (atomic_group t) =
-        or_keeps (f (atomic_group t)) (some_node f t) (g (atomic_group t)) (some_node g t) (keeps (atomic_group t)) (some_node_keeps t)
-    some_node_keeps (conditional c a b) =
-        or_keeps (f (conditional c a b)) (some_node f c || (some_node f a || some_node f b)) (g (conditional c a b)) (some_node g c || (some_node g a || some_node g b))
-        (keeps (conditional c a b))
-        (or_keeps (some_node f c) (some_node f a || some_node f b) (some_node g c) (some_node g a || some_node g b) (some_node_keeps c)
-        (or_keeps (some_node f a) (some_node f b) (some_node g a) (some_node g b) (some_node_keeps a) (some_node_keeps b)))
-    some_node_keeps (absent_repeater t) =
-        or_keeps (f (absent_repeater t)) (some_node f t) (g (absent_repeater t)) (some_node g t) (keeps (absent_repeater t)) (some_node_keeps t)
-    some_node_keeps (absent_expression a t) =
-        or_keeps (f (absent_expression a t)) (some_node f a || some_node f t) (g (absent_expression a t)) (some_node g a || some_node g t)
-        (keeps (absent_expression a t)) (or_keeps (some_node f a) (some_node f t) (some_node g a) (some_node g t) (some_node_keeps a) (some_node_keeps t))
-    some_node_keeps (absent_stopper t) =
-        or_keeps (f (absent_stopper t)) (some_node f t) (g (absent_stopper t)) (some_node g t) (keeps (absent_stopper t)) (some_node_keeps t)
-    some_node_keeps (define_group t) =
-        or_keeps (f (define_group t)) (some_node f t) (g (define_group t)) (some_node g t) (keeps (define_group t)) (some_node_keeps t)
-    some_node_keeps (ast_group name t position) =
-        or_keeps (f (ast_group name t position)) (some_node f t) (g (ast_group name t position)) (some_node g t) (keeps (ast_group name t position)) (some_node_keeps t)
-    some_node_keeps t = keeps t
-
-    row_keeps : (ts : Trees) → some_node_of f ts ≡ true → some_node_of g ts ≡ true
-    row_keeps no_trees = λ h. h
-    row_keeps (more_trees t ts) = or_keeps (some_node f t) (some_node_of f ts) (some_node g t) (some_node_of g ts) (some_node_keeps t) (row_keeps ts)
+pub some_node_keeps : (f g : Tree → Bool) → ((t : Tree) → f t ≡ true → g t ≡ true) → (t : Tree) → some_node f t ≡ true → some_node g t ≡ true
+some_node_keeps f g keeps t h =
+    let found = any_finds f (nodes t) (sym (some_node_is f t) ∙ h) in
+    some_node_is g t ∙ any_has g (nodes t) found.0 found.2 (keeps found.0 found.1)
 
 shows_faulty : (n : ℕ) (e : CompileError) (t : Tree) → shows n e t ≡ true → is_invalid_node n t ≡ true
 shows_faulty n e (repeat t lo hi greedy) h = and_left (nat_lt hi lo) (is_reversed e) h

@@ -9,8 +9,10 @@ pub mod WorklistLemmas
 pub mod AnchorLemmas
 pub mod AllLemmas
 pub mod DescendantLemmas
-pub mod CountLemmas
+pub mod ChildLemmas
 pub mod ReferenceLemmas
 pub mod EmittedPartLemmas
 pub mod InsideLemmas
 pub mod AnyLemmas
+pub mod NodeListLemmas
+pub mod PartListLemmas

@@ -1,13 +1,14 @@
 -- The parts of a pattern that the compiler emits code for, each with its context: calls are expanded in place, definitions and
 -- bodies quantified `{0}` emit nothing.
-use Rattle.std.specs.Prelude.{◌≡◌, ℕ, Bool, true, false, ◌||◌, List, [], ◌∷◌, ◌++◌, ◌==◌, if◌then◌else◌, Some}
+use Rattle.std.specs.Prelude.{◌≡◌, ℕ, Bool, true, false, ◌||◌, List, [], ◌∷◌, ◌++◌, ◌==◌, if◌then◌else◌, Option, Some, None}
 use Rattle.std.specs.List.{Contains}
-use Rattle.fancy_regex_tree.specs.Tree.{Tree, Trees, concat, alt, group, look_around, repeat, atomic_group, conditional, subroutine_call, absent_repeater, absent_expression, absent_stopper, define_group, ast_group, no_trees, more_trees}
+use Rattle.fancy_regex_tree.specs.Tree.{Tree, Trees, tree_of, concat, alt, group, look_around, repeat, atomic_group, conditional, subroutine_call, absent_repeater, absent_expression, absent_stopper, define_group, ast_group, no_trees, more_trees}
 use Rattle.fancy_regex_tree.specs.Traversal.{children}
 use Rattle.fancy_regex_meaning.specs.Sizes.{target}
 use Rattle.fancy_regex_sizes.specs.declared.emitted.Inside.{Inside}
 use Rattle.fancy_regex_sizes.specs.declared.emitted.Inside.TheVariants.{Nothing, LookAround, Absent}
 use Rattle.fancy_regex_sizes.specs.declared.emitted.Call.{Call}
+use Rattle.fancy_regex_sizes.specs.declared.emitted.EmittedPart.{EmittedPart}
 use Rattle.fancy_regex_sizes.specs.declared.emitted.Visited.{Visited}
 
 -- the context of the body of a look-around, from that of the look-around
@@ -40,6 +41,38 @@ unfoldable mutual
 -- of the tree itself or of a part below it
 abbrev pub some_emitted : (Inside → Tree → Bool) → Inside → Tree → Bool
 some_emitted test i t = test i t || some_descendant test i t
+
+-- The parts of a tree that code is emitted for, in preorder: the tree itself in the context i, then those below it.
+unfoldable mutual
+  pub emitted_parts : Inside → Tree → List (Inside × Tree)
+  emitted_parts i (concat ts) = (i, concat ts) ∷ emitted_parts_in_row i ts
+  emitted_parts i (alt ts) = (i, alt ts) ∷ emitted_parts_in_row i ts
+  emitted_parts i (group t) = (i, group t) ∷ emitted_parts i t
+  emitted_parts i (look_around t how) = (i, look_around t how) ∷ emitted_parts (in_look_around i) t
+  emitted_parts i (repeat t lo hi greedy) = (i, repeat t lo hi greedy) ∷ (if hi == 0 then [] else emitted_parts i t)
+  emitted_parts i (atomic_group t) = (i, atomic_group t) ∷ emitted_parts i t
+  emitted_parts i (conditional c a b) = (i, conditional c a b) ∷ emitted_parts i c ++ (emitted_parts i a ++ emitted_parts i b)
+  emitted_parts i (absent_repeater t) = (i, absent_repeater t) ∷ emitted_parts Absent t
+  emitted_parts i (absent_expression a t) = (i, absent_expression a t) ∷ emitted_parts Absent a ++ emitted_parts Absent t
+  emitted_parts i (absent_stopper t) = (i, absent_stopper t) ∷ emitted_parts Absent t
+  emitted_parts i (ast_group name t position) = (i, ast_group name t position) ∷ emitted_parts i t
+  emitted_parts i t = (i, t) ∷ []
+
+  pub emitted_parts_in_row : Inside → Trees → List (Inside × Tree)
+  emitted_parts_in_row i no_trees = []
+  emitted_parts_in_row i (more_trees t ts) = emitted_parts i t ++ emitted_parts_in_row i ts
+
+-- a part with its context, as the code holds it
+abbrev pub part_at : EmittedPart → Inside × Tree
+part_at part = (part.inside, tree_of part.expr.now)
+
+-- the call that a node is, in its context
+abbrev pub call_in : Inside → Tree → Option Call
+call_in i (subroutine_call k) = Some (record { group = k; inside = i })
+call_in i _ = None
+
+abbrev pub call_of : Inside × Tree → Option Call
+call_of part = call_in part.0 part.1
 
 -- the subroutine calls that code is emitted for with the tree, in pattern order, each with its context
 unfoldable mutual

@@ -3,9 +3,14 @@ use Rattle.std.specs.Prelude.{◌≡◌, ℕ, Bool, true, false, not, ◌&&◌, 
 use Rattle.std.specs.List.{list_any}
 use Rattle.fancy_regex_tree.specs.ReferenceSummary.{refers_to, is_call}
 use Rattle.fancy_regex_tree.specs.Printable.{is_one_character}
-use Rattle.fancy_regex_tree.specs.Tree.{Tree, literal, alt, repeat, no_trees}
+use Rattle.fancy_regex_tree.specs.Tree.{Tree, literal, alt, group, repeat, no_trees}
 use Rattle.fancy_regex_tree.specs.Traversal.{nodes}
 use Rattle.fancy_regex_meaning.specs.Groups.{group_count}
+
+-- the capture groups that a node is itself: one or none
+abbrev pub own_groups : Tree → ℕ
+own_groups (group t) = 1
+own_groups _ = 0
 
 -- an alternation without a branch, a literal that is not one character, or a repeat whose least count is above its greatest
 abbrev pub is_ill_formed : Tree → Bool

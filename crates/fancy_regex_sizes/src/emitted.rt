@@ -1,13 +1,13 @@
 //! Which parts of a pattern the compiler emits code for: subroutine calls are expanded in place, so the body of a called
 //! group is emitted in the context of the call.
 
-ghost use Rattle.std.specs.Prelude.{◌≡◌, ℕ, ◌++◌, map, IfOk};
-ghost use Rattle.fancy_regex_tree.specs.Tree.{tree_of, trees, absent_tree_of, ast_tree_of};
-ghost use Rattle.fancy_regex_sizes.specs.EmittedParts.{in_look_around as inside_look_around, emitted_calls, emitted_calls_in_row, was_visited_in, with_visited_in};
+ghost use Rattle.std.specs.Prelude.{◌≡◌, ◌++◌, map, filter_map, IfOk};
+ghost use Rattle.fancy_regex_tree.specs.Tree.{tree_of, absent_tree_of};
+ghost use Rattle.fancy_regex_sizes.specs.EmittedParts.{in_look_around as inside_look_around, emitted_parts, part_at, call_in, call_of, skips_children, inside_of_children, was_visited_in, with_visited_in};
 ghost use Rattle.fancy_regex_sizes.specs.declared.emitted.Inside.TheVariants as inside;
 
-use fancy_regex_tree::{Absent, AstNode, Expr};
-use std::alloc::AllocError;
+use fancy_regex_tree::{Absent, Expr};
+use std::alloc::{AllocError, Global};
 
 /// The innermost enclosing construct that matters, also across subroutine calls.
 #[derive(Clone, Copy, Debug, PartialEq, Eq)]
@@ -85,98 +85,104 @@ impl Visited {
     }
 }
 
-/// Appends the subroutine calls that code is emitted for with the node, in pattern order, each with its context. Definitions
-/// and bodies quantified `{0}` emit no code. Fails only if memory runs out.
-#[tactic(auto, unfolding(crate::specs::EmittedParts::emitted_calls))]
-#[cycle(written)]
-pub(crate) fn add_emitted_calls(
-    expr: &Expr,
-    inside: Inside,
-    calls: &mut Vec<Call>,
-) -> Result<(), AllocError>
-    ensures { IfOk result (λ _. calls.new.items ≡ calls.old.items ++ emitted_calls inside (tree_of expr.now)) }
-{
-    match expr {
-        Expr::SubroutineCall(group) => {
-            calls.push(Call {
-                group: *group,
-                inside,
-            })?;
-            Ok(())
-        }
-        Expr::Concat(parts) | Expr::Alt(parts) => add_row_calls(parts, inside, calls),
-        Expr::Group(child) | Expr::AtomicGroup(child) => add_emitted_calls(child, inside, calls),
-        Expr::LookAround(child, _) => add_emitted_calls(child, inside.in_look_around(), calls),
-        Expr::Repeat { child, hi, .. } => {
-            if *hi == 0 {
-                return Ok(());
-            }
-            add_emitted_calls(child, inside, calls)
-        }
-        Expr::Conditional {
-            condition,
-            true_branch,
-            false_branch,
-        } => {
-            add_emitted_calls(condition, inside, calls)?;
-            add_emitted_calls(true_branch, inside, calls)?;
-            add_emitted_calls(false_branch, inside, calls)
-        }
-        Expr::Absent(absent) => add_absent_calls(absent, inside, calls),
-        Expr::AstNode(node, _) => add_unresolved_calls(node, inside, calls),
-        Expr::Empty | Expr::Any { .. } | Expr::Assertion(_) | Expr::GeneralNewline { .. } => Ok(()),
-        Expr::Literal { .. } | Expr::LiteralBytes { .. } | Expr::Delegate { .. } => Ok(()),
-        Expr::Backref { .. } | Expr::BackrefWithRelativeRecursionLevel { .. } => Ok(()),
-        Expr::KeepOut | Expr::ContinueFromPreviousMatchEnd => Ok(()),
-        Expr::BackrefExistsCondition { .. } | Expr::BacktrackingControlVerb(_) => Ok(()),
-        Expr::DefineGroup { .. } => Ok(()),
-    }
+/// A part of a pattern that code is emitted for.
+#[derive(Clone, Copy, Debug)]
+pub(crate) struct EmittedPart<'t> {
+    /// The node.
+    pub expr: &'t Expr,
+    /// The context of the node.
+    pub inside: Inside,
 }
 
-/// The calls of an absent operator; their context is the absent operator, whatever encloses it.
-#[tactic(auto, unfolding(crate::specs::EmittedParts::emitted_calls))]
-#[cycle(written)]
-fn add_absent_calls(
-    absent: &Absent,
+/// The parts of the tree that code is emitted for, in preorder, each with its context. Definitions and bodies quantified
+/// `{0}` emit no code. Fails only if memory runs out.
+pub(crate) fn emitted_parts<'t>(
+    alloc: Global,
+    expr: &'t Expr,
     inside: Inside,
-    calls: &mut Vec<Call>,
-) -> Result<(), AllocError>
-    ensures { IfOk result (λ _. calls.new.items ≡ calls.old.items ++ emitted_calls inside (absent_tree_of absent.now)) }
+) -> Result<Vec<EmittedPart<'t>>, AllocError>
+    ensures { IfOk result (λ parts. map part_at parts.items ≡ emitted_parts inside (tree_of expr.now)) }
 {
-    match absent {
-        Absent::Repeater(child) | Absent::Stopper(child) => {
-            add_emitted_calls(child, Inside::Absent, calls)
-        }
-        Absent::Expression { absent, exp } => {
-            add_emitted_calls(absent, Inside::Absent, calls)?;
-            add_emitted_calls(exp, Inside::Absent, calls)
-        }
-        Absent::Clear => Ok(()),
-    }
+    let mut parts = Vec::new(alloc);
+    add_emitted_parts(expr, inside, &mut parts)?;
+    Ok(parts)
 }
 
-#[tactic(auto, unfolding(crate::specs::EmittedParts::emitted_calls))]
-#[cycle(written)]
-fn add_unresolved_calls(
-    node: &AstNode,
+/// Appends the parts of the tree that code is emitted for.
+fn add_emitted_parts<'t>(
+    expr: &'t Expr,
     inside: Inside,
-    calls: &mut Vec<Call>,
+    parts: &mut Vec<EmittedPart<'t>>,
 ) -> Result<(), AllocError>
-    ensures { IfOk result (λ _. (position : ℕ) → calls.new.items ≡ calls.old.items ++ emitted_calls inside (ast_tree_of node.now position)) }
+    ensures { IfOk result (λ _. map part_at parts.new.items ≡ map part_at parts.old.items ++ emitted_parts inside (tree_of expr.now)) }
 {
-    match node {
-        AstNode::AstGroup { inner, .. } => add_emitted_calls(inner, inside, calls),
-        AstNode::Backref { .. } | AstNode::SubroutineCall(_) => Ok(()),
-        AstNode::BackrefExistsCondition { .. } => Ok(()),
+    parts.push(EmittedPart { expr, inside })?;
+    if skips_children(expr) {
+        return Ok(());
     }
-}
-
-#[cycle(written)]
-fn add_row_calls(parts: &[Expr], inside: Inside, calls: &mut Vec<Call>) -> Result<(), AllocError>
-    ensures { IfOk result (λ _. calls.new.items ≡ calls.old.items ++ emitted_calls_in_row inside (trees (map tree_of parts.now))) }
-{
-    for part in parts {
-        add_emitted_calls(part, inside, calls)?;
+    let inside_children = inside_of_children(expr, inside);
+    for child in expr.children_iter() {
+        add_emitted_parts(child, inside_children, parts)?;
     }
     Ok(())
+}
+
+/// Whether no code is emitted for the children of the node, as for definitions and a body quantified `{0}`.
+fn skips_children(node: &Expr) -> bool
+    ensures { result ≡ skips_children (tree_of node.now) }
+{
+    match node {
+        Expr::Repeat { hi, .. } => *hi == 0,
+        Expr::DefineGroup { .. } => true,
+        _ => false,
+    }
+}
+
+/// The context of the children of a node that is in this context.
+fn inside_of_children(node: &Expr, inside: Inside) -> Inside
+    ensures { result ≡ inside_of_children inside (tree_of node.now) }
+{
+    match node {
+        Expr::LookAround(_, _) => inside.in_look_around(),
+        Expr::Absent(absent) => inside_of_absent(absent, inside),
+        _ => inside,
+    }
+}
+
+/// The context of the children of an absent operator: the operator, whatever encloses it.
+fn inside_of_absent(absent: &Absent, inside: Inside) -> Inside
+    ensures { result ≡ inside_of_children inside (absent_tree_of absent.now) }
+{
+    match absent {
+        Absent::Repeater(_) | Absent::Stopper(_) | Absent::Expression { .. } => Inside::Absent,
+        Absent::Clear => inside,
+    }
+}
+
+/// Appends the subroutine calls among the parts, in their order, each with its context. Fails only if memory runs out.
+pub(crate) fn add_emitted_calls(
+    parts: &[EmittedPart<'_>],
+    calls: &mut Vec<Call>,
+) -> Result<(), AllocError>
+    ensures { IfOk result (λ _. calls.new.items ≡ calls.old.items ++ filter_map call_of (map part_at parts.now)) }
+{
+    for part in parts {
+        if let Some(call) = call_of(part.expr, part.inside) {
+            calls.push(call)?;
+        }
+    }
+    Ok(())
+}
+
+/// The call that the node is, if it is a subroutine call.
+fn call_of(node: &Expr, inside: Inside) -> Option<Call>
+    ensures { result ≡ call_in inside (tree_of node.now) }
+{
+    match node {
+        Expr::SubroutineCall(group) => Some(Call {
+            group: *group,
+            inside,
+        }),
+        _ => None,
+    }
 }

@@ -97,11 +97,7 @@ fn add_first_calls(expr: &Expr, sizes: &[Size], calls: &mut Vec<usize>) -> Resul
         Expr::Absent(absent) => add_absent_starts(absent, sizes, calls),
         Expr::DefineGroup { definitions } => add_first_calls(definitions, sizes, calls),
         Expr::AstNode(node, _) => add_unresolved_starts(node, sizes, calls),
-        Expr::Empty | Expr::Any { .. } | Expr::Assertion(_) | Expr::GeneralNewline { .. } => Ok(()),
-        Expr::Literal { .. } | Expr::LiteralBytes { .. } | Expr::Delegate { .. } => Ok(()),
-        Expr::Backref { .. } | Expr::BackrefWithRelativeRecursionLevel { .. } => Ok(()),
-        Expr::KeepOut | Expr::ContinueFromPreviousMatchEnd => Ok(()),
-        Expr::BackrefExistsCondition { .. } | Expr::BacktrackingControlVerb(_) => Ok(()),
+        _ => Ok(()),
     }
 }
 

@@ -1,84 +1,49 @@
 //! Errors that a single node shows, without regard to the rest of the pattern.
 
-ghost use Rattle.std.specs.Prelude.{◌≡◌, ℕ, true, false, not, ◌&&◌, ◌||◌, nat_lt, map, string_bytes, IfOk, IfErr};
-ghost use Rattle.fancy_regex_tree.specs.Tree.{tree_of, trees, absent_tree_of, ast_tree_of, by_number, target_of};
-ghost use Rattle.fancy_regex_sizes.specs.NodeErrors.{some_node, some_node_of, is_memory, is_no_group, is_invalid_node, shows, is_invalid, is_not_found, names, signed};
+ghost use Rattle.std.specs.Prelude.{◌≡◌, ℕ, true, false, not, ◌&&◌, ◌||◌, nat_lt, string_bytes, IfOk, IfErr};
+ghost use Rattle.fancy_regex_tree.specs.Tree.{tree_of, ast_tree_of, by_number, target_of};
+ghost use Rattle.fancy_regex_sizes.specs.NodeErrors.{some_node, is_memory, is_no_group, is_invalid_node, shows, is_invalid, is_not_found, names, signed};
 
 use fancy_regex_info::CompileError;
-use fancy_regex_tree::{Absent, AstNode, CaptureGroupTarget, Expr};
+use fancy_regex_tree::{AstNode, CaptureGroupTarget, Expr};
 use std::alloc::{AllocError, Global};
 
 /// Refuses a tree with a quantifier whose lower bound is above its upper (`RepeatBoundsReversed`), a reference or condition
 /// on a missing group or group 0 (`InvalidBackref`), a call of a missing group (`SubroutineCallTargetNotFound`), or an
 /// unresolved node (`UnresolvedAstNode`). The groups are those with numbers below `groups`. The other error is `Memory`.
-#[tactic(auto, unfolding(crate::specs::NodeErrors::some_node))]
-#[cycle(nodes)]
 pub(crate) fn check_nodes(alloc: Global, expr: &Expr, groups: usize) -> Result<(), CompileError>
     ensures refused { IfErr result (λ e. (is_memory e || some_node (shows groups e) (tree_of expr.now)) ≡ true) }
     ensures complete { IfOk result (λ _. some_node (is_invalid_node groups) (tree_of expr.now) ≡ false) }
 {
-    match expr {
-        Expr::Backref { group, .. } => check_reference(*group, groups),
-        Expr::BackrefWithRelativeRecursionLevel { group, .. } => check_reference(*group, groups),
-        Expr::BackrefExistsCondition { group, .. } => check_reference(*group, groups),
+    let nodes = expr.preorder(alloc)?;
+    for node in &nodes {
+        check_node(alloc, *node, groups)?;
+    }
+    Ok(())
+}
+
+/// Refuses a node that is invalid by itself, without regard to its descendants.
+fn check_node(alloc: Global, node: &Expr, groups: usize) -> Result<(), CompileError>
+    ensures refused { IfErr result (λ e. (is_memory e || shows groups e (tree_of node.now)) ≡ true) }
+    ensures complete { IfOk result (λ _. is_invalid_node groups (tree_of node.now) ≡ false) }
+{
+    match node {
+        Expr::Backref { group, .. }
+        | Expr::BackrefWithRelativeRecursionLevel { group, .. }
+        | Expr::BackrefExistsCondition { group, .. } => check_reference(*group, groups),
         Expr::SubroutineCall(group) => check_call(alloc, *group, groups),
-        Expr::Repeat { child, lo, hi, .. } => {
+        Expr::Repeat { lo, hi, .. } => {
             if lo > hi {
                 return Err(CompileError::RepeatBoundsReversed);
             }
-            check_nodes(alloc, child, groups)
+            Ok(())
         }
-        Expr::Concat(parts) | Expr::Alt(parts) => check_each(alloc, parts, groups),
-        Expr::Group(child) => check_nodes(alloc, child, groups),
-        Expr::LookAround(child, _) => check_nodes(alloc, child, groups),
-        Expr::AtomicGroup(child) => check_nodes(alloc, child, groups),
-        Expr::Conditional {
-            condition,
-            true_branch,
-            false_branch,
-        } => {
-            check_nodes(alloc, condition, groups)?;
-            check_nodes(alloc, true_branch, groups)?;
-            check_nodes(alloc, false_branch, groups)
-        }
-        Expr::DefineGroup { definitions } => check_nodes(alloc, definitions, groups),
-        Expr::Absent(absent) => check_absent(alloc, absent, groups),
         Expr::AstNode(node, _) => {
             let cause = unresolved(alloc, node)?;
             Err(cause)
         }
-        Expr::Empty | Expr::Any { .. } | Expr::Assertion(_) | Expr::GeneralNewline { .. } => Ok(()),
-        Expr::Literal { .. } | Expr::LiteralBytes { .. } | Expr::Delegate { .. } => Ok(()),
-        Expr::KeepOut | Expr::ContinueFromPreviousMatchEnd => Ok(()),
-        Expr::BacktrackingControlVerb(_) => Ok(()),
+        _ => Ok(()),
     }
-}
-
-#[tactic(auto, unfolding(crate::specs::NodeErrors::some_node))]
-#[cycle(nodes)]
-fn check_absent(alloc: Global, absent: &Absent, groups: usize) -> Result<(), CompileError>
-    ensures refused { IfErr result (λ e. (is_memory e || some_node (shows groups e) (absent_tree_of absent.now)) ≡ true) }
-    ensures complete { IfOk result (λ _. some_node (is_invalid_node groups) (absent_tree_of absent.now) ≡ false) }
-{
-    match absent {
-        Absent::Repeater(child) | Absent::Stopper(child) => check_nodes(alloc, child, groups),
-        Absent::Expression { absent, exp } => {
-            check_nodes(alloc, absent, groups)?;
-            check_nodes(alloc, exp, groups)
-        }
-        Absent::Clear => Ok(()),
-    }
-}
-
-#[cycle(nodes)]
-fn check_each(alloc: Global, parts: &[Expr], groups: usize) -> Result<(), CompileError>
-    ensures refused { IfErr result (λ e. (is_memory e || some_node_of (shows groups e) (trees (map tree_of parts.now))) ≡ true) }
-    ensures complete { IfOk result (λ _. some_node_of (is_invalid_node groups) (trees (map tree_of parts.now)) ≡ false) }
-{
-    for part in parts {
-        check_nodes(alloc, part, groups)?;
-    }
-    Ok(())
 }
 
 /// Refuses a reference to a group that does not exist. Back references and conditions cannot name group 0.
@@ -106,18 +71,17 @@ fn check_call(alloc: Global, group: usize, groups: usize) -> Result<(), CompileE
 }
 
 /// The error for an unresolved node; an unresolved call counts as a call of a missing group.
-#[tactic(auto, unfolding(crate::specs::NodeErrors::some_node))]
 fn unresolved(alloc: Global, node: &AstNode) -> Result<CompileError, AllocError>
-    ensures { IfOk result (λ e. (groups position : ℕ) → some_node (shows groups e) (ast_tree_of node.now position) ≡ true) }
+    ensures { IfOk result (λ e. (groups position : ℕ) → shows groups e (ast_tree_of node.now position) ≡ true) }
 {
     match node {
         AstNode::SubroutineCall(target) => {
             let target = target_text(alloc, target)?;
             Ok(CompileError::SubroutineCallTargetNotFound(target))
         }
-        AstNode::AstGroup { .. } => Ok(CompileError::UnresolvedAstNode),
-        AstNode::Backref { .. } => Ok(CompileError::UnresolvedAstNode),
-        AstNode::BackrefExistsCondition { .. } => Ok(CompileError::UnresolvedAstNode),
+        AstNode::AstGroup { .. }
+        | AstNode::Backref { .. }
+        | AstNode::BackrefExistsCondition { .. } => Ok(CompileError::UnresolvedAstNode),
     }
 }
 

@@ -33,11 +33,7 @@ pub(crate) fn can_end_in(expr: &Expr, ends: &[bool]) -> bool
         Expr::DefineGroup { definitions } => can_end_in(definitions, ends),
         Expr::Absent(absent) => absent_can_end(absent, ends),
         Expr::AstNode(node, _) => unresolved_can_end(node, ends),
-        Expr::Empty | Expr::Any { .. } | Expr::Assertion(_) | Expr::GeneralNewline { .. } => true,
-        Expr::Literal { .. } | Expr::LiteralBytes { .. } | Expr::Delegate { .. } => true,
-        Expr::Backref { .. } | Expr::BackrefWithRelativeRecursionLevel { .. } => true,
-        Expr::KeepOut | Expr::ContinueFromPreviousMatchEnd => true,
-        Expr::BackrefExistsCondition { .. } | Expr::BacktrackingControlVerb(_) => true,
+        _ => true,
     }
 }
 

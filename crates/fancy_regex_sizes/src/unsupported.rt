@@ -1,19 +1,20 @@
 //! Unsupported features, and look-behind of variable length, in the parts of a pattern that the compiler emits code for.
 //! The body of a called group is checked once for each kind of context that it is called in.
 
-ghost use Rattle.std.specs.Prelude.{◌≡◌, ℕ, ◌⊎◌, ◌++◌, true, false, not, is_some, ◌||◌, ◌&&◌, map, IfOk, IfErr};
-ghost use Rattle.fancy_regex_tree.specs.Tree.{Tree, tree_of, trees, absent_tree_of, ast_tree_of};
+ghost use Rattle.std.specs.Prelude.{◌≡◌, ◌⊎◌, ◌++◌, true, false, not, is_some, ◌||◌, ◌&&◌, map, IfOk, IfErr};
+ghost use Rattle.std.specs.List.{list_any};
+ghost use Rattle.fancy_regex_tree.specs.Tree.{Tree, tree_of, trees, absent_tree_of};
 ghost use Rattle.fancy_regex_meaning.specs.Sizes.{size_with};
 ghost use Rattle.fancy_regex_sizes.specs.NodeErrors.{is_memory};
 ghost use Rattle.fancy_regex_sizes.specs.UnsupportedParts.{words as words_of, unsupported_feature_in, is_fixed_length as is_fixed_length_tree, are_fixed_length as are_fixed_length_trees, is_variable_look_behind as is_variable_look_behind_tree, is_unsupported, stops};
 ghost use Rattle.fancy_regex_info.specs.Views.{size_at, body_tree};
-ghost use Rattle.fancy_regex_sizes.specs.EmittedParts.{some_descendant, some_of_row, some_emitted, emitted_calls, IsWhole, SomeEmittedPart};
+ghost use Rattle.fancy_regex_sizes.specs.EmittedParts.{some_emitted, emitted_calls, part_at, IsWhole, SomeEmittedPart};
 ghost use Rattle.fancy_regex_sizes.specs.declared.emitted.Inside.{Inside as InsideView};
 ghost use Rattle.fancy_regex_sizes.specs.declared.emitted.Inside.TheVariants as inside_of;
 
-use crate::emitted::{Call, Inside, Visited, add_emitted_calls};
+use crate::emitted::{Call, EmittedPart, Inside, Visited, add_emitted_calls, emitted_parts};
 use fancy_regex_info::{CompileError, Size, size_in};
-use fancy_regex_tree::{Absent, AstNode, BacktrackingControlVerb, Expr, LookAround};
+use fancy_regex_tree::{Absent, BacktrackingControlVerb, Expr, LookAround};
 use std::alloc::Global;
 
 /// A feature that the compiler does not support.
@@ -88,124 +89,19 @@ fn check_body(
     ensures complete { IfOk result (λ _. some_emitted (is_unsupported (size_with (size_at sizes.now))) inside (tree_of expr.now) ≡ false) }
     ensures calls { IfOk result (λ _. calls.new.items ≡ calls.old.items ++ emitted_calls inside (tree_of expr.now)) }
 {
-    check_part(alloc, expr, sizes, inside)?;
-    add_emitted_calls(expr, inside, calls)?;
+    let parts = emitted_parts(alloc, expr, inside)?;
+    check_parts(alloc, &parts, sizes)?;
+    add_emitted_calls(&parts, calls)?;
     Ok(())
 }
 
-/// Checks a node and its descendants, without following calls.
-#[cycle(parts)]
-fn check_part(
-    alloc: Global,
-    expr: &Expr,
-    sizes: &[Size],
-    inside: Inside,
-) -> Result<(), CompileError>
-    ensures refused { IfErr result (λ e. (is_memory e || some_emitted (stops (size_with (size_at sizes.now)) e) inside (tree_of expr.now)) ≡ true) }
-    ensures complete { IfOk result (λ _. some_emitted (is_unsupported (size_with (size_at sizes.now))) inside (tree_of expr.now) ≡ false) }
-{
-    check_node(alloc, expr, sizes, inside)?;
-    check_below(alloc, expr, sizes, inside)
-}
-
-/// Checks the descendants of a node, without the node itself. Definitions and bodies quantified `{0}` emit no code.
-#[tactic(auto, unfolding(crate::specs::EmittedParts::some_descendant))]
-#[cycle(parts)]
-fn check_below(
-    alloc: Global,
-    expr: &Expr,
-    sizes: &[Size],
-    inside: Inside,
-) -> Result<(), CompileError>
-    ensures refused { IfErr result (λ e. (is_memory e || some_descendant (stops (size_with (size_at sizes.now)) e) inside (tree_of expr.now)) ≡ true) }
-    ensures complete { IfOk result (λ _. some_descendant (is_unsupported (size_with (size_at sizes.now))) inside (tree_of expr.now) ≡ false) }
-{
-    match expr {
-        Expr::Concat(parts) | Expr::Alt(parts) => check_row(alloc, parts, sizes, inside),
-        Expr::Group(child) | Expr::AtomicGroup(child) => check_part(alloc, child, sizes, inside),
-        Expr::LookAround(child, _) => check_part(alloc, child, sizes, inside.in_look_around()),
-        Expr::Repeat { child, hi, .. } => {
-            if *hi == 0 {
-                return Ok(());
-            }
-            check_part(alloc, child, sizes, inside)
-        }
-        Expr::Conditional {
-            condition,
-            true_branch,
-            false_branch,
-        } => {
-            check_part(alloc, condition, sizes, inside)?;
-            check_part(alloc, true_branch, sizes, inside)?;
-            check_part(alloc, false_branch, sizes, inside)
-        }
-        Expr::Absent(absent) => check_below_absent(alloc, absent, sizes, inside),
-        Expr::AstNode(node, _) => check_below_unresolved(alloc, node, sizes, inside),
-        Expr::Empty | Expr::Any { .. } | Expr::Assertion(_) | Expr::GeneralNewline { .. } => Ok(()),
-        Expr::Literal { .. } | Expr::LiteralBytes { .. } | Expr::Delegate { .. } => Ok(()),
-        Expr::Backref { .. } | Expr::BackrefWithRelativeRecursionLevel { .. } => Ok(()),
-        Expr::KeepOut | Expr::ContinueFromPreviousMatchEnd => Ok(()),
-        Expr::BackrefExistsCondition { .. } | Expr::BacktrackingControlVerb(_) => Ok(()),
-        Expr::DefineGroup { .. } | Expr::SubroutineCall(_) => Ok(()),
-    }
-}
-
-/// Checks the descendants of an absent operator; they are in the context of an absent operator.
-#[tactic(auto, unfolding(crate::specs::EmittedParts::some_descendant))]
-#[cycle(parts)]
-fn check_below_absent(
-    alloc: Global,
-    absent: &Absent,
-    sizes: &[Size],
-    inside: Inside,
-) -> Result<(), CompileError>
-    ensures refused { IfErr result (λ e. (is_memory e || some_descendant (stops (size_with (size_at sizes.now)) e) inside (absent_tree_of absent.now)) ≡ true) }
-    ensures complete { IfOk result (λ _. some_descendant (is_unsupported (size_with (size_at sizes.now))) inside (absent_tree_of absent.now) ≡ false) }
-{
-    match absent {
-        Absent::Repeater(child) | Absent::Stopper(child) => {
-            check_part(alloc, child, sizes, Inside::Absent)
-        }
-        Absent::Expression { absent, exp } => {
-            check_part(alloc, absent, sizes, Inside::Absent)?;
-            check_part(alloc, exp, sizes, Inside::Absent)
-        }
-        Absent::Clear => Ok(()),
-    }
-}
-
-#[tactic(auto, unfolding(crate::specs::EmittedParts::some_descendant))]
-#[cycle(parts)]
-fn check_below_unresolved(
-    alloc: Global,
-    node: &AstNode,
-    sizes: &[Size],
-    inside: Inside,
-) -> Result<(), CompileError>
-    ensures refused { IfErr result (λ e. (position : ℕ) →
-        (is_memory e || some_descendant (stops (size_with (size_at sizes.now)) e) inside (ast_tree_of node.now position)) ≡ true) }
-    ensures complete { IfOk result (λ _. (position : ℕ) →
-        some_descendant (is_unsupported (size_with (size_at sizes.now))) inside (ast_tree_of node.now position) ≡ false) }
-{
-    match node {
-        AstNode::AstGroup { inner, .. } => check_part(alloc, inner, sizes, inside),
-        AstNode::Backref { .. } | AstNode::SubroutineCall(_) => Ok(()),
-        AstNode::BackrefExistsCondition { .. } => Ok(()),
-    }
-}
-
-#[cycle(parts)]
-fn check_row(
-    alloc: Global,
-    parts: &[Expr],
-    sizes: &[Size],
-    inside: Inside,
-) -> Result<(), CompileError>
-    ensures refused { IfErr result (λ e. (is_memory e || some_of_row (stops (size_with (size_at sizes.now)) e) inside (trees (map tree_of parts.now))) ≡ true) }
-    ensures complete { IfOk result (λ _. some_of_row (is_unsupported (size_with (size_at sizes.now))) inside (trees (map tree_of parts.now)) ≡ false) }
+/// Checks each of these parts.
+fn check_parts(alloc: Global, parts: &[EmittedPart<'_>], sizes: &[Size]) -> Result<(), CompileError>
+    ensures refused { IfErr result (λ e. (is_memory e || list_any (λ part. stops (size_with (size_at sizes.now)) e part.0 part.1) (map part_at parts.now)) ≡ true) }
+    ensures complete { IfOk result (λ _. list_any (λ part. is_unsupported (size_with (size_at sizes.now)) part.0 part.1) (map part_at parts.now) ≡ false) }
 {
     for part in parts {
-        check_part(alloc, part, sizes, inside)?;
+        check_node(alloc, part.expr, sizes, part.inside)?;
     }
     Ok(())
 }
@@ -244,12 +140,7 @@ fn unsupported_feature(expr: &Expr, inside: Inside) -> Option<UnsupportedFeature
             ..
         } => relative_recursion_level.map(|_| UnsupportedFeature::RecursionLevel),
         Expr::KeepOut => missing_keep_out(inside),
-        Expr::Empty | Expr::Any { .. } | Expr::Assertion(_) | Expr::GeneralNewline { .. } => None,
-        Expr::Literal { .. } | Expr::Delegate { .. } | Expr::Backref { .. } => None,
-        Expr::Concat(_) | Expr::Alt(_) | Expr::Group(_) | Expr::LookAround(_, _) => None,
-        Expr::Repeat { .. } | Expr::AtomicGroup(_) | Expr::Conditional { .. } => None,
-        Expr::ContinueFromPreviousMatchEnd | Expr::SubroutineCall(_) => None,
-        Expr::DefineGroup { .. } | Expr::AstNode(_, _) => None,
+        _ => None,
     }
 }
 

@@ -6,13 +6,13 @@ ghost use Rattle.std.specs.List.{list_any};
 ghost use Rattle.std.specs.Ordering.{nat_cmp};
 ghost use Rattle.fancy_regex_tree.specs.ReferenceSummary.{refers_to, is_call, back_group};
 ghost use Rattle.fancy_regex_tree.specs.Printable.{is_one_character};
-ghost use Rattle.fancy_regex_tree.specs.Tree.{tree_of, trees, absent_tree_of, ast_tree_of};
+ghost use Rattle.fancy_regex_tree.specs.Tree.{tree_of, ast_tree_of};
 ghost use Rattle.fancy_regex_tree.specs.Traversal.{nodes};
-ghost use Rattle.fancy_regex_meaning.specs.Groups.{group_count, row_group_count};
-ghost use Rattle.fancy_regex_sizes.specs.WellFormed.{is_ill_formed, is_unlisted_reference, is_named_in, IsWellFormed};
+ghost use Rattle.fancy_regex_meaning.specs.Groups.{group_count};
+ghost use Rattle.fancy_regex_sizes.specs.WellFormed.{own_groups, is_ill_formed, is_unlisted_reference, is_named_in, IsWellFormed};
 
 use fancy_regex_text::{is_empty, split_first};
-use fancy_regex_tree::{Absent, AstNode, Expr, ExprTree};
+use fancy_regex_tree::{AstNode, Expr, ExprTree};
 
 /// Whether the tree is well-formed: each alternation has a branch, each literal is one character, no quantifier's lower
 /// bound is above its upper bound, and the fields `backrefs`, `contains_subroutines` and `total_groups` agree with the
@@ -163,73 +163,22 @@ fn refers_to(node: &Expr, wanted: usize) -> bool
 }
 
 /// `left` minus the number of capture groups of the tree; `None` if the tree has more.
-#[tactic(auto, unfolding(fancy_regex_meaning::specs::Groups::group_count))]
-#[cycle(left)]
 fn remaining_groups(expr: &Expr, left: usize) -> Option<usize>
     ensures { MatchOption result (left < group_count (tree_of expr.now)) (λ rest. rest + group_count (tree_of expr.now) ≡ left) }
 {
-    match expr {
-        Expr::Group(child) => remaining_groups(child, left.checked_sub(1)?),
-        Expr::Concat(parts) | Expr::Alt(parts) => groups_left_by_each(parts, left),
-        Expr::LookAround(child, _) | Expr::AtomicGroup(child) => remaining_groups(child, left),
-        Expr::Repeat { child, .. } => remaining_groups(child, left),
-        Expr::Conditional {
-            condition,
-            true_branch,
-            false_branch,
-        } => {
-            let left = remaining_groups(condition, left)?;
-            let left = remaining_groups(true_branch, left)?;
-            remaining_groups(false_branch, left)
-        }
-        Expr::DefineGroup { definitions } => remaining_groups(definitions, left),
-        Expr::Absent(absent) => groups_left_by_absent(absent, left),
-        Expr::AstNode(node, _) => groups_left_by_unresolved(node, left),
-        Expr::Empty | Expr::Any { .. } | Expr::Assertion(_) | Expr::GeneralNewline { .. } => {
-            Some(left)
-        }
-        Expr::Literal { .. } | Expr::LiteralBytes { .. } | Expr::Delegate { .. } => Some(left),
-        Expr::Backref { .. } | Expr::BackrefWithRelativeRecursionLevel { .. } => Some(left),
-        Expr::KeepOut | Expr::ContinueFromPreviousMatchEnd => Some(left),
-        Expr::BackrefExistsCondition { .. } | Expr::BacktrackingControlVerb(_) => Some(left),
-        Expr::SubroutineCall(_) => Some(left),
-    }
-}
-
-#[tactic(auto, unfolding(fancy_regex_meaning::specs::Groups::group_count))]
-#[cycle(left)]
-fn groups_left_by_absent(absent: &Absent, left: usize) -> Option<usize>
-    ensures { MatchOption result (left < group_count (absent_tree_of absent.now)) (λ rest. rest + group_count (absent_tree_of absent.now) ≡ left) }
-{
-    match absent {
-        Absent::Repeater(child) | Absent::Stopper(child) => remaining_groups(child, left),
-        Absent::Expression { absent, exp } => remaining_groups(
-            exp,
-            remaining_groups(absent, left)?,
-        ),
-        Absent::Clear => Some(left),
-    }
-}
-
-#[tactic(auto, unfolding(fancy_regex_meaning::specs::Groups::group_count))]
-#[cycle(left)]
-fn groups_left_by_unresolved(node: &AstNode, left: usize) -> Option<usize>
-    ensures { (position : ℕ) → MatchOption result (left < group_count (ast_tree_of node.now position)) (λ rest. rest + group_count (ast_tree_of node.now position) ≡ left) }
-{
-    match node {
-        AstNode::AstGroup { inner, .. } => remaining_groups(inner, left),
-        AstNode::Backref { .. } | AstNode::SubroutineCall(_) => Some(left),
-        AstNode::BackrefExistsCondition { .. } => Some(left),
-    }
-}
-
-#[cycle(left)]
-fn groups_left_by_each(parts: &[Expr], left: usize) -> Option<usize>
-    ensures { MatchOption result (left < row_group_count (trees (map tree_of parts.now))) (λ rest. rest + row_group_count (trees (map tree_of parts.now)) ≡ left) }
-{
-    let mut left = left;
-    for part in parts {
-        left = remaining_groups(part, left)?;
+    let mut left = without_own_group(expr, left)?;
+    for child in expr.children_iter() {
+        left = remaining_groups(child, left)?;
     }
     Some(left)
+}
+
+/// `left` minus one if the node itself is a capture group; `None` if that leaves less than none.
+fn without_own_group(node: &Expr, left: usize) -> Option<usize>
+    ensures { MatchOption result (left < own_groups (tree_of node.now)) (λ rest. rest + own_groups (tree_of node.now) ≡ left) }
+{
+    match node {
+        Expr::Group(_) => left.checked_sub(1),
+        _ => Some(left),
+    }
 }

@@ -1,51 +1,53 @@
--- What a closure answers on the nodes of lists.
-use Rattle.std.proofs.Common.{◌≡◌, ℕ, zero, suc, ◌<◌, Bool, true, false, inl, inr, List, [], ◌∷◌, ◌++◌, length, take, map, get_or, subst, sym, arith}
+-- What a closure answers on the nodes of trees.
+use Rattle.std.proofs.Common.{◌≡◌, Bool, true, false, inl, inr, List, [], ◌∷◌, ◌++◌, map, refl, ap, subst, sym, ◌∙◌}
 use Rattle.std.specs.Borrow.{Bor}
-use Rattle.std.specs.Fn.{Shared}
+use Rattle.std.specs.Fn.{Shared, FnReturnsAt}
 use Rattle.fancy_regex_tree.specs.declared.expr.Expr.{Expr}
 use Rattle.fancy_regex_tree.specs.Tree.{Tree, tree_of, trees}
-use Rattle.fancy_regex_tree.specs.Traversal.{nodes, all_nodes, Found, FoundNone, IsFound}
+use Rattle.fancy_regex_tree.specs.Traversal.{children, nodes, all_nodes, descendants, Found, FoundNone, IsFound}
+use Rattle.fancy_regex_tree.proofs.NodeRows.{node_and_descendants, descendants_by_children}
 
 module _ {F : Type 0} (g : Shared F (Bor Expr × Unit {0}) Bool) (f : F) where
-  pub none_in_none : (ts : List Tree) → ts ≡ [] → FoundNone g f ts
-  none_in_none ts h = subst (FoundNone g f) (sym h) tt
-
-  pub found_before : (xs ys : List Tree) → Found g f xs → Found g f (xs ++ ys)
+  found_before : (xs ys : List Tree) → Found g f xs → Found g f (xs ++ ys)
   found_before [] ys h = absurd h
   found_before (x ∷ xs) ys (inl h) = inl h
   found_before (x ∷ xs) ys (inr h) = inr (found_before xs ys h)
 
-  pub found_behind : (xs ys : List Tree) → Found g f ys → Found g f (xs ++ ys)
+  found_behind : (xs ys : List Tree) → Found g f ys → Found g f (xs ++ ys)
   found_behind [] ys h = h
   found_behind (x ∷ xs) ys h = inr (found_behind xs ys h)
 
-  pub none_in_both : (xs ys : List Tree) → FoundNone g f xs → FoundNone g f ys → FoundNone g f (xs ++ ys)
+  none_in_both : (xs ys : List Tree) → FoundNone g f xs → FoundNone g f ys → FoundNone g f (xs ++ ys)
   none_in_both [] ys h k = k
   none_in_both (x ∷ xs) ys h k = (h.0, none_in_both xs ys h.1 k)
 
   -- nothing in front, and this behind it
-  pub found_next : (b : Bool) (xs ys : List Tree) → FoundNone g f xs → IsFound g f b ys → IsFound g f b (xs ++ ys)
+  found_next : (b : Bool) (xs ys : List Tree) → FoundNone g f xs → IsFound g f b ys → IsFound g f b (xs ++ ys)
   found_next true xs ys h k = found_behind xs ys k
   found_next false xs ys h k = none_in_both xs ys h k
 
-  pub found_at : (i : ℕ) (xs : List Expr) (x : Expr) → i < length xs → get_or xs i x ≡ x → Found g f (nodes (tree_of x)) → Found g f (all_nodes (trees (map tree_of xs)))
-  found_at i [] x inside is h = absurd (omega (arith, inside))
-  found_at zero (y ∷ xs) x inside is h = found_before (nodes (tree_of y)) (all_nodes (trees (map tree_of xs))) (subst (λ e. Found g f (nodes (tree_of e))) (sym is) h)
-  found_at (suc i) (y ∷ xs) x inside is h = found_behind (nodes (tree_of y)) (all_nodes (trees (map tree_of xs))) (found_at i xs x (omega (arith, inside)) is h)
+  -- at a node, below it, or neither
+  pub found_here : (x : Expr) → FnReturnsAt g f x true → Found g f (nodes (tree_of x))
+  found_here x h = subst (Found g f) (sym (node_and_descendants (tree_of x))) (inl (x, refl, h))
 
-  none_front : (xs ys : List Tree) → FoundNone g f (xs ++ ys) → FoundNone g f xs
-  none_front [] ys h = tt
-  none_front (x ∷ xs) ys h = (h.0, none_front xs ys h.1)
+  pub found_below : (x : Expr) → Found g f (descendants (tree_of x)) → Found g f (nodes (tree_of x))
+  found_below x h = subst (Found g f) (sym (node_and_descendants (tree_of x))) (inr h)
 
-  none_rest : (xs ys : List Tree) → FoundNone g f (xs ++ ys) → FoundNone g f ys
-  none_rest [] ys h = h
-  none_rest (x ∷ xs) ys h = none_rest xs ys h.1
+  pub found_nowhere : (x : Expr) → FnReturnsAt g f x false → FoundNone g f (descendants (tree_of x)) → FoundNone g f (nodes (tree_of x))
+  found_nowhere x h k = subst (FoundNone g f) (sym (node_and_descendants (tree_of x))) ((x, refl, h), k)
 
-  pub none_with_next : (i : ℕ) (xs : List Expr) (x : Expr) → i < length xs → get_or xs i x ≡ x
-      → FoundNone g f (all_nodes (trees (map tree_of (take i xs)))) → FoundNone g f (nodes (tree_of x))
-      → FoundNone g f (all_nodes (trees (map tree_of (take (suc i) xs))))
-  none_with_next i [] x inside is h k = absurd (omega (arith, inside))
-  none_with_next zero (y ∷ xs) x inside is h k = none_in_both (nodes (tree_of y)) [] (subst (λ e. FoundNone g f (nodes (tree_of e))) (sym is) k) tt
-  none_with_next (suc i) (y ∷ xs) x inside is h k =
-      none_in_both (nodes (tree_of y)) (all_nodes (trees (map tree_of (take (suc i) xs)))) (none_front (nodes (tree_of y)) (all_nodes (trees (map tree_of (take i xs)))) h)
-      (none_with_next i xs x (omega (arith, inside)) is (none_rest (nodes (tree_of y)) (all_nodes (trees (map tree_of (take i xs)))) h) k)
+  -- The answer for the children that are left is the answer for their parent: so it is at first, and so it stays while nothing is found.
+  pub found_in_children : (t : Tree) (xs : List Expr) → map tree_of xs ≡ children t → (b : Bool) → IsFound g f b (all_nodes (trees (map tree_of xs))) → IsFound g f b (descendants t)
+  found_in_children t xs h b k = subst (IsFound g f b) (ap (λ ts. all_nodes (trees ts)) h ∙ sym (descendants_by_children t)) k
+
+  pub found_in_first : (xs more : List Expr) (x : Expr) → xs ≡ x ∷ more → Found g f (nodes (tree_of x)) → Found g f (all_nodes (trees (map tree_of xs)))
+  found_in_first xs more x is h =
+      subst (λ es. Found g f (all_nodes (trees (map tree_of es)))) (sym is) (found_before (nodes (tree_of x)) (all_nodes (trees (map tree_of more))) h)
+
+  pub found_in_rest : (xs more : List Expr) (x : Expr) → xs ≡ x ∷ more → FoundNone g f (nodes (tree_of x)) → (b : Bool) → IsFound g f b (all_nodes (trees (map tree_of more)))
+      → IsFound g f b (all_nodes (trees (map tree_of xs)))
+  found_in_rest xs more x is h b k =
+      subst (λ es. IsFound g f b (all_nodes (trees (map tree_of es)))) (sym is) (found_next b (nodes (tree_of x)) (all_nodes (trees (map tree_of more))) h k)
+
+  pub none_in_none : (xs : List Expr) → xs ≡ [] → FoundNone g f (all_nodes (trees (map tree_of xs)))
+  none_in_none xs is = subst (λ es. FoundNone g f (all_nodes (trees (map tree_of es)))) (sym is) tt

@@ -20,4 +20,4 @@ pub mod LongOpenings
 pub mod PrintedTexts
 pub mod PrintedTrees
 pub mod ConcatKinds
-pub mod PrintableLists
+pub mod PrintableNodes

@@ -45,6 +45,19 @@ unfoldable mutual
   are_printable no_trees = true
   are_printable (more_trees t ts) = is_printable t && are_printable ts
 
+-- the node is printable if those below it are
+unfoldable pub is_printable_node : Tree → Bool
+is_printable_node empty = true
+is_printable_node (any newline crlf) = true
+is_printable_node (assertion a) = is_printable_assertion a
+is_printable_node (literal val casei) = is_one_character val
+is_printable_node (delegate inner casei) = is_some (class_alone inner)
+is_printable_node (concat ts) = true
+is_printable_node (alt ts) = has_two_branches ts
+is_printable_node (group t) = true
+is_printable_node (repeat t lo hi greedy) = nat_lt lo unbounded && can_be_repeated (node_kind (normal_form t))
+is_printable_node _ = false
+
 -- the text of a class is parsed as itself
 unfoldable pub is_same_class : Text → Option Text → Bool
 is_same_class t None = false

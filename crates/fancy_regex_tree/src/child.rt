@@ -1,11 +1,13 @@
-//! Mutable access to the children of a node.
+//! The child of a node at an index: lent for writing, or replaced.
 
-ghost use Rattle.std.specs.Prelude.{◌≡◌, ◌∷◌, [], map, option_map, slice_get};
-ghost use Rattle.fancy_regex_tree.specs.Tree.{tree_of, absent_tree_of};
+ghost use Rattle.std.specs.Prelude.{◌≡◌, ℕ, ◌∷◌, [], map, option_map, slice_get};
+ghost use Rattle.fancy_regex_tree.specs.Tree.{tree_of, absent_tree_of, ast_tree_of};
 ghost use Rattle.fancy_regex_tree.specs.Traversal.{children};
 ghost use Rattle.fancy_regex_tree.specs.BorrowedChild.{borrowed_tree};
+ghost use Rattle.fancy_regex_tree.specs.ReplacedChild.{IsItemReplaced, IsChildReplaced};
 
 use crate::expr::{Absent, AstNode, Expr};
+use std::mem;
 
 /// The only child for index 0, `None` for any other.
 fn only(child: &mut Expr, i: usize) -> Option<&mut Expr>
@@ -35,6 +37,37 @@ fn item(children: &mut Vec<Expr>, i: usize) -> Option<&mut Expr>
     children.get_mut(i)
 }
 
+/// Replaces the only child at index 0 and answers the old one. For any other index it gives the new child back as the error.
+fn replace_only(only: &mut Expr, i: usize, child: Expr) -> Result<Expr, Expr>
+    ensures { IsItemReplaced (only.old ∷ []) (only.new ∷ []) i child result }
+{
+    match i {
+        0 => Ok(mem::replace(only, child)),
+        _ => Err(child),
+    }
+}
+
+/// Replaces one of two children and answers the old one. For an index above 1 it gives the new child back as the error.
+fn replace_either(first: &mut Expr, second: &mut Expr, i: usize, child: Expr) -> Result<Expr, Expr>
+    ensures { IsItemReplaced (first.old ∷ second.old ∷ []) (first.new ∷ second.new ∷ []) i child result }
+{
+    match i {
+        0 => Ok(mem::replace(first, child)),
+        1 => Ok(mem::replace(second, child)),
+        _ => Err(child),
+    }
+}
+
+/// Replaces the child at index `i` and answers the old one. Past the end it gives the new child back as the error.
+fn replace_item(row: &mut [Expr], i: usize, child: Expr) -> Result<Expr, Expr>
+    ensures { IsItemReplaced row.old row.new i child result }
+{
+    if i >= row.len() {
+        return Err(child);
+    }
+    Ok(mem::replace(&mut row[i], child))
+}
+
 impl Absent {
     /// The child at an index, in the order of the pattern, as a mutable reference.
     fn child_mut(&mut self, i: usize) -> Option<&mut Expr>
@@ -45,6 +78,45 @@ impl Absent {
             Absent::Expression { absent, exp } => either(absent, exp, i),
             Absent::Stopper(child) => only(child, i),
             Absent::Clear => None,
+        }
+    }
+
+    /// Replaces the child at index `i` of an absent operator; see `Expr::replace_child`.
+    fn replace_child(self, i: usize, child: Expr) -> (Absent, Result<Expr, Expr>)
+        ensures { IsChildReplaced (absent_tree_of self) (absent_tree_of result.0) i child result.1 }
+    {
+        match self {
+            Absent::Repeater(mut only) => {
+                let replaced = replace_only(&mut only, i, child);
+                (Absent::Repeater(only), replaced)
+            }
+            Absent::Expression {
+                mut absent,
+                mut exp,
+            } => {
+                let replaced = replace_either(&mut absent, &mut exp, i, child);
+                (Absent::Expression { absent, exp }, replaced)
+            }
+            Absent::Stopper(mut only) => {
+                let replaced = replace_only(&mut only, i, child);
+                (Absent::Stopper(only), replaced)
+            }
+            Absent::Clear => (Absent::Clear, Err(child)),
+        }
+    }
+}
+
+impl AstNode {
+    /// Replaces the child at index `i` of an unresolved node; see `Expr::replace_child`.
+    fn replace_child(self, i: usize, child: Expr) -> (AstNode, Result<Expr, Expr>)
+        ensures { (position : ℕ) → IsChildReplaced (ast_tree_of self position) (ast_tree_of result.0 position) i child result.1 }
+    {
+        match self {
+            AstNode::AstGroup { name, mut inner } => {
+                let replaced = replace_only(&mut inner, i, child);
+                (AstNode::AstGroup { name, inner }, replaced)
+            }
+            leaf => (leaf, Err(child)),
         }
     }
 }
@@ -78,6 +150,81 @@ impl Expr {
             },
             Expr::Absent(absent) => absent.child_mut(i),
             _ => None,
+        }
+    }
+
+    /// Replaces the child at index `i`, in the order of `children_iter`. Answers the node with the new child, and `Ok` with the old
+    /// child. Where there is no such child, it answers the node unchanged, and `Err` with the child that was given.
+    pub fn replace_child(self, i: usize, child: Expr) -> (Expr, Result<Expr, Expr>)
+        ensures { IsChildReplaced (tree_of self) (tree_of result.0) i child result.1 }
+    {
+        match self {
+            Expr::Concat(mut row) => {
+                let replaced = replace_item(&mut row, i, child);
+                (Expr::Concat(row), replaced)
+            }
+            Expr::Alt(mut row) => {
+                let replaced = replace_item(&mut row, i, child);
+                (Expr::Alt(row), replaced)
+            }
+            Expr::Group(mut only) => {
+                let replaced = replace_only(&mut only, i, child);
+                (Expr::Group(only), replaced)
+            }
+            Expr::LookAround(mut only, look) => {
+                let replaced = replace_only(&mut only, i, child);
+                (Expr::LookAround(only, look), replaced)
+            }
+            Expr::Repeat {
+                child: mut only,
+                lo,
+                hi,
+                greedy,
+            } => {
+                let replaced = replace_only(&mut only, i, child);
+                let repeat = Expr::Repeat {
+                    child: only,
+                    lo,
+                    hi,
+                    greedy,
+                };
+                (repeat, replaced)
+            }
+            Expr::AtomicGroup(mut only) => {
+                let replaced = replace_only(&mut only, i, child);
+                (Expr::AtomicGroup(only), replaced)
+            }
+            Expr::Conditional {
+                mut condition,
+                mut true_branch,
+                mut false_branch,
+            } => {
+                let replaced = match i {
+                    0 => Ok(mem::replace(&mut *condition, child)),
+                    1 => Ok(mem::replace(&mut *true_branch, child)),
+                    2 => Ok(mem::replace(&mut *false_branch, child)),
+                    _ => Err(child),
+                };
+                let conditional = Expr::Conditional {
+                    condition,
+                    true_branch,
+                    false_branch,
+                };
+                (conditional, replaced)
+            }
+            Expr::Absent(absent) => {
+                let (absent, replaced) = absent.replace_child(i, child);
+                (Expr::Absent(absent), replaced)
+            }
+            Expr::DefineGroup { mut definitions } => {
+                let replaced = replace_only(&mut definitions, i, child);
+                (Expr::DefineGroup { definitions }, replaced)
+            }
+            Expr::AstNode(node, position) => {
+                let (node, replaced) = node.replace_child(i, child);
+                (Expr::AstNode(node, position), replaced)
+            }
+            leaf => (leaf, Err(child)),
         }
     }
 }

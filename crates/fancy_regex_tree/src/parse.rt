@@ -17,7 +17,6 @@ use crate::flag_bits::{
     FLAG_IGNORE_SPACE, FLAG_MULTI, FLAG_ONIGURUMA_MODE, FLAG_SWAP_GREED, FLAG_UNICODE,
 };
 use crate::group_names::{group_names, named_groups};
-use crate::nodes::nodes;
 use crate::parser::parse_pattern;
 use crate::reference_summary::{
     any_call, any_call_of_whole, any_named, any_numbered, any_reference_above, backrefs,
@@ -83,7 +82,7 @@ fn summarize_groups(
 ) -> std::result::Result<GroupSummary, AllocError>
     ensures { IfOk result (λ groups. IsGroupSummary ignore_numbered (tree_of expr.now) groups) }
 {
-    let nodes = nodes(alloc, expr)?;
+    let nodes = expr.preorder(alloc)?;
     let ignored = ignore_numbered && any_named(&nodes);
     let names = group_names(alloc, &nodes, ignored)?;
     Ok(GroupSummary {
@@ -115,7 +114,7 @@ fn summarize_references(
 ) -> std::result::Result<ReferenceSummary, AllocError>
     ensures { IfOk result (λ summary. IsReferenceSummary total (tree_of expr.now) summary) }
 {
-    let nodes = nodes(alloc, expr)?;
+    let nodes = expr.preorder(alloc)?;
     Ok(ReferenceSummary {
         backrefs: backrefs(alloc, &nodes, total)?,
         contains_subroutines: any_call(&nodes),

@@ -5,7 +5,7 @@ ghost use Rattle.fancy_regex_lex.specs.Classes.{bracketed_class};
 ghost use Rattle.fancy_regex_lex.specs.Escapes.{escape};
 ghost use Rattle.fancy_regex_tree.specs.Tree.{tree_of, trees};
 ghost use Rattle.fancy_regex_tree.specs.NormalForm.{whole_class, whole_escape, class_alone, node_kind, normal_form};
-ghost use Rattle.fancy_regex_tree.specs.Printable.{can_be_repeated, is_printable_assertion, is_one_character, has_two_branches, is_printable, are_printable};
+ghost use Rattle.fancy_regex_tree.specs.Printable.{can_be_repeated, is_printable_assertion, is_one_character, has_two_branches, is_printable, is_printable_node};
 
 use crate::expr::{Assertion, Expr};
 use crate::normal_form_kind::{NormalFormKind, normal_form_kind};
@@ -18,50 +18,33 @@ impl Expr {
     /// or more, capture groups, and repetitions with `lo` below `usize::MAX` of anything but an empty node or an assertion.
     ///
     /// Fails only if an allocation fails.
-    #[cycle(printable)]
-    #[tactic(auto, unfolding(crate::specs::Printable::is_printable))]
     pub fn is_printable(&self, alloc: Global) -> Result<bool, AllocError>
         ensures { IfOk result (λ answer. answer ≡ is_printable (tree_of self.now)) }
     {
-        match self {
-            Expr::Empty | Expr::Any { .. } => Ok(true),
-            Expr::Assertion(assertion) => Ok(is_printable_assertion(*assertion)),
-            Expr::Literal { val, .. } => Ok(is_one_character(val)),
-            Expr::Delegate { inner, .. } => is_class(alloc, inner),
-            Expr::Concat(pieces) => are_printable(alloc, pieces),
-            Expr::Alt(branches) => {
-                if !has_two_branches(branches) {
-                    return Ok(false);
-                }
-                are_printable(alloc, branches)
+        let nodes = self.preorder(alloc)?;
+        for node in nodes.iter() {
+            if !is_printable_node(alloc, node)? {
+                return Ok(false);
             }
-            Expr::Group(child) => child.is_printable(alloc),
-            Expr::Repeat { child, lo, .. } => {
-                if *lo >= usize::MAX {
-                    return Ok(false);
-                }
-                if !can_be_repeated(child) {
-                    return Ok(false);
-                }
-                child.is_printable(alloc)
-            }
-            _ => Ok(false),
         }
+        Ok(true)
     }
 }
 
-/// Whether all of the trees are printable.
-#[cycle(printable)]
-fn are_printable(alloc: Global, parts: &[Expr]) -> Result<bool, AllocError>
-    ensures { IfOk result (λ answer. answer ≡ are_printable (trees (map tree_of parts.now))) }
+/// Whether the node is printable if those below it are.
+#[tactic(auto, unfolding(crate::specs::Printable::is_printable_node))]
+fn is_printable_node(alloc: Global, node: &Expr) -> Result<bool, AllocError>
+    ensures { IfOk result (λ answer. answer ≡ is_printable_node (tree_of node.now)) }
 {
-    for i in 0..parts.len() {
-        let printable = parts[i].is_printable(alloc)?;
-        if !printable {
-            return Ok(false);
-        }
+    match node {
+        Expr::Empty | Expr::Any { .. } | Expr::Concat(_) | Expr::Group(_) => Ok(true),
+        Expr::Assertion(assertion) => Ok(is_printable_assertion(*assertion)),
+        Expr::Literal { val, .. } => Ok(is_one_character(val)),
+        Expr::Delegate { inner, .. } => is_class(alloc, inner),
+        Expr::Alt(branches) => Ok(has_two_branches(branches)),
+        Expr::Repeat { child, lo, .. } => Ok(*lo < usize::MAX && can_be_repeated(child)),
+        _ => Ok(false),
     }
-    Ok(true)
 }
 
 /// Whether there is a text for the assertion.

@@ -1,12 +1,13 @@
-//! Traversal of trees: children, and searches among descendants.
+//! Traversal of trees: children, all nodes in preorder, and searches among descendants.
 
-ghost use Rattle.std.specs.Prelude.{◌≡◌, ℕ, ◌++◌, map};
+ghost use Rattle.std.specs.Prelude.{◌≡◌, ◌++◌, IfOk, map};
 ghost use Rattle.std.specs.Fn.{FnReturnsAt};
 ghost use Rattle.std.specs.Iterator.{YieldsFirstRef, item_count};
-ghost use Rattle.fancy_regex_tree.specs.Tree.{tree_of, absent_tree_of, ast_tree_of, trees};
-ghost use Rattle.fancy_regex_tree.specs.Traversal.{is_leaf, children, nodes, all_nodes, descendants, IsFound, rest};
+ghost use Rattle.fancy_regex_tree.specs.Tree.{tree_of, absent_tree_of};
+ghost use Rattle.fancy_regex_tree.specs.Traversal.{is_leaf, children, nodes, descendants, IsFound, rest, tree_at};
 
 use crate::expr::{Absent, AstNode, Expr};
+use std::alloc::{AllocError, Global};
 
 /// An iterator over the children of a node, in the order of the pattern.
 #[derive(Clone, Copy, Debug)]
@@ -131,6 +132,13 @@ impl Expr {
         }
     }
 
+    /// All nodes of the tree: each before those below it, from left to right. Fails only if memory runs out.
+    pub fn preorder(&self, alloc: Global) -> Result<Vec<&Expr>, AllocError>
+        ensures { IfOk result (λ all. map tree_at all.items ≡ nodes (tree_of self.now)) }
+    {
+        with_nodes(self, Vec::new(alloc))
+    }
+
     /// Whether the predicate holds for a node below this one. It is asked in preorder, up to the first node for which it holds.
     pub fn has_descendant<F: Fn(&Expr) -> bool>(&self, predicate: F) -> bool
         requires { F.IsAlwaysCallable predicate }
@@ -138,6 +146,17 @@ impl Expr {
     {
         any_node_below(self, &predicate)
     }
+}
+
+/// Appends all nodes of a tree in preorder.
+fn with_nodes<'t>(node: &'t Expr, mut found: Vec<&'t Expr>) -> Result<Vec<&'t Expr>, AllocError>
+    ensures { IfOk result (λ all. map tree_at all.items ≡ map tree_at found.entry.items ++ nodes (tree_of node.now)) }
+{
+    found.push(node)?;
+    for child in node.children_iter() {
+        found = with_nodes(child, found)?;
+    }
+    Ok(found)
 }
 
 /// Whether the predicate holds for this node.
@@ -148,81 +167,15 @@ fn is_accepted<F: Fn(&Expr) -> bool>(predicate: &F, node: &Expr) -> bool
     predicate(node)
 }
 
-/// Whether the predicate holds for this node or one below it.
-#[cycle(found)]
-fn any_node_in<F: Fn(&Expr) -> bool>(node: &Expr, predicate: &F) -> bool
-    requires { F.IsAlwaysCallable predicate.now }
-    ensures { IsFound F.Fn predicate.now result (nodes (tree_of node.now)) }
-{
-    is_accepted(predicate, node) || any_node_below(node, predicate)
-}
-
-/// Whether the predicate holds for one of these nodes or one below them.
-#[cycle(found)]
-fn any_node_among<F: Fn(&Expr) -> bool>(nodes: &[Expr], predicate: &F) -> bool
-    requires { F.IsAlwaysCallable predicate.now }
-    ensures { IsFound F.Fn predicate.now result (all_nodes (trees (map tree_of nodes.now))) }
-{
-    for i in 0..nodes.len() {
-        if any_node_in(&nodes[i], predicate) {
-            return true;
-        }
-    }
-    false
-}
-
 /// Whether the predicate holds for a node below this one.
-#[cycle(found)]
 fn any_node_below<F: Fn(&Expr) -> bool>(node: &Expr, predicate: &F) -> bool
     requires { F.IsAlwaysCallable predicate.now }
     ensures { IsFound F.Fn predicate.now result (descendants (tree_of node.now)) }
 {
-    match node {
-        Expr::Concat(children) | Expr::Alt(children) => any_node_among(children, predicate),
-        Expr::Group(child)
-        | Expr::LookAround(child, _)
-        | Expr::Repeat { child, .. }
-        | Expr::AtomicGroup(child)
-        | Expr::DefineGroup { definitions: child } => any_node_in(child, predicate),
-        Expr::Conditional {
-            condition,
-            true_branch,
-            false_branch,
-        } => {
-            if any_node_in(condition, predicate) {
-                return true;
-            }
-            any_node_in(true_branch, predicate) || any_node_in(false_branch, predicate)
+    for child in node.children_iter() {
+        if is_accepted(predicate, child) || any_node_below(child, predicate) {
+            return true;
         }
-        Expr::Absent(absent) => any_node_in_absent(absent, predicate),
-        Expr::AstNode(node, _) => any_node_in_ast(node, predicate),
-        _ => false,
     }
-}
-
-/// Whether the predicate holds for a node below an absent operator.
-#[cycle(found)]
-fn any_node_in_absent<F: Fn(&Expr) -> bool>(absent: &Absent, predicate: &F) -> bool
-    requires { F.IsAlwaysCallable predicate.now }
-    ensures { IsFound F.Fn predicate.now result (descendants (absent_tree_of absent.now)) }
-{
-    match absent {
-        Absent::Repeater(child) | Absent::Stopper(child) => any_node_in(child, predicate),
-        Absent::Expression { absent, exp } => {
-            any_node_in(absent, predicate) || any_node_in(exp, predicate)
-        }
-        Absent::Clear => false,
-    }
-}
-
-/// Whether the predicate holds for a node below an unresolved node.
-#[cycle(found)]
-fn any_node_in_ast<F: Fn(&Expr) -> bool>(node: &AstNode, predicate: &F) -> bool
-    requires { F.IsAlwaysCallable predicate.now }
-    ensures { (position : ℕ) → IsFound F.Fn predicate.now result (descendants (ast_tree_of node.now position)) }
-{
-    match node {
-        AstNode::AstGroup { inner, .. } => any_node_in(inner, predicate),
-        _ => false,
-    }
+    false
 }

@@ -1,5 +1,5 @@
 use Rattle.fancy_regex_tree.specs.Tree.{tree_of}
-use Rattle.fancy_regex_tree.proofs.PrintableLists.{branches-leb}
+use Rattle.fancy_regex_tree.proofs.PrintableNodes.{branches-leb}
 use Rattle.fancy_regex_tree.proofs.printable.has_two_branches.Goals as goal
 
 pub returns : goal.returns
