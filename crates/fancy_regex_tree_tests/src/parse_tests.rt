@@ -55,6 +55,7 @@ fn walks(rt: HostRuntime) -> Result<(), Fail> {
         Ok(found) => {
             assert!(rt; !found.expr.is_leaf_node());
             assert!(rt; found.expr.children_iter().count() == 3);
+            assert!(rt; found.expr.preorder(rt.alloc())?.len() == 6);
             assert!(rt;
                 found
                     .expr
