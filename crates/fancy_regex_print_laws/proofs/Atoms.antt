@@ -4,7 +4,8 @@ use Rattle.std.proofs.lemmas.Bool.{eqb-true, false≢true, true≢false}
 use Rattle.std.proofs.lemmas.Option.{none-some, same_Some}
 use Rattle.fancy_regex_text.specs.Text.{Text}
 use Rattle.fancy_regex_text.specs.Fault.{ParseOutcome}
-use Rattle.fancy_regex_lex.specs.Escapes.{Escape, char_escape, byte_escape, class_escape, any_escape, newline_escape, assertion_escape, continue_escape, keep_out_escape, reference_escape, call_escape, escape}
+use Rattle.fancy_regex_lex.specs.Escapes.{Escape, char_escape, byte_escape, class_escape, any_escape, newline_escape, assertion_escape, continue_escape, keep_out_escape, reference_escape}
+use Rattle.fancy_regex_lex.specs.Escapes.{call_escape, escape}
 use Rattle.fancy_regex_lex.specs.Classes.{bracketed_class}
 use Rattle.fancy_regex_lex.specs.declared.token.AssertionEscape.{AssertionEscape}
 use Rattle.fancy_regex_lex_grammar.specs.Flags.{before_body, and_flag, case_insensitive, multi_line, dot_matches_newline, carriage_returns, clear_from_here}
@@ -22,13 +23,14 @@ use Rattle.fancy_regex_tree.specs.Printed.{with_case, case_start, group_end, dot
 use Rattle.fancy_regex_tree.specs.NormalForm.{whole_class, whole_escape, class_alone, normal_form}
 use Rattle.fancy_regex_tree.specs.Printable.{level, is_printable_assertion, assertion_levels}
 use Rattle.fancy_regex_tree.specs.declared.expr.Assertion.{Assertion}
-use Rattle.fancy_regex_tree.specs.declared.expr.Assertion.TheVariants.{StartText, EndText, EndTextIgnoreTrailingNewlines, StartLine, StartLineOniguruma, EndLine, LeftWordBoundary, RightWordBoundary, LeftWordHalfBoundary, RightWordHalfBoundary, WordBoundary, NotWordBoundary}
+use Rattle.fancy_regex_tree.specs.declared.expr.Assertion.TheVariants.{StartText, EndText, EndTextIgnoreTrailingNewlines, StartLine, StartLineOniguruma, EndLine, LeftWordBoundary}
+use Rattle.fancy_regex_tree.specs.declared.expr.Assertion.TheVariants.{RightWordBoundary, LeftWordHalfBoundary, RightWordHalfBoundary, WordBoundary, NotWordBoundary}
 use Rattle.fancy_regex_print_laws.specs.ReprintLaws.{plain_mode, no_flags}
 use Rattle.fancy_regex_print_laws.proofs.NamelessTrees.{nameless_tree}
-use Rattle.fancy_regex_print_laws.proofs.Starts.{begins_no_quantifier, is_comment, PlainStart}
 use Rattle.fancy_regex_print_laws.proofs.Tokens.{flags, alone}
 use Rattle.fancy_regex_print_laws.proofs.Longer.{escape_longer, class_longer}
 use Rattle.fancy_regex_print_laws.proofs.Nodes.{is_look}
+use Rattle.fancy_regex_print_laws.specs.PrintedParts.{begins_no_quantifier, is_comment, PlainStart}
 
 -- the front of the text is an atom, which is read as this form
 pub record AtomRead (size : ℕ) (unicode : Bool) (n : ℕ) (t : Text) (form : Tree) (rest : Text) : Type 0 where

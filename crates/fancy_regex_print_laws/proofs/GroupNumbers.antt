@@ -5,7 +5,9 @@ use Rattle.std.proofs.lemmas.Bool.{false≢true, and_parts}
 use Rattle.std.proofs.lemmas.List.{replicate-append-replicate}
 use Rattle.std.proofs.lemmas.List.Elements.{filter_map-append}
 use Rattle.fancy_regex_text.specs.Text.{Text}
-use Rattle.fancy_regex_tree.specs.Tree.{Tree, Trees, no_trees, more_trees, empty, any, assertion, general_newline, literal, literal_bytes, concat, alt, group, look_around, repeat, delegate, backref, backref_with_level, atomic_group, keep_out, continue, backref_exists, conditional, subroutine_call, verb, absent_repeater, absent_expression, absent_stopper, absent_clear, define_group, ast_group, ast_backref, ast_call, ast_condition}
+use Rattle.fancy_regex_tree.specs.Tree.{Tree, Trees, no_trees, more_trees, empty, any, assertion, general_newline, literal, literal_bytes, concat, alt, group, look_around, repeat, delegate}
+use Rattle.fancy_regex_tree.specs.Tree.{backref, backref_with_level, atomic_group, keep_out, continue, backref_exists, conditional, subroutine_call, verb, absent_repeater}
+use Rattle.fancy_regex_tree.specs.Tree.{absent_expression, absent_stopper, absent_clear, define_group, ast_group, ast_backref, ast_call, ast_condition}
 use Rattle.fancy_regex_tree.specs.Traversal.{nodes, all_nodes}
 use Rattle.fancy_regex_tree.specs.Numbering.{PositionedFault, Names, ◌⨟◌, opening_of, openings, counted, last_named, resolved, all_resolved}
 use Rattle.fancy_regex_tree.specs.Parse.{Options, Parsed, ignores, resolve_references}

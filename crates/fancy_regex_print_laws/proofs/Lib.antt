@@ -15,3 +15,4 @@ pub mod PlainStarts
 pub mod Reading
 pub mod ReadsBack
 pub mod TooDeepProofs
+pub mod PrintedPartProofs

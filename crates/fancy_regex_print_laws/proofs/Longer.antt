@@ -4,7 +4,8 @@ use Rattle.std.proofs.lemmas.Bool.{false≢true}
 use Rattle.fancy_regex_text.specs.Text.{Text}
 use Rattle.fancy_regex_lex.specs.Escapes.{Escape}
 use Rattle.fancy_regex_lex_grammar.specs.Prefixes.{IsRunOfLength, none, and_one, IsTextUntil, here, later, IsOptional, there, absent_at_end, absent}
-use Rattle.fancy_regex_lex_grammar.specs.Escapes.{IsEscape, a_sign, a_byte, ascii, four_or_eight, code_in_braces, property_of_one_letter, property, negated_property, named_boundary, word_boundary, numbered_reference, back_reference, call, IsBracedHex, braced_hex}
+use Rattle.fancy_regex_lex_grammar.specs.Escapes.{IsEscape, a_sign, a_byte, ascii, four_or_eight, code_in_braces, property_of_one_letter, property, negated_property, named_boundary}
+use Rattle.fancy_regex_lex_grammar.specs.Escapes.{word_boundary, numbered_reference, back_reference, call, IsBracedHex, braced_hex}
 use Rattle.fancy_regex_lex_grammar.specs.Classes.{IsEscapeInClass, IsClassItem, itself, backspace, escaped, IsClassItems, closes, closes_inner, opens_inner, and_part, IsClass, class}
 
 front_longer : {test : ℕ → Bool} {n : ℕ} {t front rest : Text} (s : Text) → IsRunOfLength test n t front rest → IsRunOfLength test n (t ++ s) front (rest ++ s)

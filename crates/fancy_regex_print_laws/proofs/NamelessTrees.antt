@@ -1,6 +1,7 @@
 -- Trees in which an opening without a name is a group. One that has a name stays, so what is equal to a tree without openings has no name.
 use Rattle.std.proofs.Common.{Some, None}
-use Rattle.fancy_regex_tree.specs.Tree.{Tree, Trees, concat, alt, group, look_around, repeat, atomic_group, conditional, absent_repeater, absent_expression, absent_stopper, define_group, ast_group, no_trees, more_trees}
+use Rattle.fancy_regex_tree.specs.Tree.{Tree, Trees, concat, alt, group, look_around, repeat, atomic_group, conditional, absent_repeater, absent_expression, absent_stopper, define_group}
+use Rattle.fancy_regex_tree.specs.Tree.{ast_group, no_trees, more_trees}
 
 unfoldable mutual
   pub nameless_tree : Tree → Tree

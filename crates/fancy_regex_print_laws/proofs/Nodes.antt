@@ -1,7 +1,9 @@
 -- Facts of each node.
 use Rattle.std.proofs.Common.{◌≡◌, Bool, true, false, List, [], ◌∷◌, Some, None, refl}
 use Rattle.std.proofs.lemmas.Bool.{false≢true, true≢false}
-use Rattle.fancy_regex_tree.specs.Tree.{Tree, Trees, trees, no_trees, more_trees, empty, any, assertion, general_newline, literal, literal_bytes, concat, alt, group, look_around, repeat, delegate, backref, backref_with_level, atomic_group, keep_out, continue, backref_exists, conditional, subroutine_call, verb, absent_repeater, absent_expression, absent_stopper, absent_clear, define_group, ast_group, ast_backref, ast_call, ast_condition}
+use Rattle.fancy_regex_tree.specs.Tree.{Tree, Trees, trees, no_trees, more_trees, empty, any, assertion, general_newline, literal, literal_bytes, concat, alt, group, look_around, repeat}
+use Rattle.fancy_regex_tree.specs.Tree.{delegate, backref, backref_with_level, atomic_group, keep_out, continue, backref_exists, conditional, subroutine_call, verb, absent_repeater}
+use Rattle.fancy_regex_tree.specs.Tree.{absent_expression, absent_stopper, absent_clear, define_group, ast_group, ast_backref, ast_call, ast_condition}
 use Rattle.fancy_regex_tree.specs.TreeBuilders.{is_repeatable, without_empty, joined}
 use Rattle.fancy_regex_tree.specs.NormalForm.{node_kind, with_piece, row_of}
 use Rattle.fancy_regex_tree.specs.Printable.{can_be_repeated}

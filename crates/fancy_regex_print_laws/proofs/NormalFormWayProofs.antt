@@ -5,7 +5,9 @@ use Rattle.std.proofs.lemmas.Bool.{and_parts, false≢true}
 use Rattle.std.proofs.lemmas.Slice.Eq.{bytes_eq-Decides}
 use mathlib.Core.Path.{fun_ext}
 use Rattle.fancy_regex_tree.specs.Tree as tree
-use Rattle.fancy_regex_tree.specs.Tree.{Tree, Trees, Text, no_trees, more_trees, empty, any, assertion, general_newline, literal, literal_bytes, concat, alt, look_around, delegate, backref_with_level, atomic_group, keep_out, continue, backref_exists, subroutine_call, verb, absent_repeater, absent_expression, absent_stopper, absent_clear, define_group, ast_group, ast_backref, ast_call, ast_condition}
+use Rattle.fancy_regex_tree.specs.Tree.{Tree, Trees, Text, no_trees, more_trees, empty, any, assertion, general_newline, literal, literal_bytes, concat, alt, look_around, delegate}
+use Rattle.fancy_regex_tree.specs.Tree.{backref_with_level, atomic_group, keep_out, continue, backref_exists, subroutine_call, verb, absent_repeater, absent_expression, absent_stopper}
+use Rattle.fancy_regex_tree.specs.Tree.{absent_clear, define_group, ast_group, ast_backref, ast_call, ast_condition}
 use Rattle.fancy_regex_tree.specs.NormalForm.{class_alone, node_kind, with_piece, row_of, normal_form, normal_pieces, normal_branches}
 use Rattle.fancy_regex_tree.specs.Printable.{is_printable, are_printable, has_two_branches, is_same_class, classes_read_back, all_classes_read_back}
 use Rattle.fancy_regex_tree.specs.declared.normal_form_kind.NormalFormKind.{NormalFormKind}

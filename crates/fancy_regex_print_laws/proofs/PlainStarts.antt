@@ -4,14 +4,19 @@ use Rattle.std.proofs.lemmas.Bool.{eqb-true, false≢true, true≢false, and_par
 use Rattle.fancy_regex_text.specs.Text.{Text}
 use Rattle.fancy_regex_lex.specs.Escapes.{escape}
 use Rattle.fancy_regex_lex.specs.Classes.{bracketed_class}
-use Rattle.fancy_regex_tree.specs.Tree.{Tree, Trees, no_trees, more_trees, empty, any, assertion, general_newline, literal, literal_bytes, concat, alt, group, look_around, repeat, delegate, backref, backref_with_level, atomic_group, keep_out, continue, backref_exists, conditional, subroutine_call, verb, absent_repeater, absent_expression, absent_stopper, absent_clear, define_group, ast_group, ast_backref, ast_call, ast_condition}
+use Rattle.fancy_regex_tree.specs.Tree.{Tree, Trees, no_trees, more_trees, empty, any, assertion, general_newline, literal, literal_bytes, concat, alt, group, look_around, repeat, delegate}
+use Rattle.fancy_regex_tree.specs.Tree.{backref, backref_with_level, atomic_group, keep_out, continue, backref_exists, conditional, subroutine_call, verb, absent_repeater}
+use Rattle.fancy_regex_tree.specs.Tree.{absent_expression, absent_stopper, absent_clear, define_group, ast_group, ast_backref, ast_call, ast_condition}
 use Rattle.fancy_regex_tree.specs.TreeBuilders.{is_empty_tree}
-use Rattle.fancy_regex_tree.specs.Printed.{is_metacharacter, escaped_char, escaped, with_case, case_start, in_group, group_start, group_end, dot_text, start_line_text, end_line_text, assertion_text, quantifier_text, printed, printed_pieces, printed_branches, later_branches}
+use Rattle.fancy_regex_tree.specs.Printed.{is_metacharacter, escaped_char, escaped, with_case, case_start, in_group, group_start, group_end, dot_text, start_line_text, end_line_text}
+use Rattle.fancy_regex_tree.specs.Printed.{assertion_text, quantifier_text, printed, printed_pieces, printed_branches, later_branches}
 use Rattle.fancy_regex_tree.specs.NormalForm.{whole_class, whole_escape, class_alone, node_kind, normal_form}
 use Rattle.fancy_regex_tree.specs.Printable.{can_be_repeated, is_printable_assertion, is_one_character, has_two_branches, is_printable, are_printable}
 use Rattle.fancy_regex_tree.specs.declared.expr.Assertion.{Assertion}
-use Rattle.fancy_regex_tree.specs.declared.expr.Assertion.TheVariants.{StartText, EndText, EndTextIgnoreTrailingNewlines, StartLine, StartLineOniguruma, EndLine, LeftWordBoundary, RightWordBoundary, LeftWordHalfBoundary, RightWordHalfBoundary, WordBoundary, NotWordBoundary}
-use Rattle.fancy_regex_print_laws.proofs.Starts.{begins_no_quantifier, PlainStart, paren_token, character_plain_start}
+use Rattle.fancy_regex_tree.specs.declared.expr.Assertion.TheVariants.{StartText, EndText, EndTextIgnoreTrailingNewlines, StartLine, StartLineOniguruma, EndLine, LeftWordBoundary}
+use Rattle.fancy_regex_tree.specs.declared.expr.Assertion.TheVariants.{RightWordBoundary, LeftWordHalfBoundary, RightWordHalfBoundary, WordBoundary, NotWordBoundary}
+use Rattle.fancy_regex_print_laws.proofs.Starts.{paren_token, character_plain_start}
+use Rattle.fancy_regex_print_laws.specs.PrintedParts.{begins_no_quantifier, PlainStart}
 
 same_calm : {t u : Text} → u ≡ t → PlainStart t → PlainStart u
 same_calm is plain_start = subst PlainStart (sym is) plain_start

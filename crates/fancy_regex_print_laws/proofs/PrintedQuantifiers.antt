@@ -11,7 +11,8 @@ use Rattle.fancy_regex_lex_grammar.specs.Prefixes.{IsRun, at_other, one_more}
 use Rattle.fancy_regex_lex_grammar.specs.Names.{IsDigits, last_digit, more_digits, IsNumber, a_number, some_digits}
 use Rattle.fancy_regex_lex_grammar.specs.Counts.{IsSpacedNumber, IsBracedQuantifier, exactly, at_least, between, IsQuantifier, optional, any_number, one_or_more, counted}
 use Rattle.fancy_regex_tree.specs.Printed.{braces_text, bounds_text}
-use Rattle.fancy_regex_print_laws.proofs.Starts.{is_comment, skipped}
+use Rattle.fancy_regex_print_laws.proofs.Starts.{skipped}
+use Rattle.fancy_regex_print_laws.specs.PrintedParts.{is_comment}
 
 digit_at : (d : ℕ) → d < 10 → digit_value (48 + d) ≡ d
 digit_at d small = omega (arith, digit_value_digit (48 + d) (omega arith, omega arith))

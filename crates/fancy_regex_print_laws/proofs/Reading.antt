@@ -1,13 +1,17 @@
 -- Printed trees, read.
-use Rattle.std.proofs.Common.{◌≡◌, ◌≢◌, ℕ, zero, suc, ◌+◌, ◌≤◌, ◌<◌, Bool, true, false, ◌&&◌, ◌==◌, List, [], ◌∷◌, ◌++◌, codes, Option, Some, None, is_some, unwrap_or, refl, sym, ap, subst, ◌∙◌, arith, append_assoc, append-nil, nat_lt, ◌⊎◌, inl, inr}
+use Rattle.std.proofs.Common.{◌≡◌, ◌≢◌, ℕ, zero, suc, ◌+◌, ◌≤◌, ◌<◌, Bool, true, false, ◌&&◌, ◌==◌, List, [], ◌∷◌, ◌++◌, codes, Option, Some, None, is_some, unwrap_or, refl, sym, ap, subst}
+use Rattle.std.proofs.Common.{◌∙◌, arith, append_assoc, append-nil, nat_lt, ◌⊎◌, inl, inr}
 use Rattle.std.proofs.lemmas.Bool.{false≢true, true≢false, and_parts, ltb-true}
 use Rattle.fancy_regex_text.specs.Text.{Text, unbounded}
 use Rattle.fancy_regex_lex.specs.declared.token.Verb.{Verb}
 use Rattle.fancy_regex_lex_grammar.specs.Flags.{before_body}
 use Rattle.fancy_regex_lex_grammar.specs.Openings.{IsVerb, fail, accept, commit, skip, prune, a_group, flags_for_body}
 use Rattle.fancy_regex_grammar.specs.Quantifiers.{no_more}
-use Rattle.fancy_regex_grammar.specs.Patterns.{IsAtom, IsPiece, IsBranch, IsBranches, EndsBranch, at_end, at_bar, at_close, capturing_group, bare_group, with_quantifiers, no_more_pieces, and_piece, last_branch, and_branch}
-use Rattle.fancy_regex_tree.specs.Tree.{Tree, Trees, trees, no_trees, more_trees, empty, any, assertion, general_newline, literal, literal_bytes, concat, alt, group, look_around, repeat, delegate, backref, backref_with_level, atomic_group, keep_out, continue, backref_exists, conditional, subroutine_call, verb, absent_repeater, absent_expression, absent_stopper, absent_clear, define_group, ast_group, ast_backref, ast_call, ast_condition}
+use Rattle.fancy_regex_grammar.specs.Patterns.{IsAtom, IsPiece, IsBranch, IsBranches, EndsBranch, at_end, at_bar, at_close, capturing_group, bare_group, with_quantifiers, no_more_pieces}
+use Rattle.fancy_regex_grammar.specs.Patterns.{and_piece, last_branch, and_branch}
+use Rattle.fancy_regex_tree.specs.Tree.{Tree, Trees, trees, no_trees, more_trees, empty, any, assertion, general_newline, literal, literal_bytes, concat, alt, group, look_around, repeat}
+use Rattle.fancy_regex_tree.specs.Tree.{delegate, backref, backref_with_level, atomic_group, keep_out, continue, backref_exists, conditional, subroutine_call, verb, absent_repeater}
+use Rattle.fancy_regex_tree.specs.Tree.{absent_expression, absent_stopper, absent_clear, define_group, ast_group, ast_backref, ast_call, ast_condition}
 use Rattle.fancy_regex_tree.specs.TreeBuilders.{is_empty_tree, without_empty, joined, branch_of, all_branches, pattern_of}
 use Rattle.fancy_regex_tree.specs.declared.expr.Assertion.{Assertion}
 use Rattle.fancy_regex_tree.specs.Parser.{Branches, plain}
@@ -17,12 +21,13 @@ use Rattle.fancy_regex_tree.specs.NormalForm.{class_alone, node_kind, with_piece
 use Rattle.fancy_regex_tree.specs.Printable.{can_be_repeated, is_one_character, has_two_branches, is_printable, are_printable, level, printed_levels, most_levels}
 use Rattle.fancy_regex_print_laws.specs.ReprintLaws.{plain_mode, no_flags, CountsFit, AllCountsFit}
 use Rattle.fancy_regex_print_laws.proofs.NamelessTrees.{nameless_tree, nameless_trees}
-use Rattle.fancy_regex_print_laws.proofs.Starts.{begins_no_quantifier, is_comment, PlainStart, skipped, no_quantifier}
+use Rattle.fancy_regex_print_laws.proofs.Starts.{skipped, no_quantifier}
 use Rattle.fancy_regex_print_laws.proofs.Tokens.{flags, literal_atom}
 use Rattle.fancy_regex_print_laws.proofs.Nodes.{is_look, target_is, one_more_piece, row_single, row_joined, branches_joined}
 use Rattle.fancy_regex_print_laws.proofs.Atoms.{AtomRead, same_text, closed_text, cased, class_atom, dot_read, assertion_read}
 use Rattle.fancy_regex_print_laws.proofs.Repeats.{under_printed}
 use Rattle.fancy_regex_print_laws.proofs.PlainStarts.{escaped_plain_start, class_plain_start, plain_start, plain_start_of_target, plain_start_of_pieces, some_target}
+use Rattle.fancy_regex_print_laws.specs.PrintedParts.{Closing, PlainStart, begins_no_quantifier, closing_end, closing_paren, is_comment}
 
 abbrev pub NoLooks : List Tree → Type 0
 NoLooks [] = Unit {0}
@@ -43,11 +48,6 @@ joined_look (e ∷ d ∷ es) looks = refl
 
 branch_look : (ps : List Tree) → NoLooks ps → is_look (branch_of ps) ≡ false
 branch_look ps looks = joined_look (without_empty ps) (kept_looks ps looks)
-
--- the end of the text, or the parenthesis that closes
-pub data Closing : Text → Type 0 where
-  closing_end : Closing []
-  closing_paren : {t : Text} → Closing (0x29 ∷ t)
 
 pub ends : {t : Text} → Closing t → EndsBranch t
 ends closing_end = at_end

@@ -17,12 +17,14 @@ use Rattle.fancy_regex_meaning.specs.Ways.{Setting, ways}
 use Rattle.fancy_regex_meaning.specs.Searches.{first_match, all_items}
 use Rattle.fancy_regex_print_laws.proofs.NormalFormGroupProofs.{count_stays}
 use Rattle.fancy_regex_print_laws.proofs.NormalFormSearchProofs.{ways_stay, matches_stay, items_stay}
-use Rattle.fancy_regex_print_laws.specs.ReprintLaws.{PrintedReadsBack, PrintedMeansTheSame, TooDeepIsRefused, PrintedParses, TooDeepDoesNotParse, PrintedIsSamePattern, CountsFit, up_to_too_deep, no_flags, plain_mode, plain_options}
+use Rattle.fancy_regex_print_laws.specs.ReprintLaws.{PrintedReadsBack, PrintedMeansTheSame, TooDeepIsRefused, PrintedParses, TooDeepDoesNotParse, PrintedIsSamePattern, CountsFit}
+use Rattle.fancy_regex_print_laws.specs.ReprintLaws.{up_to_too_deep, no_flags, plain_mode, plain_options}
 use Rattle.fancy_regex_grammar.specs.Faults.{inside_pattern}
 use Rattle.fancy_regex_print_laws.proofs.TooDeepProofs.{deep, WholeDeep}
 use Rattle.fancy_regex_print_laws.proofs.NamelessTrees.{nameless_tree}
 use Rattle.fancy_regex_print_laws.proofs.GroupNumbers.{counts_as, finishes, form_resolved}
-use Rattle.fancy_regex_print_laws.proofs.Reading.{reads, WholeRead, closing_end}
+use Rattle.fancy_regex_print_laws.proofs.Reading.{reads, WholeRead}
+use Rattle.fancy_regex_print_laws.specs.PrintedParts.{closing_end}
 
 -- the text is read as this tree, without a name
 record NamelessRead (unicode : Bool) (text : Text) (form : Tree) : Type 0 where

@@ -12,8 +12,9 @@ use Rattle.fancy_regex_tree.specs.TreeBuilders.{is_repeatable}
 use Rattle.fancy_regex_tree.specs.Quantifiers.{Atom}
 use Rattle.fancy_regex_tree.specs.Printed.{bounds_text, quantifier_text}
 use Rattle.fancy_regex_print_laws.specs.ReprintLaws.{plain_mode, no_flags}
-use Rattle.fancy_regex_print_laws.proofs.Starts.{begins_no_quantifier, is_comment, PlainStart, skipped}
+use Rattle.fancy_regex_print_laws.proofs.Starts.{skipped}
 use Rattle.fancy_regex_print_laws.proofs.PrintedQuantifiers.{bounds_found}
+use Rattle.fancy_regex_print_laws.specs.PrintedParts.{begins_no_quantifier, is_comment, PlainStart}
 
 quantifier_token : {t rest : Text} {count : Quantifier} → IsQuantifier false t count rest → is_comment t ≡ false
 quantifier_token optional = refl

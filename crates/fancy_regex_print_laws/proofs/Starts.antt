@@ -7,29 +7,7 @@ use Rattle.fancy_regex_lex_grammar.specs.Layout.{BeginsLayout, comment_begins, b
 use Rattle.fancy_regex_lex_grammar.specs.Counts.{IsQuantifier, optional, any_number, one_or_more, counted}
 use Rattle.fancy_regex_grammar.specs.Quantifiers.{NoQuantifier}
 use Rattle.fancy_regex_tree.specs.Printed.{is_metacharacter}
-
--- no sign of a quantifier stands there
-abbrev pub begins_no_quantifier : Text → Bool
-begins_no_quantifier [] = true
-begins_no_quantifier (c ∷ t) = not (c ∈ "?*+{")
-
-abbrev pub is_sharp : Text → Bool
-is_sharp [] = false
-is_sharp (c ∷ t) = c == 0x23
-
-abbrev pub is_question_and_sharp : Text → Bool
-is_question_and_sharp [] = false
-is_question_and_sharp (c ∷ t) = c == 0x3F && is_sharp t
-
--- a comment begins there
-abbrev pub is_comment : Text → Bool
-is_comment [] = false
-is_comment (c ∷ t) = c == 0x28 && is_question_and_sharp t
-
--- neither a quantifier nor layout begins there
-pub record PlainStart (t : Text) : Type 0 where
-  pub quiet : begins_no_quantifier t ≡ true
-  pub token : is_comment t ≡ false
+use Rattle.fancy_regex_print_laws.specs.PrintedParts.{begins_no_quantifier, is_sharp, is_comment, PlainStart}
 
 layout_is_comment : {verbose : Bool} {t : Text} → verbose ≡ false → BeginsLayout verbose t → is_comment t ≡ true
 layout_is_comment plain comment_begins = refl

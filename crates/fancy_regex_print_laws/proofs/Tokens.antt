@@ -14,7 +14,8 @@ use Rattle.fancy_regex_tree.specs.Quantifiers.{Atom}
 use Rattle.fancy_regex_tree.specs.Parser.{plain}
 use Rattle.fancy_regex_tree.specs.Printed.{is_metacharacter, escaped_char}
 use Rattle.fancy_regex_print_laws.specs.ReprintLaws.{plain_mode}
-use Rattle.fancy_regex_print_laws.proofs.Starts.{is_comment, skipped, no_quantifier, no_sign, character_plain_start}
+use Rattle.fancy_regex_print_laws.proofs.Starts.{skipped, no_quantifier, no_sign, character_plain_start}
+use Rattle.fancy_regex_print_laws.specs.PrintedParts.{is_comment}
 
 abbrev pub is_bar : Text → Bool
 is_bar [] = false

@@ -7,20 +7,26 @@ use Rattle.fancy_regex_lex_grammar.specs.Exact.{at}
 use Rattle.fancy_regex_lex_grammar.specs.Flags.{before_body}
 use Rattle.fancy_regex_lex_grammar.specs.Openings.{a_group, flags_for_body}
 use Rattle.fancy_regex_grammar.specs.Patterns.{EndsBranch, at_bar, at_close}
-use Rattle.fancy_regex_grammar.specs.Faults.{AtomFails, PieceFails, BranchFails, BranchesFail, too_deep, inside_stops, in_group, under_flags, atom_stops, piece_stops, later_piece_stops, first_stops, later_branch_stops}
-use Rattle.fancy_regex_tree.specs.Tree.{Tree, Trees, no_trees, more_trees, empty, any, assertion, general_newline, literal, literal_bytes, concat, alt, group, look_around, repeat, delegate, backref, backref_with_level, atomic_group, keep_out, continue, backref_exists, conditional, subroutine_call, verb, absent_repeater, absent_expression, absent_stopper, absent_clear, define_group, ast_group, ast_backref, ast_call, ast_condition}
+use Rattle.fancy_regex_grammar.specs.Faults.{AtomFails, PieceFails, BranchFails, BranchesFail, too_deep, inside_stops, in_group, under_flags, atom_stops, piece_stops, later_piece_stops}
+use Rattle.fancy_regex_grammar.specs.Faults.{first_stops, later_branch_stops}
+use Rattle.fancy_regex_tree.specs.Tree.{Tree, Trees, no_trees, more_trees, empty, any, assertion, general_newline, literal, literal_bytes, concat, alt, group, look_around, repeat, delegate}
+use Rattle.fancy_regex_tree.specs.Tree.{backref, backref_with_level, atomic_group, keep_out, continue, backref_exists, conditional, subroutine_call, verb, absent_repeater}
+use Rattle.fancy_regex_tree.specs.Tree.{absent_expression, absent_stopper, absent_clear, define_group, ast_group, ast_backref, ast_call, ast_condition}
 use Rattle.fancy_regex_tree.specs.TreeBuilders.{is_empty_tree}
 use Rattle.fancy_regex_tree.specs.Printed as print
-use Rattle.fancy_regex_tree.specs.Printed.{escaped, with_case, case_start, group_start, group_end, dot_text, start_line_text, end_line_text, assertion_text, quantifier_text, printed, printed_pieces, printed_branches, later_branches}
+use Rattle.fancy_regex_tree.specs.Printed.{escaped, with_case, case_start, group_start, group_end, dot_text, start_line_text, end_line_text, assertion_text, quantifier_text, printed}
+use Rattle.fancy_regex_tree.specs.Printed.{printed_pieces, printed_branches, later_branches}
 use Rattle.fancy_regex_tree.specs.NormalForm.{node_kind, normal_form}
 use Rattle.fancy_regex_tree.specs.Printable.{can_be_repeated, has_two_branches, is_printable, are_printable, level, assertion_levels, printed_levels, most_levels}
 use Rattle.fancy_regex_tree.specs.declared.expr.Assertion.{Assertion}
-use Rattle.fancy_regex_tree.specs.declared.expr.Assertion.TheVariants.{StartText, EndText, EndTextIgnoreTrailingNewlines, StartLine, StartLineOniguruma, EndLine, LeftWordBoundary, RightWordBoundary, LeftWordHalfBoundary, RightWordHalfBoundary, WordBoundary, NotWordBoundary}
+use Rattle.fancy_regex_tree.specs.declared.expr.Assertion.TheVariants.{StartText, EndText, EndTextIgnoreTrailingNewlines, StartLine, StartLineOniguruma, EndLine, LeftWordBoundary}
+use Rattle.fancy_regex_tree.specs.declared.expr.Assertion.TheVariants.{RightWordBoundary, LeftWordHalfBoundary, RightWordHalfBoundary, WordBoundary, NotWordBoundary}
 use Rattle.fancy_regex_print_laws.specs.ReprintLaws.{behind_opening, up_to_too_deep, pieces_up_to_too_deep, branches_up_to_too_deep, plain_mode, no_flags, CountsFit, AllCountsFit}
-use Rattle.fancy_regex_print_laws.proofs.Starts.{begins_no_quantifier, is_comment, PlainStart, skipped}
+use Rattle.fancy_regex_print_laws.proofs.Starts.{skipped}
 use Rattle.fancy_regex_print_laws.proofs.Atoms.{closed_text}
 use Rattle.fancy_regex_print_laws.proofs.PlainStarts.{plain_start, plain_start_of_target, plain_start_of_pieces, some_target}
-use Rattle.fancy_regex_print_laws.proofs.Reading.{Reads, AllReads, Closing, closing_paren, ends, branch_end_plain_start, verb_begins_like_quantifier, empty_tree_is, reads, all_read}
+use Rattle.fancy_regex_print_laws.proofs.Reading.{Reads, AllReads, ends, branch_end_plain_start, verb_begins_like_quantifier, empty_tree_is, reads, all_read}
+use Rattle.fancy_regex_print_laws.specs.PrintedParts.{begins_no_quantifier, is_comment, PlainStart, Closing, closing_paren}
 
 -- where a group that is one too many opens: what stands before it and behind
 pub record AtomDeep (size : ℕ) (unicode : Bool) (n : ℕ) (t before : Text) : Type 0 where

@@ -1,2 +1,3 @@
 pub mod NormalFormLaws
 pub mod ReprintLaws
+pub mod PrintedParts

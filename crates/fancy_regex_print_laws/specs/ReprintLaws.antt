@@ -4,7 +4,8 @@ use Rattle.fancy_regex_text.specs.Text.{Text, bytes, unbounded}
 use Rattle.fancy_regex_text.specs.Fault.{recursion_exceeded}
 use Rattle.fancy_regex_lex.specs.declared.token.Flags.{Flags}
 use Rattle.fancy_regex_tree.specs.declared.parser_config.ParserConfig.{ParserConfig}
-use Rattle.fancy_regex_tree.specs.Tree.{Tree, Trees, concat, alt, group, look_around, repeat, atomic_group, conditional, absent_repeater, absent_expression, absent_stopper, define_group, ast_group, ast_backref, ast_call, ast_condition, no_trees, more_trees}
+use Rattle.fancy_regex_tree.specs.Tree.{Tree, Trees, concat, alt, group, look_around, repeat, atomic_group, conditional, absent_repeater, absent_expression, absent_stopper, define_group}
+use Rattle.fancy_regex_tree.specs.Tree.{ast_group, ast_backref, ast_call, ast_condition, no_trees, more_trees}
 use Rattle.fancy_regex_tree.specs.Printed.{printed}
 use Rattle.fancy_regex_tree.specs.NormalForm.{normal_form}
 use Rattle.fancy_regex_tree.specs.Printable.{is_printable, classes_read_back, printed_levels}

@@ -3,6 +3,7 @@
 ghost use Rattle.std.specs.Prelude.{map};
 ghost use Rattle.fancy_regex_tree.specs.Tree.{tree_of, trees};
 ghost use Rattle.fancy_regex_meaning.specs.Ways.{Setting};
+ghost use Rattle.fancy_regex_print_laws.specs.PrintedParts.{TreePartsReadBack};
 ghost use Rattle.fancy_regex_print_laws.specs.ReprintLaws.{AllCountsFit, CountsFit, TreeIsNestedTooDeep, TreeIsSamePattern, TreeParses};
 
 use fancy_regex_tree::Expr;
@@ -35,12 +36,13 @@ fn all_counts_fit(children: &[Expr])
     }
 }
 
-/// The laws of `printed_patterns_parse` and `printed_patterns_are_the_same` for a tree in memory, without a condition on its quantifier
-/// bounds.
+/// The laws of `printed_patterns_parse`, `printed_patterns_are_the_same` and `printed_parts_read_back` for a tree in memory, without a
+/// condition on its quantifier bounds: what the text that `Expr::to_str` appends at a precedence reads back as, in its place.
 pub fn printed_tree_parses(expr: &Expr)
     ensures parses { TreeParses (tree_of expr.now) }
     ensures deep { TreeIsNestedTooDeep (tree_of expr.now) }
     ensures same { (s : Setting) → TreeIsSamePattern s (tree_of expr.now) }
+    ensures places { TreePartsReadBack (tree_of expr.now) }
 {
     counts_fit(expr);
 }

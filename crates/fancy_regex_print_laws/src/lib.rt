@@ -6,6 +6,7 @@ mod counts;
 
 ghost use Rattle.fancy_regex_meaning.specs.Ways.{Setting};
 ghost use Rattle.fancy_regex_print_laws.specs.NormalFormLaws.{NormalFormKeepsGroups, NormalFormKeepsWays, NormalFormKeepsFirstMatch, NormalFormKeepsItems};
+ghost use Rattle.fancy_regex_print_laws.specs.PrintedParts.{PartsReadBack, PartsKeepWays};
 ghost use Rattle.fancy_regex_print_laws.specs.ReprintLaws.{TooDeepDoesNotParse, TooDeepIsRefused, GroupsAreNumbered, PrintedIsSamePattern, PrintedMeansTheSame, PrintedParses, PrintedReadsBack};
 
 pub use counts::{counts_fit, printed_tree_parses};
@@ -30,6 +31,14 @@ pub fn printed_patterns_read_back()
 /// same first match and the same items of each iteration.
 pub fn printed_patterns_mean_the_same()
     ensures { (s : Setting) → PrintedMeansTheSame s }
+{}
+
+/// The printed text of a printable tree reads back in its place at each precedence: as a whole pattern or the body of a group (0), as a
+/// branch (1), as a piece of a concatenation (2), before a quantifier (3). What is read is the normal form. Where each class reads back
+/// unchanged too, the normal form has the same ordered matches from each position as the original.
+pub fn printed_parts_read_back()
+    ensures forms { PartsReadBack }
+    ensures ways { (s : Setting) → PartsKeepWays s }
 {}
 
 /// Where no reference is left to resolve and no group is ignored, each opening becomes a group, and they are numbered in the order of

@@ -1,10 +1,12 @@
 -- A row of trees as a list, and the view of some nodes, variant by variant.
 use Rattle.std.proofs.Common.{◌≡◌, ℕ, Bool, List, [], ◌∷◌, refl, ap, sym, ◌∙◌, map, option_map, Option, Vec, Box, String, Global, chars, string_bytes}
-use Rattle.fancy_regex_tree.specs.Tree.{Tree, trees, concat, alt, group, look_around, repeat, atomic_group, conditional, define_group, absent_repeater, absent_expression, absent_stopper, ast_group, tree_of, absent_tree_of, ast_tree_of, absent_tree, ast_tree, node_tree}
+use Rattle.fancy_regex_tree.specs.Tree.{Tree, trees, concat, alt, group, look_around, repeat, atomic_group, conditional, define_group, absent_repeater, absent_expression, absent_stopper}
+use Rattle.fancy_regex_tree.specs.Tree.{ast_group, tree_of, absent_tree_of, ast_tree_of, absent_tree, ast_tree, node_tree}
 use Rattle.fancy_regex_tree.specs.Traversal.{listed, children}
 use Rattle.fancy_regex_tree.specs.declared.expr.Expr.{Expr}
 use Rattle.fancy_regex_tree.specs.declared.expr.LookAround as look
-use Rattle.fancy_regex_tree.specs.declared.expr.Expr.TheVariants.{Concat, Alt, Group, LookAround, Repeat, AtomicGroup, Conditional, DefineGroup, rolls-Concat, rolls-Alt, rolls-Group, rolls-LookAround, rolls-Repeat, rolls-AtomicGroup, rolls-Conditional, rolls-DefineGroup}
+use Rattle.fancy_regex_tree.specs.declared.expr.Expr.TheVariants.{Concat, Alt, Group, LookAround, Repeat, AtomicGroup, Conditional, DefineGroup, rolls-Concat, rolls-Alt, rolls-Group}
+use Rattle.fancy_regex_tree.specs.declared.expr.Expr.TheVariants.{rolls-LookAround, rolls-Repeat, rolls-AtomicGroup, rolls-Conditional, rolls-DefineGroup}
 use Rattle.fancy_regex_tree.specs.declared.expr.Absent.TheVariants.{Repeater, Expression, Stopper, rolls-Repeater, rolls-Expression, rolls-Stopper}
 use Rattle.fancy_regex_tree.specs.declared.expr.AstNode.TheVariants.{AstGroup, rolls-AstGroup}
 use Rattle.fancy_regex_tree.specs.declared.expr.Absent.TheFolds.{fold-roll-Expr, fold-roll-Absent, fold-roll-AstNode}

@@ -21,3 +21,5 @@ pub mod PrintedTexts
 pub mod PrintedTrees
 pub mod ConcatKinds
 pub mod PrintableNodes
+pub mod PositionBounds
+pub mod ResolvedBounds

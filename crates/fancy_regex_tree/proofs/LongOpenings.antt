@@ -6,7 +6,8 @@ use Rattle.fancy_regex_text.specs.Fault.{ParseOutcome, ◌>>=◌}
 use Rattle.fancy_regex_lex.specs.FlagLetters.{flag_letters}
 use Rattle.fancy_regex_lex.specs.Escapes.{delimited_reference}
 use Rattle.fancy_regex_text.specs.Names.{is_name}
-use Rattle.fancy_regex_lex.specs.Openings.{Opening, capturing, non_capturing, set_flags, atomic, look, if_set, if_matches, define, absent, absent_bar, whole_reference, whole_call, whole_verb, named, tested, condition, after_angle, after_tilde, flags, python, after_question, opening, control_verb, reference_condition}
+use Rattle.fancy_regex_lex.specs.Openings.{Opening, capturing, non_capturing, set_flags, atomic, look, if_set, if_matches, define, absent, absent_bar, whole_reference, whole_call}
+use Rattle.fancy_regex_lex.specs.Openings.{whole_verb, named, tested, condition, after_angle, after_tilde, flags, python, after_question, opening, control_verb, reference_condition}
 use Rattle.fancy_regex_lex.specs.declared.token.Flags.{Flags}
 use Rattle.fancy_regex_text.proofs.TextLemmas.{strip_prefix_is}
 use Rattle.fancy_regex_tree.specs.Bounds.{extra_nodes}

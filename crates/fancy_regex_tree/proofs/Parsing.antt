@@ -1,10 +1,11 @@
 -- A reading step by step.
-use Rattle.std.proofs.Common.{◌≡◌, ℕ, Bool, true, false, ◌||◌, Some, None, is_some, Result, Ok, Err, IsErrAnd, List, [], ◌∷◌, map, refl, ap, subst, sym, ◌∙◌, chars, IsUtf8, String, Vec, Global}
+use Rattle.std.proofs.Common.{◌≡◌, ℕ, Bool, true, false, ◌||◌, Some, None, is_some, Result, Ok, Err, IfOk, IsErrAnd, List, [], ◌∷◌, map, refl, ap, subst, sym, ◌∙◌, chars, IsUtf8, String, Vec, Global}
 use Rattle.std.specs.List.{list_any, filter_map, cons_option}
 use Rattle.std.specs.Str.{all_scalars, encode_utf8_all}
 use Rattle.std.specs.BTreeMap.{BTreeMap}
 use Rattle.std.proofs.lemmas.Str.{chars_from_encodes}
 use Rattle.fancy_regex_text.specs.Text.{bytes}
+use Rattle.fancy_regex_text.specs.Fault.{ParseOutcome}
 use Rattle.fancy_regex_tree.specs.declared.error.Error.{Error}
 use Rattle.fancy_regex_tree.specs.declared.error.Error.TheVariants.{ParseError, Memory}
 use Rattle.fancy_regex_tree.specs.declared.expr_tree.ExprTree.{ExprTree}
@@ -14,7 +15,10 @@ use Rattle.fancy_regex_tree.specs.Parser.{parse_pattern}
 use Rattle.fancy_regex_tree.specs.Numbering.{PositionedFault, ◌⨟◌, AgreesWith, Names, openings, opening_of, counted, last_named, last_number, numbers_of, numbers_under, lookup_in, resolved}
 use Rattle.fancy_regex_tree.specs.Parse.{Options, Parsed, with_position, ignores, resolve_references, parse}
 use Rattle.fancy_regex_tree.specs.ReferenceSummary.{is_named}
-use Rattle.fancy_regex_tree.specs.ParseResult.{IsParsed, IsGroupSummary}
+use Rattle.fancy_regex_tree.specs.ParseResult.{IsParsed, IsWithin, IsBounded, IsGroupSummary}
+use Rattle.fancy_regex_tree.specs.Positions.{HasPositionsWithin}
+use Rattle.fancy_regex_tree.proofs.PositionBounds.{parsed_placed}
+use Rattle.fancy_regex_tree.proofs.ResolvedBounds.{IsGood, IsLess, resolved_fits}
 
 pub list_any_map : {X Y : Type 0} (p : Y → Bool) (f : X → Y) (xs : List X) → list_any (λ x. p (f x)) xs ≡ list_any p (map f xs)
 list_any_map p f [] = refl
@@ -59,6 +63,15 @@ pub reading_fails : {X : Type 0} (v : X → Tree) (o : Options) (t : Text) (r : 
 unfolding parse
 reading_fails v o t r e h fails = handed_on r e _ h (step_fails v e (with_position (bytes t) (parse_pattern o.oniguruma o.unicode o.flags t)) (resolve_references o) fails)
 
+-- an error within the pattern that is handed on
+pub err_bounded : (size : ℕ) (r : Result ExprTree Error) (e : Error) → IsErrAnd r (λ f. f ≡ e) → IsWithin size e → IsBounded size r
+err_bounded size (Ok x) e h within = absurd h
+err_bounded size (Err f) e h within = subst (IsWithin size) (sym h) within
+
+read_placed : (size : ℕ) (tree : Tree) (r : ParseOutcome Tree) → IfOk r (HasPositionsWithin size) → with_position size r ≡ Ok tree → HasPositionsWithin size tree
+read_placed size tree (Ok e) h is = subst (λ (x : Result Tree PositionedFault). IfOk x (HasPositionsWithin size)) is h
+read_placed size tree (Err e) h is = cc
+
 module _ (o : Options) (t : Text) (tree : Tree) (g : GroupSummary) (read : with_position (bytes t) (parse_pattern o.oniguruma o.unicode o.flags t) ≡ Ok tree) (are : IsGroupSummary o.ignore_numbered tree g) where
   abbrev found_of : Tree → Parsed
   found_of e = record { tree = e; names = counted (ignores o (openings tree)) (openings tree); unresolved = tree; ignored = ignores o (openings tree) }
@@ -85,3 +98,21 @@ module _ (o : Options) (t : Text) (tree : Tree) (g : GroupSummary) (read : with_
       parse_is
       ∙ ap (λ r. r ⨟ λ found. Ok (found_of found.0)) h
       ∙ ap (λ b. Ok (record { tree = new; names = counted b (openings tree); unresolved = tree; ignored = b })) (sym are.ignored)
+
+  -- the positions in the tree are inside the pattern, so those of refused references are, and resolving makes no tree larger
+  placed : HasPositionsWithin (bytes t) tree
+  placed = read_placed (bytes t) tree (parse_pattern o.oniguruma o.unicode o.flags t) (parsed_placed o.oniguruma o.unicode o.flags t) read
+
+  good : IsGood (bytes t) (IsLess tree) (resolved g.ignored (lookup_in g.named) 0 tree)
+  good = resolved_fits (bytes t) g.ignored (lookup_in g.named) 0 tree placed
+
+  pub resolved_is_less : (new : Tree) (n : ℕ) → resolved g.ignored (lookup_in g.named) 0 tree ≡ Ok (new, n) → IsLess tree (new, n)
+  resolved_is_less new n h = subst (IsGood (bytes t) (IsLess tree)) h good
+
+  fault_within : {X : Type 0} (v : X → Tree × ℕ) (e : Error) → AgreesWith v (Err e) (resolved g.ignored (lookup_in g.named) 0 tree) → IsWithin (bytes t) e
+  fault_within v (ParseError position kind) h = subst (IsGood (bytes t) (IsLess tree)) h good
+  fault_within v Memory h = tt
+
+  pub resolving_fails_within : {X : Type 0} (v : X → Tree × ℕ) (size : ℕ) → bytes t ≡ size → (r : Result ExprTree Error) (e : Error) → IsErrAnd r (λ f. f ≡ e)
+      → AgreesWith v (Err e) (resolved g.ignored (lookup_in g.named) 0 tree) → IsBounded size r
+  resolving_fails_within v size same r e h fails = err_bounded size r e h (subst (λ n. IsWithin n e) same (fault_within v e fails))

@@ -1,5 +1,6 @@
 -- Group numbers, and what references resolve to.
-use Rattle.std.specs.Prelude.{◌≡◌, chars, option_map, ℕ, zero, suc, ◌+◌, ◌-◌, ℤ, pos, negsuc, min, Bool, true, false, nat_lt, nat_le, nat_eq, List, [], ◌∷◌, ◌++◌, filter, Option, Some, None, Vec, String, Result, Ok, Err, if◌then◌else◌}
+use Rattle.std.specs.Prelude.{◌≡◌, chars, option_map, ℕ, zero, suc, ◌+◌, ◌-◌, ℤ, pos, negsuc, min, Bool, true, false, nat_lt, nat_le, nat_eq, List, [], ◌∷◌, ◌++◌, filter, Option, Some}
+use Rattle.std.specs.Prelude.{None, Vec, String, Result, Ok, Err, if◌then◌else◌}
 use Rattle.std.specs.Option.{option_map_or}
 use Rattle.std.specs.Global.{Global}
 use Rattle.std.specs.Borrow.{Bor}
@@ -12,7 +13,9 @@ use Rattle.fancy_regex_text.specs.Fault.{Kind, kind_of, invalid_backref, invalid
 use Rattle.fancy_regex_tree.specs.Traversal.{nodes}
 use Rattle.fancy_regex_tree.specs.declared.error.Error.{Error}
 use Rattle.fancy_regex_tree.specs.declared.error.Error.TheVariants as errors
-use Rattle.fancy_regex_tree.specs.Tree.{Text, Tree, Trees, no_trees, more_trees, Target, by_number, by_name, relative, concat, alt, group, look_around, repeat, backref, backref_with_level, atomic_group, backref_exists, conditional, subroutine_call, absent_repeater, absent_expression, absent_stopper, define_group, ast_group, ast_backref, ast_call, ast_condition}
+use Rattle.fancy_regex_tree.specs.Tree.{Text, Tree, Trees, no_trees, more_trees, Target, by_number, by_name, relative, concat, alt, group, look_around, repeat, backref, backref_with_level}
+use Rattle.fancy_regex_tree.specs.Tree.{atomic_group, backref_exists, conditional, subroutine_call, absent_repeater, absent_expression, absent_stopper, define_group, ast_group, ast_backref}
+use Rattle.fancy_regex_tree.specs.Tree.{ast_call, ast_condition}
 
 -- an error, and its byte offset in the pattern
 pub record PositionedFault : Type 0 where

@@ -3,18 +3,14 @@ use Rattle.std.specs.Prelude.{ℕ, ◌-◌, ◌^◌, Bool, not, ◌&&◌, ◌==�
 use Rattle.std.specs.List.{list_any}
 use Rattle.fancy_regex_text.specs.Text.{bytes}
 use Rattle.fancy_regex_text.specs.Fault.{ParseOutcome}
-use Rattle.fancy_regex_lex.specs.declared.token.Flags.{Flags}
+use Rattle.fancy_regex_tree.specs.declared.parse_options.ParseOptions.{ParseOptions}
 use Rattle.fancy_regex_tree.specs.Tree.{Text, Tree}
 use Rattle.fancy_regex_tree.specs.Parser.{parse_pattern}
 use Rattle.fancy_regex_tree.specs.Numbering.{Names, PositionedFault, ◌⨟◌, openings, counted, last_named, resolved}
 
--- the options of a call, as its flags set them
-pub record Options : Type 0 where
-  pub flags : Flags
-  pub unicode : Bool
-  pub oniguruma : Bool
-  -- groups without a name do not count where some group has one
-  pub ignore_numbered : Bool
+-- the options of a call
+abbrev pub Options : Type 0
+Options = ParseOptions
 
 pub record Parsed : Type 0 where
   pub tree : Tree

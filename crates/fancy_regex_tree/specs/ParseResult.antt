@@ -1,5 +1,5 @@
 -- What the code returns, stated by the definitions.
-use Rattle.std.specs.Prelude.{◌≡◌, ℕ, Bool, false, ◌&&◌, ◌≤◌, nat_le, List, length, Option, Some, None, is_some, String, Vec, Result, Ok, Err, chars}
+use Rattle.std.specs.Prelude.{◌≡◌, ℕ, Bool, false, ◌&&◌, ◌+◌, ◌*◌, ◌≤◌, nat_le, List, length, Option, Some, None, is_some, String, Vec, Result, Ok, Err, chars}
 use Rattle.std.specs.Global.{Global}
 use Rattle.std.specs.BTreeMap.{BTreeMap, get_by_text}
 use Rattle.std.specs.List.{list_any}
@@ -14,9 +14,11 @@ use Rattle.fancy_regex_tree.specs.declared.parse.GroupSummary.{GroupSummary}
 use Rattle.fancy_regex_tree.specs.declared.parse.ReferenceSummary as code
 use Rattle.fancy_regex_tree.specs.Tree.{Text, Tree, tree_of}
 use Rattle.fancy_regex_tree.specs.Traversal.{nodes}
+use Rattle.fancy_regex_tree.specs.Bounds as bounds
 use Rattle.fancy_regex_tree.specs.Numbering.{PositionedFault, openings, counted, same_text, numbers_of, numbers_under}
 use Rattle.fancy_regex_tree.specs.Parse.{Parsed}
-use Rattle.fancy_regex_tree.specs.ReferenceSummary.{total_groups, is_backref, contains_subroutines, reference_above_total, named_backref_only, calls_whole, is_numbered, is_call, is_reference_above, is_call_of_whole, refers_to}
+use Rattle.fancy_regex_tree.specs.ReferenceSummary.{total_groups, is_backref, contains_subroutines, reference_above_total, named_backref_only, calls_whole, is_numbered, is_call}
+use Rattle.fancy_regex_tree.specs.ReferenceSummary.{is_reference_above, is_call_of_whole, refers_to}
 
 -- a group has this name
 abbrev pub carries : Text → Option Text → Bool
@@ -49,6 +51,11 @@ IsParsed (Err Memory) defined = Unit {0}
 abbrev pub IsWithin : ℕ → Error → Type 0
 IsWithin size (ParseError position kind) = position ≤ size
 IsWithin size Memory = Unit {0}
+
+-- the tree of a pattern of this many bytes has at most 2n + 1 nodes and no path of more than 832; the byte offset of an error is at most n
+abbrev pub IsBounded : ℕ → Result ExprTree Error → Type 0
+IsBounded size (Ok e) = (bounds.nodes (tree_of e.expr) ≤ 2 * size + 1) × (bounds.depth (tree_of e.expr) ≤ 832)
+IsBounded size (Err e) = IsWithin size e
 
 -- the groups of a tree whose references are not resolved
 pub record IsGroupSummary (ignore : Bool) (t : Tree) (g : GroupSummary) : Type 0 where

@@ -9,7 +9,8 @@ use Rattle.fancy_regex_lex.specs.Quantifiers.{leading_quantifier, most_quantifie
 use Rattle.fancy_regex_lex.specs.Openings.{Opening, capturing, non_capturing, set_flags, atomic, look, if_set, if_matches, define, absent, absent_bar, whole_reference, whole_call, whole_verb, opening}
 use Rattle.fancy_regex_lex.specs.declared.token.Flags.{Flags}
 use Rattle.fancy_regex_tree.specs.declared.parser_config.ParserConfig.{ParserConfig}
-use Rattle.fancy_regex_tree.specs.Tree.{Tree, empty, any, alt, delegate, look_around, atomic_group, conditional, verb, absent_repeater, absent_expression, absent_stopper, absent_clear, define_group, ast_group, ast_backref, ast_call, ast_condition}
+use Rattle.fancy_regex_tree.specs.Tree.{Tree, empty, any, alt, delegate, look_around, atomic_group, conditional, verb, absent_repeater, absent_expression, absent_stopper, absent_clear}
+use Rattle.fancy_regex_tree.specs.Tree.{define_group, ast_group, ast_backref, ast_call, ast_condition}
 use Rattle.fancy_regex_tree.specs.TreeBuilders.{branch_of, all_branches, joined, pattern_of}
 use Rattle.fancy_regex_tree.specs.Atoms.{place, target_named, look_of, verb_of, char_tree, escape_tree, line_start, line_end}
 use Rattle.fancy_regex_tree.specs.Quantifiers.{Atom, parse_quantifiers}

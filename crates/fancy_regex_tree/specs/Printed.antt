@@ -3,7 +3,8 @@ use Rattle.std.specs.Prelude.{ℕ, Bool, ◌&&◌, ◌==◌, nat_lt, [], ◌∷�
 use Rattle.fancy_regex_text.specs.Text.{◌∈◌, unbounded}
 use Rattle.fancy_regex_tree.specs.Tree.{Text, Tree, any, assertion, literal, concat, alt, group, repeat, delegate, Trees, no_trees, more_trees}
 use Rattle.fancy_regex_tree.specs.declared.expr.Assertion.{Assertion}
-use Rattle.fancy_regex_tree.specs.declared.expr.Assertion.TheVariants.{StartText, EndText, StartLine, EndLine, LeftWordBoundary, LeftWordHalfBoundary, RightWordBoundary, RightWordHalfBoundary, WordBoundary, NotWordBoundary}
+use Rattle.fancy_regex_tree.specs.declared.expr.Assertion.TheVariants.{StartText, EndText, StartLine, EndLine, LeftWordBoundary, LeftWordHalfBoundary, RightWordBoundary}
+use Rattle.fancy_regex_tree.specs.declared.expr.Assertion.TheVariants.{RightWordHalfBoundary, WordBoundary, NotWordBoundary}
 
 -- a metacharacter, which a pattern must escape
 abbrev pub is_metacharacter : ℕ → Bool

@@ -1,6 +1,6 @@
 -- A node with a child replaced.
 use Rattle.std.specs.Prelude.{◌≡◌, ℕ, List, [], ◌∷◌, Result, MatchResult, None, Some, slice_get, slice_set}
-use Rattle.fancy_regex_tree.specs.Tree.{Tree, trees, concat, alt, group, look_around, repeat, atomic_group, conditional, absent_repeater, absent_expression, absent_stopper, define_group, ast_group, tree_of}
+use Rattle.fancy_regex_tree.specs.Tree.{Tree, trees, concat, alt, group, look_around, repeat, atomic_group, conditional, absent_repeater, absent_expression, absent_stopper, define_group, tree_of}
 use Rattle.fancy_regex_tree.specs.Traversal.{children}
 use Rattle.fancy_regex_tree.specs.declared.expr.Expr.{Expr}
 
@@ -17,7 +17,6 @@ with_children (absent_repeater t) (u ∷ []) = absent_repeater u
 with_children (absent_expression t d) (u ∷ v ∷ []) = absent_expression u v
 with_children (absent_stopper t) (u ∷ []) = absent_stopper u
 with_children (define_group t) (u ∷ []) = define_group u
-with_children (ast_group name t position) (u ∷ []) = ast_group name u position
 with_children t us = t
 
 -- the same node with this tree as its i-th child

@@ -1,7 +1,8 @@
 -- The children of a node.
-use Rattle.std.specs.Prelude.{◌≡◌, Bool, true, false, ◌⊎◌, List, [], ◌∷◌, ◌++◌, drop, Option, Some, None}
+use Rattle.std.specs.Prelude.{◌≡◌, Bool, true, false, ◌⊎◌, List, [], ◌∷◌, ◌++◌, drop, Option, Some, None, if◌then◌else◌}
 use Rattle.std.specs.Fn.{Shared, FnReturnsAt}
-use Rattle.fancy_regex_tree.specs.Tree.{tree_of, Tree, Trees, no_trees, more_trees, concat, alt, group, look_around, repeat, atomic_group, conditional, absent_repeater, absent_expression, absent_stopper, define_group, ast_group}
+use Rattle.fancy_regex_tree.specs.Tree.{tree_of, Tree, Trees, no_trees, more_trees, concat, alt, group, look_around, repeat, atomic_group, conditional, absent_repeater, absent_expression}
+use Rattle.fancy_regex_tree.specs.Tree.{absent_stopper, define_group, ast_group}
 use Rattle.std.specs.Borrow.{Bor}
 use Rattle.fancy_regex_tree.specs.declared.expr.Expr.{Expr}
 use Rattle.fancy_regex_tree.specs.declared.traversal.ExprChildrenIter.{ExprChildrenIter}
@@ -26,46 +27,62 @@ abbrev pub listed : Trees → List Tree
 listed no_trees = []
 listed (more_trees t ts) = t ∷ listed ts
 
--- the children, in the order of the text
+-- The trees directly below a node, in the order of the text. A capture group that has no number yet is a leaf; with the flag set
+-- its body is below it too.
+abbrev pub below : Bool → Tree → List Tree
+below in_groups (concat ts) = listed ts
+below in_groups (alt ts) = listed ts
+below in_groups (group t) = t ∷ []
+below in_groups (look_around t look) = t ∷ []
+below in_groups (repeat t lo hi greedy) = t ∷ []
+below in_groups (atomic_group t) = t ∷ []
+below in_groups (conditional c a b) = c ∷ a ∷ b ∷ []
+below in_groups (absent_repeater t) = t ∷ []
+below in_groups (absent_expression t d) = t ∷ d ∷ []
+below in_groups (absent_stopper t) = t ∷ []
+below in_groups (define_group t) = t ∷ []
+below in_groups (ast_group name t position) = if in_groups then t ∷ [] else []
+below in_groups _ = []
+
+-- the children, of which a leaf has none
 abbrev pub children : Tree → List Tree
-children (concat ts) = listed ts
-children (alt ts) = listed ts
-children (group t) = t ∷ []
-children (look_around t look) = t ∷ []
-children (repeat t lo hi greedy) = t ∷ []
-children (atomic_group t) = t ∷ []
-children (conditional c a b) = c ∷ a ∷ b ∷ []
-children (absent_repeater t) = t ∷ []
-children (absent_expression t d) = t ∷ d ∷ []
-children (absent_stopper t) = t ∷ []
-children (define_group t) = t ∷ []
-children (ast_group name t position) = t ∷ []
-children _ = []
+children = below false
 
--- the nodes of a tree from left to right, each before those below it
+-- the children, and the body of a capture group that has no number yet
+abbrev pub subtrees : Tree → List Tree
+subtrees = below true
+
+-- the nodes from left to right, each before those below it
 abbrev mutual
-  pub nodes : Tree → List Tree
-  nodes (concat ts) = concat ts ∷ all_nodes ts
-  nodes (alt ts) = alt ts ∷ all_nodes ts
-  nodes (group t) = group t ∷ nodes t
-  nodes (look_around t look) = look_around t look ∷ nodes t
-  nodes (repeat t lo hi greedy) = repeat t lo hi greedy ∷ nodes t
-  nodes (atomic_group t) = atomic_group t ∷ nodes t
-  nodes (conditional c a b) = conditional c a b ∷ nodes c ++ (nodes a ++ nodes b)
-  nodes (absent_repeater t) = absent_repeater t ∷ nodes t
-  nodes (absent_expression t d) = absent_expression t d ∷ nodes t ++ nodes d
-  nodes (absent_stopper t) = absent_stopper t ∷ nodes t
-  nodes (define_group t) = define_group t ∷ nodes t
-  nodes (ast_group name t position) = ast_group name t position ∷ nodes t
-  nodes t = t ∷ []
+  pub nodes_in : Bool → Tree → List Tree
+  nodes_in in_groups (concat ts) = concat ts ∷ all_nodes_in in_groups ts
+  nodes_in in_groups (alt ts) = alt ts ∷ all_nodes_in in_groups ts
+  nodes_in in_groups (group t) = group t ∷ nodes_in in_groups t
+  nodes_in in_groups (look_around t look) = look_around t look ∷ nodes_in in_groups t
+  nodes_in in_groups (repeat t lo hi greedy) = repeat t lo hi greedy ∷ nodes_in in_groups t
+  nodes_in in_groups (atomic_group t) = atomic_group t ∷ nodes_in in_groups t
+  nodes_in in_groups (conditional c a b) = conditional c a b ∷ nodes_in in_groups c ++ (nodes_in in_groups a ++ nodes_in in_groups b)
+  nodes_in in_groups (absent_repeater t) = absent_repeater t ∷ nodes_in in_groups t
+  nodes_in in_groups (absent_expression t d) = absent_expression t d ∷ nodes_in in_groups t ++ nodes_in in_groups d
+  nodes_in in_groups (absent_stopper t) = absent_stopper t ∷ nodes_in in_groups t
+  nodes_in in_groups (define_group t) = define_group t ∷ nodes_in in_groups t
+  nodes_in in_groups (ast_group name t position) = ast_group name t position ∷ (if in_groups then nodes_in in_groups t else [])
+  nodes_in in_groups t = t ∷ []
 
-  pub all_nodes : Trees → List Tree
-  all_nodes no_trees = []
-  all_nodes (more_trees t ts) = nodes t ++ all_nodes ts
+  pub all_nodes_in : Bool → Trees → List Tree
+  all_nodes_in in_groups no_trees = []
+  all_nodes_in in_groups (more_trees t ts) = nodes_in in_groups t ++ all_nodes_in in_groups ts
 
--- the nodes below a node
+-- all nodes of a tree, those in capture groups that have no number yet included
+abbrev pub nodes : Tree → List Tree
+nodes = nodes_in true
+
+abbrev pub all_nodes : Trees → List Tree
+all_nodes = all_nodes_in true
+
+-- the nodes below a node: its children, their children and so on
 abbrev pub descendants : Tree → List Tree
-descendants t = drop 1 (nodes t)
+descendants t = drop 1 (nodes_in false t)
 
 -- what a predicate returned on nodes with these trees
 module _ {F : Type 0} (g : Shared F (Bor Expr × Unit {0}) Bool) (f : F) where

@@ -1,12 +1,12 @@
 //! The child of a node at an index: lent for writing, or replaced.
 
-ghost use Rattle.std.specs.Prelude.{◌≡◌, ℕ, ◌∷◌, [], map, option_map, slice_get};
-ghost use Rattle.fancy_regex_tree.specs.Tree.{tree_of, absent_tree_of, ast_tree_of};
+ghost use Rattle.std.specs.Prelude.{◌≡◌, ◌∷◌, [], map, option_map, slice_get};
+ghost use Rattle.fancy_regex_tree.specs.Tree.{conditional, tree_of, absent_tree_of};
 ghost use Rattle.fancy_regex_tree.specs.Traversal.{children};
 ghost use Rattle.fancy_regex_tree.specs.BorrowedChild.{borrowed_tree};
 ghost use Rattle.fancy_regex_tree.specs.ReplacedChild.{IsItemReplaced, IsChildReplaced};
 
-use crate::expr::{Absent, AstNode, Expr};
+use crate::expr::{Absent, Expr};
 use std::mem;
 
 /// The only child for index 0, `None` for any other.
@@ -106,25 +106,35 @@ impl Absent {
     }
 }
 
-impl AstNode {
-    /// Replaces the child at index `i` of an unresolved node; see `Expr::replace_child`.
-    fn replace_child(self, i: usize, child: Expr) -> (AstNode, Result<Expr, Expr>)
-        ensures { (position : ℕ) → IsChildReplaced (ast_tree_of self position) (ast_tree_of result.0 position) i child result.1 }
-    {
-        match self {
-            AstNode::AstGroup { name, mut inner } => {
-                let replaced = replace_only(&mut inner, i, child);
-                (AstNode::AstGroup { name, inner }, replaced)
-            }
-            leaf => (leaf, Err(child)),
-        }
-    }
+/// Replaces the condition of a conditional (index 0) or a branch (1, 2); see `Expr::replace_child`.
+fn replace_in_conditional(
+    mut condition: Box<Expr>,
+    mut true_branch: Box<Expr>,
+    mut false_branch: Box<Expr>,
+    i: usize,
+    child: Expr,
+) -> (Expr, Result<Expr, Expr>)
+    ensures { IsChildReplaced (conditional (tree_of condition.value) (tree_of true_branch.value) (tree_of false_branch.value)) (tree_of result.0) i child result.1 }
+{
+    let replaced = match i {
+        0 => Ok(mem::replace(&mut *condition, child)),
+        1 => Ok(mem::replace(&mut *true_branch, child)),
+        2 => Ok(mem::replace(&mut *false_branch, child)),
+        _ => Err(child),
+    };
+    let conditional = Expr::Conditional {
+        condition,
+        true_branch,
+        false_branch,
+    };
+    (conditional, replaced)
 }
 
 impl Expr {
-    /// The child at index `i`, in the order of `children_iter`, as a mutable reference; `None` where there is no such child.
+    /// The child at index `i`, in the order of `children_iter`, as a mutable reference; `None` where there is no such child, as at
+    /// any index of a leaf.
     ///
-    /// The contract says which child it is. It does not say what this node is after a write through the reference; that of
+    /// The contract says which tree is lent. It does not say what this node is after a write through the reference; that of
     /// `replace_child` does.
     pub fn child_mut(&mut self, i: usize) -> Option<&mut Expr>
         ensures { option_map borrowed_tree result ≡ slice_get (children (tree_of self.old)) i }
@@ -137,7 +147,6 @@ impl Expr {
             Expr::Repeat { child, .. } => only(child, i),
             Expr::AtomicGroup(child) => only(child, i),
             Expr::DefineGroup { definitions } => only(definitions, i),
-            Expr::AstNode(AstNode::AstGroup { inner, .. }, _) => only(inner, i),
             Expr::Conditional {
                 condition,
                 true_branch,
@@ -195,23 +204,10 @@ impl Expr {
                 (Expr::AtomicGroup(only), replaced)
             }
             Expr::Conditional {
-                mut condition,
-                mut true_branch,
-                mut false_branch,
-            } => {
-                let replaced = match i {
-                    0 => Ok(mem::replace(&mut *condition, child)),
-                    1 => Ok(mem::replace(&mut *true_branch, child)),
-                    2 => Ok(mem::replace(&mut *false_branch, child)),
-                    _ => Err(child),
-                };
-                let conditional = Expr::Conditional {
-                    condition,
-                    true_branch,
-                    false_branch,
-                };
-                (conditional, replaced)
-            }
+                condition,
+                true_branch,
+                false_branch,
+            } => replace_in_conditional(condition, true_branch, false_branch, i, child),
             Expr::Absent(absent) => {
                 let (absent, replaced) = absent.replace_child(i, child);
                 (Expr::Absent(absent), replaced)
@@ -219,10 +215,6 @@ impl Expr {
             Expr::DefineGroup { mut definitions } => {
                 let replaced = replace_only(&mut definitions, i, child);
                 (Expr::DefineGroup { definitions }, replaced)
-            }
-            Expr::AstNode(node, position) => {
-                let (node, replaced) = node.replace_child(i, child);
-                (Expr::AstNode(node, position), replaced)
             }
             leaf => (leaf, Err(child)),
         }

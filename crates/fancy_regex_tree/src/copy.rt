@@ -1,9 +1,10 @@
 //! Copies of trees. Each copy may run out of memory; there is no `Clone`.
 
 ghost use Rattle.std.specs.Prelude.{◌≡◌, IfOk, option_map, map, string_bytes, chars};
-ghost use Rattle.fancy_regex_tree.specs.Tree.{tree_of, absent_tree_of, ast_tree_of, target_of};
+ghost use Rattle.fancy_regex_tree.specs.Tree.{literal, delegate, tree_of, absent_tree_of, ast_tree_of, target_of};
 
 use crate::expr::{Absent, AstNode, CaptureGroupTarget, Expr};
+use crate::tree_builders::repeat_of;
 use std::alloc::{AllocError, Global};
 
 impl CaptureGroupTarget {
@@ -83,6 +84,22 @@ impl AstNode {
     }
 }
 
+/// A literal with a copy of this text.
+fn copy_literal(alloc: Global, val: &String, casei: bool) -> Result<Expr, AllocError>
+    ensures { IfOk result (λ copy. tree_of copy ≡ literal (chars (string_bytes val.now)) casei) }
+{
+    let val = String::from_str(alloc, val)?;
+    Ok(Expr::Literal { val, casei })
+}
+
+/// A character class with a copy of this text.
+fn copy_class(alloc: Global, inner: &String, casei: bool) -> Result<Expr, AllocError>
+    ensures { IfOk result (λ copy. tree_of copy ≡ delegate (chars (string_bytes inner.now)) casei) }
+{
+    let inner = String::from_str(alloc, inner)?;
+    Ok(Expr::Delegate { inner, casei })
+}
+
 impl Expr {
     /// A deep copy of the tree. Fails only if an allocation fails.
     #[cycle(copy)]
@@ -91,16 +108,10 @@ impl Expr {
     {
         match self {
             Expr::Empty => Ok(Expr::Empty),
-            Expr::Any { newline, crlf } => Ok(Expr::Any {
-                newline: *newline,
-                crlf: *crlf,
-            }),
+            &Expr::Any { newline, crlf } => Ok(Expr::Any { newline, crlf }),
             Expr::Assertion(assertion) => Ok(Expr::Assertion(*assertion)),
             Expr::GeneralNewline { unicode } => Ok(Expr::GeneralNewline { unicode: *unicode }),
-            Expr::Literal { val, casei } => Ok(Expr::Literal {
-                val: String::from_str(alloc, val)?,
-                casei: *casei,
-            }),
+            Expr::Literal { val, casei } => copy_literal(alloc, val, *casei),
             Expr::LiteralBytes { bytes } => Ok(Expr::LiteralBytes {
                 bytes: Vec::from_slice(alloc, bytes)?,
             }),
@@ -115,20 +126,9 @@ impl Expr {
                 lo,
                 hi,
                 greedy,
-            } => Ok(Expr::Repeat {
-                child: copy_child(alloc, child)?,
-                lo: *lo,
-                hi: *hi,
-                greedy: *greedy,
-            }),
-            Expr::Delegate { inner, casei } => Ok(Expr::Delegate {
-                inner: String::from_str(alloc, inner)?,
-                casei: *casei,
-            }),
-            Expr::Backref { group, casei } => Ok(Expr::Backref {
-                group: *group,
-                casei: *casei,
-            }),
+            } => Ok(repeat_of(copy_child(alloc, child)?, *lo, *hi, *greedy)),
+            Expr::Delegate { inner, casei } => copy_class(alloc, inner, *casei),
+            &Expr::Backref { group, casei } => Ok(Expr::Backref { group, casei }),
             Expr::BackrefWithRelativeRecursionLevel {
                 group,
                 relative_level,

@@ -16,6 +16,7 @@ mod group_names;
 mod normal_form_kind;
 mod parse;
 mod parse_atoms;
+mod parse_options;
 mod parser;
 mod parser_config;
 mod print;
@@ -33,9 +34,10 @@ pub use expr::{
     Absent, Assertion, AstNode, BacktrackingControlVerb, CaptureGroupTarget, Expr, LookAround,
 };
 pub use expr_tree::{ExprTree, NamedGroups};
-pub use fancy_regex_lex::ParseError;
+pub use fancy_regex_lex::{Flags, ParseError};
 pub use flag_bits::{
     FLAG_CASEI, FLAG_CRLF, FLAG_DOTNL, FLAG_IGNORE_NUMBERED_GROUPS_WHEN_NAMED_GROUPS_EXIST,
     FLAG_IGNORE_SPACE, FLAG_MULTI, FLAG_ONIGURUMA_MODE, FLAG_SWAP_GREED, FLAG_UNICODE,
 };
+pub use parse_options::ParseOptions;
 pub use traversal::ExprChildrenIter;

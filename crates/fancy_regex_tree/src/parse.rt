@@ -1,57 +1,38 @@
 //! Parses a pattern: syntax, group numbers, references, summary.
 
-ghost use Rattle.std.specs.Prelude.{◌≡◌, ◌≤◌, length, chars, IfOk, IfErr};
+ghost use Rattle.std.specs.Prelude.{◌≡◌, ◌≤◌, ◌+◌, ◌*◌, length, chars, IfOk, IfErr};
 ghost use Rattle.fancy_regex_text.specs.Text.{bytes};
 ghost use Rattle.fancy_regex_tree.specs.Tree.{tree_of};
 ghost use Rattle.fancy_regex_tree.specs.Parser.{parse_pattern};
 ghost use Rattle.fancy_regex_tree.specs.Numbering.{AgreesWith};
 ghost use Rattle.fancy_regex_tree.specs.Parse.{options_of, with_position, parse};
+ghost use Rattle.fancy_regex_tree.specs.Bounds.{nodes, depth};
 ghost use Rattle.fancy_regex_tree.specs.Options.{unicode_only};
-ghost use Rattle.fancy_regex_tree.specs.ParseResult.{IsParsed, IsWithin, IsGroupSummary, IsReferenceSummary};
+ghost use Rattle.fancy_regex_tree.specs.ParseResult.{IsParsed, IsWithin, IsBounded, IsGroupSummary, IsReferenceSummary};
 
 use crate::error::{Error, Result};
 use crate::expr::Expr;
 use crate::expr_tree::{ExprTree, NamedGroups};
-use crate::flag_bits::{
-    FLAG_CASEI, FLAG_CRLF, FLAG_DOTNL, FLAG_IGNORE_NUMBERED_GROUPS_WHEN_NAMED_GROUPS_EXIST,
-    FLAG_IGNORE_SPACE, FLAG_MULTI, FLAG_ONIGURUMA_MODE, FLAG_SWAP_GREED, FLAG_UNICODE,
-};
+use crate::flag_bits::FLAG_UNICODE;
 use crate::group_names::{group_names, named_groups};
+use crate::parse_options::ParseOptions;
 use crate::parser::parse_pattern;
 use crate::reference_summary::{
     any_call, any_call_of_whole, any_named, any_numbered, any_reference_above, backrefs,
 };
 use crate::resolve::Resolver;
-use fancy_regex_lex::{Flags, ReadError};
+use fancy_regex_lex::ReadError;
 use std::alloc::{AllocError, Global};
 use std::collections::BTreeSet;
 
-/// The flags in force where a pattern begins.
-fn flags_at_start(flags: u32) -> Flags
-    ensures { result ≡ (options_of flags).flags }
-{
-    Flags {
-        casei: flags & FLAG_CASEI != 0,
-        multi: flags & FLAG_MULTI != 0,
-        dot_newline: flags & FLAG_DOTNL != 0,
-        verbose: flags & FLAG_IGNORE_SPACE != 0,
-        swap_greed: flags & FLAG_SWAP_GREED != 0,
-        crlf: flags & FLAG_CRLF != 0,
-    }
-}
-
 /// Parses a pattern into a tree with unresolved references. An error has its byte offset, at most the length of `re`.
-fn parse_unresolved(alloc: Global, re: &str, flags: u32) -> Result<Expr>
-    ensures value { AgreesWith tree_of result (with_position (bytes (chars re.now)) (parse_pattern (options_of flags).oniguruma (options_of flags).unicode (options_of flags).flags (chars re.now))) }
+fn parse_unresolved(alloc: Global, re: &str, options: ParseOptions) -> Result<Expr>
+    ensures value { AgreesWith tree_of result (with_position (bytes (chars re.now)) (parse_pattern options.oniguruma options.unicode options.flags (chars re.now))) }
+    ensures small { IfOk result (λ expr. nodes (tree_of expr) ≤ 2 * length re.now + 1) }
+    ensures low { IfOk result (λ expr. depth (tree_of expr) ≤ 832) }
     ensures within { IfErr result (λ e. IsWithin (length re.now) e) }
 {
-    match parse_pattern(
-        alloc,
-        flags & FLAG_ONIGURUMA_MODE != 0,
-        flags & FLAG_UNICODE != 0,
-        flags_at_start(flags),
-        re,
-    ) {
+    match parse_pattern(alloc, options.oniguruma, options.unicode, options.flags, re) {
         Ok(expr) => Ok(expr),
         Err(ReadError::Fault(fault)) => Err(Error::ParseError(
             re.len().saturating_sub(fault.left),
@@ -126,22 +107,36 @@ fn summarize_references(
 impl Expr {
     /// Parses a pattern with `FLAG_UNICODE` alone; see `parse_tree_with_flags`.
     pub fn parse_tree(alloc: Global, re: &str) -> Result<ExprTree>
-        ensures { IsParsed result (parse unicode_only (chars re.now)) }
+        ensures value { IsParsed result (parse unicode_only (chars re.now)) }
+        ensures bounded { IsBounded (length re.now) result }
     {
         Expr::parse_tree_with_flags(alloc, re, FLAG_UNICODE)
     }
 
     /// Parses a pattern. `flags` is a union of the constants `FLAG_...`; other bits are ignored.
     ///
-    /// Answers the syntax tree, with references resolved, and the summary of its groups and references. The errors are
-    /// `Error::ParseError`, with the first error of the pattern and its byte offset, which is at most the length of `re`, and
-    /// `Error::Memory`, if an allocation fails. Errors of syntax come before those of references.
+    /// Answers the syntax tree, with references resolved, and the summary of its groups and references. The tree of a pattern of
+    /// n bytes has at most 2n + 1 nodes, and no path in it has more than 832. The errors are `Error::ParseError`, with the first
+    /// error of the pattern and its byte offset, which is at most the length of `re`, and `Error::Memory`, if an allocation fails.
+    /// Errors of syntax come before those of references.
     pub fn parse_tree_with_flags(alloc: Global, re: &str, flags: u32) -> Result<ExprTree>
-        ensures { IsParsed result (parse (options_of flags) (chars re.now)) }
+        ensures value { IsParsed result (parse (options_of flags) (chars re.now)) }
+        ensures bounded { IsBounded (length re.now) result }
     {
-        let mut expr = parse_unresolved(alloc, re, flags)?;
-        let ignore_numbered = flags & FLAG_IGNORE_NUMBERED_GROUPS_WHEN_NAMED_GROUPS_EXIST != 0;
-        let groups = summarize_groups(alloc, &expr, ignore_numbered)?;
+        Expr::parse_tree_with_options(alloc, re, ParseOptions::from_flags(flags))
+    }
+
+    /// Parses a pattern with the options as a struct; see `parse_tree_with_flags` for what it answers.
+    pub fn parse_tree_with_options(
+        alloc: Global,
+        re: &str,
+        options: ParseOptions,
+    ) -> Result<ExprTree>
+        ensures value { IsParsed result (parse options (chars re.now)) }
+        ensures bounded { IsBounded (length re.now) result }
+    {
+        let mut expr = parse_unresolved(alloc, re, options)?;
+        let groups = summarize_groups(alloc, &expr, options.ignore_numbered)?;
         let resolver = Resolver {
             named: &groups.named,
             ignored: groups.ignored,

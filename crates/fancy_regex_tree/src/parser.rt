@@ -10,7 +10,8 @@ ghost use Rattle.fancy_regex_lex.specs.Openings.{opening_of};
 ghost use Rattle.fancy_regex_tree.specs.Tree.{tree_of};
 ghost use Rattle.fancy_regex_tree.specs.Views.{atom_of};
 ghost use Rattle.fancy_regex_tree.specs.Bounds.{nodes, depth, pieces_measure, branches_measure, max_depth, max_depth_of_all, extra_nodes};
-ghost use Rattle.fancy_regex_tree.specs.Parser.{plain, ends_branch, parse_group_body, parse_group_expression, parse_expression_conditional, parse_group, parse_parenthesized, parse_atom, parse_piece, parse_branch, branches, parse_alternation, inner_parser, parse_whole_pattern, parse_pattern};
+ghost use Rattle.fancy_regex_tree.specs.Parser.{plain, ends_branch, parse_group_body, parse_group_expression, parse_expression_conditional, parse_group, parse_parenthesized, parse_atom};
+ghost use Rattle.fancy_regex_tree.specs.Parser.{parse_piece, parse_branch, branches, parse_alternation, inner_parser, parse_whole_pattern, parse_pattern};
 
 use crate::expr::{Absent, Expr};
 use crate::parse_atoms::{
@@ -40,6 +41,18 @@ pub struct Parser {
     pub levels: usize,
 }
 
+impl Parser {
+    /// The parser inside a look-around.
+    fn in_look(self) -> Parser
+        ensures { result ≡ record self { in_look = true } }
+    {
+        Parser {
+            in_look: true,
+            ..self
+        }
+    }
+}
+
 /// Fails with `GeneralParseError` and this message, at the start of `text`.
 fn general_error<T>(alloc: Global, words: &str, text: &str) -> Result<T, ReadError>
     requires { list_all (λ b. nat_lt b 128) words.now ≡ true }
@@ -61,6 +74,16 @@ fn plain(tree: Expr) -> Atom
     }
 }
 
+/// The atom of the body of a non-capturing group.
+fn non_capturing(tree: Expr) -> Atom
+    ensures { atom_of result ≡ record { tree = tree_of tree; is_non_capturing_group = true } }
+{
+    Atom {
+        tree,
+        is_non_capturing_group: true,
+    }
+}
+
 /// Whether a branch ends here: at `|`, `)` or the end of the text.
 fn ends_branch(text: &str) -> bool
     ensures { result ≡ ends_branch (chars text.now) }
@@ -78,7 +101,8 @@ fn parse_branch(
     flags: Flags,
     text: &str,
 ) -> Result<(Vec<Expr>, Flags, &str), ReadError>
-    ensures value { Gives (λ x. (map tree_of x.0.items, x.1, chars x.2.now)) result (parse_branch parser.config (inner_parser parser.config parser.levels) (length (chars text.now) + 1) parser.in_look flags (chars text.now)) }
+    ensures value { Gives (λ x. (map tree_of x.0.items, x.1, chars x.2.now)) result
+        (parse_branch parser.config (inner_parser parser.config parser.levels) (length (chars text.now) + 1) parser.in_look flags (chars text.now)) }
     ensures shorter { IfOk result (λ x. length (chars x.2.now) ≤ length (chars text.now)) }
     ensures small { IfOk result (λ x. pieces_measure (map tree_of x.0.items) + 2 * length (chars x.2.now) ≤ 2 * length (chars text.now)) }
     ensures low { IfOk result (λ x. max_depth (map tree_of x.0.items) ≤ 13 * parser.levels + 11) }
@@ -133,7 +157,8 @@ fn parse_group_body(
     flags: Flags,
     text: &str,
 ) -> Result<(Vec<Vec<Expr>>, Flags, &str), ReadError>
-    ensures value { Gives (λ x. (map (λ b. map tree_of b.items) x.0.items, x.1, chars x.2.now)) result (parse_group_body parser.config (parse_alternation parser.config parser.levels) parser.in_look flags (chars text.now)) }
+    ensures value { Gives (λ x. (map (λ b. map tree_of b.items) x.0.items, x.1, chars x.2.now)) result
+        (parse_group_body parser.config (parse_alternation parser.config parser.levels) parser.in_look flags (chars text.now)) }
     ensures shorter { IfOk result (λ x. length (chars x.2.now) < length (chars text.now)) }
     ensures small { IfOk result (λ x. branches_measure (map (λ b. map tree_of b.items) x.0.items) + 2 * length (chars x.2.now) ≤ 2 * length (chars text.now)) }
     ensures low { IfOk result (λ x. max_depth_of_all (map (λ b. map tree_of b.items) x.0.items) ≤ 13 * parser.levels + 11) }
@@ -175,7 +200,8 @@ fn parse_expression_conditional<'t>(
     flags: Flags,
     text: &'t str,
 ) -> Result<(Expr, Flags, &'t str), ReadError>
-    ensures value { Gives (λ x. (tree_of x.0, x.1, chars x.2.now)) result (parse_expression_conditional parser.config (parse_alternation parser.config parser.levels) parser.in_look (chars here.now) flags (chars text.now)) }
+    ensures value { Gives (λ x. (tree_of x.0, x.1, chars x.2.now)) result
+        (parse_expression_conditional parser.config (parse_alternation parser.config parser.levels) parser.in_look (chars here.now) flags (chars text.now)) }
     ensures shorter { IfOk result (λ x. length (chars x.2.now) ≤ length (chars text.now)) }
     ensures small { IfOk result (λ x. nodes (tree_of x.0) + 2 * length (chars x.2.now) ≤ 2 * length (chars text.now)) }
     ensures low { IfOk result (λ x. depth (tree_of x.0) ≤ 13 * parser.levels + 14) }
@@ -203,7 +229,8 @@ fn parse_group<'t>(
     how: Opening<'t>,
     text: &'t str,
 ) -> Result<(Atom, Flags, &'t str), ReadError>
-    ensures value { Gives (λ x. (atom_of x.0, x.1, chars x.2.now)) result (parse_group parser.config (parse_alternation parser.config parser.levels) parser.in_look (chars here.now) flags (opening_of how.entry) (chars text.now)) }
+    ensures value { Gives (λ x. (atom_of x.0, x.1, chars x.2.now)) result
+        (parse_group parser.config (parse_alternation parser.config parser.levels) parser.in_look (chars here.now) flags (opening_of how.entry) (chars text.now)) }
     ensures shorter { IfOk result (λ x. length (chars x.2.now) ≤ length (chars text.now)) }
     ensures small { IfOk result (λ x. nodes (tree_of x.0.tree) + 2 * length (chars x.2.now) ≤ 2 * length (chars text.now) + 1 + extra_nodes (opening_of how.entry)) }
     ensures low { IfOk result (λ x. depth (tree_of x.0.tree) ≤ 13 * parser.levels + 14) }
@@ -217,31 +244,16 @@ fn parse_group<'t>(
         }
         Opening::NonCapturing(changed) => {
             let (tree, _, rest) = parse_group_expression(parser, changed, text)?;
-            let is_non_capturing_group = true;
-            Ok((
-                Atom {
-                    tree,
-                    is_non_capturing_group,
-                },
-                flags,
-                rest,
-            ))
+            Ok((non_capturing(tree), flags, rest))
         }
         Opening::SetFlags(changed) => Ok((plain(Expr::Empty), changed, text)),
         Opening::Atomic => {
             let (body, behind, rest) = parse_group_expression(parser, flags, text)?;
-            Ok((
-                plain(Expr::AtomicGroup(Box::new(alloc, body)?)),
-                behind,
-                rest,
-            ))
+            let atomic = Expr::AtomicGroup(Box::new(alloc, body)?);
+            Ok((plain(atomic), behind, rest))
         }
         Opening::LookAround(look) => {
-            let inside = Parser {
-                in_look: true,
-                ..parser
-            };
-            let (body, behind, rest) = parse_group_expression(inside, flags, text)?;
+            let (body, behind, rest) = parse_group_expression(parser.in_look(), flags, text)?;
             let around = Expr::LookAround(Box::new(alloc, body)?, look_of(look));
             Ok((plain(around), behind, rest))
         }

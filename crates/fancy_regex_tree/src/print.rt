@@ -11,10 +11,11 @@ use crate::print_tokens::{print_assertion, print_dot, print_quantifier};
 use std::alloc::AllocError;
 
 impl Expr {
-    /// Appends the text of a printable tree. The parser reads it as a tree of the same meaning.
+    /// Appends the printed text of a printable tree.
     ///
     /// `precedence` says what the text is part of: 0 a whole pattern or a group, 1 a branch, 2 a concatenation, 3 an expression
-    /// with a quantifier behind it. Where needed, the text is put in a non-capturing group.
+    /// with a quantifier behind it. Where needed, the text is put in a non-capturing group. In its place it reads back as the
+    /// normal form of the tree, with the same matches where each class reads back unchanged: the laws of `fancy_regex_print_laws`.
     ///
     /// Fails only if an allocation fails; the buffer is then unchanged.
     pub fn to_str(&self, buf: &mut String, precedence: u8) -> Result<(), AllocError>

@@ -2,12 +2,14 @@
 
 ghost use Rattle.std.specs.Prelude.{◌≡◌, suc, IfOk, IfErr, map, option_map, chars, string_bytes};
 ghost use Rattle.fancy_regex_tree.specs.Tree.{tree_of, absent_tree_of, ast_tree_of, target_of, trees};
-ghost use Rattle.fancy_regex_tree.specs.Numbering.{AgreesWith, lookup_in, relative_number, relative_target, is_within, named_target, group_target, call_target, counts, backref_of, resolved, all_resolved};
+ghost use Rattle.fancy_regex_tree.specs.Numbering.{AgreesWith, lookup_in, relative_number, relative_target, is_within, named_target, group_target, call_target, counts, backref_of, resolved};
+ghost use Rattle.fancy_regex_tree.specs.Numbering.{all_resolved};
 ghost use Rattle.fancy_regex_tree.specs.declared.error.Error.TheVariants as errors;
 
 use crate::error::{Error, Result};
 use crate::expr::{Absent, AstNode, CaptureGroupTarget, Expr};
 use crate::expr_tree::NamedGroups;
+use crate::tree_builders::repeat_of;
 use fancy_regex_lex::ParseError;
 use std::mem;
 
@@ -169,13 +171,7 @@ impl Resolver<'_> {
                 greedy,
             } => {
                 let openings = self.resolve(&mut child, openings)?;
-                let repeat = Expr::Repeat {
-                    child,
-                    lo,
-                    hi,
-                    greedy,
-                };
-                Ok((repeat, openings))
+                Ok((repeat_of(child, lo, hi, greedy), openings))
             }
             Expr::AtomicGroup(mut child) => {
                 let openings = self.resolve(&mut child, openings)?;

@@ -1,10 +1,10 @@
 //! Traversal of trees: children, all nodes in preorder, and searches among descendants.
 
-ghost use Rattle.std.specs.Prelude.{◌≡◌, ◌++◌, IfOk, map};
+ghost use Rattle.std.specs.Prelude.{◌≡◌, ◌++◌, IfOk, map, drop};
 ghost use Rattle.std.specs.Fn.{FnReturnsAt};
 ghost use Rattle.std.specs.Iterator.{YieldsFirstRef, item_count};
 ghost use Rattle.fancy_regex_tree.specs.Tree.{tree_of, absent_tree_of};
-ghost use Rattle.fancy_regex_tree.specs.Traversal.{is_leaf, children, nodes, descendants, IsFound, rest, tree_at};
+ghost use Rattle.fancy_regex_tree.specs.Traversal.{is_leaf, below, children, subtrees, nodes_in, nodes, descendants, IsFound, rest, tree_at};
 
 use crate::expr::{Absent, AstNode, Expr};
 use std::alloc::{AllocError, Global};
@@ -86,7 +86,7 @@ impl Absent {
 }
 
 impl Expr {
-    /// Whether the node is of a kind that has no children. A capture group that is not numbered yet (`AstGroup`) counts as a leaf.
+    /// Whether the node is of a kind that has no children. An `AstNode` counts as a leaf, also a capture group that has no number yet.
     pub fn is_leaf_node(&self) -> bool
         ensures { result ≡ is_leaf (tree_of self.now) }
     {
@@ -104,7 +104,7 @@ impl Expr {
         }
     }
 
-    /// The children of the node, in the order of the pattern.
+    /// The children of the node, in the order of the pattern. A leaf has none.
     pub fn children_iter(&self) -> ExprChildrenIter<'_>
         ensures { map tree_of (rest result) ≡ children (tree_of self.now) }
     {
@@ -114,10 +114,7 @@ impl Expr {
             | Expr::LookAround(child, _)
             | Expr::Repeat { child, .. }
             | Expr::AtomicGroup(child)
-            | Expr::DefineGroup { definitions: child }
-            | Expr::AstNode(AstNode::AstGroup { inner: child, .. }, _) => {
-                ExprChildrenIter::Single(child)
-            }
+            | Expr::DefineGroup { definitions: child } => ExprChildrenIter::Single(child),
             Expr::Conditional {
                 condition,
                 true_branch,
@@ -132,19 +129,51 @@ impl Expr {
         }
     }
 
-    /// All nodes of the tree: each before those below it, from left to right. Fails only if memory runs out.
+    /// The children of the node, or the body of a capture group that has no number yet.
+    pub fn subtrees_iter(&self) -> ExprChildrenIter<'_>
+        ensures { map tree_of (rest result) ≡ subtrees (tree_of self.now) }
+    {
+        match self {
+            Expr::AstNode(AstNode::AstGroup { inner, .. }, _) => ExprChildrenIter::Single(inner),
+            _ => self.children_iter(),
+        }
+    }
+
+    /// The trees directly below the node. The body of a capture group that has no number yet counts only with `in_groups` set.
+    fn below(&self, in_groups: bool) -> ExprChildrenIter<'_>
+        ensures { map tree_of (rest result) ≡ below in_groups (tree_of self.now) }
+    {
+        if in_groups {
+            self.subtrees_iter()
+        } else {
+            self.children_iter()
+        }
+    }
+
+    /// All nodes of the tree, those in capture groups that have no number yet included: each before those below it, from left to
+    /// right. Fails only if memory runs out.
     pub fn preorder(&self, alloc: Global) -> Result<Vec<&Expr>, AllocError>
         ensures { IfOk result (λ all. map tree_at all.items ≡ nodes (tree_of self.now)) }
     {
         with_nodes(self, Vec::new(alloc))
     }
 
-    /// Whether the predicate holds for a node below this one. It is asked in preorder, up to the first node for which it holds.
+    /// Whether the predicate holds for a node of the tree, one in a capture group that has no number yet included. It is asked in
+    /// preorder, up to the first node for which it holds.
+    pub fn any_node<F: Fn(&Expr) -> bool>(&self, predicate: F) -> bool
+        requires { F.IsAlwaysCallable predicate }
+        ensures { IsFound F.Fn predicate result (nodes (tree_of self.now)) }
+    {
+        is_accepted(&predicate, self) || any_node_below(self, true, &predicate)
+    }
+
+    /// Whether the predicate holds for a node below this one: a child, a child of that, and so on. It is asked in preorder, up to
+    /// the first node for which it holds.
     pub fn has_descendant<F: Fn(&Expr) -> bool>(&self, predicate: F) -> bool
         requires { F.IsAlwaysCallable predicate }
         ensures { IsFound F.Fn predicate result (descendants (tree_of self.now)) }
     {
-        any_node_below(self, &predicate)
+        any_node_below(self, false, &predicate)
     }
 }
 
@@ -153,8 +182,8 @@ fn with_nodes<'t>(node: &'t Expr, mut found: Vec<&'t Expr>) -> Result<Vec<&'t Ex
     ensures { IfOk result (λ all. map tree_at all.items ≡ map tree_at found.entry.items ++ nodes (tree_of node.now)) }
 {
     found.push(node)?;
-    for child in node.children_iter() {
-        found = with_nodes(child, found)?;
+    for tree in node.subtrees_iter() {
+        found = with_nodes(tree, found)?;
     }
     Ok(found)
 }
@@ -167,13 +196,14 @@ fn is_accepted<F: Fn(&Expr) -> bool>(predicate: &F, node: &Expr) -> bool
     predicate(node)
 }
 
-/// Whether the predicate holds for a node below this one.
-fn any_node_below<F: Fn(&Expr) -> bool>(node: &Expr, predicate: &F) -> bool
+/// Whether the predicate holds for a node below this one. Those in capture groups that have no number yet count only with
+/// `in_groups` set.
+fn any_node_below<F: Fn(&Expr) -> bool>(node: &Expr, in_groups: bool, predicate: &F) -> bool
     requires { F.IsAlwaysCallable predicate.now }
-    ensures { IsFound F.Fn predicate.now result (descendants (tree_of node.now)) }
+    ensures { IsFound F.Fn predicate.now result (drop 1 (nodes_in in_groups (tree_of node.now))) }
 {
-    for child in node.children_iter() {
-        if is_accepted(predicate, child) || any_node_below(child, predicate) {
+    for tree in node.below(in_groups) {
+        if is_accepted(predicate, tree) || any_node_below(tree, in_groups, predicate) {
             return true;
         }
     }

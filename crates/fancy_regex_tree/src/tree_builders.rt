@@ -1,7 +1,7 @@
 //! Makes nodes of parsed pieces and branches.
 
 ghost use Rattle.std.specs.Prelude.{◌≡◌, ◌∷◌, [], IfOk, MatchOption, map, not};
-ghost use Rattle.fancy_regex_tree.specs.Tree.{tree_of, absent_tree_of, concat, alt, conditional};
+ghost use Rattle.fancy_regex_tree.specs.Tree.{repeat, tree_of, absent_tree_of, concat, alt, conditional};
 ghost use Rattle.fancy_regex_tree.specs.TreeBuilders.{is_empty_tree, is_repeatable, joined, branch_of, all_branches, pattern_of};
 ghost use Rattle.fancy_regex_tree.specs.Parser.{is_empty_body, conditional_of_branches, make_conditional, absent_of_branches, absent_bar_of};
 
@@ -172,4 +172,16 @@ pub fn absent_bar_of(alloc: Global, body: Vec<Vec<Expr>>) -> Result<Expr, AllocE
         return Ok(Expr::Absent(Absent::Clear));
     }
     Ok(Expr::Absent(absent_of_branches(alloc, body)?))
+}
+
+/// A repetition of this child.
+pub fn repeat_of(child: Box<Expr>, lo: usize, hi: usize, greedy: bool) -> Expr
+    ensures { tree_of result ≡ repeat (tree_of child.value) lo hi greedy }
+{
+    Expr::Repeat {
+        child,
+        lo,
+        hi,
+        greedy,
+    }
 }

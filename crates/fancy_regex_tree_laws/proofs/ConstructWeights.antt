@@ -17,7 +17,9 @@ use Rattle.fancy_regex_tree.specs.TreeBuilders.{pattern_of}
 use Rattle.fancy_regex_tree.specs.Quantifiers.{Atom}
 use Rattle.fancy_regex_tree.specs.Parser.{Branches}
 use Rattle.fancy_regex_grammar.specs.Quantifiers.{IsRepeated, a_repeat, possessive, reversed, IsQuantifierApplied, repeats, dropped, IsQuantified, no_more, enough, and_quantifier}
-use Rattle.fancy_regex_grammar.specs.Patterns.{IsAtom, dot, caret, dollar, a_class, escaped, character, capturing_group, bare_group, flag_setting, an_atomic_group, a_look_around, bare_condition, if_reference, if_expression, definitions, an_absent_repeater, absent_bounds, a_reference, a_call, a_verb, IsPiece, with_quantifiers, IsBranch, no_more_pieces, and_piece, IsBranches, last_branch, and_branch}
+use Rattle.fancy_regex_grammar.specs.Patterns.{IsAtom, dot, caret, dollar, a_class, escaped, character, capturing_group, bare_group, flag_setting, an_atomic_group, a_look_around}
+use Rattle.fancy_regex_grammar.specs.Patterns.{bare_condition, if_reference, if_expression, definitions, an_absent_repeater, absent_bounds, a_reference, a_call, a_verb, IsPiece}
+use Rattle.fancy_regex_grammar.specs.Patterns.{with_quantifiers, IsBranch, no_more_pieces, and_piece, IsBranches, last_branch, and_branch}
 use Rattle.fancy_regex_tree_laws.proofs.WeightUnits.{units, pieces_measure, branches_measure}
 use Rattle.fancy_regex_tree_laws.proofs.BranchWeights.{pattern_read, expression_read, absent_read, whole_read}
 use Rattle.fancy_regex_grammar.proofs.LengthLemmas.{skipped_shorter, quantifier_shorter, marks_shorter, class_shorter, opening_shorter, branches_shorter}

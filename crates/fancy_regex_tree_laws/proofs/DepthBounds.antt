@@ -15,7 +15,9 @@ use Rattle.fancy_regex_tree.specs.Parser.{Branches}
 use Rattle.fancy_regex_tree.specs.Bounds.{depth, max_depth, max_depth_of_all}
 use Rattle.fancy_regex_tree.proofs.TreeBounds.{pattern_low, yes_and_no_low, absent_low}
 use Rattle.fancy_regex_grammar.specs.Quantifiers.{IsRepeated, a_repeat, possessive, reversed, IsQuantifierApplied, repeats, dropped, IsQuantified, no_more, enough, and_quantifier}
-use Rattle.fancy_regex_grammar.specs.Patterns.{IsAtom, dot, caret, dollar, a_class, escaped, character, capturing_group, bare_group, flag_setting, an_atomic_group, a_look_around, bare_condition, if_reference, if_expression, definitions, an_absent_repeater, absent_bounds, a_reference, a_call, a_verb, IsPiece, with_quantifiers, IsBranch, no_more_pieces, and_piece, IsBranches, last_branch, and_branch}
+use Rattle.fancy_regex_grammar.specs.Patterns.{IsAtom, dot, caret, dollar, a_class, escaped, character, capturing_group, bare_group, flag_setting, an_atomic_group, a_look_around}
+use Rattle.fancy_regex_grammar.specs.Patterns.{bare_condition, if_reference, if_expression, definitions, an_absent_repeater, absent_bounds, a_reference, a_call, a_verb, IsPiece}
+use Rattle.fancy_regex_grammar.specs.Patterns.{with_quantifiers, IsBranch, no_more_pieces, and_piece, IsBranches, last_branch, and_branch}
 use Rattle.fancy_regex_tree_laws.proofs.NodeBounds.{escape_leaf}
 
 repeated_low : {p : ParserConfig} {f : Flags} {q : Quantifier} {m : QuantifierSuffix} {e tree : Tree} → IsRepeated p f q m e tree → depth tree ≤ depth e + 2

@@ -1,7 +1,5 @@
-pub mod ResolvedBounds
 pub mod NodeBounds
 pub mod DepthBounds
-pub mod PositionBounds
 pub mod PatternBounds
 pub mod GroupRanks
 pub mod ResolvedGroupProofs

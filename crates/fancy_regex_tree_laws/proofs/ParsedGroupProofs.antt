@@ -20,7 +20,9 @@ use Rattle.fancy_regex_tree.specs.Parser.{Branches, others_of, conditional_of_br
 use Rattle.fancy_regex_tree.specs.Numbering.{Names, openings, counted, last_named, resolved}
 use Rattle.fancy_regex_tree.specs.Parse.{Options, Parsed, with_position, ignores, resolve_references, parse}
 use Rattle.fancy_regex_grammar.specs.Quantifiers.{IsRepeated, a_repeat, possessive, reversed, IsQuantifierApplied, repeats, dropped, IsQuantified, no_more, enough, and_quantifier}
-use Rattle.fancy_regex_grammar.specs.Patterns.{IsAtom, dot, caret, dollar, a_class, escaped, character, capturing_group, bare_group, flag_setting, an_atomic_group, a_look_around, bare_condition, if_reference, if_expression, definitions, an_absent_repeater, absent_bounds, a_reference, a_call, a_verb, IsPiece, with_quantifiers, IsBranch, no_more_pieces, and_piece, IsBranches, last_branch, and_branch}
+use Rattle.fancy_regex_grammar.specs.Patterns.{IsAtom, dot, caret, dollar, a_class, escaped, character, capturing_group, bare_group, flag_setting, an_atomic_group, a_look_around}
+use Rattle.fancy_regex_grammar.specs.Patterns.{bare_condition, if_reference, if_expression, definitions, an_absent_repeater, absent_bounds, a_reference, a_call, a_verb, IsPiece}
+use Rattle.fancy_regex_grammar.specs.Patterns.{with_quantifiers, IsBranch, no_more_pieces, and_piece, IsBranches, last_branch, and_branch}
 use Rattle.fancy_regex_grammar.proofs.PatternProofs.{patterns_are_exact}
 use Rattle.fancy_regex_tree_laws.specs.ResolvedGroups.{counted_bodies, group_bodies, is_group, is_resolved_node, HasNoNumberedGroups, ParsedLaw}
 use Rattle.fancy_regex_tree_laws.specs.References.{HasName}

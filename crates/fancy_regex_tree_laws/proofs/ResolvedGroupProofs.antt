@@ -6,7 +6,9 @@ use Rattle.std.proofs.lemmas.List.Folds.{list_all-append}
 use Rattle.std.proofs.lemmas.List.{length-append}
 use Rattle.std.proofs.lemmas.List.Elements.{filter_map-append, All-nil, All-cons, All-head, All-tail}
 use Rattle.fancy_regex_tree.specs.Tree as tree
-use Rattle.fancy_regex_tree.specs.Tree.{Tree, Trees, Text, Target, no_trees, more_trees, empty, any, assertion, general_newline, literal, literal_bytes, concat, alt, look_around, delegate, backref_with_level, atomic_group, keep_out, continue, backref_exists, subroutine_call, verb, absent_repeater, absent_expression, absent_stopper, absent_clear, define_group, ast_group, ast_backref, ast_call, ast_condition, by_number, by_name, relative}
+use Rattle.fancy_regex_tree.specs.Tree.{Tree, Trees, Text, Target, no_trees, more_trees, empty, any, assertion, general_newline, literal, literal_bytes, concat, alt, look_around, delegate}
+use Rattle.fancy_regex_tree.specs.Tree.{backref_with_level, atomic_group, keep_out, continue, backref_exists, subroutine_call, verb, absent_repeater, absent_expression, absent_stopper}
+use Rattle.fancy_regex_tree.specs.Tree.{absent_clear, define_group, ast_group, ast_backref, ast_call, ast_condition, by_number, by_name, relative}
 use Rattle.fancy_regex_tree.specs.Traversal.{nodes, all_nodes}
 use Rattle.fancy_regex_tree.specs.Numbering.{PositionedFault, ◌⨟◌, backref_of, call_of, call_target, group_target, resolved, all_resolved, opening_of, counted}
 use Rattle.fancy_regex_tree_laws.specs.ResolvedGroups.{counted_body, counted_bodies, group_body, group_bodies, is_group, is_resolved_node, AreGroups, GroupsLaw, ResolvedLaw}

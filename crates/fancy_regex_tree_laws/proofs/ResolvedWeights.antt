@@ -1,6 +1,8 @@
 -- Resolving references adds no unit.
 use Rattle.std.proofs.Common.{ℕ, suc, ◌≤◌, Bool, true, false, cond, Option, Some, None, Result, Ok, Err, ℤ, le_refl, arith}
-use Rattle.fancy_regex_tree.specs.Tree.{Text, Tree, Trees, Target, empty, any, assertion, general_newline, literal, literal_bytes, concat, alt, group, look_around, repeat, delegate, backref, backref_with_level, atomic_group, keep_out, continue, backref_exists, conditional, subroutine_call, verb, absent_repeater, absent_expression, absent_stopper, absent_clear, define_group, ast_group, ast_backref, ast_call, ast_condition, no_trees, more_trees}
+use Rattle.fancy_regex_tree.specs.Tree.{Text, Tree, Trees, Target, empty, any, assertion, general_newline, literal, literal_bytes, concat, alt, group, look_around, repeat, delegate}
+use Rattle.fancy_regex_tree.specs.Tree.{backref, backref_with_level, atomic_group, keep_out, continue, backref_exists, conditional, subroutine_call, verb, absent_repeater}
+use Rattle.fancy_regex_tree.specs.Tree.{absent_expression, absent_stopper, absent_clear, define_group, ast_group, ast_backref, ast_call, ast_condition, no_trees, more_trees}
 use Rattle.fancy_regex_tree.specs.Numbering.{PositionedFault, ◌⨟◌, counts, backref_of, group_target, call_target, resolved, all_resolved}
 use Rattle.fancy_regex_tree_laws.proofs.WeightUnits.{units, units_of, branch_units}
 

@@ -1,6 +1,8 @@
 -- A tree without counted repeats weighs no more than its units.
 use Rattle.std.proofs.Common.{◌≡◌, ⊎_elim, ℕ, ◌+◌, ◌-◌, ◌*◌, ◌≤◌, max, Bool, false, List, arith, zero, suc, ne_eqb, eq-eqb}
-use Rattle.fancy_regex_tree.specs.Tree.{Tree, Trees, empty, any, assertion, general_newline, literal, literal_bytes, concat, alt, group, look_around, repeat, delegate, backref, backref_with_level, atomic_group, keep_out, continue, backref_exists, conditional, subroutine_call, verb, absent_repeater, absent_expression, absent_stopper, absent_clear, define_group, ast_group, ast_backref, ast_call, ast_condition, no_trees, more_trees}
+use Rattle.fancy_regex_tree.specs.Tree.{Tree, Trees, empty, any, assertion, general_newline, literal, literal_bytes, concat, alt, group, look_around, repeat, delegate, backref}
+use Rattle.fancy_regex_tree.specs.Tree.{backref_with_level, atomic_group, keep_out, continue, backref_exists, conditional, subroutine_call, verb, absent_repeater, absent_expression}
+use Rattle.fancy_regex_tree.specs.Tree.{absent_stopper, absent_clear, define_group, ast_group, ast_backref, ast_call, ast_condition, no_trees, more_trees}
 use Rattle.fancy_regex_meaning.specs.Sizes.{unbounded, bound_of, may_be_empty, repeat_weight, weight, weights, branch_gaps}
 use Rattle.fancy_regex_tree_laws.specs.UncountedRepeats.{HasNoCountedRepeats, HaveNoCountedRepeats}
 use Rattle.fancy_regex_tree_laws.proofs.WeightUnits.{units, units_of, branch_units}

@@ -1,4 +1,3 @@
-pub mod Positions
 pub mod ParseBounds
 pub mod References
 pub mod ResolvedGroups

@@ -4,7 +4,7 @@ use Rattle.fancy_regex_text.specs.Text.{Text, bytes}
 use Rattle.fancy_regex_tree.specs.Bounds.{nodes, depth}
 use Rattle.fancy_regex_tree.specs.Numbering.{PositionedFault}
 use Rattle.fancy_regex_tree.specs.Parse.{Options, Parsed, parse}
-use Rattle.fancy_regex_tree_laws.specs.Positions.{HasPositionsWithin}
+use Rattle.fancy_regex_tree.specs.Positions.{HasPositionsWithin}
 
 -- The tree of a pattern of n bytes has at most 2n + 1 nodes, and no path in it has more than 832.
 abbrev pub TreesAreBounded : Type 0

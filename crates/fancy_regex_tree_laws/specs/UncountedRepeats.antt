@@ -1,6 +1,7 @@
 -- Trees whose only quantifiers are `?`, `*` and `+`.
 use Rattle.std.specs.Prelude.{◌≡◌, ◌≤◌, ◌⊎◌, false, List}
-use Rattle.fancy_regex_tree.specs.Tree.{Tree, Trees, no_trees, more_trees, concat, alt, group, look_around, repeat, atomic_group, conditional, absent_repeater, absent_expression, absent_stopper, define_group, ast_group}
+use Rattle.fancy_regex_tree.specs.Tree.{Tree, Trees, no_trees, more_trees, concat, alt, group, look_around, repeat, atomic_group, conditional, absent_repeater, absent_expression}
+use Rattle.fancy_regex_tree.specs.Tree.{absent_stopper, define_group, ast_group}
 use Rattle.fancy_regex_meaning.specs.Sizes.{unbounded, may_be_empty}
 
 -- over the bodies of all groups by their numbers

@@ -1,7 +1,8 @@
 //! Tests of `Expr::parse_tree` and of the functions that visit trees.
 
 use fancy_regex_tree::{
-    Error, Expr, FLAG_IGNORE_NUMBERED_GROUPS_WHEN_NAMED_GROUPS_EXIST, FLAG_UNICODE,
+    Absent, AstNode, CaptureGroupTarget, Error, Expr, FLAG_CASEI,
+    FLAG_IGNORE_NUMBERED_GROUPS_WHEN_NAMED_GROUPS_EXIST, FLAG_UNICODE, Flags, ParseOptions,
 };
 use std::alloc::{AllocError, Global};
 use std::test::Fail;
@@ -74,6 +75,66 @@ fn walks(rt: HostRuntime) -> Result<(), Fail> {
 }
 
 #[test]
+fn parses_with_options(rt: HostRuntime) -> Result<(), Fail> {
+    let flags = Flags {
+        casei: true,
+        multi: false,
+        dot_newline: false,
+        verbose: false,
+        swap_greed: false,
+        crlf: false,
+    };
+    let options = ParseOptions {
+        flags,
+        unicode: true,
+        oniguruma: false,
+        ignore_numbered: true,
+    };
+    let by_flags = FLAG_UNICODE | FLAG_CASEI | FLAG_IGNORE_NUMBERED_GROUPS_WHEN_NAMED_GROUPS_EXIST;
+    assert!(rt; ParseOptions::from_flags(by_flags) == options);
+    let found = Expr::parse_tree_with_options(rt.alloc(), "(a)(?<n>b)", options)?;
+    assert!(rt; found.total_groups == 1);
+    assert!(rt; found == Expr::parse_tree_with_flags(rt.alloc(), "(a)(?<n>b)", by_flags)?);
+    Ok(())
+}
+
+#[test]
+fn an_unresolved_node_is_a_leaf(rt: HostRuntime) -> Result<(), Fail> {
+    let alloc = rt.alloc();
+    let mut group = Expr::AstNode(
+        AstNode::AstGroup {
+            name: None,
+            inner: Box::new(alloc, Expr::KeepOut)?,
+        },
+        0,
+    );
+    assert!(rt; group.is_leaf_node());
+    assert!(rt; group.children_iter().count() == 0);
+    assert!(rt; group.child_mut(0).is_none());
+    assert!(rt; !group.has_descendant(|node| matches!(node, Expr::KeepOut)));
+    assert!(rt; group.any_node(|node| matches!(node, Expr::KeepOut)));
+    assert!(rt; group.preorder(alloc)?.len() == 2);
+    assert!(rt; group.replace_child(0, Expr::Empty).1.is_err());
+    Ok(())
+}
+
+#[test]
+fn lends_a_child(rt: HostRuntime) -> Result<(), Fail> {
+    let mut found = Expr::parse_tree(rt.alloc(), "(?(a)b|c)")?;
+    match found.expr.child_mut(1) {
+        Some(child) => *child = Expr::KeepOut,
+        None => assert!(rt; false),
+    }
+    assert!(rt; found.expr.child_mut(3).is_none());
+    let shown = format!(in rt.alloc(); "{:?}", found.expr)?;
+    assert_eq!(rt;
+        shown.as_str(),
+        "Conditional { condition: Literal { val: \"a\", casei: false }, true_branch: KeepOut, false_branch: Literal { val: \"c\", casei: false } }"
+    );
+    Ok(())
+}
+
+#[test]
 fn replaces_a_child(rt: HostRuntime) -> Result<(), Fail> {
     match Expr::parse_tree(rt.alloc(), "(?(a)b|c)") {
         Ok(found) => {
@@ -86,5 +147,20 @@ fn replaces_a_child(rt: HostRuntime) -> Result<(), Fail> {
         }
         Err(_) => assert!(rt; false),
     }
+    Ok(())
+}
+
+#[test]
+fn copies_equal_what_they_copy(rt: HostRuntime) -> Result<(), Fail> {
+    let alloc = rt.alloc();
+    let tree = Expr::parse_tree(alloc, "(?<n>a|[b-d]{2,}?)(?~x)\\k<n>(?(1)y|\\g<1>)")?;
+    let copy = tree.expr.try_clone(alloc)?;
+    assert!(rt; copy == tree.expr);
+    let target = CaptureGroupTarget::ByName(String::from_str(alloc, "n")?);
+    assert!(rt; target.try_clone(alloc)? == target);
+    let node = AstNode::SubroutineCall(target);
+    assert!(rt; node.try_clone(alloc)? == node);
+    let absent = Absent::Repeater(Box::new(alloc, copy)?);
+    assert!(rt; absent.try_clone(alloc)? == absent);
     Ok(())
 }

@@ -1,4 +1,5 @@
 use Rattle.fancy_regex_tree.specs.Tree.{tree_of}
+use Rattle.fancy_regex_print_laws.proofs.PrintedPartProofs.{parts_read_back}
 use Rattle.fancy_regex_print_laws.proofs.ReadsBack.{printed_parses, deep_is_no_pattern, printed_is_same_pattern}
 use Rattle.fancy_regex_print_laws.proofs.counts.printed_tree_parses.Goals as goal
 
@@ -11,3 +12,6 @@ returns-clause-deep c = λ unicode ignore_numbered p many. deep_is_no_pattern un
 pub returns-clause-same : goal.returns-clause-same
 returns-clause-same c =
     λ s unicode ignore_numbered p classes few. printed_is_same_pattern s unicode ignore_numbered (tree_of c.args.expr.now) p c.counts_fit.ensures classes few
+
+pub returns-clause-places : goal.returns-clause-places
+returns-clause-places c = λ size n unicode p. parts_read_back size n unicode (tree_of c.args.expr.now) p c.counts_fit.ensures

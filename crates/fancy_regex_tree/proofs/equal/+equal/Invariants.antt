@@ -1,4 +1,4 @@
-use Rattle.std.proofs.Common.{◌≡◌, map, drop, length}
+use Rattle.std.proofs.Common.{◌≡◌, map, drop}
 use Rattle.fancy_regex_tree.specs.Tree.{tree_of, trees}
 use Rattle.fancy_regex_tree.specs.Equal.{same_trees}
 use Rattle.fancy_regex_tree.proofs.equal.+equal.Given as goal

@@ -7,7 +7,7 @@ use Rattle.fancy_regex_tree.proofs.parse.parse_unresolved.Goals as goal
 
 pub returns-in-Err-Fault-clause-value : goal.returns-in-Err-Fault-clause-value
 returns-in-Err-Fault-clause-value c =
-    let read = rw (c.flags_at_start.ensures, c.in-Err-Fault.field-0-is) at c.in-Err-Fault.ensures.value in
+    let read = rw c.in-Err-Fault.field-0-is at c.in-Err-Fault.ensures.value in
     ap (with_position (bytes (chars c.args.re.now))) read
     ∙ ap (λ n. Err (record { kind = kind_of c.in-Err-Fault.fault.kind; position = n }))
     (ap (λ n. n - c.in-Err-Fault.fault.left) (bytes-chars c.args.re.now c.utf8.re) ∙ sym c.saturating_sub.ensures)

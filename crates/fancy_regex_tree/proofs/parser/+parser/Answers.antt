@@ -5,7 +5,8 @@ use Rattle.fancy_regex_tree.specs.Tree.{tree_of}
 use Rattle.fancy_regex_lex.specs.Openings.{opening_of}
 use Rattle.fancy_regex_tree.specs.Bounds.{extra_nodes}
 use Rattle.fancy_regex_tree.specs.Parser.{inner_parser, parse_alternation}
-use Rattle.fancy_regex_tree.proofs.TreeBounds.{if_ok, piece_read, branch_read, bar_read, tallest_push, tallest_of_all_push, pattern_read, pattern_low, yes_and_no_low, expression_read, tested_read, tested_low, absent_read, absent_low, opened_read}
+use Rattle.fancy_regex_tree.proofs.TreeBounds.{if_ok, piece_read, branch_read, bar_read, tallest_push, tallest_of_all_push, pattern_read, pattern_low, yes_and_no_low, expression_read}
+use Rattle.fancy_regex_tree.proofs.TreeBounds.{tested_read, tested_low, absent_read, absent_low, opened_read}
 use Rattle.fancy_regex_tree.proofs.LongOpenings.{opening_long, slack_least}
 use Rattle.fancy_regex_tree.proofs.Loops.{with_before-nil, nested_is, pieces_skip_fails, pieces_end, pieces_fail, pieces_go, branches_fail, branches_end, branches_go, going}
 use Rattle.fancy_regex_tree.proofs.Steps.{closed_open}

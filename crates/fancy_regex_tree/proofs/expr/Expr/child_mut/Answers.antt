@@ -1,7 +1,4 @@
-use Rattle.std.proofs.Common.{◌∙◌, ap, rules, slice_get}
-use Rattle.fancy_regex_tree.specs.Traversal.{children}
-use Rattle.fancy_regex_tree.specs.Tree.{tree_of}
-use Rattle.fancy_regex_tree.proofs.Children.{children_of_concat, children_of_alt}
+use Rattle.std.proofs.Common.{rules}
 use Rattle.fancy_regex_tree.proofs.BorrowedChildren.{in_concat, in_alt}
 use Rattle.fancy_regex_tree.proofs.expr.Expr.child_mut.Goals as goal
 

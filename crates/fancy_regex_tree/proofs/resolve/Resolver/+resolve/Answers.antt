@@ -1,6 +1,7 @@
 use Rattle.std.proofs.Common.{ℕ, rules, arith, ap, ◌∙◌, refl, sym, Ok}
 use Rattle.std.proofs.lemmas.List.{get_or-set_other}
-use Rattle.fancy_regex_tree.proofs.Children.{ast_group_is, tree_of_group, tree_of_look_around, tree_of_repeat, tree_of_atomic_group, tree_of_define_group, tree_of_conditional, tree_of_repeater, tree_of_stopper, tree_of_expression}
+use Rattle.fancy_regex_tree.proofs.Children.{ast_group_is, tree_of_group, tree_of_look_around, tree_of_repeat, tree_of_atomic_group, tree_of_define_group, tree_of_conditional}
+use Rattle.fancy_regex_tree.proofs.Children.{tree_of_repeater, tree_of_stopper, tree_of_expression}
 use Rattle.fancy_regex_tree.proofs.Agreeing.{resolved_counting, same_error}
 use Rattle.fancy_regex_tree.proofs.Prefixes.{prefixed_none, row_next, row_end, row_fails}
 use Rattle.fancy_regex_tree.specs.Tree.{Tree, tree_of, no_trees}
@@ -39,7 +40,7 @@ resolved-returns-in_ok-openings-in-LookAround t c =
 pub resolved-returns-in_ok-openings-in-Repeat : goal.resolved-returns-in_ok-openings-in-Repeat
 resolved-returns-in_ok-openings-in-Repeat t c =
     let found = rw c.deref_mut-in-Repeat.ensures.value at c.in_ok-openings-in-Repeat.ensures in
-    rw (c.in-Repeat.is, tree_of_repeat c.in-Repeat.child c.in-Repeat.lo c.in-Repeat.hi c.in-Repeat.greedy, found) (sym (ap (λ (e : Tree). Ok (e, c.in_ok-openings-in-Repeat.openings)) (tree_of_repeat _ c.in-Repeat.lo c.in-Repeat.hi c.in-Repeat.greedy)))
+    rw (c.in-Repeat.is, tree_of_repeat c.in-Repeat.child c.in-Repeat.lo c.in-Repeat.hi c.in-Repeat.greedy, found) (sym (ap (λ (e : Tree). Ok (e, c.in_ok-openings-in-Repeat.openings)) c.repeat_of.ensures))
 
 pub resolved-returns-in_ok-openings-in-AtomicGroup : goal.resolved-returns-in_ok-openings-in-AtomicGroup
 resolved-returns-in_ok-openings-in-AtomicGroup t c =

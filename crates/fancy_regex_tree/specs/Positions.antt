@@ -1,6 +1,7 @@
 -- Byte positions in a tree whose references are not resolved yet.
 use Rattle.std.specs.Prelude.{ℕ, ◌≤◌}
-use Rattle.fancy_regex_tree.specs.Tree.{Tree, Trees, no_trees, more_trees, concat, alt, group, look_around, repeat, atomic_group, conditional, absent_repeater, absent_expression, absent_stopper, define_group, ast_group, ast_backref, ast_call, ast_condition}
+use Rattle.fancy_regex_tree.specs.Tree.{Tree, Trees, no_trees, more_trees, concat, alt, group, look_around, repeat, atomic_group, conditional, absent_repeater, absent_expression}
+use Rattle.fancy_regex_tree.specs.Tree.{absent_stopper, define_group, ast_group, ast_backref, ast_call, ast_condition}
 
 abbrev mutual
   -- Each byte position in the tree is at most `size`, the length of the pattern in bytes.

@@ -1,10 +1,13 @@
 -- Resolving references adds no node and no depth, and its faults lie at positions that stand in the tree.
 use Rattle.std.proofs.Common.{ℕ, suc, ◌≤◌, max, Bool, true, false, cond, Option, Some, None, Result, Ok, Err, ℤ, le_refl, arith}
 use Rattle.std.proofs.Math.Nat.{le-max_left, le-max_right, max-le}
-use Rattle.fancy_regex_tree.specs.Tree.{Text, Tree, Trees, Target, by_number, by_name, relative, empty, any, assertion, general_newline, literal, literal_bytes, concat, alt, group, look_around, repeat, delegate, backref, backref_with_level, atomic_group, keep_out, continue, backref_exists, conditional, subroutine_call, verb, absent_repeater, absent_expression, absent_stopper, absent_clear, define_group, ast_group, ast_backref, ast_call, ast_condition, no_trees, more_trees}
+use Rattle.fancy_regex_tree.specs.Tree.{Text, Tree, Trees, Target, by_number, by_name, relative, empty, any, assertion, general_newline, literal, literal_bytes, concat, alt, group}
+use Rattle.fancy_regex_tree.specs.Tree.{look_around, repeat, delegate, backref, backref_with_level, atomic_group, keep_out, continue, backref_exists, conditional, subroutine_call, verb}
+use Rattle.fancy_regex_tree.specs.Tree.{absent_repeater, absent_expression, absent_stopper, absent_clear, define_group, ast_group, ast_backref, ast_call, ast_condition, no_trees}
+use Rattle.fancy_regex_tree.specs.Tree.{more_trees}
 use Rattle.fancy_regex_tree.specs.Bounds.{nodes, nodes_of, depth, depth_of}
 use Rattle.fancy_regex_tree.specs.Numbering.{PositionedFault, ◌⨟◌, counts, backref_of, relative_number, is_within, named_target, group_target, call_target, resolved, all_resolved}
-use Rattle.fancy_regex_tree_laws.specs.Positions.{HasPositionsWithin, HavePositionsWithin}
+use Rattle.fancy_regex_tree.specs.Positions.{HasPositionsWithin, HavePositionsWithin}
 
 -- what is answered has the property, or the fault is inside this size
 abbrev pub IsGood : {A : Type 0} → ℕ → (A → Type 0) → Result A PositionedFault → Type 0
