@@ -1,0 +1,6 @@
+pub mod EscapeParsing
+pub mod EscapeReading
+pub mod LiteralWays
+pub mod OccurrenceLemmas
+pub mod PlainItems
+pub mod PlainSearchLemmas

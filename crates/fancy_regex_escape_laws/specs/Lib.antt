@@ -1,0 +1,5 @@
+pub mod EscapeLaws
+pub mod Literals
+pub mod Occurrences
+pub mod PlainReplacement
+pub mod PlainSearch

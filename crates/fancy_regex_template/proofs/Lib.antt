@@ -1,0 +1,11 @@
+pub mod Runs
+pub mod NumberLemmas
+pub mod LiteralLemmas
+pub mod LongestNumber
+pub mod ReferenceLemmas
+pub mod CutLemmas
+pub mod ExpansionLemmas
+pub mod EscapeLemmas
+pub mod LawProofs
+pub mod ExamplesProof
+pub mod WritingLemmas

@@ -1,0 +1,10 @@
+pub mod Numbers
+pub mod Parts
+pub mod RemainingParts
+pub mod Cuts
+pub mod Expansion
+pub mod Faults
+pub mod PatternEscape
+pub mod FaultView
+pub mod Examples
+pub mod Writing
