@@ -1,5 +1,5 @@
 -- The members of a class, as `regex` reads its text.
-use Rattle.std.proofs.Common.{◌≡◌, ℕ, ◌≤◌, Bool, true, false, List, [], ◌∷◌, Option, Some, None, IsSomeAnd, codes, refl, sym, ap, ◌∙◌, option_map, is_some, IsTrue, Result, Ok, Err, IfOk, String, string_bytes, length, IsUtf8, ◌++◌, ap₂, subst, ◌≢◌}
+use Rattle.std.proofs.Common.{◌≡◌, ℕ, ◌≤◌, Bool, true, false, List, [], ◌∷◌, Option, Some, None, IsSomeAnd, codes, refl, sym, ap, ◌∙◌, option_map, is_some, IsTrue, Result, Ok, Err, IfOk, String, string_bytes, length, IsUtf8, ◌++◌, ap₂, subst, ◌≢◌, ◌<◌, ⊎_elim, IfSome, arith}
 use Rattle.std.proofs.lemmas.Str.{chars-append, IsUtf8-append}
 use Rattle.std.specs.Str.{chars}
 use Rattle.std.specs.Char.{encode_utf8}
@@ -16,10 +16,9 @@ use Rattle.regex_syntax.specs.Brackets.{Nested}
 use Rattle.regex_syntax.specs.Captures.{SameCaptures}
 use Rattle.regex_syntax.specs.Grammar.{read, Names, group_count}
 use Rattle.regex_syntax.specs.Verdict.{default_config, Reads, Refuses}
-use Rattle.regex_syntax.specs.declared.error.Error as parser
+use Rattle.regex_syntax.specs.declared.error.ErrorKind.{ErrorKind}
 use Rattle.regex_syntax.specs.declared.error.ErrorKind.TheVariants as kind
-use Rattle.regex.specs.declared.error.Error.TheVariants.{Syntax}
-use Rattle.fancy_regex_class.specs.Matchers.{RefusesText}
+use Rattle.fancy_regex_class.specs.Matchers.{RefusesText, by_grammar}
 use Rattle.regex_syntax.specs.declared.Config.{Config}
 use Rattle.regex_syntax.proofs.CapturesLemmas.{spans, find_str_alike}
 use Rattle.regex_syntax.proofs.Written.{is_some-option_map}
@@ -102,13 +101,17 @@ pub text_in_bytes : (unicode casei : Bool) (inner t : Text) (r : Result (String 
 text_in_bytes unicode casei inner t (Ok s) off is h = rw (off, ← is) (h ∙ ap (λ o. o ++ inner ++ 41 ∷ []) opens_bytes)
 text_in_bytes unicode casei inner t (Err e) off is h = tt
 
-pub refuses_syntax : (written : List ℕ) (config : Config) (e : parser.Error) → config ≡ default_config → Refuses config written e.kind →
-    e.kind ≢ kind.OutOfMemory → RefusesText (chars written)
-refuses_syntax written config e is refuses no_memory = record {
-  source = written;
-  is_text = refl;
-  error = Syntax e;
-  no_memory = λ same. cc;
-  by_grammar = λ other same. let back : e ≡ other = cc in subst (λ (x : parser.Error). Refuses default_config written x.kind) back (rw is at refuses);
-  right_kind = no_memory;
-}
+too_deep : (found : Option (Nested Re × Names)) (most : ℕ) → IfSome found (λ (part, _). most < part.depth) → IsSomeAnd found (λ (part, _). part.depth ≤ most) → ⊥
+too_deep None most deep reads = reads
+too_deep (Some part) most deep reads = omega (arith, deep, reads)
+
+pub refuses_syntax : (written : List ℕ) (config : Config) (e : ErrorKind) → config ≡ default_config → Refuses config written e →
+    e ≢ kind.OutOfMemory → RefusesText (chars written)
+unfolding Refuses
+refuses_syntax written config e is refuses no_memory =
+    by_grammar (λ reads. ⊎_elim
+    no_memory
+    (⊎_elim
+    (λ none. subst (λ (found : Option (Nested Re × Names)). IsSomeAnd found (λ (part, _). part.depth ≤ default_config.nest_limit)) none reads)
+    (λ deep. too_deep (read default_config (chars written)) default_config.nest_limit deep.1 reads))
+    (rw is at refuses))

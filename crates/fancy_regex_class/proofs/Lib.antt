@@ -3,3 +3,4 @@ pub mod SingleCharLemmas
 pub mod ClassLemmas
 pub mod HirClassLemmas
 pub mod WordLemmas
+pub mod OneCharLemmas

@@ -1,12 +1,11 @@
 -- What the matchers of characters answer.
-use Rattle.std.specs.Prelude.{◌≡◌, ◌≢◌, ◌==◌, ℕ, Bool, List, chars, string_bytes}
+use Rattle.std.specs.Prelude.{◌≡◌, ◌≢◌, ◌≤◌, ◌==◌, ℕ, Bool, List, IsSomeAnd, chars, encode_utf8, string_bytes}
 use Rattle.std.specs.Char.{IsScalar}
 use Rattle.regex_class.specs.Ranges.{in_ranges}
-use Rattle.regex_syntax.specs.Verdict.{default_config}
-use Rattle.regex.specs.Sources.{IsRefusal}
-use Rattle.regex.specs.Failures.{IsRightKind}
-use Rattle.regex.specs.declared.error.Error.{Error}
-use Rattle.regex.specs.declared.error.Error.TheVariants.{OutOfMemory}
+use Rattle.regex_hir.specs.declared.hir.Hir.{Hir}
+use Rattle.regex_hir.specs.declared.hir.Hir.TheVariants.{Chars, Bytes, Literal}
+use Rattle.regex_syntax.specs.Grammar.{Names, read}
+use Rattle.regex_syntax.specs.Verdict.{default_config, Reads}
 use Rattle.fancy_regex_tree.specs.Tree.{Text}
 use Rattle.fancy_regex_class.specs.declared.class.ClassError.{ClassError}
 use Rattle.fancy_regex_class.specs.declared.class.ClassError.TheVariants.{InnerError, Memory}
@@ -22,15 +21,22 @@ has m c = in_ranges m.class.ranges.items c
 abbrev pub IsMatcherOf : CharClassMatcher → Bool → Text → Bool → Type 0
 IsMatcherOf m unicode class casei = (c : ℕ) → IsScalar c → has m c ≡ in_class unicode class casei c
 
--- `regex` may refuse the text for another cause than want of memory: its grammar does not read it, or it nests too deep,
--- or its program grows too big
-pub record RefusesText (text : Text) : Type 0 where
-  pub source : List ℕ
-  pub is_text : chars source ≡ text
-  pub error : Error
-  pub no_memory : error ≢ OutOfMemory
-  pub by_grammar : IsRefusal default_config source error
-  pub right_kind : IsRightKind default_config source error
+-- the grammar of `regex` reads the text, within its limit on nesting
+abbrev pub ReadsText : Text → Type 0
+ReadsText text = IsSomeAnd (read default_config text) (λ (part, _). part.depth ≤ default_config.nest_limit)
+
+-- the tree is no class, and no literal of one character
+abbrev pub IsNoClass : Hir → Type 0
+IsNoClass (Chars class) = ⊥
+IsNoClass (Bytes class) = ⊥
+IsNoClass (Literal bytes) = (c : ℕ) → IsScalar c → bytes.items ≢ encode_utf8 c
+IsNoClass _ = Unit {0}
+
+-- `regex` refuses the text for another cause than want of memory: its grammar does not read it; or the tree of the text is
+-- neither a class nor a character, so that `regex` has to build it, and that may grow too big.
+pub data RefusesText (text : Text) : Type 0 where
+  by_grammar : (ReadsText text → ⊥) → RefusesText text
+  by_builder : (source : List ℕ) (tree : Hir) (names : Names) → chars source ≡ text → Reads default_config source tree names → IsNoClass tree → RefusesText text
 
 -- an error that a class may have
 abbrev pub IsClassError : Bool → List ℕ → Bool → ClassError → Type 0

@@ -8,13 +8,16 @@ ghost use Rattle.fancy_regex_class.specs.Classes.{class_text, is_class};
 use crate::matcher::{Refusal, members};
 use regex_class::Class;
 use std::alloc::{AllocError, Global};
+use thiserror::Error;
 
 /// Why no matcher was built for a class.
-#[derive(Debug, Drop)]
+#[derive(Debug, PartialEq, Eq, Drop, Error)]
 pub enum ClassError {
     /// `regex` rejects the class; the payload is the class's own text, without the groups put around it.
+    #[error("inner error: {0}")]
     InnerError(String),
     /// Memory ran out.
+    #[error("Out of memory")]
     Memory,
 }
 
@@ -41,8 +44,9 @@ impl CharClassMatcher {
     ghost use Rattle.fancy_regex_class.specs.Matchers.{has, IsMatcherOf, IsClassError};
 
     /// Builds the matcher of a class. `text` is parsed as a pattern by `regex`; with `casei` case is ignored, and
-    /// without `unicode` classes and case are those of ASCII. If `regex` rejects the text, the error is `InnerError`
-    /// with `text`; if memory runs out, it is `Memory`.
+    /// without `unicode` classes and case are those of ASCII. The error is `InnerError` with `text` if the grammar of
+    /// `regex` does not read the text, or if the text is neither one class nor one character and `regex` does not build
+    /// it; and `Memory` if memory runs out.
     pub fn new(
         alloc: Global,
         text: &str,

@@ -1,6 +1,6 @@
 //! What both engines share: members of character classes, case folding, word characters, a haystack whose reads are
-//! counted, and the input of a search. The meaning of a class text is that of the crate `regex`. Of these functions only `CharClassMatcher::new`
-//! allocates, so only it can run out of memory.
+//! counted, and the input of a search. The meaning of a class text is that of the crate `regex`. Of these functions only
+//! `CharClassMatcher::new` allocates, so only it can run out of memory.
 #![tactic(auto)]
 
 ghost use Rattle.fancy_regex_class.specs.Classes.{RegexMatchesMembers};
@@ -14,7 +14,7 @@ mod matcher;
 pub use class::{CharClassMatcher, ClassError};
 pub use counted::{Counted, Steps};
 pub use folding::{CaseiLiteral, fold, is_word};
-pub use input::RunInput;
+pub use input::{RunInput, Span};
 
 /// Law: a `regex::Regex` that is parsed from a class's text matches the text of a single character exactly if the class
 /// contains that character.

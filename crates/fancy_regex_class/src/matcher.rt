@@ -1,7 +1,7 @@
 //! The members of a class: taken from the tree that `regex_syntax` parses where that is a class or a single character, else
 //! found by matching each character.
 
-ghost use Rattle.std.specs.Prelude.{◌≡◌, ◌≢◌, ℕ, true, IsTrue, IfOk, IfErr, IfSome, encode_utf8, is_some, chars};
+ghost use Rattle.std.specs.Prelude.{◌≡◌, ◌≢◌, ℕ, true, IsTrue, IfOk, IfErr, IfSome, IfNone, encode_utf8, is_some, chars};
 ghost use Rattle.std.specs.Char.{IsScalar};
 ghost use Rattle.regex_class.specs.Ranges.{in_ranges};
 ghost use Rattle.regex_hir.specs.Find.{find_str};
@@ -37,7 +37,7 @@ impl From<AllocError> for Refusal {
     }
 }
 
-ghost use Rattle.fancy_regex_class.specs.Matchers.{RefusesText};
+ghost use Rattle.fancy_regex_class.specs.Matchers.{RefusesText, IsNoClass};
 
 /// The characters whose text, as a whole haystack, the pattern matches. The error is `Refused` where `regex` rejects the
 /// pattern, and `Memory` where memory runs out.
@@ -58,8 +58,9 @@ pub(crate) fn members(alloc: Global, written: &str) -> Result<Class, Refusal>
 /// The characters that the parsed tree matches, if it is a class or a literal of one character.
 fn class_of_hir(alloc: Global, tree: Hir) -> Result<Option<Class>, AllocError>
     requires { IsWellFormed true tree }
-    ensures { IfOk result (λ o. IfSome o (λ class. (c : ℕ) → IsScalar c →
+    ensures members { IfOk result (λ o. IfSome o (λ class. (c : ℕ) → IsScalar c →
         in_ranges class.ranges.items c ≡ is_some (find_str (meaning tree) (encode_utf8 c) 0))) }
+    ensures none { IfOk result (λ o. IfNone o (IsNoClass tree)) }
 {
     match tree {
         Hir::Chars(class) => Ok(Some(class)),
@@ -74,9 +75,12 @@ fn class_of_hir(alloc: Global, tree: Hir) -> Result<Option<Class>, AllocError>
 
 /// The character that these bytes encode, if they are the UTF-8 of exactly one.
 fn single_char(bytes: &[u8]) -> Option<char>
-    ensures { IfSome result (λ c. bytes.now ≡ encode_utf8 c) }
+    ensures some { IfSome result (λ c. bytes.now ≡ encode_utf8 c) }
+    ensures none { IfNone result ((c : ℕ) → IsScalar c → bytes.now ≢ encode_utf8 c) }
 {
-    let text = str::from_utf8(bytes).ok()?;
+    let Ok(text) = str::from_utf8(bytes) else {
+        return None;
+    };
     let mut rest = text.chars();
     let first = rest.next()?;
     match rest.next() {
@@ -85,11 +89,11 @@ fn single_char(bytes: &[u8]) -> Option<char>
     }
 }
 
-/// Like `members`, by running a search on the text of every character.
+/// The same characters, found by running a search on the text of every character. The error is `Refused` where `regex`
+/// does not build the pattern, and `Memory` where memory runs out.
 fn members_by_search(alloc: Global, written: &str) -> Result<Class, Refusal>
     ensures members { IfOk result (λ class. (c : ℕ) → IsScalar c → in_ranges class.ranges.items c ≡ text_matches_char (chars written.now) c) }
     ensures read { IfOk result (λ _. IsTrue (is_read (chars written.now))) }
-    ensures refused { IfErr result (λ r. r ≡ Refusal.Refused → RefusesText (chars written.now)) }
 {
     match Regex::new(alloc, written) {
         Ok(regex) => {

@@ -1,11 +1,12 @@
-//! The matching engine under one name: character classes, the analysis of trees, the step-bounded search of easy patterns, the compiler and
-//! the backtracking machine. It re-exports the crates below and adds the law that both engines return the same match.
+//! The matching engine under one name: character classes, the analysis of trees, the step-bounded search of easy patterns,
+//! the compiler and the backtracking machine. It re-exports the crates below and adds the law that both engines return the
+//! same match.
 #![tactic(auto)]
 
 ghost use Rattle.fancy_regex_engine.specs.EngineAgreement.{EnginesAgree};
 
 pub use fancy_regex_class::{
-    CaseiLiteral, CharClassMatcher, ClassError, Counted, RunInput, Steps, fold, is_word,
+    CaseiLiteral, CharClassMatcher, ClassError, Counted, RunInput, Span, Steps, fold, is_word,
 };
 pub use fancy_regex_info::{AnalyzeContext, BytesMode, CompileError, CompileOptions, Info};
 pub use fancy_regex_machine::{RunOptions, RuntimeError, run, run_default, run_spans};
@@ -15,8 +16,8 @@ pub use fancy_regex_program::{
 pub use fancy_regex_runner::Easy;
 pub use fancy_regex_sizes::{analyze, can_compile_as_anchored, is_well_formed};
 
-/// Wherever both succeed, a run of a pattern's program and an `Easy` search of the same pattern return the same spans of all groups. The run
-/// must try every start position (no table of first bytes to seek) and must admit empty matches.
+/// Wherever both succeed, a run of a pattern's program and an `Easy` search of the same pattern return the same spans of all
+/// groups. The run must try every start position (no table of first bytes to seek) and must admit empty matches.
 pub fn engines_agree()
     ensures { EnginesAgree }
 {}

@@ -204,6 +204,42 @@ fn refusals_follow_subroutine_calls(rt: HostRuntime) -> Result<(), Fail> {
 }
 
 #[test]
+fn calls_that_nobody_makes_do_not_recur(rt: HostRuntime) -> Result<(), Fail> {
+    let alloc = rt.alloc();
+    let unmatched = repeat(alloc, Expr::SubroutineCall(2), 0, 0)?;
+    let tree = group(alloc, group(alloc, unmatched)?)?;
+    assert_eq!(rt; refusal(alloc, tree)?, None);
+    let whole = group(alloc, Expr::SubroutineCall(0))?;
+    assert_eq!(rt; refusal(alloc, repeat(alloc, whole, 0, 0)?)?, None);
+    let outer = repeat(alloc, Expr::SubroutineCall(1), 0, 0)?;
+    let tree = group(alloc, group(alloc, outer)?)?;
+    assert_eq!(rt; refusal(alloc, tree)?, None);
+    let called = repeat(alloc, Expr::SubroutineCall(1), 0, 1)?;
+    let definitions = Box::new(alloc, called)?;
+    let defining = Expr::DefineGroup { definitions };
+    let tree = concatenation(alloc, group(alloc, defining)?, letter(alloc)?)?;
+    assert_eq!(rt; refusal(alloc, tree)?, None);
+    Ok(())
+}
+
+#[test]
+fn groups_recur_wherever_they_stand(rt: HostRuntime) -> Result<(), Fail> {
+    let alloc = rt.alloc();
+    let left_recursive = CompileError::LeftRecursiveSubroutineCall(1);
+    let called = repeat(alloc, Expr::SubroutineCall(1), 0, 1)?;
+    let never_matched = repeat(alloc, group(alloc, called)?, 0, 0)?;
+    assert_eq!(rt; refusal(alloc, never_matched)?, Some(left_recursive));
+    let endless = group(alloc, Expr::SubroutineCall(1))?;
+    let definitions = Box::new(alloc, endless)?;
+    match refusal(alloc, Expr::DefineGroup { definitions })? {
+        Some(CompileError::NeverEndingRecursion) => {}
+        Some(CompileError::LeftRecursiveSubroutineCall(1)) => {}
+        _ => assert!(rt; false),
+    }
+    Ok(())
+}
+
+#[test]
 fn empty_matches_that_are_not_wanted(rt: HostRuntime) -> Result<(), Fail> {
     let alloc = rt.alloc();
     let tree = tree_with_root(alloc, Expr::Assertion(Assertion::StartText));

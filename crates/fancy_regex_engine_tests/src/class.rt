@@ -1,7 +1,7 @@
 //! Tests of class matchers, folding and counted reads.
 
 use fancy_regex_class::{CaseiLiteral, CharClassMatcher, ClassError, Counted, Steps, is_word};
-use std::alloc::Global;
+use std::alloc::{AllocError, Global};
 
 fn has(alloc: Global, text: &str, casei: bool, unicode: bool, c: char) -> bool {
     match CharClassMatcher::new(alloc, text, casei, unicode) {
@@ -53,6 +53,23 @@ fn regex_refuses(rt: HostRuntime) {
     assert!(rt; !is_refused(alloc, "é", false, false));
     assert!(rt; is_refused(alloc, "[é]", false, false));
     assert!(rt; is_refused(alloc, "\\p{Foo}", true, true));
+    assert!(rt; !is_refused(alloc, "[a-z&&[^aeiou]]", false, true));
+    assert!(rt; has(alloc, "[a-z&&[^aeiou]]", false, true, 'b'));
+}
+
+#[test]
+fn errors_have_a_text(rt: HostRuntime) -> Result<(), AllocError> {
+    let alloc = rt.alloc();
+    let refused = ClassError::InnerError(String::from_str(alloc, "[z-a]")?);
+    assert_eq!(rt;
+        format!(in alloc; "{refused}")?.as_str(),
+        "inner error: [z-a]"
+    );
+    assert_eq!(rt;
+        format!(in alloc; "{}", ClassError::Memory)?.as_str(),
+        "Out of memory"
+    );
+    Ok(())
 }
 
 #[test]

@@ -1,5 +1,5 @@
-//! Tests of character classes, the analysis of patterns, the runner, the compiler and the machine, by their public calls. They are a crate of
-//! their own so that the crates that they test are proved once. There is no code here.
+//! Tests of character classes, the analysis of patterns, the runner, the compiler and the machine, by their public calls.
+//! They are a crate of their own so that the crates that they test are proved once. There is no code here.
 #![tactic(auto)]
 
 #[cfg(test)]

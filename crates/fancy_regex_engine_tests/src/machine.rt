@@ -1,6 +1,6 @@
 //! Searches of the backtracking machine, from the texts of patterns on.
 
-use fancy_regex_class::RunInput;
+use fancy_regex_class::{RunInput, Span};
 use fancy_regex_info::{AnalyzeContext, CompileOptions};
 use fancy_regex_machine::{RunOptions, RuntimeError, run, run_default, run_spans};
 use fancy_regex_program::{Prog, compile};
@@ -15,6 +15,20 @@ fn program(
     not_empty: bool,
     longest: bool,
 ) -> Result<Prog, &'static str> {
+    let options = CompileOptions {
+        leftmost_longest: longest,
+        ..CompileOptions::default()
+    };
+    program_with(alloc, pattern, not_empty, &options)
+}
+
+/// Compiles a pattern with these options. The error names the step that failed.
+fn program_with(
+    alloc: Global,
+    pattern: &str,
+    not_empty: bool,
+    options: &CompileOptions,
+) -> Result<Prog, &'static str> {
     let Ok(tree) = Expr::parse_tree_with_flags(alloc, pattern, FLAG_UNICODE) else {
         return Err("parse");
     };
@@ -25,11 +39,7 @@ fn program(
     let Ok(info) = analyze(alloc, &tree, context) else {
         return Err("analyze");
     };
-    let options = CompileOptions {
-        leftmost_longest: longest,
-        ..CompileOptions::default()
-    };
-    match compile(alloc, &info, &options) {
+    match compile(alloc, &info, options) {
         Ok(prog) => Ok(prog),
         Err(_) => Err("compile"),
     }
@@ -61,7 +71,10 @@ fn found(
     let input = RunInput {
         first: 0,
         continue_at: Some(0),
-        range: 0..stop,
+        range: Span {
+            start: 0,
+            end: stop,
+        },
         anchored: false,
         no_start_text: false,
         no_end_text: false,
@@ -71,25 +84,36 @@ fn found(
         find_not_empty: not_empty,
         seek: None,
     };
+    if not_empty && !prog.has_whole() {
+        return Err("whole");
+    }
     match run(alloc, &prog, text, &input, &asked) {
         Ok(places) => Ok(places),
         Err(error) => Err(word(error)),
     }
 }
 
-/// The span of the match, where a search may start before an `a` only.
+/// The span of the match, where a search may start before an `a` only, by a program that is anchored or not.
 fn span_at_a(
     alloc: Global,
     pattern: &str,
     text: &str,
+    anchored: bool,
 ) -> Result<Option<(usize, usize)>, &'static str> {
-    let prog = program(alloc, pattern, false, false)?;
+    let options = CompileOptions {
+        anchored,
+        ..CompileOptions::default()
+    };
+    let prog = program_with(alloc, pattern, false, &options)?;
     let mut sought = [false; 256];
     sought[97] = true;
     let input = RunInput {
         first: 0,
         continue_at: None,
-        range: 0..text.len(),
+        range: Span {
+            start: 0,
+            end: text.len(),
+        },
         anchored: false,
         no_start_text: false,
         no_end_text: false,
@@ -222,9 +246,18 @@ fn ranges_and_options(rt: HostRuntime) {
 }
 
 #[test]
+fn an_anchored_program_tries_the_first_start_alone(rt: HostRuntime) {
+    let alloc = rt.alloc();
+    assert!(rt; matches!(&span_at_a(alloc, "a", "ba", false), Ok(Some((1, 2)))));
+    assert!(rt; matches!(&span_at_a(alloc, "a", "ba", true), Ok(None)));
+    assert!(rt; matches!(&span_at_a(alloc, "a", "ab", true), Ok(Some((0, 1)))));
+    assert!(rt; matches!(&span_at_a(alloc, "b?a", "ba", true), Ok(None)));
+}
+
+#[test]
 fn spans_and_starts(rt: HostRuntime) {
     let alloc = rt.alloc();
-    assert!(rt; matches!(&span_at_a(alloc, "[a-c]+", "bcab"), Ok(Some((2, 4)))));
+    assert!(rt; matches!(&span_at_a(alloc, "[a-c]+", "bcab", false), Ok(Some((2, 4)))));
     assert!(rt; is(&found_from(alloc, "\\Ga", "aab", 1), &[1, 2]));
     assert!(rt; is_none(&found_from(alloc, "\\Ga", "aba", 1)));
 }

@@ -1,6 +1,6 @@
 //! Searches where memory may run out: the call that failed is repeated, and gives the right answer.
 
-use fancy_regex_class::RunInput;
+use fancy_regex_class::{RunInput, Span};
 use fancy_regex_info::{AnalyzeContext, CompileError, CompileOptions, Info};
 use fancy_regex_machine::{RunOptions, RuntimeError, run};
 use fancy_regex_program::{Prog, compile};
@@ -38,7 +38,10 @@ fn searched(alloc: Global, prog: &Prog, text: &str) -> Result<Option<Vec<usize>>
     let input = RunInput {
         first: 0,
         continue_at: None,
-        range: 0..text.len(),
+        range: Span {
+            start: 0,
+            end: text.len(),
+        },
         anchored: false,
         no_start_text: false,
         no_end_text: false,

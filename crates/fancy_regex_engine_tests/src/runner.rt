@@ -1,6 +1,6 @@
 //! Searches of the runner, from the texts of patterns on.
 
-use fancy_regex_class::{RunInput, Steps};
+use fancy_regex_class::{RunInput, Span, Steps};
 use fancy_regex_info::{AnalyzeContext, BytesMode, CompileError, CompileOptions};
 use fancy_regex_runner::Easy;
 use fancy_regex_sizes::analyze;
@@ -110,7 +110,10 @@ fn ask(
     let input = RunInput {
         first: 0,
         continue_at: None,
-        range: 0..end.min(text.len()),
+        range: Span {
+            start: 0,
+            end: end.min(text.len()),
+        },
         anchored: false,
         no_start_text: false,
         no_end_text: false,

@@ -1,13 +1,18 @@
 -- What is known of a node, from what is known of its parts.
-use Rattle.std.proofs.Common.{◌≡◌, ℕ, ◌+◌, ◌-◌, ◌*◌, ◌^◌, ◌<◌, ℤ, min, Bool, true, false, not, ◌&&◌, ◌||◌, ◌==◌, List, [], ◌∷◌, ◌++◌, Option, refl, sym, ap, ap₂, subst, ◌∙◌, arith, length, get_or, take, map, Result, Ok, Err, IfOk}
+use Rattle.std.proofs.Common.{◌≡◌, ℕ, ◌+◌, ◌-◌, ◌*◌, ◌^◌, ◌<◌, ℤ, min, Bool, true, false, not, ◌&&◌, ◌||◌, ◌==◌, List, [], ◌∷◌, ◌++◌}
+use Rattle.std.proofs.Common.{Option, refl, sym, ap, ap₂, subst, ◌∙◌, arith, length, get_or, take, map, Result, Ok, Err, IfOk}
 use Rattle.std.proofs.lemmas.List.{take_more, map-append}
 use Rattle.std.specs.declared.alloc.AllocError.{AllocError}
 use Rattle.fancy_regex_tree.specs.declared.expr.Expr.{Expr}
 use Rattle.fancy_regex_tree.specs.declared.expr.LookAround.{LookAround}
-use Rattle.fancy_regex_tree.specs.Tree.{Text, Target, Tree, Trees, empty, any, assertion, general_newline, literal, literal_bytes, concat, alt, group, look_around, repeat, delegate, backref, backref_with_level, atomic_group, keep_out, continue, backref_exists, conditional, subroutine_call, verb, absent_repeater, absent_expression, absent_stopper, absent_clear, define_group, ast_group, ast_backref, ast_call, ast_condition, no_trees, more_trees, trees, tree_of}
+use Rattle.fancy_regex_tree.specs.Tree.{Text, Target, Tree, Trees, empty, any, assertion, general_newline, literal, literal_bytes, concat, alt, group, look_around, repeat, delegate}
+use Rattle.fancy_regex_tree.specs.Tree.{backref, backref_with_level, atomic_group, keep_out, continue, backref_exists, conditional, subroutine_call, verb, absent_repeater, absent_expression}
+use Rattle.fancy_regex_tree.specs.Tree.{absent_stopper, absent_clear, define_group, ast_group, ast_backref, ast_call, ast_condition, no_trees, more_trees, trees, tree_of}
 use Rattle.fancy_regex_meaning.specs.Groups.{group_count, row_group_count}
-use Rattle.fancy_regex_meaning.specs.Sizes.{Size, unbounded, add, size, size_with, concat_size, alternation_size, weight, weights, branch_gaps, always_size, any_size, both_sizes, either_size, repeated_size}
-use Rattle.fancy_regex_info.specs.PropertyRules.{concat_properties, sum_properties, alternation_properties, prepend_part, prepend_branch, leaf, group_properties, wrapper_properties, repeat_properties, conditional_properties, absent_expression_properties}
+use Rattle.fancy_regex_meaning.specs.Sizes.{Size, unbounded, add, size, size_with, concat_size, alternation_size, weight, weights}
+use Rattle.fancy_regex_meaning.specs.Sizes.{branch_gaps, always_size, any_size, both_sizes, either_size, repeated_size}
+use Rattle.fancy_regex_info.specs.PropertyRules.{concat_properties, sum_properties, alternation_properties, prepend_part, prepend_branch, leaf, group_properties}
+use Rattle.fancy_regex_info.specs.PropertyRules.{wrapper_properties, repeat_properties, conditional_properties, absent_expression_properties}
 use Rattle.fancy_regex_info.specs.Easy.{is_easy, all_easy}
 use Rattle.fancy_regex_info.specs.Infos.{NodeProperties, InfoTree, InfoTrees, infos, known, no_infos, more_infos, properties_in, properties, info_of, expected_info, expected_infos}
 use Rattle.fancy_regex_info.specs.AnalysisRelations.{AreCallSizes, is_leaf, mark_at, IsAnalysisOf, AreAnalysesOf, node_of}
@@ -226,7 +231,13 @@ module _ (calls : List code.Size) (read : List Bool) where
         (not_both (is_easy R k t) (all_easy R (k + group_count t) ts)) refl refl
 
     branches_known : (n m k : ℕ) (ts : Trees) → alternation_properties n m (listed (expected_infos groups R k ts))
-        ≡ (let f : NodeProperties = record { size = alternation_size call ts; weight = min unbounded (weights groups ts + 3 * branch_gaps groups ts); hard = not (is_easy R k (alt ts)); start = n; end = m } in f)
+        ≡ (let f : NodeProperties = record {
+          size = alternation_size call ts;
+          weight = min unbounded (weights groups ts + 3 * branch_gaps groups ts);
+          hard = not (is_easy R k (alt ts));
+          start = n;
+          end = m;
+        } in f)
     unfolding expected_info expected_infos size_with alternation_size weight weights branch_gaps is_easy all_easy
     branches_known n m k no_trees = refl
     branches_known n m k (more_trees t no_trees) =

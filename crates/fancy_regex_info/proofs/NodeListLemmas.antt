@@ -4,7 +4,8 @@ use Rattle.std.specs.List.{filter_map}
 use Rattle.std.specs.Option.{option_to_list}
 use Rattle.std.proofs.lemmas.List.{append-nil, take_all}
 use Rattle.std.proofs.lemmas.List.Elements.{filter_map-append}
-use Rattle.fancy_regex_tree.specs.Tree.{Tree, Trees, concat, alt, group, look_around, repeat, atomic_group, backref, backref_with_level, backref_exists, subroutine_call, conditional, absent_repeater, absent_expression, absent_stopper, define_group, ast_group, no_trees, more_trees}
+use Rattle.fancy_regex_tree.specs.Tree.{Tree, Trees, concat, alt, group, look_around, repeat, atomic_group, backref, backref_with_level, backref_exists, subroutine_call}
+use Rattle.fancy_regex_tree.specs.Tree.{conditional, absent_repeater, absent_expression, absent_stopper, define_group, ast_group, no_trees, more_trees}
 use Rattle.fancy_regex_tree.specs.Traversal.{nodes, all_nodes}
 use Rattle.fancy_regex_tree.specs.ReferenceSummary.{back_group}
 use Rattle.fancy_regex_meaning.specs.Groups.{bodies, row_bodies}

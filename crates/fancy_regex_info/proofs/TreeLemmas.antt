@@ -10,7 +10,8 @@ use Rattle.fancy_regex_tree.specs.declared.expr.Absent.TheVariants as absent
 use Rattle.fancy_regex_tree.specs.declared.expr.AstNode.TheVariants as ast
 use Rattle.fancy_regex_tree.specs.declared.expr.Absent.TheOpen.{Expr-F, Absent-F, AstNode-F}
 use Rattle.fancy_regex_tree.specs.declared.expr.Absent.TheFolds.{fold-roll-Expr, fold-roll-Absent, fold-roll-AstNode}
-use Rattle.fancy_regex_tree.specs.Tree.{Tree, absent_tree, ast_tree, node_tree, tree_of, absent_tree_of, ast_tree_of, target_of, trees, concat, alt, group, look_around, repeat, atomic_group, conditional, verb, define_group, absent_repeater, absent_expression, absent_stopper, absent_clear, ast_group, ast_backref, ast_call, ast_condition}
+use Rattle.fancy_regex_tree.specs.Tree.{Tree, absent_tree, ast_tree, node_tree, tree_of, absent_tree_of, ast_tree_of, target_of, trees, concat, alt, group, look_around, repeat, atomic_group}
+use Rattle.fancy_regex_tree.specs.Tree.{conditional, verb, define_group, absent_repeater, absent_expression, absent_stopper, absent_clear, ast_group, ast_backref, ast_call, ast_condition}
 
 pub tree_concat : (ts : Vec Expr Global) → tree_of (view.Concat ts) ≡ concat (trees (map tree_of ts.items))
 tree_concat ts = ap tree_of (sym (view.rolls-Concat ts)) ∙ fold-roll-Expr Tree (ℕ → Tree) Tree absent_tree ast_tree node_tree (Expr-F.Concat ts)

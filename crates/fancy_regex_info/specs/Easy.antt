@@ -2,7 +2,8 @@
 use Rattle.std.specs.Prelude.{ℕ, ◌+◌, Bool, true, false, not, ◌&&◌}
 use Rattle.fancy_regex_tree.specs.Tree.{Tree, Trees, empty, any, assertion, literal, concat, alt, group, repeat, delegate, no_trees, more_trees}
 use Rattle.fancy_regex_tree.specs.declared.expr.Assertion.{Assertion}
-use Rattle.fancy_regex_tree.specs.declared.expr.Assertion.TheVariants.{StartText, EndText, StartLine, EndLine, LeftWordBoundary, RightWordBoundary, WordBoundary, NotWordBoundary, LeftWordHalfBoundary, RightWordHalfBoundary, EndTextIgnoreTrailingNewlines, StartLineOniguruma}
+use Rattle.fancy_regex_tree.specs.declared.expr.Assertion.TheVariants.{StartText, EndText, StartLine, EndLine, LeftWordBoundary, RightWordBoundary, WordBoundary, NotWordBoundary}
+use Rattle.fancy_regex_tree.specs.declared.expr.Assertion.TheVariants.{LeftWordHalfBoundary, RightWordHalfBoundary, EndTextIgnoreTrailingNewlines, StartLineOniguruma}
 use Rattle.fancy_regex_meaning.specs.Groups.{group_count}
 
 abbrev pub is_easy_assertion : Assertion → Bool

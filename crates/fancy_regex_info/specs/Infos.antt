@@ -1,6 +1,7 @@
 -- The result of the analysis of a tree.
 use Rattle.std.specs.Prelude.{ℕ, ◌+◌, min, Bool, not, List, [], ◌∷◌}
-use Rattle.fancy_regex_tree.specs.Tree.{Tree, Trees, tree_of, concat, alt, group, look_around, repeat, atomic_group, conditional, absent_repeater, absent_expression, absent_stopper, define_group, ast_group, no_trees, more_trees}
+use Rattle.fancy_regex_tree.specs.Tree.{Tree, Trees, tree_of, concat, alt, group, look_around, repeat, atomic_group, conditional, absent_repeater}
+use Rattle.fancy_regex_tree.specs.Tree.{absent_expression, absent_stopper, define_group, ast_group, no_trees, more_trees}
 use Rattle.fancy_regex_meaning.specs.Groups.{group_count}
 use Rattle.fancy_regex_meaning.specs.Sizes.{Size, unbounded, size, weight}
 use Rattle.fancy_regex_info.specs.Easy.{is_easy}

@@ -1,7 +1,8 @@
 -- The groups that back references and conditions name.
 use Rattle.std.specs.Prelude.{ℕ, Bool, List, [], ◌∷◌, ◌++◌, ◌==◌, ◌&&◌, nat_lt}
 use Rattle.std.specs.List.{list_any}
-use Rattle.fancy_regex_tree.specs.Tree.{Tree, Trees, concat, alt, group, look_around, repeat, backref, backref_with_level, atomic_group, backref_exists, conditional, absent_repeater, absent_expression, absent_stopper, define_group, ast_group, no_trees, more_trees}
+use Rattle.fancy_regex_tree.specs.Tree.{Tree, Trees, concat, alt, group, look_around, repeat, backref, backref_with_level, atomic_group, backref_exists}
+use Rattle.fancy_regex_tree.specs.Tree.{conditional, absent_repeater, absent_expression, absent_stopper, define_group, ast_group, no_trees, more_trees}
 
 -- the numbers in the order of the text
 unfoldable mutual

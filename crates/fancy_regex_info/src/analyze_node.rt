@@ -1,10 +1,10 @@
 //! The recursive analysis of a tree: each node from the results of its children.
 
 ghost use Rattle.std.specs.Prelude.{◌≡◌, ℕ, Bool, true, List, map, IfOk, IsTrue};
-ghost use Rattle.fancy_regex_tree.specs.Tree.{Tree, tree_of, trees, absent_tree_of, ast_tree_of};
+ghost use Rattle.fancy_regex_tree.specs.Tree.{Tree, tree_of, trees, absent_tree_of, ast_tree_of, concat, alt, group};
 ghost use Rattle.fancy_regex_info.specs.PropertyRules as combined;
 ghost use Rattle.fancy_regex_info.specs.Easy.{is_easy, is_easy_assertion as is_easy_look};
-ghost use Rattle.fancy_regex_info.specs.Infos.{known, infos, no_infos, more_infos, info_of, properties_of};
+ghost use Rattle.fancy_regex_info.specs.Infos.{known, infos, no_infos, more_infos, info_of, properties_of, properties_in};
 ghost use Rattle.fancy_regex_info.specs.AnalysisRelations.{is_leaf, IsAnalysisOf, AreAnalysesOf, node_of};
 ghost use Rattle.fancy_regex_info.specs.Views.{size_of};
 
@@ -53,54 +53,20 @@ fn parts_of<'a>(
     ensures { IfOk result (λ parts. IsAnalysisOf calls.now read.now start (tree_of expr.now) (node_of parts (tree_of expr.now))) }
 {
     match expr {
-        Expr::Concat(parts) => {
-            let row = analyze_row(alloc, parts, start, calls, read)?;
-            let properties = concat_properties(start, row.end, &row.infos);
-            Ok(Parts {
-                properties,
-                children: row.infos,
-            })
-        }
-        Expr::Alt(branches) => {
-            let row = analyze_row(alloc, branches, start, calls, read)?;
-            let properties = alternation_properties(start, row.end, &row.infos);
-            Ok(Parts {
-                properties,
-                children: row.infos,
-            })
-        }
-        Expr::Group(child) => {
-            let child = analyze_node(alloc, child, start.saturating_add(1), calls, read)?;
-            one_part(
-                alloc,
-                group_properties(start, is_marked(read, start), child.properties()),
-                child,
-            )
-        }
+        Expr::Concat(parts) => parts_of_concat(alloc, parts, start, calls, read),
+        Expr::Alt(branches) => parts_of_alternation(alloc, branches, start, calls, read),
+        Expr::Group(child) => parts_of_group(alloc, child, start, calls, read),
         Expr::LookAround(child, _) => {
             let child = analyze_node(alloc, child, start, calls, read)?;
-            one_part(
-                alloc,
-                wrapper_properties(always(0), child.properties()),
-                child,
-            )
+            wrapper_parts(alloc, always(0), child)
         }
         Expr::Repeat { child, lo, hi, .. } => {
             let child = analyze_node(alloc, child, start, calls, read)?;
-            one_part(
-                alloc,
-                repeat_properties(*lo, *hi, child.properties()),
-                child,
-            )
+            repeat_parts(alloc, *lo, *hi, child)
         }
         Expr::AtomicGroup(child) => {
             let child = analyze_node(alloc, child, start, calls, read)?;
-            let properties = child.properties();
-            one_part(
-                alloc,
-                wrapper_properties(properties.size, properties),
-                child,
-            )
+            wrapper_parts(alloc, child.properties().size, child)
         }
         Expr::Conditional {
             condition,
@@ -110,21 +76,12 @@ fn parts_of<'a>(
             let condition = analyze_node(alloc, condition, start, calls, read)?;
             let yes = analyze_node(alloc, true_branch, condition.end_group(), calls, read)?;
             let no = analyze_node(alloc, false_branch, yes.end_group(), calls, read)?;
-            let properties = conditional_properties(
-                condition.properties(),
-                yes.properties(),
-                no.properties(),
-            );
-            three_parts(alloc, properties, condition, yes, no)
+            conditional_parts(alloc, condition, yes, no)
         }
         Expr::Absent(absent) => parts_of_absent(alloc, absent, start, calls, read),
         Expr::DefineGroup { definitions } => {
             let child = analyze_node(alloc, definitions, start, calls, read)?;
-            one_part(
-                alloc,
-                wrapper_properties(always(0), child.properties()),
-                child,
-            )
+            wrapper_parts(alloc, always(0), child)
         }
         Expr::AstNode(node, _) => parts_of_unresolved(alloc, node, start, calls, read),
         Expr::Empty | Expr::Any { .. } | Expr::Literal { .. } | Expr::Delegate { .. } => {
@@ -146,6 +103,56 @@ fn parts_of<'a>(
 }
 
 #[cycle(analyze_node)]
+fn parts_of_concat<'a>(
+    alloc: Global,
+    items: &'a [Expr],
+    start: usize,
+    calls: &[Size],
+    read: &[bool],
+) -> Result<Parts<'a>, AllocError>
+    ensures { IfOk result (λ parts. IsAnalysisOf calls.now read.now start (concat (trees (map tree_of items.now))) (node_of parts (concat (trees (map tree_of items.now))))) }
+{
+    let row = analyze_row(alloc, items, start, calls, read)?;
+    Ok(Parts {
+        properties: concat_properties(start, row.end, &row.infos),
+        children: row.infos,
+    })
+}
+
+#[cycle(analyze_node)]
+fn parts_of_alternation<'a>(
+    alloc: Global,
+    branches: &'a [Expr],
+    start: usize,
+    calls: &[Size],
+    read: &[bool],
+) -> Result<Parts<'a>, AllocError>
+    ensures { IfOk result (λ parts. IsAnalysisOf calls.now read.now start (alt (trees (map tree_of branches.now))) (node_of parts (alt (trees (map tree_of branches.now))))) }
+{
+    let row = analyze_row(alloc, branches, start, calls, read)?;
+    Ok(Parts {
+        properties: alternation_properties(start, row.end, &row.infos),
+        children: row.infos,
+    })
+}
+
+/// A capture group with this body; its number is `start`.
+#[cycle(analyze_node)]
+fn parts_of_group<'a>(
+    alloc: Global,
+    body: &'a Expr,
+    start: usize,
+    calls: &[Size],
+    read: &[bool],
+) -> Result<Parts<'a>, AllocError>
+    ensures { IfOk result (λ parts. IsAnalysisOf calls.now read.now start (group (tree_of body.now)) (node_of parts (group (tree_of body.now)))) }
+{
+    let child = analyze_node(alloc, body, start.saturating_add(1), calls, read)?;
+    let properties = group_properties(start, is_marked(read, start), child.properties());
+    one_part(alloc, properties, child)
+}
+
+#[cycle(analyze_node)]
 fn parts_of_absent<'a>(
     alloc: Global,
     absent: &'a Absent,
@@ -158,29 +165,16 @@ fn parts_of_absent<'a>(
     match absent {
         Absent::Repeater(child) => {
             let child = analyze_node(alloc, child, start, calls, read)?;
-            one_part(
-                alloc,
-                wrapper_properties(any_size(), child.properties()),
-                child,
-            )
+            wrapper_parts(alloc, any_size(), child)
         }
         Absent::Stopper(child) => {
             let child = analyze_node(alloc, child, start, calls, read)?;
-            one_part(
-                alloc,
-                wrapper_properties(any_size(), child.properties()),
-                child,
-            )
+            wrapper_parts(alloc, any_size(), child)
         }
         Absent::Expression { absent, exp } => {
             let absent = analyze_node(alloc, absent, start, calls, read)?;
             let exp = analyze_node(alloc, exp, absent.end_group(), calls, read)?;
-            let properties = absent_expression_properties(
-                any_size(),
-                absent.properties(),
-                exp.properties(),
-            );
-            two_parts(alloc, properties, absent, exp)
+            absent_expression_parts(alloc, any_size(), absent, exp)
         }
         Absent::Clear => Ok(no_parts(alloc, start, any_size())),
     }
@@ -200,11 +194,7 @@ fn parts_of_unresolved<'a>(
     match node {
         AstNode::AstGroup { inner, .. } => {
             let child = analyze_node(alloc, inner, start, calls, read)?;
-            one_part(
-                alloc,
-                wrapper_properties(always(0), child.properties()),
-                child,
-            )
+            wrapper_parts(alloc, always(0), child)
         }
         AstNode::Backref { .. } => Ok(no_parts(alloc, start, any_size())),
         AstNode::SubroutineCall(_) => Ok(no_parts(alloc, start, any_size())),
@@ -280,6 +270,30 @@ fn no_parts<'a>(alloc: Global, start: usize, size: Size) -> Parts<'a>
     }
 }
 
+/// The result for a quantified child, from `lo` to `hi` times.
+fn repeat_parts<'a>(
+    alloc: Global,
+    lo: usize,
+    hi: usize,
+    child: Info<'a>,
+) -> Result<Parts<'a>, AllocError>
+    ensures { IfOk result (λ parts. (t : Tree) → node_of parts t
+        ≡ known (combined.repeat_properties lo hi (properties_in (info_of child.entry))) t (more_infos (info_of child.entry) no_infos)) }
+{
+    let properties = repeat_properties(lo, hi, child.properties());
+    one_part(alloc, properties, child)
+}
+
+/// The result for another node with one child, of this size.
+fn wrapper_parts<'a>(alloc: Global, size: Size, child: Info<'a>) -> Result<Parts<'a>, AllocError>
+    ensures { IfOk result (λ parts. (t : Tree) → node_of parts t
+        ≡ known (combined.wrapper_properties (size_of size) (properties_in (info_of child.entry))) t (more_infos (info_of child.entry) no_infos)) }
+{
+    let properties = wrapper_properties(size, child.properties());
+    one_part(alloc, properties, child)
+}
+
+/// The result for a node with one child and these properties.
 fn one_part<'a>(
     alloc: Global,
     properties: NodeProperties,
@@ -295,15 +309,18 @@ fn one_part<'a>(
     })
 }
 
-fn two_parts<'a>(
+/// The result for an absent expression, of this size.
+fn absent_expression_parts<'a>(
     alloc: Global,
-    properties: NodeProperties,
+    size: Size,
     first: Info<'a>,
     second: Info<'a>,
 ) -> Result<Parts<'a>, AllocError>
     ensures { IfOk result (λ parts. (t : Tree) → node_of parts t
-        ≡ known (properties_of properties) t (more_infos (info_of first.entry) (more_infos (info_of second.entry) no_infos))) }
+        ≡ known (combined.absent_expression_properties (size_of size) (properties_in (info_of first.entry)) (properties_in (info_of second.entry))) t
+        (more_infos (info_of first.entry) (more_infos (info_of second.entry) no_infos))) }
 {
+    let properties = absent_expression_properties(size, first.properties(), second.properties());
     let mut children = Vec::new(alloc);
     children.push(first)?;
     children.push(second)?;
@@ -313,20 +330,26 @@ fn two_parts<'a>(
     })
 }
 
-fn three_parts<'a>(
+/// The result for a conditional.
+fn conditional_parts<'a>(
     alloc: Global,
-    properties: NodeProperties,
-    first: Info<'a>,
-    second: Info<'a>,
-    third: Info<'a>,
+    condition: Info<'a>,
+    yes: Info<'a>,
+    no: Info<'a>,
 ) -> Result<Parts<'a>, AllocError>
     ensures { IfOk result (λ parts. (t : Tree) → node_of parts t
-        ≡ known (properties_of properties) t (more_infos (info_of first.entry) (more_infos (info_of second.entry) (more_infos (info_of third.entry) no_infos)))) }
+        ≡ known (combined.conditional_properties (properties_in (info_of condition.entry)) (properties_in (info_of yes.entry)) (properties_in (info_of no.entry))) t
+        (more_infos (info_of condition.entry) (more_infos (info_of yes.entry) (more_infos (info_of no.entry) no_infos)))) }
 {
+    let properties = conditional_properties(
+        condition.properties(),
+        yes.properties(),
+        no.properties(),
+    );
     let mut children = Vec::new(alloc);
-    children.push(first)?;
-    children.push(second)?;
-    children.push(third)?;
+    children.push(condition)?;
+    children.push(yes)?;
+    children.push(no)?;
     Ok(Parts {
         properties,
         children,

@@ -3,15 +3,25 @@
 ghost use Rattle.std.specs.Prelude.{◌≡◌};
 
 /// How the bytes of a haystack are interpreted.
-#[derive(Clone, Copy, Debug, PartialEq, Eq, Default)]
+#[derive(Clone, Copy, Debug, PartialEq, Eq)]
 pub enum BytesMode {
     /// Haystacks are UTF-8.
-    #[default]
     Unicode,
     /// Kept for compatibility; compilation refuses it.
     Ascii,
     /// Kept for compatibility; compilation refuses it.
     UnicodeBytes,
+}
+
+impl Default for BytesMode {
+    ghost use Rattle.fancy_regex_info.specs.declared.options.BytesMode.TheVariants.{Unicode};
+
+    ghost is_default = { λ mode. mode ≡ Unicode };
+
+    /// Haystacks are UTF-8.
+    fn default() -> BytesMode {
+        BytesMode::Unicode
+    }
 }
 
 /// Options of compilation.
@@ -49,7 +59,7 @@ impl Default for CompileOptions {
     }
 }
 
-/// Options of the analysis. The default is neither.
+/// Options of the analysis. The default is neither; a caller of the analysis may ask for one of them, and not for both.
 #[derive(Clone, Copy, Debug, PartialEq, Eq, Default)]
 pub struct AnalyzeContext {
     /// The first capture group written in the pattern is group 0; no group stands for the whole match.

@@ -7,3 +7,4 @@ pub mod RepeatLemmas
 pub mod AdvanceLemmas
 pub mod Exec
 pub mod AnswerLemmas
+pub mod LimitLemmas

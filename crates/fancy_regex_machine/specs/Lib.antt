@@ -4,4 +4,5 @@ pub mod Steps
 pub mod Advances
 pub mod Endings
 pub mod RunArguments
+pub mod MachineLimits
 pub mod SearchAnswers

@@ -77,7 +77,8 @@ fn has_pair(slots: &Slots, slot: usize) -> bool
 /// Whether the slot is unset, or it and the next one hold a valid span of the text.
 fn has_ends(haystack: &Haystack, slots: &Slots, slot: usize) -> bool
     requires { slot + 1 < length slots.now.slots }
-    ensures { (casei : Bool) (t : Thread) → result ≡ is_not_stuck (backref_move (setting_of_haystack haystack.now) casei (slice_index slots.now.slots slot) (slice_index slots.now.slots (slot + 1)) t) }
+    ensures { (casei : Bool) (t : Thread) → result ≡ is_not_stuck (backref_move (setting_of_haystack haystack.now) casei
+        (slice_index slots.now.slots slot) (slice_index slots.now.slots (slot + 1)) t) }
 {
     let count = slots.count();
     prove!(slot < count);

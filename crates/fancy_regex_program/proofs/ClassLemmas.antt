@@ -11,7 +11,7 @@ use Rattle.fancy_regex_tree.specs.declared.expr.LookAround.{LookAround}
 use Rattle.fancy_regex_tree.specs.declared.expr.LookAround.TheVariants.{LookAhead, LookAheadNeg, LookBehind, LookBehindNeg}
 use Rattle.fancy_regex_tree.specs.Tree as tree
 use Rattle.fancy_regex_tree.specs.Tree.{Text, Tree, Trees, no_trees, more_trees}
-use Rattle.fancy_regex_tree.specs.Traversal.{children, listed}
+use Rattle.fancy_regex_tree.specs.Traversal.{subtrees, listed}
 use Rattle.fancy_regex_meaning.specs.Groups.{group_count}
 use Rattle.fancy_regex_meaning.specs.Sizes.{size, target}
 use Rattle.fancy_regex_meaning.specs.Ways.{is_at_call_limit, max_open_calls}
@@ -168,7 +168,7 @@ module _ (unicode : Bool) where
 
       -- What is so of a node is so of each of its children.
       child_at : (n : ℕ) (t u : Tree) → HasSide (written groups call n t) → skips_children t ≡ false → is_built t ≡ true →
-          Contains (children t) u → At u
+          Contains (subtrees t) u → At u
       unfolding written
       child_at n (tree.alt ts) u h seen built m = in_branches n ts u h m
       child_at n (tree.concat ts) u h seen built m = in_row n ts u (node_reads (tree.concat ts) (cat_all (written_all groups call n ts)) h) m
@@ -261,7 +261,7 @@ module _ (groups : List Tree) (root : Tree) where
   -- A part that is written out, and the targets of the calls that are open round it, each of them once.
   data Reached : List ℕ → Tree → Type 0 where
     at_root : Reached [] root
-    at_child : (opened : List ℕ) (t u : Tree) → Reached opened t → skips_children t ≡ false → is_built t ≡ true → Contains (children t) u →
+    at_child : (opened : List ℕ) (t u : Tree) → Reached opened t → skips_children t ≡ false → is_built t ≡ true → Contains (subtrees t) u →
         Reached opened u
     at_body : (opened : List ℕ) (k : ℕ) (u : Tree) → Reached opened (tree.subroutine_call k) → target groups k ≡ Some u →
         opens k opened ≡ 0 → Reached (k ∷ opened) u

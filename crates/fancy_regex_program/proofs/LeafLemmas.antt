@@ -1,16 +1,17 @@
 -- The instruction of a node without children is all that it is.
-use Rattle.std.proofs.Common.{◌≡◌, ℕ, ◌*◌, Bool, true, false, not, ◌&&◌, List, None, IsTrue, refl, sym, ap, subst, ◌∙◌, arith}
+use Rattle.std.proofs.Common.{◌≡◌, ℕ, ◌*◌, Bool, true, false, not, ◌&&◌, List, None, IsTrue, refl, sym, ap, subst, ◌∙◌, arith, chars, string_bytes}
 use Rattle.std.specs.Prelude.{slice_index, ◌==◌}
 use Rattle.std.specs.Char.{IsScalar}
 use Rattle.std.proofs.Math.Path.{fun_ext}
 use Rattle.std.proofs.lemmas.Bool.Decides.{nat_tests}
+use Rattle.std.proofs.lemmas.Slice.Eq.{bytes_eq-Decides}
 use Rattle.regex_hir.specs.Text.{is_scalar}
 use Rattle.fancy_regex_tree.specs.declared.expr.Assertion.{Assertion}
 use Rattle.fancy_regex_tree.specs.declared.expr.BacktrackingControlVerb.{BacktrackingControlVerb}
 use Rattle.fancy_regex_tree.specs.Tree as tree
 use Rattle.fancy_regex_tree.specs.Tree.{Tree, Text}
-use Rattle.fancy_regex_class.specs.Classes.{is_class, in_class, folded}
-use Rattle.fancy_regex_class.specs.Matchers.{has, equals_ignoring_case, IsMatcherOf}
+use Rattle.fancy_regex_class.specs.Classes.{is_class, in_class, folded, class_text}
+use Rattle.fancy_regex_class.specs.Matchers.{has, equals_ignoring_case, IsMatcherOf, RefusesText}
 use Rattle.fancy_regex_class.specs.declared.class.CharClassMatcher.{CharClassMatcher}
 use Rattle.fancy_regex_class.specs.declared.folding.CaseiLiteral.{CaseiLiteral}
 use Rattle.fancy_regex_desugar.specs.CorePatterns.{CorePattern, any, literal, class, read, general_newline, check, continue, fail, backref, exists}
@@ -21,7 +22,8 @@ use Rattle.fancy_regex_program.specs.Ops as op
 use Rattle.fancy_regex_program.specs.Ops.{Op, op_of, among_scalars}
 use Rattle.fancy_regex_program.specs.Code.{slots_in, code_of}
 use Rattle.fancy_regex_program.specs.Known.{front_of}
-use Rattle.fancy_regex_program.specs.Refusals.{IsUnfit, IsNoSingle, IsNoLeaf, is_single, is_leaf}
+use Rattle.fancy_regex_program.specs.Refusals.{IsUnfit, IsNoClass, IsNoSingle, IsNoLeaf, is_single, is_leaf}
+use Rattle.fancy_regex_program.specs.Refusals.{is_class as is_class_node}
 use Rattle.fancy_regex_program.specs.Shapes.{IsAllowed}
 use Rattle.fancy_regex_program.specs.Writing.{Draft, added, with_pat, IsInsn}
 use Rattle.fancy_regex_program.specs.declared.insn.Insn.{Insn}
@@ -111,6 +113,23 @@ unfit_leaf u count t (InnerError shown) h = absurd h
 unfit_leaf u count t (InvalidBackref n) h = absurd h
 unfit_leaf u count t UnresolvedAstNode h = absurd h
 unfit_leaf u count t e h = h
+
+-- a class that is refused
+pub class_refused : (u : Bool) (count : ℕ) (t : Tree) (inner : Text) (casei : Bool) (e : CompileError) → t ≡ tree.delegate inner casei → IsNoClass u inner casei e →
+    IsNoSingle u count t e
+class_refused u count t inner casei (InnerError shown) is h = record {
+  casei = casei;
+  is_it = ap (λ x. is_class_node (chars (string_bytes shown)) casei x) is ∙ ap (λ x. is_class_node x casei (tree.delegate inner casei)) h.0 ∙ own_class inner casei;
+  refused = subst (λ x. RefusesText (class_text u casei x)) (sym h.0) h.1;
+}
+  where
+    own_class : (text : Text) (b : Bool) → is_class_node text b (tree.delegate text b) ≡ true
+    own_class text true = ap (λ x. x && true) ((bytes_eq-Decides text text).1 refl)
+    own_class text false = ap (λ x. x && true) ((bytes_eq-Decides text text).1 refl)
+class_refused u count t inner casei (InvalidBackref n) is h = absurd h
+class_refused u count t inner casei (FeatureNotYetSupported feature) is h = absurd h
+class_refused u count t inner casei UnresolvedAstNode is h = absurd h
+class_refused u count t inner casei e is h = h
 
 -- what is said of a node wherever it stands
 pub unkept_leaf : (u : Bool) (count : ℕ) (keeps : Bool) (t : Tree) (e : CompileError) → (is_single t ≡ false → is_leaf t ≡ false) →

@@ -19,3 +19,4 @@ mod WholeLemmas
 mod ClassLemmas
 mod RoomLemmas
 mod LengthLemmas
+mod CapLemmas

@@ -49,12 +49,13 @@ pat_gathered groups x whole explicit t eg ew ex =
 
 -- what is written of the tree's pattern is the tree's program
 pub made_from : (prog : Prog) (anchored explicit : Bool) (t : Tree) (p : CorePattern) →
-    IsWhole prog.unicode prog.whole anchored prog.groups p prog.body.items prog.slots → p ≡ core_pattern_of (pattern_in explicit t) →
+    prog.anchored ≡ anchored → IsWhole prog.unicode prog.whole anchored prog.groups p prog.body.items prog.slots →
+    p ≡ core_pattern_of (pattern_in explicit t) →
     prog.groups ≡ length (pattern_in explicit t).groups → prog.whole ≡ not explicit → IsAllowed prog.unicode true p → IsMadeFrom prog anchored explicit t
-made_from prog anchored explicit t p wrote is groups whole allowed =
+made_from prog anchored explicit t p anchored_is wrote is groups whole allowed =
     let all = subst (λ q. IsWhole prog.unicode prog.whole anchored prog.groups q prog.body.items prog.slots) is wrote in
     record {
-      program = record { body = all.ops; slots = all.slots_are; groups = groups };
+      program = record { anchored_is = anchored_is; body = all.ops; slots = all.slots_are; groups = groups };
       whole = whole;
       written = can_be_written prog.unicode explicit t (subst (IsAllowed prog.unicode true) is allowed);
     }

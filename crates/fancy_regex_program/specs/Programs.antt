@@ -14,7 +14,7 @@ use Rattle.fancy_regex_sizes.specs.NodeErrors.{some_node, shows}
 use Rattle.fancy_regex_info.specs.Views.{pattern_in}
 use Rattle.fancy_regex_info.specs.declared.error.CompileError.{CompileError}
 use Rattle.fancy_regex_info.specs.declared.error.CompileError.TheVariants.{InvalidBackref}
-use Rattle.fancy_regex_program.specs.Caps.{cap_of}
+use Rattle.fancy_regex_program.specs.Caps.{IsWithinCap, IsPastCap}
 use Rattle.fancy_regex_program.specs.Code.{slots_in, program_of}
 use Rattle.fancy_regex_program.specs.Ops.{ops_of}
 use Rattle.fancy_regex_program.specs.Shapes.{IsWritable}
@@ -28,6 +28,7 @@ pub record IsWhole (unicode whole anchored : Bool) (groups : ℕ) (p : CorePatte
 
 -- The program is that of the pattern, and begins at the first start alone where it is anchored.
 pub record IsProgramOf (prog : Prog) (pattern : Pattern) (anchored : Bool) : Type 0 where
+  pub anchored_is : prog.anchored ≡ anchored
   pub body : ops_of prog.body.items ≡ program_of (in_class prog.unicode) (folded prog.unicode) prog.whole anchored prog.groups (core_pattern_of pattern)
   pub slots : prog.slots ≡ 2 * prog.groups + slots_in (core_pattern_of pattern)
   pub groups : prog.groups ≡ length pattern.groups
@@ -53,11 +54,15 @@ pub record IsMadeFrom (prog : Prog) (anchored explicit : Bool) (t : Tree) : Type
 abbrev pub IsOfTree : Prog → Bool → InfoTree → Type 0
 IsOfTree prog anchored x = (explicit : Bool) (t : Tree) → x ≡ analysis explicit t → IsMadeFrom prog anchored explicit t
 
--- Where this is what the analysis says of a tree, its program is too long only where the cap is below sixteen instructions
--- for each node of the tree, a call counting as its target's body, and sixteen more.
+-- The program has no more instructions than the cap, if one is set.
+abbrev pub KeepsCap : Option ℕ → Prog → Type 0
+KeepsCap most prog = IsWithinCap most (length prog.body.items)
+
+-- Where this is what the analysis says of a tree, its program is too long only where a cap is set, and it is below sixteen
+-- instructions for each node of the tree, a call counting as its target's body, and sixteen more.
 abbrev pub IsTooLong : Option ℕ → InfoTree → CompileError → Type 0
 IsTooLong most x e = (explicit : Bool) (t : Tree) → x ≡ analysis explicit t → is_too_complex e ≡ true →
-    cap_of most < 16 * (program_nodes (pattern_in explicit t) + 1)
+    IsPastCap most (16 * (program_nodes (pattern_in explicit t) + 1))
 
 -- Where this is what the analysis says of a tree, the program has no more instructions than that.
 abbrev pub IsShort : Prog → InfoTree → Type 0

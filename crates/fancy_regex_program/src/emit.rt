@@ -41,7 +41,8 @@ pub(crate) fn emit(
         (part context.now scope emitter.old.opened.items info.now).front) }
     ensures allowed { IfOk result (λ after. IsAllowed context.now.unicode scope.may_keep
         (part context.now scope emitter.old.opened.items info.now).front) }
-    ensures refused { IfErr result (IsReasonWhere context.now.unicode (infos_of context.now) (λ tree_context. IsExpandedPart tree_context scope.may_keep scope.may_be_absent false (info_of info.now))) }
+    ensures refused { IfErr result (IsReasonWhere context.now.unicode (infos_of context.now)
+        (λ tree_context. IsExpandedPart tree_context scope.may_keep scope.may_be_absent false (info_of info.now))) }
 {
     let depth_left = descend(scope.depth_left)?;
     let inside = Scope {
@@ -204,7 +205,8 @@ fn emit_ahead_or_behind(
         (side behind (part context.now scope emitter.old.opened.items info.now))) }
     ensures allowed { IfOk result (λ after. IsAllowed context.now.unicode scope.may_keep
         (side behind (part context.now scope emitter.old.opened.items info.now))) }
-    ensures refused { IfErr result (IsReasonWhere context.now.unicode (infos_of context.now) (λ tree_context. IsExpandedPart tree_context scope.may_keep scope.may_be_absent behind (info_of info.now))) }
+    ensures refused { IfErr result (IsReasonWhere context.now.unicode (infos_of context.now)
+        (λ tree_context. IsExpandedPart tree_context scope.may_keep scope.may_be_absent behind (info_of info.now))) }
 {
     if behind {
         emit_look_behind_body(context, emitter, info, scope, slot)
@@ -229,7 +231,8 @@ fn emit_flushed(
         (side behind (part context.now scope emitter.old.opened.items info.now))) }
     ensures allowed { IfOk result (λ after. IsAllowed context.now.unicode scope.may_keep
         (side behind (part context.now scope emitter.old.opened.items info.now))) }
-    ensures refused { IfErr result (IsReasonWhere context.now.unicode (infos_of context.now) (λ tree_context. IsExpandedPart tree_context scope.may_keep scope.may_be_absent behind (info_of info.now))) }
+    ensures refused { IfErr result (IsReasonWhere context.now.unicode (infos_of context.now)
+        (λ tree_context. IsExpandedPart tree_context scope.may_keep scope.may_be_absent behind (info_of info.now))) }
 {
     let after = emit_ahead_or_behind(context, emitter, info, behind, scope, slot)?;
     emitter.body.flush()?;
@@ -285,7 +288,8 @@ fn emit_group(
         (pat.group number (part context.now scope emitter.old.opened.items child.now).front)) }
     ensures allowed { IfOk result (λ after. IsAllowed context.now.unicode scope.may_keep
         (pat.group number (part context.now scope emitter.old.opened.items child.now).front)) }
-    ensures refused { IfErr result (IsReasonWhere context.now.unicode (infos_of context.now) (λ tree_context. IsExpandedPart tree_context scope.may_keep scope.may_be_absent false (info_of child.now))) }
+    ensures refused { IfErr result (IsReasonWhere context.now.unicode (infos_of context.now)
+        (λ tree_context. IsExpandedPart tree_context scope.may_keep scope.may_be_absent false (info_of child.now))) }
 {
     let inside = past_slots(slot, 1)?;
     let start = first_slot(number)?;
@@ -315,7 +319,8 @@ fn emit_atomic(
         (pat.atomic (part context.now scope emitter.old.opened.items child.now).front)) }
     ensures allowed { IfOk result (λ after. IsAllowed context.now.unicode scope.may_keep
         (pat.atomic (part context.now scope emitter.old.opened.items child.now).front)) }
-    ensures refused { IfErr result (IsReasonWhere context.now.unicode (infos_of context.now) (λ tree_context. IsExpandedPart tree_context scope.may_keep scope.may_be_absent false (info_of child.now))) }
+    ensures refused { IfErr result (IsReasonWhere context.now.unicode (infos_of context.now)
+        (λ tree_context. IsExpandedPart tree_context scope.may_keep scope.may_be_absent false (info_of child.now))) }
 {
     let inside = past_slots(slot, 1)?;
     emitter.body.flush_and_push(Insn::BeginAtomic(slot))?;
@@ -340,7 +345,8 @@ fn emit_look_around(
         (look how (part context.now scope emitter.old.opened.items child.now))) }
     ensures allowed { IfOk result (λ after. IsAllowed context.now.unicode scope.may_keep
         (look how (part context.now scope emitter.old.opened.items child.now))) }
-    ensures refused { IfErr result (IsReasonWhere context.now.unicode (infos_of context.now) (λ tree_context. IsExpandedPart tree_context false scope.may_be_absent (looks_behind how) (info_of child.now))) }
+    ensures refused { IfErr result (IsReasonWhere context.now.unicode (infos_of context.now)
+        (λ tree_context. IsExpandedPart tree_context false scope.may_be_absent (looks_behind how) (info_of child.now))) }
 {
     let looking = Scope {
         may_keep: false,
@@ -378,7 +384,8 @@ fn emit_positive_look_around(
         (pat.ahead (side behind (part context.now scope emitter.old.opened.items child.now)))) }
     ensures allowed { IfOk result (λ after. IsAllowed context.now.unicode scope.may_keep
         (side behind (part context.now scope emitter.old.opened.items child.now))) }
-    ensures refused { IfErr result (IsReasonWhere context.now.unicode (infos_of context.now) (λ tree_context. IsExpandedPart tree_context scope.may_keep scope.may_be_absent behind (info_of child.now))) }
+    ensures refused { IfErr result (IsReasonWhere context.now.unicode (infos_of context.now)
+        (λ tree_context. IsExpandedPart tree_context scope.may_keep scope.may_be_absent behind (info_of child.now))) }
 {
     let inside = past_slots(slot, 1)?;
     emitter.body.flush_and_push(Insn::Save(slot))?;
@@ -403,7 +410,8 @@ fn emit_negative_look_around(
         (pat.never (side behind (part context.now scope emitter.old.opened.items child.now)))) }
     ensures allowed { IfOk result (λ after. IsAllowed context.now.unicode scope.may_keep
         (side behind (part context.now scope emitter.old.opened.items child.now))) }
-    ensures refused { IfErr result (IsReasonWhere context.now.unicode (infos_of context.now) (λ tree_context. IsExpandedPart tree_context scope.may_keep scope.may_be_absent behind (info_of child.now))) }
+    ensures refused { IfErr result (IsReasonWhere context.now.unicode (infos_of context.now)
+        (λ tree_context. IsExpandedPart tree_context scope.may_keep scope.may_be_absent behind (info_of child.now))) }
 {
     let inside = past_slots(slot, 1)?;
     emitter.body.flush_and_push(Insn::BeginAtomic(slot))?;
@@ -433,7 +441,8 @@ fn emit_alternative(
         (side behind (part context.now scope emitter.old.opened.items info.now))) }
     ensures allowed { IfOk result (λ after. IsAllowed context.now.unicode scope.may_keep
         (side behind (part context.now scope emitter.old.opened.items info.now))) }
-    ensures refused { IfErr result (IsReasonWhere context.now.unicode (infos_of context.now) (λ tree_context. IsExpandedPart tree_context scope.may_keep scope.may_be_absent behind (info_of info.now))) }
+    ensures refused { IfErr result (IsReasonWhere context.now.unicode (infos_of context.now)
+        (λ tree_context. IsExpandedPart tree_context scope.may_keep scope.may_be_absent behind (info_of info.now))) }
 {
     let split = emitter.body.len();
     emitter.body.push_insn(Insn::Split(0, 0))?;
@@ -463,7 +472,8 @@ fn emit_repeat(
         (repeated (part context.now scope emitter.old.opened.items child.now).front bounds.0 bounds.1 greedy)) }
     ensures allowed { IfOk result (λ after. IsAllowed context.now.unicode scope.may_keep
         (repeated (part context.now scope emitter.old.opened.items child.now).front bounds.0 bounds.1 greedy)) }
-    ensures refused { IfErr result (IsReasonWhere context.now.unicode (infos_of context.now) (λ tree_context. IsExpandedRepeat tree_context scope.may_keep scope.may_be_absent bounds.0 bounds.1 (info_of child.now))) }
+    ensures refused { IfErr result (IsReasonWhere context.now.unicode (infos_of context.now)
+        (λ tree_context. IsExpandedRepeat tree_context scope.may_keep scope.may_be_absent bounds.0 bounds.1 (info_of child.now))) }
 {
     let (lo, hi) = bounds;
     if lo > hi {
@@ -499,7 +509,8 @@ fn emit_bounded_repeat(
         (pat.repeat (part context.now scope emitter.old.opened.items child.now).front bounds.0 (Some bounds.1) greedy)) }
     ensures allowed { IfOk result (λ after. IsAllowed context.now.unicode scope.may_keep
         (pat.repeat (part context.now scope emitter.old.opened.items child.now).front bounds.0 (Some bounds.1) greedy)) }
-    ensures refused { IfErr result (IsReasonWhere context.now.unicode (infos_of context.now) (λ tree_context. IsExpandedPart tree_context scope.may_keep scope.may_be_absent false (info_of child.now))) }
+    ensures refused { IfErr result (IsReasonWhere context.now.unicode (infos_of context.now)
+        (λ tree_context. IsExpandedPart tree_context scope.may_keep scope.may_be_absent false (info_of child.now))) }
 {
     let inside = past_slots(slot, 1)?;
     emitter.body.flush_and_push(Insn::BeginRepeat(slot))?;
@@ -547,7 +558,8 @@ fn emit_unbounded_repeat(
     ensures wrote { IfOk result (λ after. Wrote context.now.unicode context.now.whole emitter.old emitter.new slot after
         (pat.repeat (part context.now scope emitter.old.opened.items child.now).front lo None greedy)) }
     ensures allowed { IfOk result (λ after. IsAllowed context.now.unicode scope.may_keep (part context.now scope emitter.old.opened.items child.now).front) }
-    ensures refused { IfErr result (IsReasonWhere context.now.unicode (infos_of context.now) (λ tree_context. IsExpandedPart tree_context scope.may_keep scope.may_be_absent false (info_of child.now))) }
+    ensures refused { IfErr result (IsReasonWhere context.now.unicode (infos_of context.now)
+        (λ tree_context. IsExpandedPart tree_context scope.may_keep scope.may_be_absent false (info_of child.now))) }
 {
     let check = past_slots(slot, 1)?;
     let inside = past_slots(slot, 2)?;
@@ -590,12 +602,17 @@ fn emit_conditional(
     slot: usize,
 ) -> Result<usize, CompileError>
     ensures cap { emitter.new.body.cap ≡ emitter.old.body.cap }
-    ensures full { IfErr result (IsFull emitter.old.body (room (pat.conditional (part context.now scope emitter.old.opened.items condition.now).front (part context.now scope emitter.old.opened.items branches.entry.0.now).front (part context.now scope emitter.old.opened.items branches.entry.1.now).front))) }
+    ensures full { IfErr result (IsFull emitter.old.body (room
+        (pat.conditional (part context.now scope emitter.old.opened.items condition.now).front
+        (part context.now scope emitter.old.opened.items branches.entry.0.now).front (part context.now scope emitter.old.opened.items branches.entry.1.now).front))) }
     ensures wrote { IfOk result (λ after. Wrote context.now.unicode context.now.whole emitter.old emitter.new slot after
-        (pat.conditional (part context.now scope emitter.old.opened.items condition.now).front (part context.now scope emitter.old.opened.items branches.entry.0.now).front (part context.now scope emitter.old.opened.items branches.entry.1.now).front)) }
+        (pat.conditional (part context.now scope emitter.old.opened.items condition.now).front
+        (part context.now scope emitter.old.opened.items branches.entry.0.now).front (part context.now scope emitter.old.opened.items branches.entry.1.now).front)) }
     ensures allowed { IfOk result (λ after. IsAllowed context.now.unicode scope.may_keep
-        (pat.conditional (part context.now scope emitter.old.opened.items condition.now).front (part context.now scope emitter.old.opened.items branches.entry.0.now).front (part context.now scope emitter.old.opened.items branches.entry.1.now).front)) }
-    ensures refused { IfErr result (IsReasonWhere context.now.unicode (infos_of context.now) (λ tree_context. IsExpandedConditional tree_context scope.may_keep scope.may_be_absent (info_of condition.now) (info_of branches.entry.0.now) (info_of branches.entry.1.now))) }
+        (pat.conditional (part context.now scope emitter.old.opened.items condition.now).front
+        (part context.now scope emitter.old.opened.items branches.entry.0.now).front (part context.now scope emitter.old.opened.items branches.entry.1.now).front)) }
+    ensures refused { IfErr result (IsReasonWhere context.now.unicode (infos_of context.now)
+        (λ tree_context. IsExpandedConditional tree_context scope.may_keep scope.may_be_absent (info_of condition.now) (info_of branches.entry.0.now) (info_of branches.entry.1.now))) }
 {
     let (yes, no) = branches;
     let inside = past_slots(slot, 1)?;
@@ -632,7 +649,8 @@ fn emit_call(
         (info_call (infos_of context.now) scope.calls_left emitter.old.opened.items target)) }
     ensures allowed { IfOk result (λ after. IsAllowed context.now.unicode scope.may_keep
         (info_call (infos_of context.now) scope.calls_left emitter.old.opened.items target)) }
-    ensures refused { IfErr result (IsReasonWhere context.now.unicode (infos_of context.now) (λ tree_context. IsExpandedTarget tree_context scope.may_keep scope.may_be_absent (infos_of context.now) target)) }
+    ensures refused { IfErr result (IsReasonWhere context.now.unicode (infos_of context.now)
+        (λ tree_context. IsExpandedTarget tree_context scope.may_keep scope.may_be_absent (infos_of context.now) target)) }
 {
     if target >= context.groups.len() {
         return Err(CompileError::SubroutineCallTargetNotFound(format!(in context.alloc;

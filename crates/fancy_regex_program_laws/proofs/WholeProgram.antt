@@ -1,6 +1,6 @@
 -- A whole program answers the search of its pattern.
 use Rattle.std.proofs.Common.{◌≡◌, ℕ, zero, suc, ◌+◌, ◌-◌, ◌*◌, ◌<◌, ◌≤◌, Bool, true, false, ◌&&◌, List, [], ◌∷◌, ◌++◌, length, take, get_or, set, Option, Some, None, refl, sym, ap, ◌∙◌, subst, arith, append_assoc, length-append, length-set, get_or-set_same, get_or-set_other, cond}
-use Rattle.std.specs.Prelude.{slice_get, ◌==◌, option_map, nat_lt, nat_le, not, replicate}
+use Rattle.std.specs.Prelude.{slice_get, ◌||◌, ◌==◌, option_map, nat_lt, nat_le, not, replicate}
 use Rattle.std.specs.List.{filter}
 use Rattle.std.specs.Str.{IsCharBoundary}
 use Rattle.std.proofs.Math.Seq.{get_or-append_seam, take-set-lt}
@@ -16,7 +16,7 @@ use Rattle.fancy_regex_desugar.specs.CorePatterns.{CorePattern}
 use Rattle.fancy_regex_slots.specs.Memory.{Thread}
 use Rattle.fancy_regex_program.specs.Ops as op
 use Rattle.fancy_regex_program.specs.Ops.{Op}
-use Rattle.fancy_regex_program.specs.Machine.{unset, RunParameters, Ending, ended, initial_run_state, Move, goes, forks, fails, accepts, wrote, act, with_slot, starts_here, next_start, farther, is_start, is_scan, back, pop, exec, tried, first_thread}
+use Rattle.fancy_regex_program.specs.Machine.{unset, RunParameters, Ending, ended, initial_run_state, Move, goes, forks, fails, accepts, wrote, act, with_slot, starts_here, next_start, farther, is_start, is_scan, back, pop, exec, run, anchored_by, tried, first_thread}
 use Rattle.fancy_regex_program.specs.Code.{slots_in, opening, closing, program_of}
 use Rattle.fancy_regex_program.specs.SlotLayout.{slots_of_way, slots_of_match}
 use Rattle.fancy_regex_class.specs.RunInputs.{group_slots}
@@ -142,7 +142,16 @@ admitted true true false x y = refl
 admitted true false k x y = refl
 admitted false f k x y = refl
 
-module _ (r : RunParameters) (p : CorePattern) (whole anchored : Bool) (count : ℕ) (asked : RunRequirements r p whole count) where
+-- After j steps the run has ended, with the result of a search from these starts.
+record Finishes (r : RunParameters) (p : CorePattern) (whole anchored : Bool) (count : ℕ) (starts : List ℕ) (j : ℕ) : Type 0 where
+  pub ending : Ending
+  pub comes : run (program_of r.setting.has_member r.setting.fold whole anchored count p) (2 * count + slots_in p) r j ≡ Some ending
+  pub way : option_map (found_by_thread whole (2 * count)) ending.answer ≡ option_map (found_by_way r.find whole) (first_some (way_at r p count) starts)
+  pub few : ending.backtracks ≤ choices_up_to r p count starts
+  pub narrow : ending.peak ≤ choices_up_to r p count starts
+
+-- A search that is anchored where its program is.
+module _ (r : RunParameters) (p : CorePattern) (whole anchored : Bool) (count : ℕ) (asked : RunRequirements r p whole count) (own : anchored ≡ true → r.find.anchored ≡ true) where
   abbrev code : List Op
   code = program_of r.setting.has_member r.setting.fold whole anchored count p
 
@@ -414,9 +423,9 @@ module _ (r : RunParameters) (p : CorePattern) (whole anchored : Bool) (count : 
       outer false d = inner r.find.anchored d
 
   -- what is told of the starts that are tried
-  over_from : (q : ℕ) (qs : List ℕ) → tried r ≡ q ∷ qs → (starts : List ℕ) → attempted_starts anchored r ≡ q ∷ starts →
-      Comes code r whole count (thread 0 q slots ∷ []) (tale_from q starts) → (n : ℕ) × ((j : ℕ) → n ≤ j → Terminates r p whole anchored count j)
-  over_from q qs e starts are comes =
+  over_from : (q : ℕ) (qs : List ℕ) → tried r ≡ q ∷ qs → Comes code r whole count (thread 0 q slots ∷ []) (tale_from q qs) →
+      (n : ℕ) × ((j : ℕ) → n ≤ j → Finishes r p whole anchored count (tried r) j)
+  over_from q qs e comes =
       let c = comes initial_run_state in (
         c.fuel,
         λ j le.
@@ -424,44 +433,61 @@ module _ (r : RunParameters) (p : CorePattern) (whole anchored : Bool) (count : 
             record {
               ending = m.ending;
               comes = ap (λ (l : List ℕ). elim (first_item l) as (λ o. Option Ending) [ None ↦ Some (ended None) | Some s ↦ exec code r j initial_run_state (first_thread (2 * count + slots_in p) s ∷ []) ]) e ∙ m.comes;
-              answers = record {
-                way = m.answer ∙ search_answer r p whole count (first_group_number whole) asked.writable asked.small unset q starts
-                    ∙ ap (λ l. option_map (found_by_way r.find whole) (first_some (way_at r p count) l)) (sym are);
-                few = omega (arith, m.few, search_opened r p whole count (first_group_number whole) asked.writable asked.small unset q starts, ap (choices_up_to r p count) are);
-                narrow = omega (arith, m.narrow, search_opened r p whole count (first_group_number whole) asked.writable asked.small unset q starts, ap (choices_up_to r p count) are);
-              };
+              way = m.answer ∙ search_answer r p whole count (first_group_number whole) asked.writable asked.small unset q qs
+                  ∙ ap (λ l. option_map (found_by_way r.find whole) (first_some (way_at r p count) l)) (sym e);
+              few = omega (arith, m.few, search_opened r p whole count (first_group_number whole) asked.writable asked.small unset q qs, ap (choices_up_to r p count) e);
+              narrow = omega (arith, m.narrow, search_opened r p whole count (first_group_number whole) asked.writable asked.small unset q qs, ap (choices_up_to r p count) e);
             },
       )
 
-  over_none : tried r ≡ [] → (n : ℕ) × ((j : ℕ) → n ≤ j → Terminates r p whole anchored count j)
+  over_none : tried r ≡ [] → (n : ℕ) × ((j : ℕ) → n ≤ j → Finishes r p whole anchored count (tried r) j)
   over_none e = (
     0,
     λ j le. record {
       ending = ended None;
       comes = ap (λ (l : List ℕ). elim (first_item l) as (λ o. Option Ending) [ None ↦ Some (ended None) | Some s ↦ exec code r j initial_run_state (first_thread (2 * count + slots_in p) s ∷ []) ]) e;
-      answers = record {
-        way = ap (λ l. option_map (found_by_way r.find whole) (first_some (way_at r p count) l)) (sym (none_of anchored));
-        few = omega arith;
-        narrow = omega arith;
-      };
+      way = ap (λ l. option_map (found_by_way r.find whole) (first_some (way_at r p count) l)) (sym e);
+      few = omega arith;
+      narrow = omega arith;
     },
   )
-    where
-      none_of : (b : Bool) → cond b (take 1 (tried r)) (tried r) ≡ []
-      none_of true = ap (take 1) e
-      none_of false = e
 
-  over_some : (q : ℕ) (qs : List ℕ) → tried r ≡ q ∷ qs → (b : Bool) → anchored ≡ b → (n : ℕ) × ((j : ℕ) → n ≤ j → Terminates r p whole anchored count j)
+  -- behind the only start of an anchored search there is none
+  alone : anchored ≡ true → (q : ℕ) → behind r q ≡ []
+  alone is q = ap (λ (b : Bool). cond b [] (filter r.may_start (boundaries r.setting.text (q + 1) r.find.stop))) (own is)
+
+  over_some : (q : ℕ) (qs : List ℕ) → tried r ≡ q ∷ qs → (b : Bool) → anchored ≡ b → (n : ℕ) × ((j : ℕ) → n ≤ j → Finishes r p whole anchored count (tried r) j)
   over_some q qs e true is =
       let f = first_place q qs e in
-      over_from q qs e [] (ap (λ b. cond b (take 1 (tried r)) (tried r)) is ∙ ap (take 1) e) (from_first is q f.0)
+      let none : qs ≡ [] = sym f.1 ∙ alone is q in
+      over_from q [] (e ∙ ap (λ (l : List ℕ). q ∷ l) none) (from_first is q f.0)
   over_some q qs e false is =
       let f = first_place q qs e in
-      over_from q qs e qs (ap (λ b. cond b (take 1 (tried r)) (tried r)) is ∙ e) (from_here is qs q f.1 f.0)
+      over_from q qs e (from_here is qs q f.1 f.0)
 
-  over_starts : (l : List ℕ) → tried r ≡ l → (n : ℕ) × ((j : ℕ) → n ≤ j → Terminates r p whole anchored count j)
+  over_starts : (l : List ℕ) → tried r ≡ l → (n : ℕ) × ((j : ℕ) → n ≤ j → Finishes r p whole anchored count (tried r) j)
   over_starts [] e = over_none e
   over_starts (q ∷ qs) e = over_some q qs e anchored refl
 
+module _ (r : RunParameters) (p : CorePattern) (whole anchored : Bool) (count : ℕ) (asked : RunRequirements r p whole count) where
+  -- the anchored run has the same requirements
+  asked_anchored : RunRequirements (anchored_by anchored r) p whole count
+  asked_anchored = record {
+    utf8 = asked.utf8;
+    small = asked.small;
+    first = asked.first;
+    stop = asked.stop;
+    groups = asked.groups;
+    spans = asked.spans;
+    writable = asked.writable;
+    placed = asked.placed;
+  }
+
+  finished : (j : ℕ) → Finishes (anchored_by anchored r) p whole anchored count (attempted_starts anchored r) j → Terminates r p whole anchored count j
+  finished j f = record { ending = f.ending; comes = f.comes; answers = record { way = f.way; few = f.few; narrow = f.narrow } }
+
 pub programs_answer : ProgramsAnswerSearches
-programs_answer r p whole anchored count asked = over_starts r p whole anchored count asked (tried r) refl
+programs_answer r p whole anchored count asked =
+    let over = over_starts (anchored_by anchored r) p whole anchored count (asked_anchored r p whole anchored count asked)
+    (λ is. ap (λ (b : Bool). b || r.find.anchored) is) (tried (anchored_by anchored r)) refl in
+    (over.0, λ j le. finished r p whole anchored count asked j (over.1 j le))

@@ -8,7 +8,7 @@ use Rattle.fancy_regex_slots.specs.Memory.{Thread}
 use Rattle.fancy_regex_desugar.specs.CorePatterns.{CorePattern}
 use Rattle.fancy_regex_desugar.specs.CoreWays.{core_ways, core_choices}
 use Rattle.fancy_regex_desugar.specs.Shapes.{StepsBackOnlyFirst}
-use Rattle.fancy_regex_program.specs.Machine.{unset, RunParameters, Ending, tried, run}
+use Rattle.fancy_regex_program.specs.Machine.{unset, RunParameters, Ending, anchored_by, tried, run}
 use Rattle.fancy_regex_program.specs.Code.{slots_in, program_of}
 use Rattle.fancy_regex_program.specs.SlotLayout.{slots_of_match}
 use Rattle.fancy_regex_program.specs.Shapes.{IsWritable}
@@ -43,9 +43,9 @@ pub record RunRequirements (r : RunParameters) (p : CorePattern) (whole : Bool) 
   pub writable : IsWritable (first_group_number whole) count p
   pub placed : StepsBackOnlyFirst false p
 
--- the start positions that a program tries; an anchored program tries only the first
+-- the start positions that a program tries: an anchored program takes the first alone, and then asks the prefilter
 abbrev pub attempted_starts : Bool → RunParameters → List ℕ
-attempted_starts anchored r = if anchored then take 1 (tried r) else tried r
+attempted_starts anchored r = tried (anchored_by anchored r)
 
 -- A reported match: its end, its start (0 if group 0 is not the whole match), and the slots of the groups. Positions are byte offsets.
 pub record FoundMatch : Type 0 where
@@ -73,10 +73,10 @@ pub record Answers (r : RunParameters) (p : CorePattern) (whole anchored : Bool)
   pub few : e.backtracks ≤ choices_up_to r p count (attempted_starts anchored r)
   pub narrow : e.peak ≤ choices_up_to r p count (attempted_starts anchored r)
 
--- After j steps the run has ended, with that result.
+-- After j steps the run has ended, with that result. A run of an anchored program is anchored.
 pub record Terminates (r : RunParameters) (p : CorePattern) (whole anchored : Bool) (count j : ℕ) : Type 0 where
   pub ending : Ending
-  pub comes : run (program_of r.setting.has_member r.setting.fold whole anchored count p) (2 * count + slots_in p) r j ≡ Some ending
+  pub comes : run (program_of r.setting.has_member r.setting.fold whole anchored count p) (2 * count + slots_in p) (anchored_by anchored r) j ≡ Some ending
   pub answers : Answers r p whole anchored count ending
 
 -- From some number of steps on, the run has ended with the result of the search.

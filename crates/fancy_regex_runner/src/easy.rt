@@ -107,7 +107,10 @@ impl Easy {
         ensures at_least { IfOk result (λ _. (pattern : Pattern) → IsEasyOf self.now pattern
             → min (steps.old + attempted (match_at (setting_for self.now.unicode text.now input.now) pattern (search_for self.now.longest input.now))
             (starts (setting_for self.now.unicode text.now input.now) pattern (search_for self.now.longest input.now))) (2 ^ 64 - 1) ≤ steps.new) }
+        ensures counts { steps.old ≤ steps.new }
     {
+        // Read so that the proof knows that the counter is a `u64`, which no look lowers.
+        let _before = steps.count();
         let stop = input.range.end;
         if input.first > stop {
             return Ok(None);

@@ -1,5 +1,6 @@
 -- A tree that begins with an assertion of one place has no way at another.
-use Rattle.std.proofs.Common.{◌≡◌, ℕ, zero, suc, ◌+◌, ⊎_elim, inl, inr, Bool, true, false, ◌||◌, ◌&&◌, ◌==◌, nat_lt, Option, Some, None, List, [], ◌∷◌, ◌++◌, length, map, refl, ap, sym, ◌∙◌, arith, eqb-true}
+use Rattle.std.proofs.Common.{◌≡◌, ℕ, zero, suc, ◌+◌, ⊎_elim, inl, inr, Bool, true, false, ◌||◌, ◌&&◌, ◌==◌, nat_lt, Option}
+use Rattle.std.proofs.Common.{Some, None, List, [], ◌∷◌, ◌++◌, length, map, refl, ap, sym, ◌∙◌, arith, eqb-true}
 use Rattle.std.specs.List.{flat_map}
 use Rattle.regex_hir.specs.Text.{is_some_and}
 use Rattle.fancy_regex_tree.specs.Tree.{Tree, Trees, tree_of, trees, assertion, concat, alt, group, look_around, repeat, atomic_group, continue, no_trees, more_trees}

@@ -3,16 +3,10 @@ use Rattle.std.proofs.Common.{◌≡◌, ⊎_elim, Bool, true, false, ◌||◌, 
 use Rattle.std.specs.Borrow.{Bor}
 use Rattle.std.specs.Fn.{Shared, FnReturnsAt}
 use Rattle.std.specs.List.{list_any}
-use Rattle.fancy_regex_tree.specs.Tree.{Tree, tree_of, concat, alt, group}
-use Rattle.fancy_regex_tree.specs.Traversal.{nodes, descendants, Found, FoundNone, IsFound}
+use Rattle.fancy_regex_tree.specs.Tree.{Tree, tree_of}
+use Rattle.fancy_regex_tree.specs.Traversal.{nodes, Found, FoundNone, IsFound}
 use Rattle.fancy_regex_tree.specs.declared.expr.Expr.{Expr}
 use Rattle.fancy_regex_info.proofs.ReachabilityLemmas.{or_right}
-
-pub nodes_first : (t : Tree) → nodes t ≡ t ∷ descendants t
-nodes_first (concat ts) = refl
-nodes_first (alt ts) = refl
-nodes_first (group t) = refl
-nodes_first t = refl
 
 module _ {F : Type 0} (g : Shared F (Bor Expr × Unit {0}) Bool) (f : F) (p : Tree → Bool)
     (answers : (node : Expr) (answer : Bool) → FnReturnsAt g f node answer → answer ≡ p (tree_of node)) where
@@ -32,9 +26,7 @@ module _ {F : Type 0} (g : Shared F (Bor Expr × Unit {0}) Bool) (f : F) (p : Tr
   found_is true ts h = sym (found_one ts h)
   found_is false ts h = sym (found_none ts h)
 
--- below a node that fails the test
-pub found_below : {F : Type 0} (g : Shared F (Bor Expr × Unit {0}) Bool) (f : F) (p : Tree → Bool) (r : Bool) (t : Tree) →
-    IsFound g f r (descendants t) → p t ≡ false →
-    ((node : Expr) (answer : Bool) → FnReturnsAt g f node answer → answer ≡ p (tree_of node)) → r ≡ list_any p (nodes t)
-found_below g f p r t found fails answers =
-    found_is g f p answers r (descendants t) found ∙ sym (ap (list_any p) (nodes_first t) ∙ ap (λ b. b || list_any p (descendants t)) fails)
+-- in a whole tree
+pub found_in_tree : {F : Type 0} (g : Shared F (Bor Expr × Unit {0}) Bool) (f : F) (p : Tree → Bool) (r : Bool) (t : Tree) →
+    IsFound g f r (nodes t) → ((node : Expr) (answer : Bool) → FnReturnsAt g f node answer → answer ≡ p (tree_of node)) → r ≡ list_any p (nodes t)
+found_in_tree g f p r t found answers = found_is g f p answers r (nodes t) found

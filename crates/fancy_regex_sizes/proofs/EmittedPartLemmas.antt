@@ -2,9 +2,11 @@
 use Rattle.std.proofs.Common.{◌≡◌, ℕ, zero, suc, ◌<◌, ◌⊎◌, ⊎_elim, inl, inr, Bool, true, false, ◌||◌, ◌==◌, if◌then◌else◌, List, [], ◌∷◌, ◌++◌, refl, ap, sym, subst, ◌∙◌, arith}
 use Rattle.std.specs.List.{Contains, list_any}
 use Rattle.std.proofs.lemmas.List.Elements.{Contains-push_cases, Contains-append_left, Contains-append_right, Contains-append_cases}
-use Rattle.fancy_regex_tree.specs.Tree.{Tree, Trees, concat, alt, group, look_around, repeat, atomic_group, conditional, subroutine_call, absent_repeater, absent_expression, absent_stopper, define_group, ast_group, no_trees, more_trees}
-use Rattle.fancy_regex_tree.specs.Traversal.{children, listed}
-use Rattle.fancy_regex_sizes.specs.EmittedParts.{in_look_around, some_descendant, some_of_row, some_emitted, emitted_calls, emitted_calls_in_row, IsWhole, itself, called, inside_of_children, skips_children, IsEmitted, the_root, child, body, SomeEmittedPart}
+use Rattle.fancy_regex_tree.specs.Tree.{Tree, Trees, concat, alt, group, look_around, repeat, atomic_group, conditional, subroutine_call, absent_repeater}
+use Rattle.fancy_regex_tree.specs.Tree.{absent_expression, absent_stopper, define_group, ast_group, no_trees, more_trees}
+use Rattle.fancy_regex_tree.specs.Traversal.{subtrees, listed}
+use Rattle.fancy_regex_sizes.specs.EmittedParts.{in_look_around, some_descendant, some_of_row, some_emitted, emitted_calls, emitted_calls_in_row, IsWhole}
+use Rattle.fancy_regex_sizes.specs.EmittedParts.{itself, called, inside_of_children, skips_children, IsEmitted, the_root, child, body, SomeEmittedPart}
 use Rattle.fancy_regex_sizes.specs.declared.emitted.Inside.{Inside}
 use Rattle.fancy_regex_sizes.specs.declared.emitted.Inside.TheVariants.{Nothing, Absent}
 use Rattle.fancy_regex_sizes.specs.declared.emitted.Call.{Call}
@@ -44,7 +46,7 @@ module _ (test : Inside → Tree → Bool) where
   row_is i (more_trees t ts) = ap (λ b. some_emitted test i t || b) (row_is i ts)
 
   below_is : (i : Inside) (t : Tree) → skips_children t ≡ false →
-      some_descendant test i t ≡ list_any (some_emitted test (inside_of_children i t)) (children t)
+      some_descendant test i t ≡ list_any (some_emitted test (inside_of_children i t)) (subtrees t)
   unfolding some_descendant some_of_row
   below_is i (concat ts) h = row_is i ts
   below_is i (alt ts) h = row_is i ts
@@ -62,11 +64,11 @@ module _ (test : Inside → Tree → Bool) where
   below_is i (ast_group name t position) h = or_nothing (some_emitted test i t)
   below_is i t h = refl
 
-  child_shows : (i : Inside) (t u : Tree) → skips_children t ≡ false → Contains (children t) u →
+  child_shows : (i : Inside) (t u : Tree) → skips_children t ≡ false → Contains (subtrees t) u →
       some_emitted test (inside_of_children i t) u ≡ true → some_emitted test i t ≡ true
   child_shows i t u seen c h =
       or_right (test i t) (some_descendant test i t)
-      (below_is i t seen ∙ any_has (some_emitted test (inside_of_children i t)) (children t) u c h)
+      (below_is i t seen ∙ any_has (some_emitted test (inside_of_children i t)) (subtrees t) u c h)
 
 only_child : (t u : Tree) → Contains (t ∷ []) u → t ≡ u
 only_child t u m = ⊎_elim (λ e. e) (λ e. absurd (none_there u e)) (first_or_later t [] u m)
@@ -81,7 +83,7 @@ row_calls i (more_trees t ts) u m c h =
     (λ e. Contains-append_right (emitted_calls i t) (emitted_calls_in_row i ts) c (row_calls i ts u e c h))
     (first_or_later t (listed ts) u m)
 
-child_calls : (i : Inside) (t u : Tree) → skips_children t ≡ false → Contains (children t) u → (c : Call) →
+child_calls : (i : Inside) (t u : Tree) → skips_children t ≡ false → Contains (subtrees t) u → (c : Call) →
     Contains (emitted_calls (inside_of_children i t) u) c → Contains (emitted_calls i t) c
 unfolding emitted_calls emitted_calls_in_row
 child_calls i (concat ts) u seen m c h = row_calls i ts u m c h

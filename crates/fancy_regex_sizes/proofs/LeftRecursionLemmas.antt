@@ -1,5 +1,6 @@
 -- Calls at the start of a part, through calls too.
-use Rattle.std.proofs.Common.{◌≡◌, ℕ, zero, suc, ◌+◌, ◌<◌, ◌≤◌, ⊎_elim, Bool, true, false, ◌==◌, List, [], ◌∷◌, ◌++◌, Option, Some, None, map, length, take, drop, get_or, refl, sym, ap, subst, ◌∙◌, arith, append_assoc, eq-eqb, eqb-true, Vec, Global}
+use Rattle.std.proofs.Common.{◌≡◌, ℕ, zero, suc, ◌+◌, ◌<◌, ◌≤◌, ⊎_elim, Bool, true, false, ◌==◌, List, [], ◌∷◌, ◌++◌, Option, Some, None, map, length, drop, get_or}
+use Rattle.std.proofs.Common.{refl, sym, ap, subst, ◌∙◌, arith, append_assoc, eq-eqb, eqb-true, Vec, Global}
 use Rattle.std.proofs.lemmas.Bool.{cases_lt}
 use Rattle.std.proofs.lemmas.List.{append-nil, at_drop_more}
 use Rattle.std.proofs.Math.ListN.{drop_of_length-le}
@@ -9,12 +10,11 @@ use Rattle.fancy_regex_tree.specs.declared.expr.Expr.{Expr}
 use Rattle.fancy_regex_meaning.specs.Sizes.{Size, size, target}
 use Rattle.fancy_regex_info.specs.Reachability.{rows, has, following, through}
 use Rattle.fancy_regex_info.specs.SizeFixpoint.{is_on_cycle}
-use Rattle.fancy_regex_sizes.specs.LeftRecursion.{where_so, first_calls, first_calls_in_row, first_calls_in_branches, BeginsWithCall, at_once, through_call, IsLeftRecursive}
+use Rattle.fancy_regex_sizes.specs.LeftRecursion.{where_so, first_calls, first_calls_in_row, BeginsWithCall, at_once, through_call, IsLeftRecursive}
 use Rattle.fancy_regex_info.specs.AnalysisRelations.{mark_at}
 use Rattle.fancy_regex_info.proofs.ReachabilityLemmas.{has_either, flat_from, length_rows}
 use Rattle.fancy_regex_info.proofs.TableLemmas.{reads_at}
 use Rattle.fancy_regex_sizes.proofs.PartErrorLemmas.{either_is}
-use Rattle.fancy_regex_info.proofs.RowLemmas.{walk_begins, walk_goes_on}
 use Rattle.fancy_regex_sizes.proofs.ReachabilityLemmas.{starts_reached, follows_reached}
 
 -- lists that belong to the bodies of groups
@@ -95,7 +95,7 @@ module _ (groups : List Tree) where
       subst (λ s. has (through E (length E) s) k ≡ true) (sym (follow_is F groups k ∙ ap (or_list F) left.1))
       (begins_inside (F body) body k left.2 (λ i here lt. starts_reached E (F body) (length E) i here) low)
 
--- Rows and branches that are walked from the front.
+-- Rows that are walked from the front.
 module _ (S : Tree → Size) where
   abbrev firsts : Expr → List ℕ
   firsts x = first_calls S (tree_of x)
@@ -103,30 +103,12 @@ module _ (S : Tree → Size) where
   abbrev row_firsts : List Expr → List ℕ
   row_firsts xs = first_calls_in_row S (trees (map tree_of xs))
 
-  abbrev branch_firsts : List Expr → List ℕ
-  branch_firsts xs = first_calls_in_branches S (trees (map tree_of xs))
-
-  no_branch : branch_firsts [] ≡ []
-  unfolding first_calls first_calls_in_row first_calls_in_branches
-  no_branch = refl
-
-  more_branches : (x : Expr) (xs : List Expr) → branch_firsts (x ∷ xs) ≡ firsts x ++ branch_firsts xs
-  unfolding first_calls first_calls_in_row first_calls_in_branches
-  more_branches x xs = refl
-
-  pub branches_begin : (start : List ℕ) (xs : List Expr) → start ≡ start ++ branch_firsts (take 0 xs)
-  branches_begin = walk_begins firsts branch_firsts no_branch more_branches
-
-  pub branches_go_on : (start now next : List ℕ) (xs : List Expr) (i : ℕ) (x : Expr) → i < length xs → x ≡ get_or xs i x →
-      now ≡ start ++ branch_firsts (take i xs) → next ≡ now ++ firsts x → next ≡ start ++ branch_firsts (take (i + 1) xs)
-  branches_go_on = walk_goes_on firsts branch_firsts no_branch more_branches
-
   no_part : row_firsts [] ≡ []
-  unfolding first_calls first_calls_in_row first_calls_in_branches
+  unfolding first_calls first_calls_in_row
   no_part = refl
 
   more_parts : (x : Expr) (xs : List Expr) → row_firsts (x ∷ xs) ≡ firsts x ++ where_so ((S (tree_of x)).least == 0) (row_firsts xs)
-  unfolding first_calls first_calls_in_row first_calls_in_branches
+  unfolding first_calls first_calls_in_row
   more_parts x xs = refl
 
   at_part : (xs : List Expr) (i : ℕ) (x : Expr) → i < length xs → x ≡ get_or xs i x →

@@ -10,6 +10,7 @@ pub mod AnchorLemmas
 pub mod AllLemmas
 pub mod DescendantLemmas
 pub mod ChildLemmas
+pub mod FlowLemmas
 pub mod ReferenceLemmas
 pub mod EmittedPartLemmas
 pub mod InsideLemmas

@@ -2,9 +2,11 @@
 use Rattle.std.proofs.Common.{◌≡◌, Bool, true, false, if◌then◌else◌, ◌==◌, ◌||◌, List, [], ◌∷◌, ◌++◌, flat_map, filter_map, refl, sym, ap, ◌∙◌, append_assoc}
 use Rattle.std.specs.List.{list_any}
 use Rattle.std.proofs.lemmas.List.{append-nil}
-use Rattle.fancy_regex_tree.specs.Tree.{Tree, Trees, concat, alt, group, look_around, repeat, atomic_group, conditional, subroutine_call, absent_repeater, absent_expression, absent_stopper, define_group, ast_group, no_trees, more_trees}
-use Rattle.fancy_regex_tree.specs.Traversal.{children, listed}
-use Rattle.fancy_regex_sizes.specs.EmittedParts.{in_look_around, some_descendant, some_of_row, some_emitted, emitted_calls, emitted_calls_in_row, emitted_parts, emitted_parts_in_row, call_of, inside_of_children, skips_children}
+use Rattle.fancy_regex_tree.specs.Tree.{Tree, Trees, concat, alt, group, look_around, repeat, atomic_group, conditional, subroutine_call, absent_repeater}
+use Rattle.fancy_regex_tree.specs.Tree.{absent_expression, absent_stopper, define_group, ast_group, no_trees, more_trees}
+use Rattle.fancy_regex_tree.specs.Traversal.{subtrees, listed}
+use Rattle.fancy_regex_sizes.specs.EmittedParts.{in_look_around, some_descendant, some_of_row, some_emitted, emitted_calls, emitted_calls_in_row}
+use Rattle.fancy_regex_sizes.specs.EmittedParts.{emitted_parts, emitted_parts_in_row, call_of, inside_of_children, skips_children}
 use Rattle.fancy_regex_sizes.specs.declared.emitted.Inside.{Inside}
 use Rattle.fancy_regex_sizes.specs.declared.emitted.Inside.TheVariants.{Absent}
 use Rattle.fancy_regex_sizes.specs.declared.emitted.Call.{Call}
@@ -95,7 +97,7 @@ alone : (i : Inside) (t : Tree) → emitted_parts i t ≡ flat_map (emitted_part
 alone i t = sym (append-nil (emitted_parts i t))
 
 abbrev below : Inside → Tree → List Part
-below i t = flat_map (emitted_parts (inside_of_children i t)) (children t)
+below i t = flat_map (emitted_parts (inside_of_children i t)) (subtrees t)
 
 -- the parts of a node that does not skip its children
 parts_is : (i : Inside) (t : Tree) → skips_children t ≡ false → emitted_parts i t ≡ (i, t) ∷ below i t
@@ -126,7 +128,7 @@ pub node_alone : (i : Inside) (t : Tree) (old now : List Part) → skips_childre
 node_alone i t old now skips added = added ∙ ap (λ ps. old ++ ps) (sym (skipped_is i t skips))
 
 pub node_and_children : (i j : Inside) (t : Tree) (old first now : List Part) (us : List Tree) → skips_children t ≡ false → j ≡ inside_of_children i t →
-    us ≡ children t → first ≡ old ++ (i, t) ∷ [] → now ≡ first ++ flat_map (emitted_parts j) us → now ≡ old ++ emitted_parts i t
+    us ≡ subtrees t → first ≡ old ++ (i, t) ∷ [] → now ≡ first ++ flat_map (emitted_parts j) us → now ≡ old ++ emitted_parts i t
 node_and_children i j t old first now us goes inside all added rest =
     rest
     ∙ ap (λ k. first ++ flat_map (emitted_parts k) us) inside

@@ -1,55 +1,29 @@
--- What can end, along rows and branches.
-use Rattle.std.proofs.Common.{◌≡◌, ℕ, ◌+◌, ◌<◌, ◌≤◌, Bool, true, false, ◌&&◌, ◌||◌, List, [], ◌∷◌, length, drop, get_or, map, refl, ap, sym, ◌∙◌}
+-- What can end, along branches.
+use Rattle.std.proofs.Common.{◌≡◌, ℕ, ◌+◌, ◌<◌, ◌≤◌, Bool, true, false, ◌||◌, List, [], ◌∷◌, length, drop, get_or, map, refl, ap, sym, ◌∙◌}
 use Rattle.std.proofs.lemmas.List.{at_drop_more}
 use Rattle.std.proofs.Math.ListN.{drop_of_length-le}
 use Rattle.fancy_regex_tree.specs.Tree.{tree_of, trees}
 use Rattle.fancy_regex_tree.specs.declared.expr.Expr.{Expr}
-use Rattle.fancy_regex_meaning.specs.Termination.{can_end_with, all_can_end, some_can_end}
+use Rattle.fancy_regex_meaning.specs.Termination.{can_end_with, some_can_end}
 
 module _ (call : ℕ → Bool) where
   abbrev can : Expr → Bool
   can x = can_end_with call (tree_of x)
 
-  abbrev all : List Expr → Bool
-  all xs = all_can_end call (trees (map tree_of xs))
-
   abbrev some : List Expr → Bool
   some xs = some_can_end call (trees (map tree_of xs))
 
-  all_of_none : all [] ≡ true
-  unfolding can_end_with all_can_end some_can_end
-  all_of_none = refl
-
-  all_of_more : (x : Expr) (xs : List Expr) → all (x ∷ xs) ≡ (can x && all xs)
-  unfolding can_end_with all_can_end some_can_end
-  all_of_more x xs = refl
-
   some_of_none : some [] ≡ false
-  unfolding can_end_with all_can_end some_can_end
+  unfolding can_end_with some_can_end
   some_of_none = refl
 
   some_of_more : (x : Expr) (xs : List Expr) → some (x ∷ xs) ≡ (can x || some xs)
-  unfolding can_end_with all_can_end some_can_end
+  unfolding can_end_with some_can_end
   some_of_more x xs = refl
-
-  all_step : (xs : List Expr) (i : ℕ) (x : Expr) → i < length xs → x ≡ get_or xs i x → all (drop i xs) ≡ (can x && all (drop (i + 1) xs))
-  all_step xs i x inside is =
-      at_drop_more all xs i x inside ∙ all_of_more (get_or xs i x) (drop (i + 1) xs) ∙ ap (λ y. can y && all (drop (i + 1) xs)) (sym is)
 
   some_step : (xs : List Expr) (i : ℕ) (x : Expr) → i < length xs → x ≡ get_or xs i x → some (drop i xs) ≡ (can x || some (drop (i + 1) xs))
   some_step xs i x inside is =
       at_drop_more some xs i x inside ∙ some_of_more (get_or xs i x) (drop (i + 1) xs) ∙ ap (λ y. can y || some (drop (i + 1) xs)) (sym is)
-
-  pub all_fails : (xs : List Expr) (i : ℕ) (x : Expr) → i < length xs → x ≡ get_or xs i x → all (drop i xs) ≡ all xs →
-      can x ≡ false → false ≡ all xs
-  all_fails xs i x inside is same fails = sym (ap (λ b. b && all (drop (i + 1) xs)) fails) ∙ sym (all_step xs i x inside is) ∙ same
-
-  pub all_goes_on : (xs : List Expr) (i : ℕ) (x : Expr) → i < length xs → x ≡ get_or xs i x → all (drop i xs) ≡ all xs →
-      can x ≡ true → all (drop (i + 1) xs) ≡ all xs
-  all_goes_on xs i x inside is same holds = sym (ap (λ b. b && all (drop (i + 1) xs)) holds) ∙ sym (all_step xs i x inside is) ∙ same
-
-  pub all_holds : (xs : List Expr) (i : ℕ) → length xs ≤ i → all (drop i xs) ≡ all xs → true ≡ all xs
-  all_holds xs i past same = sym all_of_none ∙ ap all (sym (drop_of_length-le xs past)) ∙ same
 
   pub some_holds : (xs : List Expr) (i : ℕ) (x : Expr) → i < length xs → x ≡ get_or xs i x → some (drop i xs) ≡ some xs →
       can x ≡ true → true ≡ some xs

@@ -2,8 +2,9 @@
 -- bodies quantified `{0}` emit nothing.
 use Rattle.std.specs.Prelude.{◌≡◌, ℕ, Bool, true, false, ◌||◌, List, [], ◌∷◌, ◌++◌, ◌==◌, if◌then◌else◌, Option, Some, None}
 use Rattle.std.specs.List.{Contains}
-use Rattle.fancy_regex_tree.specs.Tree.{Tree, Trees, tree_of, concat, alt, group, look_around, repeat, atomic_group, conditional, subroutine_call, absent_repeater, absent_expression, absent_stopper, define_group, ast_group, no_trees, more_trees}
-use Rattle.fancy_regex_tree.specs.Traversal.{children}
+use Rattle.fancy_regex_tree.specs.Tree.{Tree, Trees, tree_of, concat, alt, group, look_around, repeat, atomic_group, conditional, subroutine_call}
+use Rattle.fancy_regex_tree.specs.Tree.{absent_repeater, absent_expression, absent_stopper, define_group, ast_group, no_trees, more_trees}
+use Rattle.fancy_regex_tree.specs.Traversal.{subtrees}
 use Rattle.fancy_regex_meaning.specs.Sizes.{target}
 use Rattle.fancy_regex_sizes.specs.declared.emitted.Inside.{Inside}
 use Rattle.fancy_regex_sizes.specs.declared.emitted.Inside.TheVariants.{Nothing, LookAround, Absent}
@@ -119,7 +120,7 @@ skips_children t = false
 -- is never run and for definitions, and the body of each group that is called where the call is written out.
 pub data IsEmitted (groups : List Tree) (root : Tree) : Inside → Tree → Type 0 where
   the_root : IsEmitted groups root Nothing root
-  child : (i : Inside) (t u : Tree) → IsEmitted groups root i t → skips_children t ≡ false → Contains (children t) u →
+  child : (i : Inside) (t u : Tree) → IsEmitted groups root i t → skips_children t ≡ false → Contains (subtrees t) u →
       IsEmitted groups root (inside_of_children i t) u
   body : (i : Inside) (k : ℕ) (u : Tree) → IsEmitted groups root i (subroutine_call k) → target groups k ≡ Some u → IsEmitted groups root i u
 

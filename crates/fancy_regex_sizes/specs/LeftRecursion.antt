@@ -1,6 +1,7 @@
 -- Left recursion: calls that are possible before any character is matched.
-use Rattle.std.specs.Prelude.{◌≡◌, ℕ, Bool, true, false, ◌==◌, List, [], ◌∷◌, ◌++◌, Some}
-use Rattle.fancy_regex_tree.specs.Tree.{Tree, Trees, concat, alt, group, look_around, repeat, atomic_group, conditional, subroutine_call, absent_repeater, absent_expression, absent_stopper, define_group, ast_group, no_trees, more_trees}
+use Rattle.std.specs.Prelude.{◌≡◌, ℕ, Bool, true, false, ◌==◌, if◌then◌else◌, List, [], ◌∷◌, ◌++◌, Some}
+use Rattle.fancy_regex_tree.specs.Tree.{Tree, Trees, concat, alt, group, look_around, repeat, atomic_group, conditional, subroutine_call}
+use Rattle.fancy_regex_tree.specs.Tree.{absent_repeater, absent_expression, absent_stopper, ast_group, no_trees, more_trees}
 use Rattle.fancy_regex_meaning.specs.Sizes.{Size, size, target}
 use Rattle.fancy_regex_info.specs.Reachability.{has}
 
@@ -13,7 +14,8 @@ module _ (size_at : Tree → Size) where
   abbrev pub may_take_nothing : Tree → Bool
   may_take_nothing t = (size_at t).least == 0
 
-  -- the groups that are called in the part with only parts of least size 0 before the call
+  -- The groups that are called in the part with only parts of least size 0 before the call. Nothing is called in the body of a
+  -- repeat `{0}`, nor in definitions: neither is matched where it stands.
   unfoldable mutual
     pub first_calls : Tree → List ℕ
     first_calls (subroutine_call k) = k ∷ []
@@ -22,12 +24,11 @@ module _ (size_at : Tree → Size) where
     first_calls (conditional c a b) = first_calls c ++ (where_so (may_take_nothing c) (first_calls a) ++ first_calls b)
     first_calls (group t) = first_calls t
     first_calls (look_around t how) = first_calls t
-    first_calls (repeat t lo hi greedy) = first_calls t
+    first_calls (repeat t lo hi greedy) = if hi == 0 then [] else first_calls t
     first_calls (atomic_group t) = first_calls t
     first_calls (absent_repeater t) = first_calls t
     first_calls (absent_expression a t) = first_calls a ++ first_calls t
     first_calls (absent_stopper t) = first_calls t
-    first_calls (define_group t) = first_calls t
     first_calls (ast_group name t position) = first_calls t
     first_calls _ = []
 

@@ -1,5 +1,6 @@
 pub mod NodeErrors
 pub mod TerminationFixpoint
+pub mod Flows
 pub mod LeftRecursion
 pub mod EmittedParts
 pub mod UnsupportedParts

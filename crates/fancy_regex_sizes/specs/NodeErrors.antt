@@ -1,6 +1,8 @@
 -- Errors that apply to a node by itself.
 use Rattle.std.specs.Prelude.{ℕ, suc, ℤ, pos, negsuc, Bool, true, false, not, ◌&&◌, ◌||◌, ◌==◌, nat_lt, List, ◌∷◌, chars, string_bytes, decimal, bytes_eq}
-use Rattle.fancy_regex_tree.specs.Tree.{Target, by_number, by_name, relative, Tree, Trees, concat, alt, group, look_around, repeat, atomic_group, backref, backref_with_level, backref_exists, conditional, subroutine_call, absent_repeater, absent_expression, absent_stopper, define_group, ast_group, ast_backref, ast_call, ast_condition, no_trees, more_trees}
+use Rattle.fancy_regex_tree.specs.Tree.{Target, by_number, by_name, relative, Tree, Trees, concat, alt, group, look_around, repeat, atomic_group}
+use Rattle.fancy_regex_tree.specs.Tree.{backref, backref_with_level, backref_exists, conditional, subroutine_call, absent_repeater, absent_expression}
+use Rattle.fancy_regex_tree.specs.Tree.{absent_stopper, define_group, ast_group, ast_backref, ast_call, ast_condition, no_trees, more_trees}
 use Rattle.fancy_regex_info.specs.declared.error.CompileError.{CompileError}
 use Rattle.fancy_regex_info.specs.declared.error.CompileError.TheVariants.{Memory, RepeatBoundsReversed, InvalidBackref, SubroutineCallTargetNotFound, UnresolvedAstNode}
 

@@ -1,6 +1,7 @@
 -- Unsupported features, and look-behind of variable length.
 use Rattle.std.specs.Prelude.{ℕ, Bool, true, false, not, ◌&&◌, ◌||◌, List, bytes_eq, codes, string_bytes, Option, Some, None, is_some}
-use Rattle.fancy_regex_tree.specs.Tree.{Tree, Trees, literal_bytes, alt, look_around, backref_with_level, keep_out, backref_exists, verb, absent_repeater, absent_expression, absent_stopper, absent_clear, no_trees, more_trees}
+use Rattle.fancy_regex_tree.specs.Tree.{Tree, Trees, literal_bytes, alt, look_around, backref_with_level, keep_out, backref_exists, verb}
+use Rattle.fancy_regex_tree.specs.Tree.{absent_repeater, absent_expression, absent_stopper, absent_clear, no_trees, more_trees}
 use Rattle.fancy_regex_tree.specs.declared.expr.LookAround.TheVariants.{LookBehind, LookBehindNeg}
 use Rattle.fancy_regex_tree.specs.declared.expr.BacktrackingControlVerb.TheVariants.{Fail}
 use Rattle.fancy_regex_meaning.specs.Sizes.{Size}

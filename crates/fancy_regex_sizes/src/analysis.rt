@@ -28,11 +28,15 @@ const GREATEST_WEIGHT: u64 = 4_294_967_295;
 /// matches where these are excluded, variable look-behind, and unsupported features; every such pattern is refused, with
 /// any one of the errors that apply to it. The other error is `Memory`. Recursion is as deep as the tree, which is at
 /// most 832 for a parsed one.
+///
+/// Where group 0 is an explicit group of the pattern, no span of the whole match is kept, so none can be compared with the
+/// empty one: the caller must not ask for `find_not_empty` together with `explicit_capture_group_0`.
 pub fn analyze<'a>(
     alloc: Global,
     tree: &'a ExprTree,
     context: AnalyzeContext,
 ) -> Result<Info<'a>, CompileError>
+    requires { context.find_not_empty ≡ true → context.explicit_capture_group_0 ≡ false }
     ensures answer { IfOk result (λ info. info_of info ≡ analysis context.explicit_capture_group_0 (tree_of tree.now.expr)) }
     ensures refused { IfErr result (λ e. (is_memory e ≡ true) ⊎ ErrorHolds context tree.now.named_backref_only (tree_of tree.now.expr) e) }
     ensures complete { IfOk result (λ _. (e : CompileError) → ErrorHolds context tree.now.named_backref_only (tree_of tree.now.expr) e → ⊥) }

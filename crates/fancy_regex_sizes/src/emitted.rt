@@ -3,7 +3,8 @@
 
 ghost use Rattle.std.specs.Prelude.{◌≡◌, ◌++◌, map, filter_map, IfOk};
 ghost use Rattle.fancy_regex_tree.specs.Tree.{tree_of, absent_tree_of};
-ghost use Rattle.fancy_regex_sizes.specs.EmittedParts.{in_look_around as inside_look_around, emitted_parts, part_at, call_in, call_of, skips_children, inside_of_children, was_visited_in, with_visited_in};
+ghost use Rattle.fancy_regex_sizes.specs.EmittedParts.{in_look_around as inside_look_around, emitted_parts, part_at, call_in, call_of};
+ghost use Rattle.fancy_regex_sizes.specs.EmittedParts.{skips_children, inside_of_children, was_visited_in, with_visited_in};
 ghost use Rattle.fancy_regex_sizes.specs.declared.emitted.Inside.TheVariants as inside;
 
 use fancy_regex_tree::{Absent, Expr};
@@ -121,7 +122,7 @@ fn add_emitted_parts<'t>(
         return Ok(());
     }
     let inside_children = inside_of_children(expr, inside);
-    for child in expr.children_iter() {
+    for child in expr.subtrees_iter() {
         add_emitted_parts(child, inside_children, parts)?;
     }
     Ok(())

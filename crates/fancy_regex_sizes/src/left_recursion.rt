@@ -1,17 +1,20 @@
 //! Left recursion: groups that can call themselves before any character is matched.
 
 ghost use Rattle.std.specs.Prelude.{◌≡◌, ℕ, ◌<◌, ◌⊎◌, ◌++◌, length, map, IfOk, IfErr, IfSome, IfNone, true, false};
-ghost use Rattle.fancy_regex_tree.specs.Tree.{tree_of, trees, absent_tree_of, ast_tree_of};
+ghost use Rattle.std.specs.List.{flat_map};
+ghost use Rattle.fancy_regex_tree.specs.Tree.{tree_of, trees};
+ghost use Rattle.fancy_regex_tree.specs.Traversal.{subtrees};
 ghost use Rattle.fancy_regex_meaning.specs.Sizes.{size_with};
 ghost use Rattle.fancy_regex_sizes.specs.NodeErrors.{is_memory};
 ghost use Rattle.fancy_regex_info.specs.Reachability.{rows};
 ghost use Rattle.fancy_regex_info.specs.SizeFixpoint.{is_on_cycle};
-ghost use Rattle.fancy_regex_sizes.specs.LeftRecursion.{first_calls, first_calls_in_row, first_calls_in_branches};
+ghost use Rattle.fancy_regex_sizes.specs.LeftRecursion.{first_calls, first_calls_in_row};
 ghost use Rattle.fancy_regex_info.specs.AnalysisRelations.{mark_at};
 ghost use Rattle.fancy_regex_info.specs.Views.{size_at, body_tree};
 
+use crate::flow::{Flow, flow_of};
 use fancy_regex_info::{CompileError, Size, recursive_groups, size_in};
-use fancy_regex_tree::{Absent, AstNode, Expr};
+use fancy_regex_tree::Expr;
 use std::alloc::{AllocError, Global};
 
 /// Refuses a pattern with a group that can call itself before any character is matched, with
@@ -66,20 +69,22 @@ fn first_calls_by_group(
 }
 
 /// Appends the groups of the calls that the node can reach before any character is matched, in pattern order: only nodes of
-/// least size 0 come before such a call.
+/// least size 0 come before such a call. A body quantified `{0}` and definitions are not matched where they stand, so none of
+/// their calls is reached.
 #[tactic(auto, unfolding(crate::specs::LeftRecursion::first_calls))]
 #[cycle(starts)]
 fn add_first_calls(expr: &Expr, sizes: &[Size], calls: &mut Vec<usize>) -> Result<(), AllocError>
     ensures { IfOk result (λ _. calls.new.items ≡ calls.old.items ++ first_calls (size_with (size_at sizes.now)) (tree_of expr.now)) }
 {
-    match expr {
-        Expr::SubroutineCall(group) => {
-            calls.push(*group)?;
+    match flow_of(expr) {
+        Flow::Call(group) => {
+            calls.push(group)?;
             Ok(())
         }
-        Expr::Concat(parts) => add_row_starts(parts, sizes, calls),
-        Expr::Alt(branches) => add_branch_starts(branches, sizes, calls),
-        Expr::Conditional {
+        Flow::Row(parts) => add_row_starts(parts, sizes, calls),
+        Flow::Repeat { hi: 0, .. } | Flow::Definitions => Ok(()),
+        Flow::Repeat { child, .. } => add_first_calls(child, sizes, calls),
+        Flow::Conditional {
             condition,
             true_branch,
             false_branch,
@@ -90,50 +95,7 @@ fn add_first_calls(expr: &Expr, sizes: &[Size], calls: &mut Vec<usize>) -> Resul
             }
             add_first_calls(false_branch, sizes, calls)
         }
-        Expr::Group(child) | Expr::LookAround(child, _) | Expr::AtomicGroup(child) => {
-            add_first_calls(child, sizes, calls)
-        }
-        Expr::Repeat { child, .. } => add_first_calls(child, sizes, calls),
-        Expr::Absent(absent) => add_absent_starts(absent, sizes, calls),
-        Expr::DefineGroup { definitions } => add_first_calls(definitions, sizes, calls),
-        Expr::AstNode(node, _) => add_unresolved_starts(node, sizes, calls),
-        _ => Ok(()),
-    }
-}
-
-#[tactic(auto, unfolding(crate::specs::LeftRecursion::first_calls))]
-#[cycle(starts)]
-fn add_absent_starts(
-    absent: &Absent,
-    sizes: &[Size],
-    calls: &mut Vec<usize>,
-) -> Result<(), AllocError>
-    ensures { IfOk result (λ _. calls.new.items ≡ calls.old.items ++ first_calls (size_with (size_at sizes.now)) (absent_tree_of absent.now)) }
-{
-    match absent {
-        Absent::Repeater(child) | Absent::Stopper(child) => add_first_calls(child, sizes, calls),
-        Absent::Expression { absent, exp } => {
-            add_first_calls(absent, sizes, calls)?;
-            add_first_calls(exp, sizes, calls)
-        }
-        Absent::Clear => Ok(()),
-    }
-}
-
-#[tactic(auto, unfolding(crate::specs::LeftRecursion::first_calls))]
-#[cycle(starts)]
-fn add_unresolved_starts(
-    node: &AstNode,
-    sizes: &[Size],
-    calls: &mut Vec<usize>,
-) -> Result<(), AllocError>
-    ensures { IfOk result (λ _. (position : ℕ) →
-        calls.new.items ≡ calls.old.items ++ first_calls (size_with (size_at sizes.now)) (ast_tree_of node.now position)) }
-{
-    match node {
-        AstNode::AstGroup { inner, .. } => add_first_calls(inner, sizes, calls),
-        AstNode::Backref { .. } | AstNode::SubroutineCall(_) => Ok(()),
-        AstNode::BackrefExistsCondition { .. } => Ok(()),
+        Flow::Branches(_) | Flow::Children => add_child_starts(expr, sizes, calls),
     }
 }
 
@@ -151,16 +113,13 @@ fn add_row_starts(parts: &[Expr], sizes: &[Size], calls: &mut Vec<usize>) -> Res
     Ok(())
 }
 
+/// The calls of each child, where each stands at the start of the node.
 #[cycle(starts)]
-fn add_branch_starts(
-    branches: &[Expr],
-    sizes: &[Size],
-    calls: &mut Vec<usize>,
-) -> Result<(), AllocError>
-    ensures { IfOk result (λ _. calls.new.items ≡ calls.old.items ++ first_calls_in_branches (size_with (size_at sizes.now)) (trees (map tree_of branches.now))) }
+fn add_child_starts(node: &Expr, sizes: &[Size], calls: &mut Vec<usize>) -> Result<(), AllocError>
+    ensures { IfOk result (λ _. calls.new.items ≡ calls.old.items ++ flat_map (first_calls (size_with (size_at sizes.now))) (subtrees (tree_of node.now))) }
 {
-    for branch in branches {
-        add_first_calls(branch, sizes, calls)?;
+    for child in node.subtrees_iter() {
+        add_first_calls(child, sizes, calls)?;
     }
     Ok(())
 }

@@ -6,6 +6,7 @@
 mod analysis;
 mod anchored;
 mod emitted;
+mod flow;
 mod left_recursion;
 mod nodes;
 mod termination;

@@ -1,12 +1,15 @@
 //! Termination: which nodes have a path that does not recurse forever, found by fixpoint iteration over the groups.
 
 ghost use Rattle.std.specs.Prelude.{◌≡◌, ℕ, map, length, IfOk, IsTrue};
-ghost use Rattle.fancy_regex_tree.specs.Tree.{tree_of, trees, absent_tree_of, ast_tree_of};
-ghost use Rattle.fancy_regex_meaning.specs.Termination.{can_end_with, all_can_end, some_can_end};
+ghost use Rattle.std.specs.List.{list_all};
+ghost use Rattle.fancy_regex_tree.specs.Tree.{tree_of, trees};
+ghost use Rattle.fancy_regex_tree.specs.Traversal.{subtrees};
+ghost use Rattle.fancy_regex_meaning.specs.Termination.{can_end_with, some_can_end};
 ghost use Rattle.fancy_regex_sizes.specs.TerminationFixpoint.{ends_in, next_end, can_end_in_round};
 ghost use Rattle.fancy_regex_info.specs.Views.{body_tree};
 
-use fancy_regex_tree::{Absent, AstNode, Expr};
+use crate::flow::{Flow, flow_of};
+use fancy_regex_tree::Expr;
 use std::alloc::{AllocError, Global};
 
 /// Whether the tree has a terminating path, given which groups have one. A call of a missing group terminates.
@@ -15,11 +18,11 @@ use std::alloc::{AllocError, Global};
 pub(crate) fn can_end_in(expr: &Expr, ends: &[bool]) -> bool
     ensures { result ≡ can_end_with (ends_in ends.now) (tree_of expr.now) }
 {
-    match expr {
-        Expr::Concat(parts) => all_can_end_in(parts, ends),
-        Expr::Alt(branches) => some_can_end_in(branches, ends),
-        Expr::Repeat { child, lo, .. } => *lo == 0 || can_end_in(child, ends),
-        Expr::Conditional {
+    match flow_of(expr) {
+        Flow::Call(group) => call_ends(ends, group),
+        Flow::Branches(branches) => some_can_end_in(branches, ends),
+        Flow::Repeat { child, lo, .. } => lo == 0 || can_end_in(child, ends),
+        Flow::Conditional {
             condition,
             true_branch,
             false_branch,
@@ -27,37 +30,7 @@ pub(crate) fn can_end_in(expr: &Expr, ends: &[bool]) -> bool
             can_end_in(condition, ends)
                 && (can_end_in(true_branch, ends) || can_end_in(false_branch, ends))
         }
-        Expr::SubroutineCall(group) => call_ends(ends, *group),
-        Expr::Group(child) | Expr::LookAround(child, _) => can_end_in(child, ends),
-        Expr::AtomicGroup(child) => can_end_in(child, ends),
-        Expr::DefineGroup { definitions } => can_end_in(definitions, ends),
-        Expr::Absent(absent) => absent_can_end(absent, ends),
-        Expr::AstNode(node, _) => unresolved_can_end(node, ends),
-        _ => true,
-    }
-}
-
-#[tactic(auto, unfolding(fancy_regex_meaning::specs::Termination::can_end_with))]
-#[cycle(ends)]
-fn absent_can_end(absent: &Absent, ends: &[bool]) -> bool
-    ensures { result ≡ can_end_with (ends_in ends.now) (absent_tree_of absent.now) }
-{
-    match absent {
-        Absent::Repeater(child) | Absent::Stopper(child) => can_end_in(child, ends),
-        Absent::Expression { absent, exp } => can_end_in(exp, ends) && can_end_in(absent, ends),
-        Absent::Clear => true,
-    }
-}
-
-#[tactic(auto, unfolding(fancy_regex_meaning::specs::Termination::can_end_with))]
-#[cycle(ends)]
-fn unresolved_can_end(node: &AstNode, ends: &[bool]) -> bool
-    ensures { (position : ℕ) → result ≡ can_end_with (ends_in ends.now) (ast_tree_of node.now position) }
-{
-    match node {
-        AstNode::AstGroup { inner, .. } => can_end_in(inner, ends),
-        AstNode::Backref { .. } | AstNode::SubroutineCall(_) => true,
-        AstNode::BackrefExistsCondition { .. } => true,
+        Flow::Row(_) | Flow::Definitions | Flow::Children => all_children_can_end(expr, ends),
     }
 }
 
@@ -71,18 +44,20 @@ fn call_ends(ends: &[bool], group: usize) -> bool
     }
 }
 
+/// Whether each child of the node has a terminating path.
 #[cycle(ends)]
-fn all_can_end_in(parts: &[Expr], ends: &[bool]) -> bool
-    ensures { result ≡ all_can_end (ends_in ends.now) (trees (map tree_of parts.now)) }
+fn all_children_can_end(node: &Expr, ends: &[bool]) -> bool
+    ensures { result ≡ list_all (can_end_with (ends_in ends.now)) (subtrees (tree_of node.now)) }
 {
-    for part in parts {
-        if !can_end_in(part, ends) {
+    for child in node.subtrees_iter() {
+        if !can_end_in(child, ends) {
             return false;
         }
     }
     true
 }
 
+/// Whether one of the branches has a terminating path.
 #[cycle(ends)]
 fn some_can_end_in(branches: &[Expr], ends: &[bool]) -> bool
     ensures { result ≡ some_can_end (ends_in ends.now) (trees (map tree_of branches.now)) }

@@ -54,7 +54,7 @@ fn references_agree(tree: &ExprTree) -> bool
 fn has_ill_formed(expr: &Expr) -> bool
     ensures { result ≡ list_any is_ill_formed (nodes (tree_of expr.now)) }
 {
-    is_ill_formed(expr) || expr.has_descendant(|node| is_ill_formed(node))
+    expr.any_node(|node| is_ill_formed(node))
 }
 
 fn is_ill_formed(node: &Expr) -> bool
@@ -82,7 +82,7 @@ fn is_one_character(text: &str) -> bool
 fn has_calls(expr: &Expr) -> bool
     ensures { result ≡ list_any is_call (nodes (tree_of expr.now)) }
 {
-    is_call(expr) || expr.has_descendant(|node| is_call(node))
+    expr.any_node(|node| is_call(node))
 }
 
 fn is_call(node: &Expr) -> bool
@@ -122,10 +122,7 @@ fn back_group(node: &Expr) -> Option<usize>
 fn has_unlisted_reference(tree: &ExprTree) -> bool
     ensures { result ≡ list_any (λ u. is_unlisted_reference tree.now.total_groups (contains nat_cmp tree.now.backrefs) (back_group u)) (nodes (tree_of tree.now.expr)) }
 {
-    is_unlisted_reference(tree, &tree.expr)
-        || tree
-            .expr
-            .has_descendant(|node| is_unlisted_reference(tree, node))
+    tree.expr.any_node(|node| is_unlisted_reference(tree, node))
 }
 
 fn is_unlisted_reference(tree: &ExprTree, node: &Expr) -> bool
@@ -148,7 +145,7 @@ fn has_unknown_reference(tree: &ExprTree) -> bool
 fn names(expr: &Expr, group: usize) -> bool
     ensures { result ≡ list_any (refers_to group) (nodes (tree_of expr.now)) }
 {
-    refers_to(expr, group) || expr.has_descendant(|node| refers_to(node, group))
+    expr.any_node(|node| refers_to(node, group))
 }
 
 fn refers_to(node: &Expr, wanted: usize) -> bool
@@ -167,7 +164,7 @@ fn remaining_groups(expr: &Expr, left: usize) -> Option<usize>
     ensures { MatchOption result (left < group_count (tree_of expr.now)) (λ rest. rest + group_count (tree_of expr.now) ≡ left) }
 {
     let mut left = without_own_group(expr, left)?;
-    for child in expr.children_iter() {
+    for child in expr.subtrees_iter() {
         left = remaining_groups(child, left)?;
     }
     Some(left)

@@ -6,6 +6,7 @@ use Rattle.fancy_regex_info.specs.Infos.{info_of, properties_in}
 use Rattle.fancy_regex_info.specs.Views.{pattern_in}
 use Rattle.fancy_regex_program.specs.Known.{groups_in, pat_with}
 use Rattle.fancy_regex_program.specs.Writing.{info_at}
+use Rattle.fancy_regex_program.proofs.CapLemmas.{past_more}
 use Rattle.fancy_regex_program.proofs.ClassLemmas.{classes_are_read}
 use Rattle.fancy_regex_program.proofs.KnownLemmas.{count_is, start_is}
 use Rattle.fancy_regex_program.proofs.LengthLemmas.{made_short}
@@ -37,7 +38,7 @@ returns-clause-tree c explicit t is =
     c.in_ok-add_groups.ensures ∙ ap (λ xs. map info_at xs ++ groups_in (not (n == 0)) x) c.new-groups.ensures.items in
     let count = sym (length-map gs info_at) ∙ ap length gathered ∙ ap₂ (λ b y. length (groups_in b y)) whole is ∙ count_is explicit t in
     let pat = pat_gathered (map info_at gs) x (not (n == 0)) explicit t gathered whole is in
-    made_from c.in_ok-prog.prog c.args.options.now.anchored explicit t _ c.in_ok-prog.ensures.wrote pat
+    made_from c.in_ok-prog.prog c.args.options.now.anchored explicit t _ c.in_ok-prog.ensures.anchored c.in_ok-prog.ensures.wrote pat
     (c.in_ok-prog.ensures.groups ∙ count) (c.in_ok-prog.ensures.whole ∙ whole)
     (subst (λ u. IsAllowed u true (pat_with (map info_at gs) x)) (sym c.in_ok-prog.ensures.unicode) c.in_ok-prog.ensures.allowed)
 
@@ -66,8 +67,7 @@ returns-in_err-prog-clause-full c =
     (λ explicit t is too.
     let starts : n ≡ (pattern_in explicit t).first_group = c.start_group-whole.ensures ∙ ap (λ y. (properties_in y).start) is ∙ start_is explicit t in
     let pat = pat_gathered (map info_at gs) x (not (n == 0)) explicit t gathered (whole_is n explicit t starts) is in
-    let lt = e.ensures.full too in
-    omega (arith, lt, ap room pat, pattern_size_is_bounded (pattern_in explicit t)))
+    past_more c.args.options.now.max_prog_size _ _ (omega (arith, ap room pat, pattern_size_is_bounded (pattern_in explicit t))) (e.ensures.full too))
 
 pub returns-clause-short : goal.returns-clause-short
 returns-clause-short c explicit t is =

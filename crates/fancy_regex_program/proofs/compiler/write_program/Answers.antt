@@ -23,7 +23,7 @@ returns-clause-wrote c =
     let calls : c.in_ok-max_open_calls.field-0 ≡ most_calls_in (infos_of context) =
     c.in_ok-max_open_calls.ensures.value ∙ ap (λ n. 19 * n) (long ∙ sym (length-map groups info_at)) in
     let slot : c.in_ok-slot.slot ≡ 2 * count = c.in_ok-slot.ensures.value ∙ ap (λ n. 2 * n) long-2 in
-    let p = body_is (infos_of context) (info_of c.args.info.now) c.in_ok-max_open_calls.field-0 c.new-2.result.items calls c.new-2.ensures.items in
+    let p = body_is (infos_of context) (info_of c.args.info.now) c.in_ok-max_open_calls.field-0 c.in_ok-opened.opened.items calls c.in_ok-opened.ensures in
     let wrote = c.in_ok-slots.ensures.wrote in
     let written = program_is u context.whole c.args.options.now.anchored _ count c.in_ok-slot.slot (draft_of c.open.new.body) _ _ slot
     (c.in_ok-open.ensures.draft (in_class u) (folded u) c.new.ensures.draft) wrote.draft
@@ -39,7 +39,7 @@ returns-clause-allowed c =
     let long : c.len.result ≡ length context.groups.now.items = search rules in
     let calls : c.in_ok-max_open_calls.field-0 ≡ most_calls_in (infos_of context) =
     c.in_ok-max_open_calls.ensures.value ∙ ap (λ n. 19 * n) (long ∙ sym (length-map context.groups.now.items info_at)) in
-    let p = body_is (infos_of context) (info_of c.args.info.now) c.in_ok-max_open_calls.field-0 c.new-2.result.items calls c.new-2.ensures.items in
+    let p = body_is (infos_of context) (info_of c.args.info.now) c.in_ok-max_open_calls.field-0 c.in_ok-opened.opened.items calls c.in_ok-opened.ensures in
     subst (IsAllowed context.unicode true) p c.in_ok-slots.ensures.allowed
 
 pub returns-in_err-open-clause-full : goal.returns-in_err-open-clause-full
@@ -54,7 +54,7 @@ returns-in_err-slots-clause-full c =
     let long : c.len.result ≡ length context.groups.now.items = search rules in
     let calls : c.in_ok-max_open_calls.field-0 ≡ most_calls_in (infos_of context) =
     c.in_ok-max_open_calls.ensures.value ∙ ap (λ n. 19 * n) (long ∙ sym (length-map context.groups.now.items info_at)) in
-    let p = body_is (infos_of context) (info_of c.args.info.now) c.in_ok-max_open_calls.field-0 c.new-2.result.items calls c.new-2.ensures.items in
+    let p = body_is (infos_of context) (info_of c.args.info.now) c.in_ok-max_open_calls.field-0 c.in_ok-opened.opened.items calls c.in_ok-opened.ensures in
     let r = c.from_residual-in_err-slots in
     late r.result c.in_err-slots.field-0.0 _ _ r.ensures.1 c.in_err-slots.ensures.full
     (λ lt. omega (
@@ -73,7 +73,7 @@ returns-in_err-close-clause-full c =
     let long : c.len.result ≡ length context.groups.now.items = search rules in
     let calls : c.in_ok-max_open_calls.field-0 ≡ most_calls_in (infos_of context) =
     c.in_ok-max_open_calls.ensures.value ∙ ap (λ n. 19 * n) (long ∙ sym (length-map context.groups.now.items info_at)) in
-    let p = body_is (infos_of context) (info_of c.args.info.now) c.in_ok-max_open_calls.field-0 c.new-2.result.items calls c.new-2.ensures.items in
+    let p = body_is (infos_of context) (info_of c.args.info.now) c.in_ok-max_open_calls.field-0 c.in_ok-opened.opened.items calls c.in_ok-opened.ensures in
     let r = c.from_residual-in_err-close in
     late r.result c.in_err-close.field-0.0 _ _ r.ensures.1 c.in_err-close.ensures.full
     (λ lt. omega (

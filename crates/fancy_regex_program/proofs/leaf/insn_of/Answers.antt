@@ -4,10 +4,10 @@ use Rattle.fancy_regex_tree.specs.Tree.{tree_of}
 use Rattle.fancy_regex_class.specs.Classes.{is_class}
 use Rattle.fancy_regex_class.specs.Matchers.{IsMatcherOf}
 use Rattle.fancy_regex_program.specs.Ops as op
-use Rattle.fancy_regex_program.specs.Refusals.{IsUnfit, IsNoSingle}
+use Rattle.fancy_regex_program.specs.Refusals.{IsUnfit, IsNoSingle, IsNoClass}
 use Rattle.fancy_regex_program.specs.declared.insn.Insn.TheVariants as insn
 use Rattle.fancy_regex_program.proofs.TreeLemmas.{tree_any, tree_assertion, tree_newline, tree_delegate, tree_backref, tree_continue, tree_exists, tree_verb}
-use Rattle.fancy_regex_program.proofs.LeafLemmas.{unfit_leaf, leaf_any, leaf_assertion, leaf_newline, leaf_continue, leaf_verb, leaf_backref, leaf_exists, leaf_class}
+use Rattle.fancy_regex_program.proofs.LeafLemmas.{unfit_leaf, class_refused, leaf_any, leaf_assertion, leaf_newline, leaf_continue, leaf_verb, leaf_backref, leaf_exists, leaf_class}
 use Rattle.fancy_regex_program.proofs.KindLemmas.{no_single}
 use Rattle.fancy_regex_program.proofs.RefusalLemmas.{hands}
 use Rattle.fancy_regex_program.proofs.leaf.insn_of.Goals as goal
@@ -91,3 +91,15 @@ returns-in_default-clause-refused c =
       exists = c.in_default.not-BackrefExistsCondition;
       verb = c.in_default.not-BacktrackingControlVerb;
     })
+
+pub returns-in_err-matcher-in-Delegate-clause-refused : goal.returns-in_err-matcher-in-Delegate-clause-refused
+returns-in_err-matcher-in-Delegate-clause-refused c =
+    let u = c.args.context.now.unicode in
+    let count = length c.args.context.now.groups.now.items in
+    let t = tree_of c.args.leaf.now in
+    let inner = c.in-Delegate.inner in
+    let casei = c.in-Delegate.casei in
+    let e = c.in_err-matcher-in-Delegate in
+    let refused : IsNoClass u (chars (string_bytes inner)) casei e.field-0.0 = rw c.deref.ensures at e.ensures.refused in
+    hands c.from_residual.result e.field-0.0 (IsNoSingle u count t) c.from_residual.ensures.1
+    (class_refused u count t (chars (string_bytes inner)) casei e.field-0.0 (ap tree_of c.in-Delegate.is ∙ tree_delegate inner casei) refused)

@@ -26,6 +26,7 @@ starts-init c = record {
   slots = refl;
   farthest = c.requires.slots;
   at_most = omega arith;
+  more = omega arith;
   text = refl;
   same_counter = refl;
 }
@@ -51,6 +52,25 @@ returns-in_default-after-clause-at_most c = bound (goal.at.returns-in_default-af
 
 pub returns-in_default-after-2-clause-at_most : goal.returns-in_default-after-2-clause-at_most
 returns-in_default-after-2-clause-at_most c = bound (goal.at.returns-in_default-after-2-clause-at_most c).After-attempt
+
+-- the counter has not fallen, after an attempt
+risen : (c : After-attempt) → min (look_count c.args.text.now) (2 ^ 64 - 1) ≤ look_count c.attempt.new.text
+risen c = omega (arith, c.look-after.ensures.ticked, c.attempt.ensures.more, c.starts.invariant.more)
+
+pub returns-in_err-end-clause-more : goal.returns-in_err-end-clause-more
+returns-in_err-end-clause-more c = risen (goal.at.returns-in_err-end-clause-more c).After-attempt
+
+pub returns-in-Some-clause-more : goal.returns-in-Some-clause-more
+returns-in-Some-clause-more c = risen (goal.at.returns-in-Some-clause-more c).After-attempt
+
+pub returns-then-anchored-clause-more : goal.returns-then-anchored-clause-more
+returns-then-anchored-clause-more c = risen (goal.at.returns-then-anchored-clause-more c).After-attempt
+
+pub returns-in_default-after-clause-more : goal.returns-in_default-after-clause-more
+returns-in_default-after-clause-more c = risen (goal.at.returns-in_default-after-clause-more c).After-attempt
+
+pub returns-in_default-after-2-clause-more : goal.returns-in_default-after-2-clause-more
+returns-in_default-after-2-clause-more c = risen (goal.at.returns-in_default-after-2-clause-more c).After-attempt
 
 -- what a place gives
 abbrev with_position : (c : In_ok-end) → (ℕ → Continuation) → ℕ → Option Spot
@@ -191,6 +211,7 @@ starts-preserved c =
       slots = c.attempt.ensures.slots ∙ c.starts.invariant.slots;
       farthest = c.attempt.auto.farthest ∙ c.starts.invariant.farthest;
       at_most = let some = len_utf8_bounds c.in-Some-after.c in omega (arith, width, some, c.attempt.ensures.counted, c.look-after.ensures.ticked, c.starts.invariant.at_most, c.starts.invariant.from.0);
+      more = omega (arith, c.look-after.ensures.ticked, c.attempt.ensures.more, c.starts.invariant.more);
       text = c.attempt.ensures.text ∙ c.look-after.ensures.text ∙ c.starts.invariant.text;
       same_counter = c.attempt.ensures.same_counter ∙ c.look-after.ensures.same_counter ∙ c.starts.invariant.same_counter;
     }

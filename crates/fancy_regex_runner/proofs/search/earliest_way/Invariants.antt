@@ -23,6 +23,7 @@ invariant-starts l = record {
   slots : vec_len l.backtrack.slots ≡ vec_len l.fn.backtrack.slots;
   farthest : length l.farthest ≡ vec_len l.fn.backtrack.slots;
   at_most : look_count l.text ≤ look_count l.fn.text + members l.visited + (l.from - l.start);
+  more : min (look_count l.fn.text) (2 ^ 64 - 1) ≤ look_count l.text;
   text : looked_text l.text ≡ looked_text l.fn.text;
   same_counter : SameCounter l.fn.text l.text;
 }

@@ -19,7 +19,7 @@ pub add_emitted_parts-requires : goal.add_emitted_parts-requires
 add_emitted_parts-requires t c =
     let root = tree_of c.args.expr.now in
     let e = yields_children c.into_iter-child-iterator.result root
-    (ap (λ s. map tree_of (rest s)) c.into_iter-child-iterator.ensures.into_iter_gives ∙ c.children_iter-child-items.ensures) in
+    (ap (λ s. map tree_of (rest s)) c.into_iter-child-iterator.ensures.into_iter_gives ∙ c.subtrees_iter-child-items.ensures) in
     let turn = YieldsList-turn e c.loop-child.yielded _ c.loop-child.yielded_by _ c.next.new.self c.in-Some.child c.in-Some.is c.next.ensures.steps in
     let less = child_is_smaller root (tree_at c.in-Some.child) (length c.loop-child.yielded) turn.0 turn.1 in
     (omega (arith, less), tt)
@@ -29,7 +29,7 @@ returns t c =
     let root = tree_of c.args.expr.now in
     let part : EmittedPart = record { expr = c.args.expr; inside = c.args.inside } in
     let e = yields_children c.into_iter-child-iterator.result root
-    (ap (λ s. map tree_of (rest s)) c.into_iter-child-iterator.ensures.into_iter_gives ∙ c.children_iter-child-items.ensures) in
+    (ap (λ s. map tree_of (rest s)) c.into_iter-child-iterator.ensures.into_iter_gives ∙ c.subtrees_iter-child-items.ensures) in
     let end = YieldsList-end e c.loop-child.yielded _ c.loop-child.yielded_by _ c.next.new.self c.in-None.is c.next.ensures.steps in
     node_and_children c.args.inside c.inside_of_children-inside_children.result root (map part_at c.args.parts.now.items) (map part_at c.push.new.self.items)
     (map part_at c.loop-child.parts.items) (map tree_at c.loop-child.yielded) (sym c.if-skips_children.ensures) c.inside_of_children-inside_children.ensures end.0

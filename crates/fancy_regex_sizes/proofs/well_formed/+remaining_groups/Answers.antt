@@ -11,7 +11,7 @@ pub remaining_groups-requires : goal.remaining_groups-requires
 remaining_groups-requires t c =
     let root = tree_of c.args.expr.now in
     let e = yields_children c.into_iter-child-iterator.result root
-    (ap (λ s. map tree_of (rest s)) c.into_iter-child-iterator.ensures.into_iter_gives ∙ c.children_iter-child-items.ensures) in
+    (ap (λ s. map tree_of (rest s)) c.into_iter-child-iterator.ensures.into_iter_gives ∙ c.subtrees_iter-child-items.ensures) in
     let turn = YieldsList-turn e c.loop-child.yielded _ c.loop-child.yielded_by _ c.next.new.self c.in-Some.child c.in-Some.is c.next.ensures.steps in
     let less = child_is_smaller root (tree_at c.in-Some.child) (length c.loop-child.yielded) turn.0 turn.1 in
     (omega (arith, less), tt)
@@ -20,7 +20,7 @@ pub returns-in_err-left-2 : goal.returns-in_err-left-2
 returns-in_err-left-2 t c =
     let root = tree_of c.args.expr.now in
     let e = yields_children c.into_iter-child-iterator.result root
-    (ap (λ s. map tree_of (rest s)) c.into_iter-child-iterator.ensures.into_iter_gives ∙ c.children_iter-child-items.ensures) in
+    (ap (λ s. map tree_of (rest s)) c.into_iter-child-iterator.ensures.into_iter_gives ∙ c.subtrees_iter-child-items.ensures) in
     let turn = YieldsList-turn e c.loop-child.yielded _ c.loop-child.yielded_by _ c.next.new.self c.in-Some.child c.in-Some.is c.next.ensures.steps in
     let before = ap (sum_by group_count) (YieldsList-so_far e c.loop-child.yielded _ c.loop-child.yielded_by) in
     let within = groups_within root (tree_at c.in-Some.child) (length c.loop-child.yielded) turn.0 turn.1 in
@@ -37,6 +37,6 @@ pub returns : goal.returns
 returns t c =
     let root = tree_of c.args.expr.now in
     let e = yields_children c.into_iter-child-iterator.result root
-    (ap (λ s. map tree_of (rest s)) c.into_iter-child-iterator.ensures.into_iter_gives ∙ c.children_iter-child-items.ensures) in
+    (ap (λ s. map tree_of (rest s)) c.into_iter-child-iterator.ensures.into_iter_gives ∙ c.subtrees_iter-child-items.ensures) in
     let end = YieldsList-end e c.loop-child.yielded _ c.loop-child.yielded_by _ c.next.new.self c.in-None.is c.next.ensures.steps in
     omega (arith, ap (sum_by group_count) end.0, group_count_is root, c.loop-child.invariant, c.in_ok-left.ensures)

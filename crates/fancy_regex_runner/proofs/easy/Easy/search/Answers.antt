@@ -52,6 +52,19 @@ returns-in-Some-clause-at_most c pattern is = let b = bound (goal.at.returns-in-
 pub returns-clause-at_most : goal.returns-clause-at_most
 returns-clause-at_most c pattern is = let b = bound (goal.at.returns-clause-at_most c).After-earliest_way pattern is in search rules
 
+-- the counter has not fallen
+risen : (c : After-earliest_way) → c.args.steps.now ≤ look_count c.earliest_way.new.text
+risen c = omega (arith, c.earliest_way.ensures.more, c.new-counted.ensures.count, c.count-before.ensures)
+
+pub returns-in_err-span-clause-counts : goal.returns-in_err-span-clause-counts
+returns-in_err-span-clause-counts c = let r = risen (goal.at.returns-in_err-span-clause-counts c).After-earliest_way in search rules
+
+pub returns-in-Some-clause-counts : goal.returns-in-Some-clause-counts
+returns-in-Some-clause-counts c = let r = risen (goal.at.returns-in-Some-clause-counts c).After-earliest_way in search rules
+
+pub returns-clause-counts : goal.returns-clause-counts
+returns-clause-counts c = let r = risen (goal.at.returns-clause-counts c).After-earliest_way in search rules
+
 -- what the search found
 walked : (c : In_ok-span) (pattern : Pattern) → IsEasyOf c.args.self.now pattern
     → (option_map (hit_places c.args.self.now.whole) (hit_of_span c.in_ok-span.span c.earliest_way.new.backtrack.slots.items)

@@ -1,0 +1,12 @@
+use Rattle.std.proofs.Common.{◌≡◌, IfOk, ap, subst, ◌∙◌}
+use Rattle.fancy_regex_tree.specs.Tree.{Tree}
+use Rattle.fancy_regex_info.specs.AnalysisRelations.{node_of}
+use Rattle.fancy_regex_info.specs.Infos.{known, no_infos, more_infos, info_of}
+use Rattle.fancy_regex_info.specs.PropertyRules.{wrapper_properties}
+use Rattle.fancy_regex_info.specs.Views.{size_of}
+use Rattle.fancy_regex_info.proofs.analyze_node.wrapper_parts.Goals as goal
+
+pub returns : goal.returns
+returns c =
+    subst (λ f. IfOk c.one_part.result (λ parts. (t : Tree) → node_of parts t ≡ known f t (more_infos (info_of c.args.child) no_infos)))
+    (c.wrapper_properties-properties.ensures ∙ ap (wrapper_properties (size_of c.args.size)) c.properties.ensures) c.one_part.ensures
