@@ -1,0 +1,44 @@
+-- A tree in which no node passes a test that reversed repeats pass.
+use Rattle.std.proofs.Common.{◌≡◌, ℕ, ◌≤◌, Bool, false, List, ◌++◌, sym, ◌∙◌}
+use Rattle.std.specs.List.{list_any}
+use Rattle.std.proofs.lemmas.Bool.{or_parts}
+use Rattle.std.proofs.lemmas.List.Folds.{list_any-append}
+use Rattle.fancy_regex_tree.specs.Tree.{Tree, Trees, concat, alt, group, look_around, repeat, atomic_group, conditional, absent_repeater}
+use Rattle.fancy_regex_tree.specs.Tree.{absent_expression, absent_stopper, define_group, ast_group, no_trees, more_trees}
+use Rattle.fancy_regex_tree.specs.Traversal.{nodes, all_nodes}
+use Rattle.fancy_regex_meaning.specs.SizeLaws.{EachRepeat, EachRepeatInRow, IsInOrder}
+
+module _ (p : Tree → Bool) (told : (t : Tree) (lo hi : ℕ) (greedy : Bool) → p (repeat t lo hi greedy) ≡ false → lo ≤ hi) where
+  abbrev NoneIn : List Tree → Type 0
+  NoneIn ts = list_any p ts ≡ false
+
+  none_in_both : (xs ys : List Tree) → NoneIn (xs ++ ys) → NoneIn xs × NoneIn ys
+  none_in_both xs ys h = or_parts _ _ (sym (list_any-append p xs ys) ∙ h)
+
+  mutual
+    unfolding EachRepeat EachRepeatInRow
+
+    pub in_order : (t : Tree) → NoneIn (nodes t) → IsInOrder t
+    in_order (group t) h = in_order t (or_parts (p (group t)) _ h).1
+    in_order (concat ts) h = row_in_order ts (or_parts (p (concat ts)) _ h).1
+    in_order (alt ts) h = row_in_order ts (or_parts (p (alt ts)) _ h).1
+    in_order (look_around t how) h = in_order t (or_parts (p (look_around t how)) _ h).1
+    in_order (repeat t lo hi greedy) h =
+        let both = or_parts (p (repeat t lo hi greedy)) _ h in (told t lo hi greedy both.0, in_order t both.1)
+    in_order (atomic_group t) h = in_order t (or_parts (p (atomic_group t)) _ h).1
+    in_order (conditional c a b) h =
+        let first = none_in_both (nodes c) (nodes a ++ nodes b) (or_parts (p (conditional c a b)) _ h).1 in
+        let second = none_in_both (nodes a) (nodes b) first.1 in
+        (in_order c first.0, in_order a second.0, in_order b second.1)
+    in_order (absent_repeater t) h = in_order t (or_parts (p (absent_repeater t)) _ h).1
+    in_order (absent_expression a t) h =
+        let both = none_in_both (nodes a) (nodes t) (or_parts (p (absent_expression a t)) _ h).1 in (in_order a both.0, in_order t both.1)
+    in_order (absent_stopper t) h = in_order t (or_parts (p (absent_stopper t)) _ h).1
+    in_order (define_group t) h = in_order t (or_parts (p (define_group t)) _ h).1
+    in_order (ast_group name t position) h = in_order t (or_parts (p (ast_group name t position)) _ h).1
+    in_order t h = tt
+
+    row_in_order : (ts : Trees) → NoneIn (all_nodes ts) → EachRepeatInRow (λ lo hi. lo ≤ hi) ts
+    row_in_order no_trees h = tt
+    row_in_order (more_trees t ts) h =
+        let both = none_in_both (nodes t) (all_nodes ts) h in (in_order t both.0, row_in_order ts both.1)

@@ -1,0 +1,5 @@
+pub mod ByteSets
+pub mod StartBytes
+pub mod RequiredBytes
+pub mod StartErrors
+pub mod SkippableTrees
