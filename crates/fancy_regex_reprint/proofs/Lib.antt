@@ -1,0 +1,2 @@
+pub mod ClassNodes
+pub mod PrintedLevels
