@@ -31,6 +31,13 @@ pub trait Input: Copy {
         ensures text { result.now ≡ text self.now }
         ensures utf8 { IsUtf8 (text self.now) };
 
+    /// The haystack as a string.
+    fn as_str(&self) -> &str
+        ensures { result.now ≡ text self.now }
+    {
+        unsafe { str::from_utf8_unchecked(self.as_bytes()) }
+    }
+
     /// Whether the byte offset is a character boundary: a character starts there, or it is the end of the haystack. `false`
     /// past the end.
     fn is_char_boundary(&self, index: usize) -> bool

@@ -1,5 +1,5 @@
 -- A tree that is not hard is plain, and the analysis of a tree says which tree it is of.
-use Rattle.std.proofs.Common.{◌≡◌, ◌≢◌, ℕ, ◌+◌, Bool, true, false, not, ◌&&◌, true≢false, List, length, refl, sym, ap, ◌∙◌, suc, arith}
+use Rattle.std.proofs.Common.{◌≡◌, ℕ, ◌+◌, Bool, true, false, not, ◌&&◌, true≢false, List, length, refl, sym, ap, ◌∙◌, suc, arith}
 use Rattle.std.proofs.lemmas.Bool.{and_parts}
 use Rattle.fancy_regex_tree.specs.declared.expr.Assertion.{Assertion}
 use Rattle.fancy_regex_tree.specs.declared.expr.Assertion.TheVariants as A

@@ -3,3 +3,5 @@ pub mod AnalysisLemmas
 pub mod SearchLemmas
 pub mod MatchOffsetLemmas
 pub mod RefusalLemmas
+pub mod SeekLemmas
+pub mod SeekTableLemmas

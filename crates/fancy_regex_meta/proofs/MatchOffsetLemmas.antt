@@ -1,14 +1,15 @@
 -- A match lies in the range of its search, and its offsets begin with its span.
-use Rattle.std.proofs.Common.{◌≡◌, ◌⊎◌, ⊎_elim, ℕ, ◌+◌, ◌*◌, ◌<◌, ◌≤◌, max, Bool, true, false, List, [], ◌∷◌, length, Option, Some, None, refl, sym, ap, subst, ◌∙◌, arith, nat_lt}
+use Rattle.std.proofs.Common.{◌≡◌, ⊎_elim, ℕ, ◌*◌, ◌<◌, ◌≤◌, max, Bool, true, false, List, [], ◌∷◌, length, Option, Some, None, refl, sym, subst, ◌∙◌, arith, rules, nat_lt, if◌then◌else◌}
 use Rattle.std.specs.Prelude.{slice_set, slice_index, option_map, IfSome, IsCharBoundary, IsUtf8, string_bytes, Vec}
 use Rattle.std.specs.declared.alloc.Global.{Global}
-use Rattle.std.proofs.lemmas.Bool.{cases_lt}
+use Rattle.std.proofs.lemmas.Bool.{cases_lt, true≢false}
 use Rattle.std.proofs.lemmas.List.{length-set, length-replicate}
 use Rattle.std.proofs.lemmas.Option.{same_Some, none-some}
 use Rattle.fancy_regex_tree.specs.Tree.{Tree}
 use Rattle.fancy_regex_meaning.specs.Groups.{Pattern, pattern_of}
+use Rattle.fancy_regex_meaning.specs.Positions.{boundaries}
 use Rattle.fancy_regex_meaning.specs.WayLaws.{Each}
-use Rattle.fancy_regex_meaning.specs.Searches.{Match, Search, match_at, match_of, is_admitted, ways_at, start_way, starts, first_match, search_from}
+use Rattle.fancy_regex_meaning.specs.Searches.{Match, Search, match_at, match_of, is_admitted, start_way, starts, first_some, first_match, search_from}
 use Rattle.fancy_regex_meaning.specs.Ways.{Pairs, MatchState, Setting}
 use Rattle.fancy_regex_meaning.proofs.BoundaryLemmas.{IsCharBoundary-of_test}
 use Rattle.fancy_regex_meaning.proofs.EachLemmas.{Each-weaker, Each-filter, Each-cond, boundaries_pass}
@@ -20,7 +21,8 @@ use Rattle.fancy_regex_input.specs.SearchInputs.{FitsText}
 use Rattle.fancy_regex_input.specs.declared.config.SearchConfig.{SearchConfig}
 use Rattle.fancy_regex_meta.specs.MetaMatches.{meta_pattern, meta_match_from}
 use Rattle.fancy_regex_meta.specs.Patterns.{tree_in}
-use Rattle.fancy_regex_meta.specs.MatchOffsets.{AreBoundaries, IsMatchWithin}
+use Rattle.fancy_regex_meta.specs.MemberSearches.{member_setting, member_search, meta_match_at}
+use Rattle.fancy_regex_meta.specs.MatchOffsets.{IsMatchWithin}
 use Rattle.fancy_regex_meta.specs.declared.meta_regex.MetaRegex.{MetaRegex}
 
 -- each way has as many pairs as it began with
@@ -56,7 +58,8 @@ module _ (s : Setting) (pattern : Pattern) (find : Search) where
       let well = chosen_holds Good find.options.longest _ all found.0 found.1 in
       subst (λ (x : Match). length x.pairs ≡ n) found.2 well
 
-  starts_lie : IsCharBoundary s.text find.first → find.stop ≤ length s.text → Each (λ p. (find.first ≤ p) × IsCharBoundary s.text p) (starts s pattern find)
+  -- each start that is tried lies behind the first, on a boundary
+  pub starts_lie : IsCharBoundary s.text find.first → find.stop ≤ length s.text → Each (λ p. (find.first ≤ p) × IsCharBoundary s.text p) (starts s pattern find)
   starts_lie h inside =
       Each-cond _ (nat_lt find.stop find.first) [] _ tt
       (Each-cond _ find.anchored (find.first ∷ []) _ ((omega arith, h), tt)
@@ -123,6 +126,49 @@ found_within s text a continue_disabled (Some v) utf8 h inside e =
     let f = some-of (match_slots (meta_pattern s)) (meta_match_from s text a (max a.start a.range_start) continue_disabled) v.items e in
     let m : Match = f.0 in
     let lies = first_lies _ (meta_pattern s) _ utf8 h inside m f.1 in
+    let begins = subst (λ (xs : List ℕ). Begins xs m.start m.end) (sym f.2) (places_begin (tree_in s.options (string_bytes s.pattern)) m lies.many) in
+    record {
+      whole = begins.long;
+      behind = omega (arith, begins.first, lies.behind);
+      cuts = record {
+        ordered = omega (arith, begins.first, begins.second, lies.ordered);
+        starts = subst (IsCharBoundary text) (sym begins.first) lies.starts_well;
+        ends = subst (IsCharBoundary text) (sym begins.second) lies.ends_well;
+      };
+      inside = omega (arith, begins.second, lies.inside);
+    }
+
+nat_lt-no : (a b : ℕ) → b ≤ a → nat_lt a b ≡ false
+nat_lt-no a b h = search rules
+
+alone : {B : Type 0} (o : Option B) → elim o [ None ↦ None | Some y ↦ Some y ] ≡ o
+alone None = refl
+alone (Some y) = refl
+
+tries_one : {B : Type 0} (f : ℕ → Option B) (p : ℕ) (others : List ℕ) (past anchored : Bool) → past ≡ false → anchored ≡ true
+    → first_some f (if past then [] else if anchored then p ∷ [] else others) ≡ f p
+tries_one f p others true anchored e h = absurd (true≢false e)
+tries_one f p others false false e h = absurd (true≢false (sym h))
+tries_one f p others false true e h = alone (f p)
+
+-- an anchored search tries its first start alone
+pub anchored_match : (s : Setting) (pattern : Pattern) (find : Search) → find.anchored ≡ true → find.first ≤ find.stop
+    → first_match s pattern find ≡ match_at s pattern find find.first
+unfolding first_match
+anchored_match s pattern find anchored inside =
+    tries_one (match_at s pattern find) find.first (boundaries s.text find.first find.stop) (nat_lt find.stop find.first) find.anchored (nat_lt-no find.stop find.first inside) anchored
+
+-- the match that starts at an offset lies behind it
+pub found_at_within : (s : MetaRegex) (text : List ℕ) (a : SearchConfig) (continue_at : Option ℕ) (p : ℕ) (found : Option (Vec ℕ Global)) →
+    IsUtf8 text → IsCharBoundary text p → p ≤ a.range_end → a.range_end ≤ length text →
+    option_map (λ (v : Vec ℕ Global). v.items) found ≡ option_map (match_slots (meta_pattern s)) (meta_match_at s text a continue_at p) →
+    IfSome found (λ v. IsMatchWithin text (record a { start = p; range_start = p }) v.items)
+found_at_within s text a continue_at p None utf8 h before inside e = tt
+found_at_within s text a continue_at p (Some v) utf8 h before inside e =
+    let f = some-of (match_slots (meta_pattern s)) (meta_match_at s text a continue_at p) v.items e in
+    let m : Match = f.0 in
+    let lies = first_lies (member_setting s text a continue_at) (meta_pattern s) (member_search s a p) utf8 h inside m
+    (anchored_match (member_setting s text a continue_at) (meta_pattern s) (member_search s a p) refl before ∙ f.1) in
     let begins = subst (λ (xs : List ℕ). Begins xs m.start m.end) (sym f.2) (places_begin (tree_in s.options (string_bytes s.pattern)) m lies.many) in
     record {
       whole = begins.long;

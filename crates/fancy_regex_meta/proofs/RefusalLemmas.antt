@@ -1,15 +1,14 @@
 -- What each layer's error says of a tree and of a text.
-use Rattle.std.proofs.Common.{◌≡◌, ℕ, Bool, true, false, not, ◌&&◌, ◌⊎◌, inl, inr, List, Ok, Err, Result, refl, sym, ap, subst, ◌∙◌, true≢false}
+use Rattle.std.proofs.Common.{◌≡◌, ℕ, Bool, true, false, ◌⊎◌, inl, inr, List, Ok, Err, refl, sym, ap, subst, ◌∙◌, true≢false}
 use Rattle.std.specs.Prelude.{chars}
 use Rattle.fancy_regex_tree.specs.declared.error.Error as tree
 use Rattle.fancy_regex_tree.specs.declared.error.Error.TheVariants as of_reading
 use Rattle.fancy_regex_tree.specs.declared.expr_tree.ExprTree.{ExprTree}
 use Rattle.fancy_regex_tree.specs.Tree.{Tree, tree_of}
-use Rattle.fancy_regex_tree.specs.Numbering.{PositionedFault}
 use Rattle.fancy_regex_tree.specs.Parse as reading
 use Rattle.fancy_regex_tree.specs.Parse.{Parsed, parse}
 use Rattle.fancy_regex_tree.specs.ReferenceSummary.{contains_subroutines}
-use Rattle.fancy_regex_tree.specs.ParseResult.{IsExprTreeOf, IsParsed}
+use Rattle.fancy_regex_tree.specs.ParseResult.{IsParsed}
 use Rattle.fancy_regex_meaning.specs.Groups.{pattern_of}
 use Rattle.fancy_regex_sizes.specs.AnalysisErrors.{ErrorHolds}
 use Rattle.fancy_regex_sizes.specs.NodeErrors.{is_memory}
@@ -17,7 +16,7 @@ use Rattle.fancy_regex_info.specs.declared.error.CompileError.{CompileError}
 use Rattle.fancy_regex_info.specs.declared.error.CompileError.TheVariants as of_building
 use Rattle.fancy_regex_runner.specs.Refusals.{IsCause}
 use Rattle.fancy_regex_meta.specs.ErrorConversions.{from_tree_error, from_compile_error}
-use Rattle.fancy_regex_meta.specs.Patterns.{read_as, reading_of, tree_in}
+use Rattle.fancy_regex_meta.specs.Patterns.{read_as, reading_of}
 use Rattle.fancy_regex_meta.specs.PatternMatches.{names_in}
 use Rattle.fancy_regex_meta.specs.GroupNames.{AreGroupNumbersOf}
 use Rattle.fancy_regex_meta.specs.EasyPatterns.{uses_easy, pattern_uses_easy, is_easy_strategy}
@@ -31,7 +30,7 @@ module _ (o : RegexOptions) (marked calls : Bool) (t : Tree) where
   -- want of memory is told as such
   told_as : (cause : CompileError) → (is_memory cause ≡ false → IsRefused o marked calls t cause) → RefusesTree o marked calls t (from_compile_error cause)
   told_as of_building.Memory f = tt
-  told_as cause f = f refl
+  told_as cause f = (f refl, λ e. true≢false (ap is_memory (sym e)))
 
   memory_told : (cause : CompileError) → is_memory cause ≡ true → RefusesTree o marked calls t (from_compile_error cause)
   memory_told cause e = told_as cause (λ other. absurd (true≢false (sym e ∙ other)))
@@ -66,7 +65,8 @@ module _ (o : RegexOptions) (text : List ℕ) (r : reading.Options) (tree : Expr
     h.0,
     read,
     subst (λ b. IsRefused o b (contains_subroutines h.0) h.0.tree cause) h.2.by_number (subst (λ b. IsRefused o tree.named_backref_only b h.0.tree cause) h.2.subroutines
-        (subst (λ t. IsRefused o tree.named_backref_only tree.contains_subroutines t cause) h.2.tree f)),
+        (subst (λ t. IsRefused o tree.named_backref_only tree.contains_subroutines t cause) h.2.tree f.0)),
+    f.1,
   )
   tree_told told.Memory f = tt
   tree_told (told.ParseError position kind) f = absurd f

@@ -1,5 +1,5 @@
 -- Which patterns the linear-time matcher executes.
-use Rattle.std.specs.Prelude.{◌≡◌, ℕ, Bool, true, false, not, ◌&&◌, List, length}
+use Rattle.std.specs.Prelude.{ℕ, Bool, true, false, not, ◌&&◌, List, length}
 use Rattle.fancy_regex_tree.specs.Tree.{Tree}
 use Rattle.fancy_regex_meaning.specs.Groups.{pattern_of}
 use Rattle.fancy_regex_info.specs.Easy.{is_easy}
@@ -24,4 +24,4 @@ pattern_uses_easy o text = uses_easy o (tree_in o text)
 -- the strategy is the linear-time matcher
 abbrev pub is_easy_strategy : Strategy → Bool
 is_easy_strategy (Easy easy) = true
-is_easy_strategy (Program prog) = false
+is_easy_strategy (Program prog seek) = false

@@ -9,3 +9,7 @@ pub mod EasyPatterns
 pub mod Refusals
 pub mod GroupNames
 pub mod SearchLimits
+pub mod Reading
+pub mod MemberSearches
+pub mod Caps
+pub mod SeekTables

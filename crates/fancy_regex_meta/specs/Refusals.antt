@@ -1,5 +1,5 @@
 -- Why a text cannot be compiled.
-use Rattle.std.specs.Prelude.{◌≡◌, ℕ, ◌+◌, ◌*◌, ◌<◌, Bool, true, false, List, Ok, Err}
+use Rattle.std.specs.Prelude.{◌≡◌, ◌≢◌, ℕ, ◌+◌, ◌*◌, Bool, true, false, List, Ok, Err}
 use Rattle.fancy_regex_text.specs.Fault.{kind_of}
 use Rattle.fancy_regex_tree.specs.Tree.{Tree}
 use Rattle.fancy_regex_tree.specs.Parse.{Parsed}
@@ -8,10 +8,11 @@ use Rattle.fancy_regex_meaning.specs.Choices.{program_nodes}
 use Rattle.fancy_regex_meaning.specs.Groups.{pattern_of}
 use Rattle.fancy_regex_sizes.specs.AnalysisErrors.{ErrorHolds, is_too_complex}
 use Rattle.fancy_regex_info.specs.declared.error.CompileError.{CompileError}
+use Rattle.fancy_regex_info.specs.declared.error.CompileError.TheVariants as of_building
 use Rattle.fancy_regex_info.specs.declared.options.AnalyzeContext.{AnalyzeContext}
 use Rattle.fancy_regex_info.specs.declared.options.BytesMode.TheVariants.{Unicode}
 use Rattle.fancy_regex_info.specs.declared.options.CompileOptions.{CompileOptions}
-use Rattle.fancy_regex_program.specs.Caps.{cap_of}
+use Rattle.fancy_regex_program.specs.Caps.{IsPastCap}
 use Rattle.fancy_regex_program.specs.Refusals.{IsRefusal, ReadsClasses}
 use Rattle.fancy_regex_runner.specs.Refusals.{IsTaken, IsCause}
 use Rattle.fancy_regex_meta.specs.Patterns.{read_as}
@@ -45,10 +46,10 @@ module _ (o : RegexOptions) (marked calls : Bool) (t : Tree) where
   abbrev pub HasNoCause : Type 0
   HasNoCause = (cause : CompileError) → ErrorHolds (context_of o) marked t cause → ⊥
 
-  -- A program is too long only where the cap is below sixteen instructions for each node of the tree, a call counting as its
-  -- target's body, and sixteen more.
+  -- A program is too long only where a cap is set, and it is below sixteen instructions for each node of the tree, a call
+  -- counting as its target's body, and sixteen more.
   abbrev pub IsTooLong : CompileError → Type 0
-  IsTooLong cause = is_too_complex cause ≡ true → cap_of o.max_prog_size < 16 * (program_nodes (pattern_of t) + 1)
+  IsTooLong cause = is_too_complex cause ≡ true → IsPastCap o.max_prog_size (16 * (program_nodes (pattern_of t) + 1))
 
   -- The reason is one of the analysis; or the analysis has none, and it is one of the linear-time matcher's construction or
   -- of the compiler.
@@ -57,9 +58,9 @@ module _ (o : RegexOptions) (marked calls : Bool) (t : Tree) where
     by_runner : uses_easy o t ≡ true → HasNoCause → IsCause (compile_options_of o calls) (pattern_of t) cause → IsRefused cause
     by_compiler : uses_easy o t ≡ false → HasNoCause → IsTooLong cause → IsCompileRefusal (compile_options_of o calls) t cause → IsRefused cause
 
-  -- an error for a parsed tree
+  -- An error for a parsed tree. Want of memory is `Memory`, and no reason.
   abbrev pub RefusesTree : Error → Type 0
-  RefusesTree (told.CompileError cause) = IsRefused cause
+  RefusesTree (told.CompileError cause) = IsRefused cause × (cause ≢ of_building.Memory)
   RefusesTree told.Memory = Unit {0}
   RefusesTree _ = ⊥
 
@@ -72,11 +73,12 @@ module _ (o : RegexOptions) (marked calls : Bool) (t : Tree) where
     pub readable : uses_easy o t ≡ false → ReadsClasses o.unicode_mode (pattern_of t).groups t
 
 -- An error for a text: the first parse error with its byte offset, if it is no pattern; a reason that holds, if the pattern is
--- refused; or `Memory`.
+-- refused; or `Memory`, which alone is told of want of memory.
 abbrev pub Refuses : RegexOptions → List ℕ → Error → Type 0
 Refuses o text (told.ParseError position kind) = read_as o text ≡ Err (record { kind = kind_of kind; position = position })
 Refuses o text (told.CompileError cause) =
     (found : Parsed) × (read_as o text ≡ Ok found) × IsRefused o (named_backref_only found) (contains_subroutines found) found.tree cause
+    × (cause ≢ of_building.Memory)
 Refuses o text (told.RuntimeError error) = ⊥
 Refuses o text told.Memory = Unit {0}
 

@@ -1,5 +1,5 @@
--- Which errors a search may return, and how often the linear-time matcher looks at the haystack.
-use Rattle.std.specs.Prelude.{◌≡◌, ℕ, ◌+◌, ◌-◌, ◌*◌, ◌<◌, Bool, true, false, not, ◌||◌, List, Some, None, max, string_bytes, if◌then◌else◌}
+-- Which errors a search may return, within which limits it answers, and how often the linear-time matcher looks at the haystack.
+use Rattle.std.specs.Prelude.{◌≡◌, ℕ, ◌+◌, ◌-◌, ◌*◌, ◌<◌, ◌≤◌, Bool, true, false, not, ◌||◌, List, Some, None, max, string_bytes, if◌then◌else◌}
 use Rattle.fancy_regex_tree.specs.Tree.{Tree}
 use Rattle.fancy_regex_meaning.specs.Groups.{pattern_of}
 use Rattle.fancy_regex_meaning.specs.Ways.{Setting}
@@ -9,12 +9,20 @@ use Rattle.fancy_regex_meaning.specs.Sizes.{tree_weight}
 use Rattle.fancy_regex_class.specs.RunInputs.{setting_for}
 use Rattle.fancy_regex_runner.specs.Find.{attempted}
 use Rattle.fancy_regex_class.specs.declared.input.RunInput.{RunInput}
+use Rattle.fancy_regex_program.specs.Machine.{Ending}
+use Rattle.fancy_regex_program.specs.declared.prog.Prog.{Prog}
+use Rattle.fancy_regex_machine.specs.MachineLimits.{MachinePassesLimit}
+use Rattle.fancy_regex_machine.specs.RunArguments.{machine_ending}
+use Rattle.fancy_regex_machine.specs.declared.error.RuntimeError.{RuntimeError}
 use Rattle.fancy_regex_machine.specs.declared.error.RuntimeError.TheVariants.{BacktrackLimitExceeded, StackOverflow, Memory}
+use Rattle.fancy_regex_machine.specs.declared.search.RunOptions.{RunOptions}
 use Rattle.fancy_regex_input.specs.declared.config.SearchConfig.{SearchConfig}
-use Rattle.fancy_regex_meta.specs.Patterns.{tree_in, pattern_in, options_in, setting_in}
-use Rattle.fancy_regex_meta.specs.Strategies.{search_of}
+use Rattle.fancy_regex_meta.specs.Patterns.{tree_in, options_in, setting_in}
+use Rattle.fancy_regex_meta.specs.Strategies.{search_of, run_input_of, run_options_of}
 use Rattle.fancy_regex_meta.specs.EasyPatterns.{pattern_uses_easy}
 use Rattle.fancy_regex_meta.specs.declared.options.RegexOptions.{RegexOptions}
+use Rattle.fancy_regex_meta.specs.declared.strategy.Strategy.{Strategy}
+use Rattle.fancy_regex_meta.specs.declared.strategy.Strategy.TheVariants.{Easy, Program}
 use Rattle.fancy_regex_meta.specs.declared.error.Error.{Error}
 use Rattle.fancy_regex_meta.specs.declared.error.Error.TheVariants as told
 use Rattle.fancy_regex_meta.specs.declared.meta_regex.MetaRegex.{MetaRegex}
@@ -31,6 +39,29 @@ IsSearchError served limit choices (told.RuntimeError StackOverflow) = (served �
 IsSearchError served limit choices (told.RuntimeError Memory) = ⊥
 IsSearchError served limit choices told.Memory = Unit {0}
 IsSearchError served limit choices _ = ⊥
+
+-- A limit is one of the kept program: the machine passes it when it runs that program on this text and input with the options'
+-- limit and the kept seek table. The linear-time matcher has no limit.
+abbrev pub StrategyPassesLimit : Strategy → RegexOptions → List ℕ → RunInput → RuntimeError → Type 0
+StrategyPassesLimit (Easy easy) o text input error = ⊥
+StrategyPassesLimit (Program prog seek) o text input error = MachinePassesLimit prog text input (run_options_of o seek) error
+
+-- an error of a search that reports a limit only where the kept program passes it
+abbrev pub IsStrategyError : Strategy → RegexOptions → List ℕ → RunInput → Error → Type 0
+IsStrategyError strategy o text input (told.RuntimeError error) = StrategyPassesLimit strategy o text input error
+IsStrategyError strategy o text input _ = Unit {0}
+
+-- The machine with complete copies of all slots stays within both limits: wherever its run of the program ends, it has
+-- backtracked at most as often as the backtrack limit allows, and had at most 1,000,000 branches open at once.
+abbrev pub MachineStaysInLimits : Prog → List ℕ → RunInput → RunOptions → Type 0
+MachineStaysInLimits prog text input options = (n : ℕ) (e : Ending) → machine_ending prog text input options n ≡ Some e
+    → (e.backtracks ≤ options.backtrack_limit) × (e.peak ≤ max_open_branches)
+
+-- Where a strategy answers, no limit is passed: the machine stays within the limits when it runs the kept program on this text
+-- and input with the options' limit. The linear-time matcher has no limit.
+abbrev pub StrategyStaysInLimits : Strategy → RegexOptions → List ℕ → RunInput → Type 0
+StrategyStaysInLimits (Easy easy) o text input = Unit {0}
+StrategyStaysInLimits (Program prog seek) o text input = MachineStaysInLimits prog text input (run_options_of o seek)
 
 -- the weight of a tree: the looks per position that the linear-time matcher needs at most
 abbrev pub weight_of : Tree → ℕ
@@ -82,6 +113,15 @@ meta_starts_tried s text config continue_disabled =
 abbrev pub max_looks : MetaRegex → SearchConfig → ℕ
 max_looks s config = weight_of (meta_tree s) * (config.range_end - effective_start config + 1)
 
--- the error is one that a search may return
+-- The error is one that a search may return: a limit only where the choices exceed it, and only where the kept program passes
+-- it on this input.
 abbrev pub IsMetaSearchError : MetaRegex → List ℕ → SearchConfig → Bool → Error → Type 0
-IsMetaSearchError s text config continue_disabled = IsSearchError (meta_uses_easy s) s.options.backtrack_limit (meta_choices s text config continue_disabled)
+IsMetaSearchError s text config continue_disabled e =
+    IsSearchError (meta_uses_easy s) s.options.backtrack_limit (meta_choices s text config continue_disabled) e
+    × IsStrategyError s.strategy s.options text (run_input_of config (effective_start config) continue_disabled) e
+
+-- Where a search answers, its run stays within the limits. A search whose effective start is past the end of its range runs
+-- nothing.
+abbrev pub MetaStaysInLimits : MetaRegex → List ℕ → SearchConfig → Bool → Type 0
+MetaStaysInLimits s text config continue_disabled = effective_start config ≤ config.range_end
+    → StrategyStaysInLimits s.strategy s.options text (run_input_of config (effective_start config) continue_disabled)

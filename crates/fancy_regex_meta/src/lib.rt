@@ -4,9 +4,11 @@
 #![tactic(auto)]
 
 mod error;
-mod flags;
 mod meta_regex;
 mod options;
+mod parse;
+mod parse_options;
+mod seek;
 mod strategy;
 
 pub use error::{Error, Result};

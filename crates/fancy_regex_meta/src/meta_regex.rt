@@ -5,22 +5,21 @@ ghost use Rattle.fancy_regex_tree.specs.Tree.{tree_of};
 ghost use Rattle.fancy_regex_meaning.specs.Groups.{pattern_of};
 ghost use Rattle.fancy_regex_class.specs.RunInputs.{match_slots};
 ghost use Rattle.fancy_regex_input.specs.SearchInputs.{FitsText};
-ghost use Rattle.fancy_regex_meta.specs.Strategies.{Executes};
+ghost use Rattle.fancy_regex_meta.specs.Strategies.{Executes, StrategyKeepsCap, run_input_of};
 ghost use Rattle.fancy_regex_meta.specs.GroupNames.{AreGroupNumbersOf};
 ghost use Rattle.fancy_regex_meta.specs.Refusals.{IsAccepted, RefusesTree, Refuses, Accepts};
 ghost use Rattle.fancy_regex_meta.specs.PatternMatches.{IsCompiledFrom, names_in};
 ghost use Rattle.fancy_regex_meta.specs.EasyPatterns.{uses_easy, pattern_uses_easy, is_easy_strategy};
 
 use crate::error::Result;
-use crate::flags::flags_of;
 use crate::options::RegexOptions;
 use crate::strategy::Strategy;
-use fancy_regex_class::{RunInput, Steps};
+use fancy_regex_class::{RunInput, Span, Steps};
 use fancy_regex_info::AnalyzeContext;
 use fancy_regex_input::SearchConfig;
 use fancy_regex_meaning::laws_of_groups;
 use fancy_regex_sizes::analyze;
-use fancy_regex_tree::{Expr, ExprTree, NamedGroups};
+use fancy_regex_tree::{ExprTree, NamedGroups};
 use std::alloc::Global;
 
 /// A compiled pattern. No search changes it.
@@ -51,6 +50,7 @@ fn choose_strategy(
     ensures groups { IfOk result (λ r. r.0 ≡ length (pattern_of (tree_of tree.now.expr)).groups) }
     ensures runs { IfOk result (λ r. Executes r.1 options.now (tree_of tree.now.expr)) }
     ensures served { IfOk result (λ r. is_easy_strategy r.1 ≡ uses_easy options.now (tree_of tree.now.expr)) }
+    ensures cap { IfOk result (λ r. StrategyKeepsCap options.now.max_prog_size r.1) }
     ensures accepted { IfOk result (λ _. IsAccepted options.now tree.now.named_backref_only tree.now.contains_subroutines (tree_of tree.now.expr)) }
     ensures refused { IfErr result (λ e. RefusesTree options.now tree.now.named_backref_only tree.now.contains_subroutines (tree_of tree.now.expr) e) }
 {
@@ -66,18 +66,16 @@ fn choose_strategy(
 
 /// The input of the matcher, for a search from a byte offset; if the flag is set, `\G` never matches.
 fn run_input(config: SearchConfig, first: usize, continue_disabled: bool) -> RunInput
-    ensures first { result.first ≡ first }
-    ensures continues { result.continue_at ≡ (if config.continues && not continue_disabled then Some first else None) }
-    ensures range { result.range.end ≡ config.range_end }
-    ensures anchored { result.anchored ≡ config.anchored }
-    ensures start_text { result.no_start_text ≡ not config.start_text }
-    ensures end_text { result.no_end_text ≡ not config.end_text }
+    ensures { result ≡ run_input_of config first continue_disabled }
 {
     let continues = config.continues && !continue_disabled;
     RunInput {
         first,
         continue_at: if continues { Some(first) } else { None },
-        range: config.range_start..config.range_end,
+        range: Span {
+            start: config.range_start,
+            end: config.range_end,
+        },
         anchored: config.anchored,
         no_start_text: !config.start_text,
         no_end_text: !config.end_text,
@@ -86,18 +84,22 @@ fn run_input(config: SearchConfig, first: usize, continue_disabled: bool) -> Run
 
 impl MetaRegex {
     ghost use Rattle.fancy_regex_meta.specs.MatchOffsets.{IsMatchWithin};
-    ghost use Rattle.fancy_regex_meta.specs.SearchLimits.{IsMetaSearchError, meta_uses_easy, meta_starts_tried, max_looks};
+    ghost use Rattle.fancy_regex_meta.specs.SearchLimits.{IsMetaSearchError, MetaStaysInLimits, meta_uses_easy, meta_starts_tried, max_looks};
     ghost use Rattle.fancy_regex_meta.specs.MetaMatches.{meta_pattern, meta_match_from};
+    ghost use Rattle.fancy_regex_meta.specs.MemberSearches.{meta_match_at, IsMemberError, MemberStaysInLimits};
+    ghost use Rattle.fancy_regex_meta.specs.Caps.{MetaKeepsCap};
 
-    /// Parses and compiles a pattern. `ParseError` if the text is no pattern, with the first error and its byte offset;
-    /// `CompileError` if the pattern is refused, with one of the reasons that hold; `Memory` if memory runs out.
+    /// Parses and compiles a pattern. If it needs a program, that has at most `max_prog_size` instructions. `ParseError` if the
+    /// text is no pattern, with the first error and its byte offset; `CompileError` if the pattern is refused, with one of the
+    /// reasons that hold; `Memory` if memory runs out.
     pub fn new(alloc: Global, pattern: String, options: &RegexOptions) -> Result<MetaRegex>
         ensures pattern { IfOk result (λ s. s.pattern ≡ pattern) }
         ensures options { IfOk result (λ s. s.options ≡ options.now) }
+        ensures cap { IfOk result MetaKeepsCap }
         ensures accepted { IfOk result (λ _. Accepts options.now (string_bytes pattern)) }
         ensures refused { IfErr result (λ e. Refuses options.now (string_bytes pattern) e) }
     {
-        let tree = Expr::parse_tree_with_flags(alloc, pattern.as_str(), flags_of(options))?;
+        let tree = options.parse(alloc, pattern.as_str())?;
         let (groups, strategy) = choose_strategy(alloc, &tree, options)?;
         Ok(MetaRegex {
             pattern,
@@ -154,9 +156,11 @@ impl MetaRegex {
             ≡ option_map (match_slots (meta_pattern self.now)) (meta_match_from self.now text.now config (max config.start config.range_start) continue_disabled)) }
         ensures within { IfOk result (λ found. IfSome found (λ v. IsMatchWithin text.now config v.items)) }
         ensures limits { IfErr result (λ e. IsMetaSearchError self.now text.now config continue_disabled e) }
+        ensures stays { IfOk result (λ _. MetaStaysInLimits self.now text.now config continue_disabled) }
         ensures looks_most { meta_uses_easy self.now ≡ true → steps.new ≤ steps.old + max_looks self.now config }
         ensures looks_least { IfOk result (λ _. meta_uses_easy self.now ≡ true → min (steps.old + meta_starts_tried self.now text.now config continue_disabled) (2 ^ 64 - 1) ≤ steps.new) }
         ensures looks_none { meta_uses_easy self.now ≡ false → steps.new ≡ steps.old }
+        ensures counts { steps.old ≤ steps.new }
     {
         let first = config.start.max(config.range_start);
         if config.range_end < first {
@@ -165,5 +169,39 @@ impl MetaRegex {
         let input = run_input(config, first, continue_disabled);
         self.strategy
             .search(alloc, text, &input, &self.options, steps)
+    }
+    /// The start and end byte offsets of each group of the match that starts at `position`, both `usize::MAX` for a group that did
+    /// not participate; `None` if no match starts there. `\G` matches at `continue_at` alone, and nowhere if that is `None`.
+    /// Errors: `RuntimeError` if a program exceeds a limit, or `Memory`.
+    pub fn search_at(
+        &self,
+        alloc: Global,
+        text: &str,
+        config: SearchConfig,
+        continue_at: Option<usize>,
+        position: usize,
+    ) -> Result<Option<Vec<usize>>>
+        requires range { config.range_end ≤ length text.now }
+        requires boundary { IsCharBoundary text.now position }
+        requires inside { position ≤ config.range_end }
+        ensures answer { IfOk result (λ found. option_map (λ v. v.items) found
+            ≡ option_map (match_slots (meta_pattern self.now)) (meta_match_at self.now text.now config continue_at position)) }
+        ensures within { IfOk result (λ found. IfSome found (λ v. IsMatchWithin text.now (record config { start = position; range_start = position }) v.items)) }
+        ensures limits { IfErr result (λ e. IsMemberError self.now text.now config continue_at position e) }
+        ensures stays { IfOk result (λ _. MemberStaysInLimits self.now text.now config continue_at position) }
+    {
+        let input = RunInput {
+            first: position,
+            continue_at,
+            range: Span {
+                start: config.range_start,
+                end: config.range_end,
+            },
+            anchored: true,
+            no_start_text: !config.start_text,
+            no_end_text: !config.end_text,
+        };
+        self.strategy
+            .search(alloc, text, &input, &self.options, &mut Steps::new())
     }
 }

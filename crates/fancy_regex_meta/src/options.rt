@@ -27,7 +27,8 @@ pub struct RegexOptions {
     pub find_not_empty: bool,
     /// Unnamed groups do not capture if the pattern has a named group.
     pub ignore_numbered_groups_when_named_groups_exist: bool,
-    /// Start offsets at which no match can start may be skipped. It has no effect yet.
+    /// A search by a program skips the start offsets whose byte no match starts with, if those bytes are known. It finds the
+    /// same. It has no effect on the linear-time matcher.
     pub seek: bool,
     /// The pattern is parsed as Oniguruma does where the two dialects differ.
     pub oniguruma_mode: bool,

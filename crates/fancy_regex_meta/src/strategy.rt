@@ -5,7 +5,8 @@ ghost use Rattle.fancy_regex_tree.specs.Tree.{Tree, tree_of};
 ghost use Rattle.fancy_regex_meaning.specs.Choices.{program_nodes};
 ghost use Rattle.fancy_regex_meaning.specs.Groups.{pattern_of};
 ghost use Rattle.fancy_regex_meaning.specs.Searches.{first_match};
-ghost use Rattle.fancy_regex_program.specs.Caps.{cap_of};
+ghost use Rattle.fancy_regex_meaning.specs.SizeLaws.{IsInOrder};
+ghost use Rattle.fancy_regex_program.specs.Caps.{IsPastCap};
 ghost use Rattle.fancy_regex_program.specs.Refusals.{IsClear, ReadsClasses};
 ghost use Rattle.fancy_regex_info.specs.Analysis.{analysis};
 ghost use Rattle.fancy_regex_sizes.specs.AnalysisErrors.{is_too_complex};
@@ -19,6 +20,7 @@ ghost use Rattle.fancy_regex_meta.specs.Refusals.{compile_options_of, IsCompileR
 
 use crate::error::Result;
 use crate::options::RegexOptions;
+use crate::seek::seek_table;
 use fancy_regex_class::{RunInput, Steps};
 use fancy_regex_info::{CompileError, CompileOptions, Info};
 use fancy_regex_machine::{RunOptions, run};
@@ -32,7 +34,12 @@ pub enum Strategy {
     /// The linear-time matcher, for an easy pattern without `find_not_empty`.
     Easy(Easy),
     /// The backtracking program of any other pattern.
-    Program(Prog),
+    Program {
+        /// The program.
+        prog: Prog,
+        /// The seek table: for each byte, whether a match may start with it; `None` tries each start offset.
+        seek: Option<[bool; 256]>,
+    },
 }
 
 /// The options for compiling a tree; the flag says whether the tree has subroutine calls.
@@ -55,13 +62,13 @@ fn compile_options(options: &RegexOptions, calls: bool) -> CompileOptions
 
 impl Strategy {
     ghost use Rattle.fancy_regex_program.specs.Programs.{RefersToGroups};
-    ghost use Rattle.fancy_regex_meta.specs.Strategies.{Executes, search_of};
+    ghost use Rattle.fancy_regex_meta.specs.Strategies.{Executes, StrategyKeepsCap, is_whole, search_of};
     ghost use Rattle.fancy_regex_meta.specs.EasyPatterns.{uses_easy, is_easy_strategy};
-    ghost use Rattle.fancy_regex_meta.specs.SearchLimits.{IsSearchError, weight_of, run_choices, run_tried};
+    ghost use Rattle.fancy_regex_meta.specs.SearchLimits.{IsSearchError, IsStrategyError, StrategyStaysInLimits, weight_of, run_choices, run_tried};
 
     /// Compiles an analyzed tree, all of whose references must be to existing groups: for the linear-time matcher if the
-    /// tree is easy and empty matches are allowed, otherwise to a program. The error says why the tree cannot be compiled,
-    /// or is `Memory`.
+    /// tree is easy and empty matches are allowed, otherwise to a program, with its seek table if the options ask for it. The
+    /// error says why the tree cannot be compiled, or is `Memory`.
     pub fn new(
         alloc: Global,
         info: &Info<'_>,
@@ -69,14 +76,15 @@ impl Strategy {
         calls: bool,
     ) -> std::result::Result<Strategy, CompileError>
         ensures runs { IfOk result (λ strategy. (t : Tree) → info_of info.now ≡ analysis false t → RefersToGroups false t
-            → Executes strategy options.now t) }
+            → IsInOrder t → Executes strategy options.now t) }
         ensures served { IfOk result (λ strategy. (t : Tree) → info_of info.now ≡ analysis false t → is_easy_strategy strategy ≡ uses_easy options.now t) }
         ensures taken { IfOk result (λ _. (t : Tree) → info_of info.now ≡ analysis false t → uses_easy options.now t ≡ true
             → IsTaken (compile_options_of options.now calls) (pattern_of t)) }
         ensures refused { IfErr result (λ cause. (t : Tree) → info_of info.now ≡ analysis false t → uses_easy options.now t ≡ true
             → IsCause (compile_options_of options.now calls) (pattern_of t) cause) }
         ensures long { IfErr result (λ cause. (t : Tree) → info_of info.now ≡ analysis false t → uses_easy options.now t ≡ false
-            → is_too_complex cause ≡ true → cap_of options.now.max_prog_size < 16 * (program_nodes (pattern_of t) + 1)) }
+            → is_too_complex cause ≡ true → IsPastCap options.now.max_prog_size (16 * (program_nodes (pattern_of t) + 1))) }
+        ensures cap { IfOk result (StrategyKeepsCap options.now.max_prog_size) }
         ensures mode { IfOk result (λ _. (t : Tree) → info_of info.now ≡ analysis false t → options.now.bytes_mode ≡ Unicode) }
         ensures classes { IfOk result (λ _. (t : Tree) → info_of info.now ≡ analysis false t → uses_easy options.now t ≡ false
             → IsClear (pattern_of t).groups t → ReadsClasses options.now.unicode_mode (pattern_of t).groups t) }
@@ -85,7 +93,8 @@ impl Strategy {
     {
         if info.hard || options.find_not_empty {
             let prog = compile(alloc, info, &compile_options(options, calls))?;
-            return Ok(Strategy::Program(prog));
+            let seek = seek_table(alloc, info.expr, options)?;
+            return Ok(Strategy::Program { prog, seek });
         }
         Ok(Strategy::Easy(Easy::new(alloc, info, &compile_options(options, calls))?))
     }
@@ -103,24 +112,29 @@ impl Strategy {
     ) -> Result<Option<Vec<usize>>>
         requires first { IsCharBoundary text.now input.now.first }
         requires range { input.now.range.end ≤ length text.now }
+        requires whole { is_whole self.now ≡ true }
         ensures answer { IfOk result (λ found. (t : Tree) → Executes self.now options.now t
             → option_map (λ v. v.items) found ≡ option_map (match_slots (pattern_of t))
             (first_match (setting_for options.now.unicode_mode text.now input.now) (pattern_of t) (search_of options.now input.now))) }
         ensures limits { IfErr result (λ e. (t : Tree) → Executes self.now options.now t
             → IsSearchError (is_easy_strategy self.now) options.now.backtrack_limit (run_choices options.now text.now input.now t) e) }
+        ensures passed { IfErr result (λ e. (t : Tree) → Executes self.now options.now t
+            → IsStrategyError self.now options.now text.now input.now e) }
+        ensures stays { IfOk result (λ _. StrategyStaysInLimits self.now options.now text.now input.now) }
         ensures looks_most { (t : Tree) → Executes self.now options.now t → is_easy_strategy self.now ≡ true
             → steps.new ≤ steps.old + weight_of t * (input.now.range.end - input.now.first + 1) }
         ensures looks_least { IfOk result (λ _. (t : Tree) → Executes self.now options.now t → is_easy_strategy self.now ≡ true
             → min (steps.old + run_tried options.now text.now input.now t) (2 ^ 64 - 1) ≤ steps.new) }
         ensures looks_none { is_easy_strategy self.now ≡ false → steps.new ≡ steps.old }
+        ensures counts { steps.old ≤ steps.new }
     {
         match self {
             Strategy::Easy(easy) => Ok(easy.search(alloc, text, input, steps)?),
-            Strategy::Program(prog) => {
+            Strategy::Program { prog, seek } => {
                 let options = RunOptions {
                     backtrack_limit: options.backtrack_limit,
                     find_not_empty: options.find_not_empty,
-                    seek: None,
+                    seek: *seek,
                 };
                 Ok(run(alloc, prog, text, input, &options)?)
             }

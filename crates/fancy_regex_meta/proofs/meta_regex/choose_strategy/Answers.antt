@@ -3,6 +3,7 @@ use Rattle.fancy_regex_tree.specs.Tree.{tree_of}
 use Rattle.fancy_regex_info.specs.declared.error.CompileError.TheVariants.{InvalidBackref}
 use Rattle.fancy_regex_meta.proofs.AnalysisLemmas.{analyzed_end}
 use Rattle.fancy_regex_meta.proofs.RefusalLemmas.{analysis_told, engine_told}
+use Rattle.fancy_regex_meta.proofs.SeekLemmas.{no_cause_in_order}
 use Rattle.std.proofs.lemmas.Result.{err_from_is_err_and}
 use Rattle.fancy_regex_meta.proofs.meta_regex.choose_strategy.Goals as goal
 
@@ -13,6 +14,8 @@ pub returns-clause-runs : goal.returns-clause-runs
 returns-clause-runs c =
     c.in_ok-strategy.ensures.runs (tree_of c.args.tree.now.expr) c.in_ok-info.ensures.answer
     (λ k e. c.in_ok-info.ensures.complete (InvalidBackref k) (inr (inl e)))
+    (no_cause_in_order c.args.options.now c.args.tree.now.named_backref_only c.args.tree.now.contains_subroutines (tree_of c.args.tree.now.expr)
+    c.in_ok-info.ensures.complete)
 
 pub returns-in_err-info-clause-refused : goal.returns-in_err-info-clause-refused
 returns-in_err-info-clause-refused c =

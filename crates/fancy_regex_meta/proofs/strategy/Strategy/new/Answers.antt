@@ -1,9 +1,10 @@
-use Rattle.std.proofs.Common.{◌≡◌, ℕ, ◌+◌, ◌*◌, ◌<◌, ◌∙◌, true, false, sym, ap, subst, true≢false}
+use Rattle.std.proofs.Common.{◌≡◌, ◌+◌, ◌*◌, ◌∙◌, true, false, sym, ap, subst, true≢false}
 use Rattle.std.proofs.lemmas.Result.{MatchResult-from_err}
 use Rattle.fancy_regex_tree.specs.Tree.{Tree}
 use Rattle.fancy_regex_meaning.specs.Choices.{program_nodes}
 use Rattle.fancy_regex_meaning.specs.Groups.{pattern_of}
-use Rattle.fancy_regex_program.specs.Caps.{cap_of}
+use Rattle.fancy_regex_program.specs.Caps.{IsPastCap}
+use Rattle.fancy_regex_program.specs.Programs.{KeepsCap}
 use Rattle.fancy_regex_program.specs.Refusals.{IsClear, ReadsClasses}
 use Rattle.fancy_regex_sizes.specs.AnalysisErrors.{is_too_complex}
 use Rattle.fancy_regex_info.specs.Analysis.{analysis}
@@ -11,15 +12,15 @@ use Rattle.fancy_regex_info.specs.Infos.{info_of}
 use Rattle.fancy_regex_info.specs.declared.options.CompileOptions.{CompileOptions}
 use Rattle.fancy_regex_sizes.proofs.PartErrorLemmas.{gives}
 use Rattle.fancy_regex_runner.specs.Refusals.{IsTaken, IsCause}
-use Rattle.fancy_regex_meta.specs.Strategies.{IsCompiled}
 use Rattle.fancy_regex_meta.specs.Refusals.{compile_options_of, IsCompileRefusal}
 use Rattle.fancy_regex_meta.specs.EasyPatterns.{uses_easy}
-use Rattle.fancy_regex_meta.proofs.AnalysisLemmas.{hard_off, not_empty_off, easy_on}
+use Rattle.fancy_regex_meta.specs.SeekTables.{IsSeekTable}
+use Rattle.fancy_regex_meta.proofs.AnalysisLemmas.{hard_off, not_empty_off, easy_on, analyzed_tree}
 use Rattle.fancy_regex_meta.proofs.strategy.Strategy.new.Goals as goal
 use Rattle.fancy_regex_meta.proofs.strategy.Strategy.new.Goals.{Joined-then-info, then-info-via-then-info, then-info-via-else-info+then-options}
 
 pub returns-clause-runs : goal.returns-clause-runs
-returns-clause-runs c t is refers = (
+returns-clause-runs c t is refers order = (
   c.in_ok-new.ensures.made false t is,
   c.in_ok-new.ensures.options.0 ∙ c.compile_options-2.ensures.unicode,
   c.in_ok-new.ensures.options.1 ∙ c.compile_options-2.ensures.longest,
@@ -27,7 +28,7 @@ returns-clause-runs c t is refers = (
 )
 
 pub returns-then-info-clause-runs : goal.returns-then-info-clause-runs
-returns-then-info-clause-runs c t is refers =
+returns-then-info-clause-runs c t is refers order =
     let made = c.in_ok-prog.ensures.tree false t is in (
       record {
         program = rw (c.compile_options.ensures.anchored) at made.program;
@@ -37,6 +38,8 @@ returns-then-info-clause-runs c t is refers =
       },
       c.in_ok-prog.ensures.unicode ∙ c.compile_options.ensures.unicode,
       c.in_ok-prog.ensures.longest ∙ c.compile_options.ensures.longest,
+      subst (λ u. IsSeekTable c.args.options.now u c.in_ok-seek.seek) (analyzed_tree c.args.info.now t is) c.in_ok-seek.ensures.table,
+      order,
     )
 
 -- on this branch the tree needs a program
@@ -78,14 +81,17 @@ returns-in_err-prog-clause-long c =
     let o = c.args.options.now in
     let i = c.args.info.now in
     gives c.from_residual.result c.in_err-prog.field-0.0
-    (λ cause. (t : Tree) → info_of i ≡ analysis false t → uses_easy o t ≡ false → is_too_complex cause ≡ true → cap_of o.max_prog_size < 16 * (program_nodes (pattern_of t) + 1))
+    (λ cause. (t : Tree) → info_of i ≡ analysis false t → uses_easy o t ≡ false → is_too_complex cause ≡ true → IsPastCap o.max_prog_size (16 * (program_nodes (pattern_of t) + 1)))
     c.from_residual.ensures.1
-    (λ t is e. subst (λ most. is_too_complex c.in_err-prog.field-0.0 ≡ true → cap_of most < 16 * (program_nodes (pattern_of t) + 1)) c.compile_options.ensures.cap (c.in_err-prog.ensures.full false t is))
+    (λ t is e. subst (λ most. is_too_complex c.in_err-prog.field-0.0 ≡ true → IsPastCap most (16 * (program_nodes (pattern_of t) + 1))) c.compile_options.ensures.cap (c.in_err-prog.ensures.full false t is))
 
 pub returns-in_err-new-clause-long : goal.returns-in_err-new-clause-long
 returns-in_err-new-clause-long c =
     MatchResult-from_err c.from_residual-in_err-new.result _ _ c.from_residual-in_err-new.ensures.0
     (λ cause t is e. absurd (true≢false (sym (easy_on c.args.options.now c.args.info.now t is c.if-info.false c.if-options.false) ∙ e)))
+
+pub returns-then-info-clause-cap : goal.returns-then-info-clause-cap
+returns-then-info-clause-cap c = subst (λ most. KeepsCap most c.in_ok-prog.prog) c.compile_options.ensures.cap c.in_ok-prog.ensures.cap
 
 mode_is : (k l : CompileOptions) → k ≡ l → l.bytes_mode ≡ k.bytes_mode
 mode_is k l e = ap (λ (o : CompileOptions). o.bytes_mode) (sym e)
@@ -120,3 +126,27 @@ returns-then-info-clause-classes c t is e clear =
 pub returns-clause-classes : goal.returns-clause-classes
 returns-clause-classes c t is e =
     absurd (true≢false (sym (easy_on c.args.options.now c.args.info.now t is c.if-info.false c.if-options.false) ∙ e))
+
+-- the seek table fails for want of memory alone
+pub returns-in_err-seek-clause-refused : goal.returns-in_err-seek-clause-refused
+returns-in_err-seek-clause-refused c =
+    MatchResult-from_err c.from_residual-in_err-seek.result _ _ c.from_residual-in_err-seek.ensures.0
+    (λ cause t is e. absurd (true≢false (sym e ∙ needs_program (goal.at.returns-in_err-seek-clause-refused c).Joined-then-info t is)))
+
+pub returns-in_err-seek-clause-long : goal.returns-in_err-seek-clause-long
+returns-in_err-seek-clause-long c =
+    let o = c.args.options.now in
+    let i = c.args.info.now in
+    gives c.from_residual-in_err-seek.result c.in_err-seek.field-0.0
+    (λ cause. (t : Tree) → info_of i ≡ analysis false t → uses_easy o t ≡ false → is_too_complex cause ≡ true → IsPastCap o.max_prog_size (16 * (program_nodes (pattern_of t) + 1)))
+    c.from_residual-in_err-seek.ensures.1
+    (λ t is e long. absurd (true≢false (sym long ∙ ap is_too_complex c.in_err-seek.ensures.memory)))
+
+pub returns-in_err-seek-clause-reason : goal.returns-in_err-seek-clause-reason
+returns-in_err-seek-clause-reason c =
+    let o = c.args.options.now in
+    let i = c.args.info.now in
+    gives c.from_residual-in_err-seek.result c.in_err-seek.field-0.0
+    (λ cause. (t : Tree) → info_of i ≡ analysis false t → uses_easy o t ≡ false → IsClear (pattern_of t).groups t → IsCompileRefusal (compile_options_of o c.args.calls) t cause)
+    c.from_residual-in_err-seek.ensures.1
+    (λ t is e clear. subst (IsCompileRefusal (compile_options_of o c.args.calls) t) (sym c.in_err-seek.ensures.memory) tt)

@@ -1,0 +1,12 @@
+pub mod OffsetLemmas
+pub mod RemainingLemmas
+pub mod NameLemmas
+pub mod LookLemmas
+pub mod IterationLemmas
+pub mod LimitLemmas
+pub mod StepLemmas
+pub mod PieceLemmas
+pub mod ReplaceLemmas
+pub mod ResultLemmas
+pub mod GroupTextLemmas
+pub mod NameSearchLemmas

@@ -1,0 +1,73 @@
+-- The searches that a step of an iteration makes, and their limits.
+use Rattle.std.proofs.Common.{◌≡◌, ℕ, ◌<◌, ◌≤◌, max, Bool, List, Option, Some, None, subst, sym, arith}
+use Rattle.fancy_regex_meaning.specs.Searches.{Match}
+use Rattle.fancy_regex_input.specs.declared.config.SearchConfig.{SearchConfig}
+use Rattle.fancy_regex_meta.specs.MetaMatches.{meta_match_from}
+use Rattle.fancy_regex_meta.specs.SearchLimits.{MetaStaysInLimits}
+use Rattle.fancy_regex_meta.specs.declared.meta_regex.MetaRegex.{MetaRegex}
+use Rattle.fancy_regex_search.specs.RemainingMatches.{next_start}
+use Rattle.fancy_regex_search.specs.IterationSearches.{SkipsTo, at_once, skipped, continue_disabled_after}
+use Rattle.fancy_regex_search.specs.IterationLimits.{SkipsStayInLimits}
+use Rattle.fancy_regex_search.specs.declared.match_iter.IterState.{IterState}
+use Rattle.fancy_regex_search.proofs.RemainingLemmas.{found-same}
+
+-- what holds of the next search, and of those behind it where its match is skipped, holds of each that is come to by skipping
+each_skip : (P : ℕ → Bool → Type 0) (text : List ℕ) (find : ℕ → Bool → Option Match) (first end : ℕ) (last : Option ℕ) (p : ℕ) (off : Bool) (q : ℕ) (o : Bool) →
+    SkipsTo text find first end last p off q o → P p off →
+    ((m : Match) → max p first ≤ end → find (max p first) off ≡ Some m → m.end ≤ m.start → last ≡ Some m.end →
+    SkipsTo text find first end (Some m.end) (next_start text m.start m.end) (continue_disabled_after (max p first) m) q o → P q o) →
+    P q o
+each_skip P text find first end _ _ _ _ _ (at_once last p off) here behind = here
+each_skip P text find first end _ _ _ _ _ (skipped last p off m q o inside found empty same later) here behind = behind m inside found empty same later
+
+same-match : (find : Option Match) (m k : Match) → find ≡ Some m → find ≡ Some k → m ≡ k
+same-match find m k e f = cc
+
+module _ (s : MetaRegex) (text : List ℕ) (a : SearchConfig) (before : IterState) where
+  -- a search that is not followed by another one
+  single : MetaStaysInLimits s text a before.continue_disabled →
+      ((m : Match) → max a.start a.range_start ≤ a.range_end → meta_match_from s text a (max a.start a.range_start) before.continue_disabled ≡ Some m → m.end ≤ m.start →
+      before.last ≡ Some m.end → ⊥) →
+      SkipsStayInLimits s text a before
+  single stays unskipped q o skips = each_skip (λ at x. MetaStaysInLimits s text (record a { start = at }) x) text (meta_match_from s text a) a.range_start a.range_end
+      before.last a.start before.continue_disabled q o skips stays (λ m inside found empty same later. absurd (unskipped m inside found empty same))
+
+  -- past the range nothing is searched
+  pub past_stays : a.range_end < max a.start a.range_start → SkipsStayInLimits s text a before
+  past_stays past = single (λ inside. absurd (omega (arith, past, inside))) (λ m inside found empty same. omega (arith, past, inside))
+
+  pub none_stays : MetaStaysInLimits s text a before.continue_disabled → meta_match_from s text a (max a.start a.range_start) before.continue_disabled ≡ None →
+      SkipsStayInLimits s text a before
+  none_stays stays none = single stays (λ m inside found empty same. absurd (cc))
+
+  module _ (stays : MetaStaysInLimits s text a before.continue_disabled) (m : Match)
+      (found : meta_match_from s text a (max a.start a.range_start) before.continue_disabled ≡ Some m) where
+    pub long_stays : m.start < m.end → SkipsStayInLimits s text a before
+    long_stays less = single stays (λ k inside other empty same.
+        let is : m ≡ k = same-match _ m k found other in
+        let most : m.end ≤ m.start = subst (λ (x : Match). x.end ≤ x.start) (sym is) empty in
+        omega (arith, less, most))
+
+    pub empty_stays : (before.last ≡ Some m.end → ⊥) → SkipsStayInLimits s text a before
+    empty_stays unlike = single stays (λ k inside other empty same.
+        let is : m ≡ k = same-match _ m k found other in
+        unlike (subst (λ (x : Match). before.last ≡ Some x.end) (sym is) same))
+
+    -- behind a match that is skipped
+    pub skip_stays : (b : SearchConfig) (after : IterState) (p : ℕ) → b ≡ record a { start = p } → p ≡ next_start text m.start m.end →
+        after.continue_disabled ≡ continue_disabled_after (max a.start a.range_start) m → after.last ≡ Some m.end →
+        SkipsStayInLimits s text b after → SkipsStayInLimits s text a before
+    skip_stays b after p is at flag end kept q o skips =
+        let last = before.last in
+        let off = before.continue_disabled in
+        each_skip (λ from x. MetaStaysInLimits s text (record a { start = from }) x) text (meta_match_from s text a) a.range_start a.range_end last a.start off q o skips stays
+        (λ k inside other empty same later.
+        let first = subst (λ (x : Match). SkipsTo text (meta_match_from s text a) a.range_start a.range_end (Some x.end) (next_start text x.start x.end)
+        (continue_disabled_after (max a.start a.range_start) x) q o) (sym (same-match _ m k found other)) later in
+        let second = subst (λ (l : Option ℕ). SkipsTo text (meta_match_from s text a) a.range_start a.range_end l (next_start text m.start m.end)
+        (continue_disabled_after (max a.start a.range_start) m) q o) (sym end) first in
+        let third = subst (λ (x : Bool). SkipsTo text (meta_match_from s text a) a.range_start a.range_end after.last (next_start text m.start m.end) x q o) (sym flag) second in
+        let fourth = subst (λ (n : ℕ). SkipsTo text (meta_match_from s text a) a.range_start a.range_end after.last n after.continue_disabled q o) (sym at) third in
+        let fifth = subst (λ (f : ℕ → Bool → Option Match). SkipsTo text f a.range_start a.range_end after.last p after.continue_disabled q o) (sym (found-same s text a p)) fourth in
+        let there = subst (λ (x : SearchConfig). SkipsTo text (meta_match_from s text x) x.range_start x.range_end after.last x.start after.continue_disabled q o) (sym is) fifth in
+        subst (λ (x : SearchConfig). MetaStaysInLimits s text (record x { start = q }) o) is (kept q o there))

@@ -1,0 +1,278 @@
+-- A replacement goes on from match to match.
+use Rattle.std.proofs.Common.{◌≡◌, ℕ, zero, suc, ◌-◌, ◌≤◌, max, ◌==◌, rules, ◌∷◌, ◌++◌, List, [], Option, Some, None, Ok, Err, refl, sym, ap, ◌∙◌, append_assoc, append-nil, arith, map, subst, Bool, true, false}
+use Rattle.std.specs.Prelude.{drop, slice_range, option_map}
+use Rattle.std.specs.declared.result.Result.{Result}
+use Rattle.std.proofs.lemmas.Bool.{false≢true}
+use Rattle.fancy_regex_input.specs.declared.config.SearchConfig.{SearchConfig}
+use Rattle.fancy_regex_meaning.specs.Searches.{Match, counted, pieces_from, replaced_from}
+use Rattle.fancy_regex_meaning.specs.ItemLaws.{alternately}
+use Rattle.fancy_regex_class.specs.RunInputs.{match_slots}
+use Rattle.fancy_regex_meta.specs.MetaMatches.{meta_pattern}
+use Rattle.fancy_regex_meta.specs.SearchLimits.{IsMetaSearchError, MetaStaysInLimits}
+use Rattle.fancy_regex_meta.specs.declared.error.Error.TheVariants.{Memory}
+use Rattle.fancy_regex_search.specs.IterationErrors.{IsItemError, IsErrorBehind}
+use Rattle.fancy_regex_search.specs.IterationSearches.{at_once, no_item, ComesTo, PassesItem}
+use Rattle.fancy_regex_search.specs.IterationLimits.{SkipsStayInLimits, StaysBehind, ReplacementStays}
+use Rattle.fancy_regex_search.specs.declared.match_iter.IterState.{IterState}
+use Rattle.fancy_regex_input.specs.SearchInputs.{whole}
+use Rattle.fancy_regex_search.proofs.IterationLemmas.{comes_from, comes_to, skips_from}
+use Rattle.fancy_regex_meta.specs.declared.error.Error.{Error}
+use Rattle.fancy_regex_meta.specs.declared.meta_regex.MetaRegex.{MetaRegex}
+use Rattle.fancy_regex_search.specs.Replacements.{Shown, shown, IsReplacedByCalls, FailsInTurn, here, later, AnswersInTurn, AnswersText, still_replaced, is_spent, limit_of, IsReplaceError, of_search, of_search_by_text, of_call, of_memory}
+
+-- What is still to be replaced from an offset on, behind a text that is out, completes the replacement of all of these matches.
+pub record Completes {S : Type 0} (Calls : S → Shown → Result (List ℕ) Error → S → Type 0) (r : MetaRegex) (text : List ℕ) (ms : List Match) (first : S) (p : ℕ) (left : List Match) (s : S) (out : List ℕ) : Type 0 where
+  pub replaces : (more : List ℕ) (last : S) → IsReplacedByCalls Calls r text p left s more last → IsReplacedByCalls Calls r text 0 ms first (out ++ more) last
+  pub fails : (e : Error) (last : S) → FailsInTurn Calls s (map (shown r text) left) e last → FailsInTurn Calls first (map (shown r text) ms) e last
+
+module _ {S : Type 0} (Calls : S → Shown → Result (List ℕ) Error → S → Type 0) (r : MetaRegex) (text : List ℕ) (ms : List Match) (first : S) where
+  pub completes_first : Completes Calls r text ms first 0 ms first []
+  completes_first = record { replaces = λ more last h. h; fails = λ e last h. h }
+
+  pub completes_next : (p : ℕ) (m : Match) (left : List Match) (s next : S) (out w : List ℕ) → Completes Calls r text ms first p (m ∷ left) s out → Calls s (shown r text m) (Ok w) next →
+      Completes Calls r text ms first m.end left next ((out ++ slice_range text p m.start) ++ w)
+  completes_next p m left s next out w so call = record {
+    replaces = λ more last h.
+        let gap : List ℕ = slice_range text p m.start in
+        let e : ((out ++ gap) ++ w) ++ more ≡ out ++ (gap ++ (w ++ more)) = simp append_assoc in
+        subst (λ (all : List ℕ). IsReplacedByCalls Calls r text 0 ms first all last) (sym e)
+        (so.replaces (gap ++ (w ++ more)) last (w ∷ h.0, (next, call, h.1), ap (λ (x : List ℕ). gap ++ (w ++ x)) h.2));
+    fails = λ e last h. so.fails e last (later s next last (shown r text m) (map (shown r text) left) w e call h);
+  }
+
+  pub completes_last : (p : ℕ) (s : S) (out : List ℕ) → Completes Calls r text ms first p [] s out → IsReplacedByCalls Calls r text 0 ms first (out ++ drop p text) s
+  completes_last p s out so = so.replaces (drop p text) s ([], refl, refl)
+
+some_none : {A : Type 0} (x : A) → ◌≡◌ {A = Option A} (Some x) None → ⊥
+some_none x e = absurd (cc)
+
+pub never_empty : {A : Type 0} (x : A) (xs : List A) → x ∷ xs ≡ [] → ⊥
+never_empty x xs e = absurd (cc)
+
+-- The limit counts down.
+is_zero : (n : ℕ) → (n == 0) ≡ true → n ≡ 0
+is_zero n h = search rules
+
+pub still_spent : (left : Option ℕ) (ms : List Match) → is_spent left ≡ true → still_replaced left ms ≡ []
+still_spent None ms h = absurd (false≢true h)
+still_spent (Some n) ms h = rw (is_zero n h) refl
+
+pub still_none : (left : Option ℕ) → still_replaced left [] ≡ []
+still_none None = refl
+still_none (Some zero) = refl
+still_none (Some (suc n)) = refl
+
+still_next : (left : Option ℕ) (m : Match) (ms : List Match) → is_spent left ≡ false → still_replaced left (m ∷ ms) ≡ m ∷ still_replaced (option_map (λ n. n - 1) left) ms
+still_next None m ms h = refl
+still_next (Some zero) m ms h = absurd (false≢true (sym h))
+still_next (Some (suc n)) m ms h = let e : suc n - 1 ≡ n = omega arith in rw e refl
+
+pub still_more : (left left' : Option ℕ) (before : List Match) (m : Match) (after : List Match) → is_spent left ≡ false → left' ≡ option_map (λ n. n - 1) left → before ≡ m ∷ after →
+    still_replaced left before ≡ m ∷ still_replaced left' after
+still_more left left' before m after h e b = rw (e, b) (still_next left m after h)
+
+pub still_all : (limit : ℕ) (ms : List Match) → still_replaced (limit_of limit) ms ≡ counted limit ms
+still_all zero ms = refl
+still_all (suc n) ms = refl
+
+-- One call for each of these matches has answered, and what the iteration comes to from here it comes to behind them.
+pub record Progress {S : Type 0} (Calls : S → Shown → Result (List ℕ) Error → S → Type 0) (r : MetaRegex) (text : List ℕ) (ms : List Match) (first : S)
+    (config : SearchConfig) (state : IterState) (left : List Match) (s : S) : Type 0 where
+  pub done : List Match
+  pub answers : List (List ℕ)
+  pub is : ms ≡ done ++ left
+  pub turns : AnswersInTurn Calls first (map (shown r text) done) answers s
+  pub comes : (items : List Match) (q : ℕ) (o : Bool) → ComesTo r text (whole text) items state.last config.start state.continue_disabled q o →
+      ComesTo r text (whole text) (done ++ items) None 0 false q o
+  pub kept : ((more rest : List Match) → left ≡ more ++ rest → StaysBehind r text (whole text) (done ++ more)) → ReplacementStays r text ms
+
+one_more : {S : Type 0} (Calls : S → Shown → Result (List ℕ) Error → S → Type 0) (s : S) (ms : List Shown) (ws : List (List ℕ)) (mid : S) (m : Shown) (w : List ℕ) (next : S) →
+    AnswersInTurn Calls s ms ws mid → Calls mid m (Ok w) next → AnswersInTurn Calls s (ms ++ (m ∷ [])) (ws ++ (w ∷ [])) next
+one_more Calls s [] [] mid m w next turns call = (next, subst (λ x. Calls x m (Ok w) next) turns call, refl)
+one_more Calls s [] (v ∷ ws) mid m w next turns call = absurd turns
+one_more Calls s (n ∷ ms) [] mid m w next turns call = absurd turns
+one_more Calls s (n ∷ ms) (v ∷ ws) mid m w next turns call = (turns.0, turns.1, one_more Calls turns.0 ms ws mid m w next turns.2 call)
+
+shown_more : (r : MetaRegex) (text : List ℕ) (ms : List Match) (m : Match) → map (shown r text) (ms ++ (m ∷ [])) ≡ map (shown r text) ms ++ (shown r text m ∷ [])
+shown_more r text [] m = refl
+shown_more r text (n ∷ ms) m = ap (λ (xs : List Shown). shown r text n ∷ xs) (shown_more r text ms m)
+
+-- the first of two equal lists, and what is behind it
+first_same : (m n : Match) (xs ys : List Match) → m ∷ xs ≡ n ∷ ys → m ≡ n
+first_same m n xs ys e = ap (λ (l : List Match). elim l [ [] ↦ m | x ∷ more ↦ x ]) e
+
+rest_same : (m n : Match) (xs ys : List Match) → m ∷ xs ≡ n ∷ ys → xs ≡ ys
+rest_same m n xs ys e = ap (λ (l : List Match). elim l [ [] ↦ xs | x ∷ more ↦ more ]) e
+
+-- what holds behind what is done, and behind one match more and each beginning of the rest, holds behind each beginning
+behind_next : (P : List Match → Type 0) (done : List Match) (m : Match) (left : List Match) → P done →
+    ((more rest : List Match) → left ≡ more ++ rest → P ((done ++ (m ∷ [])) ++ more)) → (more rest : List Match) → m ∷ left ≡ more ++ rest → P (done ++ more)
+behind_next P done m left so h [] rest is = subst P (sym (append-nil done)) so
+behind_next P done m left so h (k ∷ more) rest is =
+    subst P (append_assoc done (m ∷ []) more ∙ ap (λ (x : Match). done ++ (x ∷ more)) (first_same m k left (more ++ rest) is))
+    (h more rest (rest_same m k left (more ++ rest) is))
+
+behind_last : (P : List Match → Type 0) (done left : List Match) → P done → left ≡ [] → (more rest : List Match) → left ≡ more ++ rest → P (done ++ more)
+behind_last P done left so none [] rest is = subst P (sym (append-nil done)) so
+behind_last P done left so none (k ∷ more) rest is = absurd (never_empty k (more ++ rest) (sym is ∙ none))
+
+module _ {S : Type 0} (Calls : S → Shown → Result (List ℕ) Error → S → Type 0) (r : MetaRegex) (text : List ℕ) (ms : List Match) (first : S) where
+  -- the search behind what is done stays within the limits
+  stays_here : (config : SearchConfig) (state : IterState) (left : List Match) (s : S) → config ≡ record (whole text) { start = config.start } → SkipsStayInLimits r text config state →
+      (so : Progress Calls r text ms first config state left s) → StaysBehind r text (whole text) so.done
+  stays_here config state left s is stays so = (
+    config.start,
+    state.continue_disabled,
+    subst (λ (xs : List Match). ComesTo r text (whole text) xs None 0 false config.start state.continue_disabled) (append-nil so.done)
+        (so.comes [] config.start state.continue_disabled (no_item state.last config.start state.continue_disabled config.start state.continue_disabled
+        (at_once state.last config.start state.continue_disabled))),
+    subst (λ (a : SearchConfig). MetaStaysInLimits r text (record a { start = config.start }) state.continue_disabled) is
+        (stays config.start state.continue_disabled (at_once state.last config.start state.continue_disabled)),
+  )
+
+  -- where no match is left, all searches stayed within the limits
+  pub progress_stays : (config : SearchConfig) (state : IterState) (left : List Match) (s : S) → config ≡ record (whole text) { start = config.start } → SkipsStayInLimits r text config state →
+      left ≡ [] → Progress Calls r text ms first config state left s → ReplacementStays r text ms
+  progress_stays config state left s is stays none so = so.kept (behind_last (StaysBehind r text (whole text)) so.done left (stays_here config state left s is stays so) none)
+
+  -- before the first search
+  pub progress_first : (config : SearchConfig) (state : IterState) → config ≡ whole text → state.last ≡ None → state.continue_disabled ≡ false →
+      Progress Calls r text ms first config state ms first
+  progress_first config state is last flag = record {
+    done = [];
+    answers = [];
+    is = refl;
+    turns = refl;
+    comes = λ items q o h.
+        let one = subst (λ (l : Option ℕ). ComesTo r text (whole text) items l config.start state.continue_disabled q o) last h in
+        let two = subst (λ (x : Bool). ComesTo r text (whole text) items None config.start x q o) flag one in
+        subst (λ (c : SearchConfig). ComesTo r text (whole text) items None c.start false q o) is two;
+    kept = λ h. h;
+  }
+
+  -- past a match for which a call has answered
+  pub progress_next : (config new : SearchConfig) (state after : IterState) (m : Match) (left : List Match) (s next : S) (w : List ℕ) → config ≡ record (whole text) { start = config.start } →
+      PassesItem r text config state m new after → SkipsStayInLimits r text config state → Calls s (shown r text m) (Ok w) next →
+      Progress Calls r text ms first config state (m ∷ left) s → Progress Calls r text ms first new after left next
+  progress_next config new state after m left s next w is passes stays call so = record {
+    done = so.done ++ (m ∷ []);
+    answers = so.answers ++ (w ∷ []);
+    is = so.is ∙ sym (append_assoc so.done (m ∷ []) left);
+    turns = subst (λ (xs : List Shown). AnswersInTurn Calls first xs (so.answers ++ (w ∷ [])) next) (sym (shown_more r text so.done m))
+        (one_more Calls first (map (shown r text) so.done) so.answers s (shown r text m) w next so.turns call);
+    comes = λ items q o h.
+        let here = passes items q o (comes_to r text (whole text) config items after.last new.start after.continue_disabled q o is h) in
+        let there = so.comes (m ∷ items) q o (comes_from r text (whole text) config (m ∷ items) state.last config.start state.continue_disabled q o is here) in
+        subst (λ (xs : List Match). ComesTo r text (whole text) xs None 0 false q o) (sym (append_assoc so.done (m ∷ []) items)) there;
+    kept = λ h. so.kept (behind_next (StaysBehind r text (whole text)) so.done m left (stays_here config state (m ∷ left) s is stays so) h);
+  }
+
+  -- an error of the next search
+  pub progress_fails : (config : SearchConfig) (state : IterState) (left : List Match) (s : S) (e : Error) → config ≡ record (whole text) { start = config.start } →
+      IsItemError r text config state e → Progress Calls r text ms first config state left s → IsReplaceError Calls r text ms first None e
+  progress_fails config state left s e is h so =
+      let behind : IsErrorBehind r text (whole text) (so.done ++ []) e = (
+        h.0,
+        h.1,
+        so.comes [] h.0 h.1 (no_item state.last config.start state.continue_disabled h.0 h.1 (skips_from r text (whole text) config state.last config.start state.continue_disabled h.0 h.1 is h.2)),
+        subst (λ (a : SearchConfig). max h.0 a.range_start ≤ a.range_end) is h.3,
+        subst (λ (a : SearchConfig). IsMetaSearchError r text (record a { start = h.0 }) h.1 e) is h.4,
+      ) in
+      of_search None so.done left so.answers s e so.is (subst (λ (xs : List Match). IsErrorBehind r text (whole text) xs e) (append-nil so.done) behind) so.turns
+
+module _ {S : Type 0} (Calls : S → Shown → Result (List ℕ) Error → S → Type 0) (r : MetaRegex) (text t : List ℕ) (Holds : S → Type 0)
+    (same : (s : S) (m : Shown) (w : List ℕ) (next : S) → Holds s → Calls s m (Ok w) next → (w ≡ t) × Holds next) where
+  -- calls that always answer one text replace by it
+  replaced_by_text : (p : ℕ) (ms : List Match) (s : S) (answers : List (List ℕ)) (last : S) → Holds s → AnswersInTurn Calls s (map (shown r text) ms) answers last →
+      alternately (pieces_from text p ms) answers ≡ replaced_from text (λ _. t) p ms
+  replaced_by_text p [] s [] last holds turns = refl
+  replaced_by_text p [] s (w ∷ ws) last holds turns = absurd turns
+  replaced_by_text p (m ∷ ms) s [] last holds turns = absurd turns
+  replaced_by_text p (m ∷ ms) s (w ∷ ws) last holds turns =
+      let one = same s (shown r text m) w turns.0 holds turns.1 in
+      let rest = replaced_by_text m.end ms turns.0 ws last one.1 turns.2 in
+      ap (λ (x : List ℕ). slice_range text p m.start ++ (w ++ x)) rest ∙ ap (λ (x : List ℕ). slice_range text p m.start ++ (x ++ replaced_from text (λ _. t) m.end ms)) one.0
+      ∙ (simp append_assoc)
+
+  text_replaced : (ms : List Match) (s : S) (out : List ℕ) (last : S) → Holds s → IsReplacedByCalls Calls r text 0 ms s out last → out ≡ replaced_from text (λ _. t) 0 ms
+  text_replaced ms s out last holds h = h.2 ∙ replaced_by_text 0 ms s h.0 last holds h.1
+
+-- calls that fail for want of memory alone
+fails_for_memory : {S : Type 0} (Calls : S → Shown → Result (List ℕ) Error → S → Type 0) (only : (s : S) (m : Shown) (e : Error) (next : S) → Calls s m (Err e) next → e ≡ Memory)
+    (s : S) (ms : List Shown) (e : Error) (last : S) → FailsInTurn Calls s ms e last → e ≡ Memory
+fails_for_memory Calls only _ _ e _ (here s last m ms _ call) = only s m e last call
+fails_for_memory Calls only _ _ e _ (later s next last m ms w _ call h) = fails_for_memory Calls only next ms e last h
+
+-- an error of a replacement by calls that fail for want of memory alone is one of any replacement with one text for all matches
+text_fails : {S T : Type 0} (Calls : S → Shown → Result (List ℕ) Error → S → Type 0) (Others : T → Shown → Result (List ℕ) Error → T → Type 0)
+    (only : (s : S) (m : Shown) (e : Error) (next : S) → Calls s m (Err e) next → e ≡ Memory) (r : MetaRegex) (text : List ℕ) (ms : List Match) (s : S) (t : T) (fixed : Option (List ℕ)) (shown_text : List ℕ) (e : Error) →
+    IsReplaceError Calls r text ms s fixed e → IsReplaceError Others r text ms t (Some shown_text) e
+text_fails Calls Others only r text ms s t _ shown_text _ (of_search fixed done rest answers last e is behind turns) = of_search_by_text shown_text done rest e is behind
+text_fails Calls Others only r text ms s t _ shown_text _ (of_search_by_text fixed done rest e is behind) = of_search_by_text shown_text done rest e is behind
+text_fails Calls Others only r text ms s t _ shown_text _ (of_call fixed e last h) = rw (fails_for_memory Calls only s (map (shown r text) ms) e last h) (of_memory (Some shown_text))
+text_fails Calls Others only r text ms s t _ shown_text _ (of_memory fixed) = of_memory (Some shown_text)
+
+-- an error of a replacement by calls, whatever the replacer says of its text
+pub calls_fail : {S : Type 0} (Calls : S → Shown → Result (List ℕ) Error → S → Type 0) (r : MetaRegex) (text : List ℕ) (ms : List Match) (s : S) (fixed told : Option (List ℕ)) (e : Error) →
+    fixed ≡ None → IsReplaceError Calls r text ms s fixed e → IsReplaceError Calls r text ms s told e
+calls_fail Calls r text ms s _ told _ none (of_search fixed done rest answers last e is behind turns) = of_search told done rest answers last e is behind turns
+calls_fail Calls r text ms s _ told _ none (of_search_by_text t done rest e is behind) = absurd (some_none t none)
+calls_fail Calls r text ms s _ told _ none (of_call fixed e last h) = of_call told e last h
+calls_fail Calls r text ms s _ told _ none (of_memory fixed) = of_memory told
+
+-- A replacer that has the same text for each match replaces by it, and fails for want of memory alone.
+pub fixed_text_replaced : {S : Type 0} (text_of : S → List ℕ) (r : MetaRegex) (text t : List ℕ) (ms : List Match) (s : S) (out : List ℕ) (last : S) → text_of s ≡ t →
+    IsReplacedByCalls (AnswersText text_of) r text 0 ms s out last → out ≡ replaced_from text (λ _. t) 0 ms
+fixed_text_replaced text_of r text t ms s out last holds h =
+    text_replaced (AnswersText text_of) r text t (λ x. text_of x ≡ t) (λ x m w next is call. (call.0 ∙ is, ap text_of call.1 ∙ is)) ms s out last holds h
+
+pub fixed_text_fails : {S T : Type 0} (text_of : S → List ℕ) (Others : T → Shown → Result (List ℕ) Error → T → Type 0) (r : MetaRegex) (text : List ℕ) (ms : List Match) (s : S) (t : T) (shown_text : List ℕ) (e : Error) →
+    IsReplaceError (AnswersText text_of) r text ms s None e → IsReplaceError Others r text ms t (Some shown_text) e
+fixed_text_fails text_of Others r text ms s t shown_text e h = text_fails (AnswersText text_of) Others (λ x m d next call. call.0) r text ms s t None shown_text e h
+
+-- what is shown of a match
+pub shown_same : (r r' : MetaRegex) (text text' slots : List ℕ) (m : Match) → r' ≡ r → text' ≡ text → slots ≡ match_slots (meta_pattern r) m →
+    ◌≡◌ {A = Shown} (record { regex = r'; text = text'; slots = slots }) (shown r text m)
+shown_same r r' text text' slots m a b e = λ i. record { regex = a i; text = b i; slots = e i }
+
+-- One turn of a replacement: the text before the next match is out, and the answer for it.
+pub completes_gap : {S : Type 0} (Calls : S → Shown → Result (List ℕ) Error → S → Type 0) (r : MetaRegex) (text : List ℕ) (ms : List Match) (first : S) (p p' : ℕ) (left left' : Option ℕ)
+    (before after : List Match) (s next : S) (out out' gap slots w : List ℕ) (r' : MetaRegex) (text' slots' : List ℕ) → r' ≡ r → text' ≡ text → slots' ≡ slots →
+    is_spent left ≡ false → left' ≡ option_map (λ n. n - 1) left →
+    (m : Match) × (before ≡ m ∷ after) × (slots ≡ match_slots (meta_pattern r) m) × (gap ≡ slice_range text p m.start) × (p' ≡ m.end) →
+    Calls s (record { regex = r'; text = text'; slots = slots' }) (Ok w) next → out' ≡ (out ++ gap) ++ w →
+    Completes Calls r text ms first p (still_replaced left before) s out →
+    (still_replaced left before ≡ [] → ⊥) × Completes Calls r text ms first p' (still_replaced left' after) next out'
+completes_gap {S} Calls r text ms first p p' left left' before after s next out out' gap slots w r' text' slots' a b e unspent less gives call wrote so =
+    let m : Match = gives.0 in
+    let split : still_replaced left before ≡ m ∷ still_replaced left' after = still_more left left' before m after unspent less gives.1 in
+    let told : Calls s (shown r text m) (Ok w) next = subst (λ (x : Shown). Calls s x (Ok w) next) (shown_same r r' text text' slots' m a b (e ∙ gives.2)) call in
+    let step : Completes Calls r text ms first m.end (still_replaced left' after) next ((out ++ slice_range text p m.start) ++ w) =
+    completes_next Calls r text ms first p m (still_replaced left' after) s next out w (subst (λ (xs : List Match). Completes Calls r text ms first p xs s out) split so) told in (
+      (λ none. never_empty m (still_replaced left' after) (sym split ∙ none)),
+      rw (gives.4, wrote, gives.3) step,
+    )
+
+-- one turn of a replacement: the call has answered for the match that the iteration returned
+pub progress_gap : {S : Type 0} (Calls : S → Shown → Result (List ℕ) Error → S → Type 0) (r : MetaRegex) (text : List ℕ) (ms : List Match) (first : S) (config new : SearchConfig)
+    (state after : IterState) (left left' : Option ℕ) (before others : List Match) (s next : S) (w : List ℕ) (r' : MetaRegex) (text' slots' : List ℕ) → r' ≡ r → text' ≡ text →
+    (m : Match) → before ≡ m ∷ others → slots' ≡ match_slots (meta_pattern r) m → is_spent left ≡ false → left' ≡ option_map (λ n. n - 1) left →
+    config ≡ record (whole text) { start = config.start } → (n : Match) × (before ≡ n ∷ others) × PassesItem r text config state n new after →
+    SkipsStayInLimits r text config state → Calls s (record { regex = r'; text = text'; slots = slots' }) (Ok w) next →
+    Progress Calls r text ms first config state (still_replaced left before) s → Progress Calls r text ms first new after (still_replaced left' others) next
+progress_gap {S} Calls r text ms first config new state after left left' before others s next w r' text' slots' a b m is slots unspent less moved returns stays call so =
+    let split : still_replaced left before ≡ m ∷ still_replaced left' others = still_more left left' before m others unspent less is in
+    let same : returns.0 ≡ m = first_same returns.0 m others others (sym returns.1 ∙ is) in
+    let passes : PassesItem r text config state m new after = subst (λ (n : Match). PassesItem r text config state n new after) same returns.2 in
+    let told : Calls s (shown r text m) (Ok w) next = subst (λ (x : Shown). Calls s x (Ok w) next) (shown_same r r' text text' slots' m a b slots) call in
+    progress_next Calls r text ms first config new state after m (still_replaced left' others) s next w moved passes stays told
+    (subst (λ (xs : List Match). Progress Calls r text ms first config state xs s) split so)
+
+-- before the first search of a replacement with this limit
+pub progress_init : {S : Type 0} (Calls : S → Shown → Result (List ℕ) Error → S → Type 0) (r : MetaRegex) (text : List ℕ) (limit : ℕ) (first : S) (config : SearchConfig) (state : IterState)
+    (left : Option ℕ) (before all : List Match) → config ≡ whole text → state.last ≡ None → state.continue_disabled ≡ false → left ≡ limit_of limit → before ≡ all →
+    Progress Calls r text (counted limit all) first config state (still_replaced left before) first
+progress_init {S} Calls r text limit first config state left before all is last flag l b =
+    let e : still_replaced left before ≡ counted limit all = (λ i. still_replaced (l i) (b i)) ∙ still_all limit all in
+    subst (λ (xs : List Match). Progress Calls r text (counted limit all) first config state xs first) (sym e)
+    (progress_first Calls r text (counted limit all) first config state is last flag)

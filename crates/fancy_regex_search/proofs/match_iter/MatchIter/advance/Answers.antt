@@ -1,0 +1,72 @@
+use Rattle.std.proofs.Common.{◌≤◌, ◌∙◌, max, Bool, subst, sym}
+use Rattle.fancy_regex_input.specs.declared.config.SearchConfig.{SearchConfig}
+use Rattle.fancy_regex_meta.specs.SearchLimits.{IsMetaSearchError}
+use Rattle.fancy_regex_search.specs.IterationSearches.{SkipsToFrom, at_once}
+use Rattle.fancy_regex_search.proofs.IterationLemmas.{none_found, passes_before}
+use Rattle.fancy_regex_search.proofs.match_iter.MatchIter.advance.Goals as goal
+
+pub returns-in-Item-clause-passes : goal.returns-in-Item-clause-passes
+returns-in-Item-clause-passes g c q o made =
+    let inv = c.loop-slots.invariant in
+    let step = rw (inv.haystack, inv.regex) at c.in-Item.ensures.step in
+    inv.passes q o (step.passes q o made)
+
+pub returns-in-Item-clause-returns : goal.returns-in-Item-clause-returns
+returns-in-Item-clause-returns g c =
+    let inv = c.loop-slots.invariant in
+    let now = c.loop-slots.self in
+    let old = c.args.self.now in
+    let s = old.regex.now.meta in
+    let text = g.S.Input.text old.input.haystack in
+    let new = c.step.new.self in
+    let step = rw (inv.haystack, inv.regex) at c.in-Item.ensures.step in
+    let left = rw inv.regex at inv.left in (
+      step.returns.0,
+      left ∙ step.returns.1,
+      passes_before s text old.input.config now.input.config new.input.config old.state now.state new.state step.returns.0 inv.config inv.skips step.returns.2,
+    )
+
+pub returns-in-Fault-clause-fails : goal.returns-in-Fault-clause-fails
+returns-in-Fault-clause-fails g c =
+    let inv = c.loop-slots.invariant in
+    let now = c.loop-slots.self in
+    let s = c.args.self.now.regex.now.meta in
+    let text = g.S.Input.text c.args.self.now.input.haystack in
+    let step = rw (inv.haystack, inv.regex) at c.in-Fault.ensures.step in (
+      now.input.config.start,
+      now.state.continue_disabled,
+      inv.skips now.input.config.start now.state.continue_disabled (at_once now.state.last now.input.config.start now.state.continue_disabled),
+      subst (λ (a : SearchConfig). max a.start a.range_start ≤ a.range_end) inv.config step.fails.0,
+      subst (λ (a : SearchConfig). IsMetaSearchError s text a now.state.continue_disabled c.in-Fault.error) inv.config step.fails.1,
+    )
+
+pub returns-in-End-clause-left : goal.returns-in-End-clause-left
+returns-in-End-clause-left g c =
+    let inv = c.loop-slots.invariant in
+    let now = c.loop-slots.self in
+    let old = c.args.self.now in
+    let s = old.regex.now.meta in
+    let text = g.S.Input.text old.input.haystack in
+    let new = c.step.new.self in
+    let step = rw (inv.haystack, inv.regex) at c.in-End.ensures.step in
+    record {
+      over = λ over. step.moves ∙ inv.over over;
+      skips = λ going.
+          let same = inv.skips now.input.config.start now.state.continue_disabled (at_once now.state.last now.input.config.start now.state.continue_disabled) in
+          let flagged = subst (λ (b : Bool). SkipsToFrom s text old.input.config old.state now.input.config.start b) (sym step.leaves.0) same in
+          subst (λ (a : SearchConfig). SkipsToFrom s text old.input.config old.state a.start new.state.continue_disabled) (sym step.moves) flagged;
+      found = λ going. none_found s text old.input.config now.input.config new.input.config now.state.continue_disabled new.state.continue_disabled inv.config step.moves step.leaves.0
+          (step.leaves.1 (inv.done ∙ going));
+    }
+
+pub returns-in-Item-clause-stays : goal.returns-in-Item-clause-stays
+returns-in-Item-clause-stays g c =
+    let inv = c.loop-slots.invariant in
+    let step = rw (inv.haystack, inv.regex) at c.in-Item.ensures.step in
+    inv.stays step.stays
+
+pub returns-in-End-clause-stays : goal.returns-in-End-clause-stays
+returns-in-End-clause-stays g c going =
+    let inv = c.loop-slots.invariant in
+    let step = rw (inv.haystack, inv.regex) at c.in-End.ensures.step in
+    inv.stays (step.stays (inv.done ∙ going))

@@ -1,0 +1,27 @@
+use Rattle.std.proofs.Common.{List, ℕ, ap, sym, subst}
+use Rattle.std.specs.Prelude.{drop}
+use Rattle.fancy_regex_meaning.specs.Searches.{Match}
+use Rattle.fancy_regex_search.specs.RemainingMatches.{remaining_matches}
+use Rattle.fancy_regex_search.specs.Pieces.{YieldsPiece, pieces_left}
+use Rattle.fancy_regex_search.proofs.PieceLemmas.{moves_yields}
+use Rattle.fancy_regex_search.proofs.split.SplitIterator.next.Goals as goal
+
+pub returns-clause-steps : goal.returns-clause-steps
+returns-clause-steps c =
+    let s = c.args.self.now in
+    let t = c.next_piece.new.self in
+    let moved = c.next_piece.ensures in
+    let text : List ℕ = s.gaps.match_iter.input.haystack.now in
+    let before : List Match = remaining_matches s.gaps.match_iter.regex.now.meta text s.gaps.match_iter.input.config s.gaps.match_iter.state in
+    let after : List Match = remaining_matches t.gaps.match_iter.regex.now.meta t.gaps.match_iter.input.haystack.now t.gaps.match_iter.input.config t.gaps.match_iter.state in
+    let yields = moves_yields text s.is_done s.gaps.last_end before c.next_piece.result t.is_done t.gaps.last_end after moved.moves in (
+      subst (λ (x : List ℕ). YieldsPiece (drop s.gaps.last_end text) (pieces_left s.is_done text s.gaps.last_end before) c.next_piece.result (pieces_left t.is_done x t.gaps.last_end after))
+          (sym (ap (λ x. x.now) moved.haystack)) yields,
+      moved.haystack,
+      moved.regex,
+      moved.config,
+      moved.fails,
+      moved.passes,
+      moved.ends,
+      moved.stays,
+    )

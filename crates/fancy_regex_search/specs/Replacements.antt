@@ -1,0 +1,86 @@
+-- What replacing matches in a text returns.
+use Rattle.std.specs.Prelude.{◌≡◌, ℕ, zero, suc, ◌==◌, Bool, false, List, [], ◌∷◌, ◌++◌, take, map, Option, Some, None, string_bytes, Ok, Err}
+use Rattle.std.specs.Prelude.{String}
+use Rattle.std.specs.declared.result.Result.{Result}
+use Rattle.fancy_regex_meaning.specs.Searches.{Match, pieces_from, replaced_from}
+use Rattle.fancy_regex_meaning.specs.ItemLaws.{alternately}
+use Rattle.fancy_regex_class.specs.RunInputs.{match_slots}
+use Rattle.fancy_regex_meta.specs.MetaMatches.{meta_pattern}
+use Rattle.fancy_regex_meta.specs.declared.error.Error.{Error}
+use Rattle.fancy_regex_meta.specs.declared.error.Error.TheVariants.{Memory}
+use Rattle.fancy_regex_meta.specs.declared.meta_regex.MetaRegex.{MetaRegex}
+use Rattle.fancy_regex_input.specs.SearchInputs.{whole}
+use Rattle.fancy_regex_search.specs.IterationErrors.{IsErrorBehind}
+
+-- What a replacer is shown of a match: the regex, the haystack, and the start and end offsets of each group.
+pub record Shown : Type 0 where
+  pub regex : MetaRegex
+  pub text : List ℕ
+  pub slots : List ℕ
+
+-- what it is shown of this match of a regex in a text
+abbrev pub shown : MetaRegex → List ℕ → Match → Shown
+shown s text m = record { regex = s; text = text; slots = match_slots (meta_pattern s) m }
+
+-- One call for each match, in order, may answer these texts and leave this state.
+abbrev pub AnswersInTurn : {S : Type 0} → (S → Shown → Result (List ℕ) Error → S → Type 0) → S → List Shown → List (List ℕ) → S → Type 0
+AnswersInTurn Calls s [] [] last = last ≡ s
+AnswersInTurn Calls s [] (w ∷ ws) last = ⊥
+AnswersInTurn Calls s (m ∷ ms) [] last = ⊥
+AnswersInTurn {S} Calls s (m ∷ ms) (w ∷ ws) last = (next : S) × Calls s m (Ok w) next × AnswersInTurn Calls next ms ws last
+
+-- Calls for the first of these matches, in order, answer texts, and the one after them this error; they leave this state.
+pub data FailsInTurn {S : Type 0} (Calls : S → Shown → Result (List ℕ) Error → S → Type 0) : S → List Shown → Error → S → Type 0 where
+  here : (s last : S) (m : Shown) (ms : List Shown) (e : Error) → Calls s m (Err e) last → FailsInTurn Calls s (m ∷ ms) e last
+  later : (s next last : S) (m : Shown) (ms : List Shown) (w : List ℕ) (e : Error) → Calls s m (Ok w) next → FailsInTurn Calls next ms e last → FailsInTurn Calls s (m ∷ ms) e last
+
+-- From an offset on, the text between matches and the answers of one call for each match, in turn, and then the rest.
+abbrev pub IsReplacedByCalls : {S : Type 0} → (S → Shown → Result (List ℕ) Error → S → Type 0) → MetaRegex → List ℕ → ℕ → List Match → S → List ℕ → S → Type 0
+IsReplacedByCalls Calls r text from ms s out last =
+    (answers : List (List ℕ)) × AnswersInTurn Calls s (map (shown r text) ms) answers last × (out ≡ alternately (pieces_from text from ms) answers)
+
+-- the matches that are still to be replaced: all of them, or at most so many
+abbrev pub still_replaced : Option ℕ → List Match → List Match
+still_replaced None ms = ms
+still_replaced (Some n) ms = take n ms
+
+-- no further match is to be replaced
+abbrev pub is_spent : Option ℕ → Bool
+is_spent None = false
+is_spent (Some n) = n == 0
+
+-- the limit of a replacement, where 0 is none
+abbrev pub limit_of : ℕ → Option ℕ
+limit_of zero = None
+limit_of (suc n) = Some (suc n)
+
+-- What a replacement returns: by calls, or, for a replacer with one text for all matches, by that text.
+pub data IsReplacedBy {S : Type 0} (Calls : S → Shown → Result (List ℕ) Error → S → Type 0) (r : MetaRegex) (text : List ℕ) (ms : List Match) (s : S) (out : List ℕ) : Option (List ℕ) → Type 0 where
+  by_calls : (fixed : Option (List ℕ)) (last : S) → IsReplacedByCalls Calls r text 0 ms s out last → IsReplacedBy Calls r text ms s out fixed
+  by_text : (t : List ℕ) → out ≡ replaced_from text (λ _. t) 0 ms → IsReplacedBy Calls r text ms s out (Some t)
+
+-- What a function answers for a match, and what the replacer over it does.
+abbrev pub IsAnswerOfFunction : {Z : Type 0} → Result (String Z) Error → Result (List ℕ) Error → Type 0
+IsAnswerOfFunction (Ok v) (Ok w) = w ≡ string_bytes v
+IsAnswerOfFunction (Ok v) (Err e) = e ≡ Memory
+IsAnswerOfFunction (Err d) (Ok w) = ⊥
+IsAnswerOfFunction (Err d) (Err e) = e ≡ d
+
+-- What a replacer with a fixed text answers.
+abbrev pub IsAnswerOfText : List ℕ → Result (List ℕ) Error → Type 0
+IsAnswerOfText t (Ok w) = w ≡ t
+IsAnswerOfText t (Err e) = e ≡ Memory
+
+-- The error of a replacement: that of a search right behind some of the matches that are replaced, for each of which one call
+-- answered, in order; that of a call, behind the calls before it; or want of memory. A replacer with one text for all matches
+-- need not have been called.
+pub data IsReplaceError {S : Type 0} (Calls : S → Shown → Result (List ℕ) Error → S → Type 0) (r : MetaRegex) (text : List ℕ) (ms : List Match) (s : S) : Option (List ℕ) → Error → Type 0 where
+  of_search : (fixed : Option (List ℕ)) (done rest : List Match) (answers : List (List ℕ)) (last : S) (e : Error) → ms ≡ done ++ rest → IsErrorBehind r text (whole text) done e →
+      AnswersInTurn Calls s (map (shown r text) done) answers last → IsReplaceError Calls r text ms s fixed e
+  of_search_by_text : (t : List ℕ) (done rest : List Match) (e : Error) → ms ≡ done ++ rest → IsErrorBehind r text (whole text) done e → IsReplaceError Calls r text ms s (Some t) e
+  of_call : (fixed : Option (List ℕ)) (e : Error) (last : S) → FailsInTurn Calls s (map (shown r text) ms) e last → IsReplaceError Calls r text ms s fixed e
+  of_memory : (fixed : Option (List ℕ)) → IsReplaceError Calls r text ms s fixed Memory
+
+-- How a replacer that has the same text for each match answers.
+abbrev pub AnswersText : {S : Type 0} → (S → List ℕ) → S → Shown → Result (List ℕ) Error → S → Type 0
+AnswersText text_of s m result next = IsAnswerOfText (text_of s) result × (next ≡ s)

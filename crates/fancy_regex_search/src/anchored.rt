@@ -1,0 +1,58 @@
+//! The match of a regex that starts at one byte offset, as the search of a pattern set asks its members for it.
+
+ghost use Rattle.std.specs.Prelude.{◌≡◌, ◌≤◌, IfOk, IfErr, IfSome, slice_index, IsCharBoundary};
+ghost use Rattle.fancy_regex_input.specs.SearchInputs.{FitsText};
+ghost use Rattle.fancy_regex_meta.specs.MetaMatches.{meta_pattern};
+ghost use Rattle.fancy_regex_meta.specs.MemberSearches.{meta_match_at, IsMemberError, MemberStaysInLimits};
+ghost use Rattle.fancy_regex_meta.specs.MatchOffsets.{AreBoundaries};
+ghost use Rattle.fancy_regex_search.specs.CaptureSpans.{AreGroupsOf, IsResultFor, span_in};
+
+use crate::captures::Captures;
+use crate::regex::Regex;
+use fancy_regex_input::{Input, SearchConfig};
+use fancy_regex_meta::Result;
+use std::alloc::Global;
+
+/// A match that was asked for at one offset.
+#[derive(Drop)]
+pub struct AnchoredMatch<'r, S: Input> {
+    /// The byte offset at which the match starts.
+    pub start: usize,
+    /// The byte offset at which it ends.
+    pub end: usize,
+    /// Its capture groups.
+    pub captures: Captures<'r, S>,
+}
+
+/// The match that starts at `position`; `None` if no match starts there. `\G` matches at `continue_at` alone, and nowhere if
+/// that is `None`. `RuntimeError` if the search exceeds a limit; `Memory` if memory runs out.
+pub fn match_at<'r, S: Input>(
+    alloc: Global,
+    regex: &'r Regex,
+    haystack: S,
+    config: SearchConfig,
+    continue_at: Option<usize>,
+    position: usize,
+) -> Result<Option<AnchoredMatch<'r, S>>>
+    requires fits { FitsText (S.text haystack) config }
+    requires boundary { IsCharBoundary (S.text haystack) position }
+    requires inside { position ≤ config.range_end }
+    ensures answer { IfOk result (λ found. IsResultFor (λ x m. (AreGroupsOf (meta_pattern regex.entry.now.meta) x.captures.slots.items m) × ((x.start, x.end) ≡ span_in m))
+        found (meta_match_at regex.entry.now.meta (S.text haystack) config continue_at position)) }
+    ensures cuts { IfOk result (λ found. IfSome found (λ x. AreBoundaries (S.text haystack) x.start x.end)) }
+    ensures of { IfOk result (λ found. IfSome found (λ x. (x.captures.haystack ≡ haystack) × (x.captures.regex.now ≡ regex.entry.now))) }
+    ensures limits { IfErr result (λ e. IsMemberError regex.entry.now.meta (S.text haystack) config continue_at position e) }
+    ensures stays { IfOk result (λ _. MemberStaysInLimits regex.entry.now.meta (S.text haystack) config continue_at position) }
+{
+    let found = regex
+        .meta
+        .search_at(alloc, haystack.as_str(), config, continue_at, position)?;
+    match found {
+        Some(slots) => Ok(Some(AnchoredMatch {
+            start: slots[0],
+            end: slots[1],
+            captures: Captures::new(regex, haystack, slots),
+        })),
+        None => Ok(None),
+    }
+}

@@ -1,0 +1,113 @@
+//! `Regex`: a compiled pattern. Its searches are in `search`.
+
+ghost use Rattle.std.specs.Prelude.{◌≡◌, IfOk, IfErr, MatchResult, Some, length, string_bytes};
+ghost use Rattle.fancy_regex_meta.specs.MetaMatches.{meta_pattern};
+ghost use Rattle.fancy_regex_meta.specs.Caps.{MetaKeepsCap};
+ghost use Rattle.fancy_regex_meta.specs.Defaults.{default_options};
+ghost use Rattle.fancy_regex_meta.specs.Refusals.{Accepts, Refuses};
+
+use crate::names::CaptureNames;
+use fancy_regex_meta::{Error, MetaRegex, RegexOptions, Result};
+use std::alloc::Global;
+use std::fmt;
+
+/// A compiled pattern. No call changes it, so it can be used again after every error.
+#[derive(Drop)]
+pub struct Regex {
+    /// The pattern, its options and what runs it.
+    pub(crate) meta: MetaRegex,
+}
+
+impl Regex {
+    /// Parses and compiles a pattern with the default options: Unicode mode, a backtrack limit of 1,000,000, no cap on the
+    /// program's size, and every other option false. `ParseError` if the text is no pattern, with the first error and its
+    /// byte offset; `CompileError` if the pattern is refused, with one of the reasons that hold; `Memory` if memory runs out.
+    pub fn new(alloc: Global, re: &str) -> Result<Regex>
+        ensures pattern { IfOk result (λ regex. string_bytes regex.meta.pattern ≡ re.now) }
+        ensures options { IfOk result (λ regex. regex.meta.options ≡ default_options) }
+        ensures cap { IfOk result (λ regex. MetaKeepsCap regex.meta) }
+        ensures accepted { IfOk result (λ _. Accepts default_options re.now) }
+        ensures refused { IfErr result (λ e. Refuses default_options re.now e) }
+    {
+        let pattern = String::from_str(alloc, re)?;
+        Regex::with_options(alloc, pattern, &RegexOptions::default())
+    }
+
+    /// Parses and compiles a pattern with these options, with the errors of `new`. If the pattern needs a program, that has at
+    /// most `max_prog_size` instructions.
+    pub fn with_options(alloc: Global, pattern: String, options: &RegexOptions) -> Result<Regex>
+        ensures pattern { IfOk result (λ regex. regex.meta.pattern ≡ pattern) }
+        ensures options { IfOk result (λ regex. regex.meta.options ≡ options.now) }
+        ensures cap { IfOk result (λ regex. MetaKeepsCap regex.meta) }
+        ensures accepted { IfOk result (λ _. Accepts options.now (string_bytes pattern)) }
+        ensures refused { IfErr result (λ e. Refuses options.now (string_bytes pattern) e) }
+    {
+        Ok(Regex {
+            meta: MetaRegex::new(alloc, pattern, options)?,
+        })
+    }
+
+    /// The text of the pattern.
+    pub fn as_str(&self) -> &str
+        ensures { result.now ≡ string_bytes self.now.meta.pattern }
+    {
+        self.meta.pattern()
+    }
+
+    /// The number of groups, group 0 (the whole match) included.
+    pub fn captures_len(&self) -> usize
+        ensures { result ≡ length (meta_pattern self.now.meta).groups }
+    {
+        self.meta.groups()
+    }
+
+    /// The names of the groups, from group 0, which has none; `None` for an unnamed group.
+    pub fn capture_names(&self) -> CaptureNames<'_>
+        ensures regex { result.regex.now ≡ self.now }
+        ensures next { result.next ≡ 0 }
+    {
+        CaptureNames::new(self)
+    }
+}
+
+impl TryFrom<(&str, Global)> for Regex {
+    type Error = Error;
+
+    ghost try_from_gives = { λ source result. MatchResult result
+        (λ regex. (string_bytes regex.meta.pattern ≡ source.0.now) × (regex.meta.options ≡ default_options) × Accepts default_options source.0.now)
+        (λ e. Refuses default_options source.0.now e) };
+
+    fn try_from(source: (&str, Global)) -> Result<Regex> {
+        let (re, alloc) = source;
+        Regex::new(alloc, re)
+    }
+}
+
+impl TryFrom<(String, Global)> for Regex {
+    type Error = Error;
+
+    ghost try_from_gives = { λ source result. MatchResult result
+        (λ regex. (regex.meta.pattern ≡ source.0) × (regex.meta.options ≡ default_options) × Accepts default_options (string_bytes source.0))
+        (λ e. Refuses default_options (string_bytes source.0) e) };
+
+    fn try_from(source: (String, Global)) -> Result<Regex> {
+        let (pattern, alloc) = source;
+        Regex::with_options(alloc, pattern, &RegexOptions::default())
+    }
+}
+
+impl fmt::Display for Regex {
+    ghost output = { λ regex. Some (string_bytes regex.meta.pattern) };
+
+    fn fmt<W: fmt::Write>(&self, f: &mut fmt::Formatter<W>) -> fmt::Result {
+        f.write_str(self.as_str())
+    }
+}
+
+impl fmt::Debug for Regex {
+    ghost debug_output = { λ regex. Some (string_bytes regex.meta.pattern) };
+
+    fn fmt<W: fmt::Write>(&self, f: &mut fmt::Formatter<W>) -> fmt::Result {
+        fmt::Display::fmt(self, f)
+    }
+}

@@ -1,0 +1,162 @@
+//! Replacement of the matches in a text. The replaced text is made in one buffer, from left to right; the text itself is
+//! returned if it has no match.
+
+ghost use Rattle.std.specs.Prelude.{◌≡◌, ◌-◌, [], None, option_map, IfOk, IfErr};
+ghost use Rattle.std.specs.Cow.{cow_str_bytes};
+ghost use Rattle.fancy_regex_input.specs.SearchInputs.{whole};
+ghost use Rattle.fancy_regex_meaning.specs.Searches.{counted};
+ghost use Rattle.fancy_regex_search.specs.RemainingMatches.{all_matches};
+ghost use Rattle.fancy_regex_search.specs.IterationLimits.{ReplacementStays};
+ghost use Rattle.fancy_regex_search.specs.Replacements.{limit_of, is_spent, IsReplacedByCalls, IsReplacedBy, IsReplaceError};
+
+use crate::captures::Captures;
+use crate::gap_iter::GapIter;
+use crate::regex::Regex;
+use crate::replacer::{NoExpand, Replacer};
+use fancy_regex_meta::Result;
+use std::alloc::Global;
+use std::borrow::CowStr;
+
+/// The limit of a replacement as an option: 0 is none.
+fn limit_of(limit: usize) -> Option<usize>
+    ensures { result ≡ limit_of limit }
+{
+    if limit == 0 { None } else { Some(limit) }
+}
+
+/// Whether the limit allows no further replacement.
+fn is_spent(limit: Option<usize>) -> bool
+    ensures { result ≡ is_spent limit }
+{
+    match limit {
+        Some(count) => count == 0,
+        None => false,
+    }
+}
+
+/// The limit after one replacement.
+fn one_less(limit: Option<usize>) -> Option<usize>
+    ensures { result ≡ option_map (λ n. n - 1) limit }
+{
+    match limit {
+        Some(count) => Some(count.saturating_sub(1)),
+        None => None,
+    }
+}
+
+/// The text with its first matches replaced by what the replacer answers for each, or with all of them for limit 0. Errors:
+/// those of the searches, the last of which is the one behind the last match that is replaced, that of the replacer, or `Memory`.
+// Not inlined: LLVM does not end on a caller in which both calls are inlined and one is never reached.
+#[inline(never)]
+fn replace_by_calls<'t, R: Replacer>(
+    alloc: Global,
+    regex: &Regex,
+    text: &'t str,
+    limit: usize,
+    replacer: &mut R,
+) -> Result<CowStr<'t>>
+    requires { R.is_ready replacer.old }
+    ensures replaced { IfOk result (λ v. IsReplacedByCalls R.answers regex.now.meta text.entry.now 0 (counted limit (all_matches regex.now.meta text.entry.now (whole text.entry.now)))
+        replacer.old (cow_str_bytes v) replacer.new) }
+    ensures borrowed { IfOk result (λ v. counted limit (all_matches regex.now.meta text.entry.now (whole text.entry.now)) ≡ [] → v ≡ CowStr.Borrowed text.entry) }
+    ensures stays { IfOk result (λ _. ReplacementStays regex.now.meta text.entry.now (counted limit (all_matches regex.now.meta text.entry.now (whole text.entry.now)))) }
+    ensures fails { IfErr result (λ e. IsReplaceError R.answers regex.now.meta text.entry.now (counted limit (all_matches regex.now.meta text.entry.now (whole text.entry.now))) replacer.old None e) }
+{
+    let mut gaps = GapIter::new(alloc, regex, text);
+    let mut out = String::new(alloc);
+    let mut rest = text;
+    let mut left = limit_of(limit);
+    let mut is_changed = false;
+    while let Some(found) = gaps.next_gap() {
+        let gap = found?;
+        if is_spent(left) {
+            break;
+        }
+        out.push_str(gap.text)?;
+        let captures = Captures::new(regex, text, gap.slots);
+        replacer.replace_append(alloc, &captures, &mut out)?;
+        rest = gaps.rest();
+        left = one_less(left);
+        is_changed = true;
+    }
+    if !is_changed {
+        return Ok(CowStr::Borrowed(text));
+    }
+    out.push_str(rest)?;
+    Ok(CowStr::Owned(out))
+}
+
+impl Regex {
+    /// The text with its first match replaced. The text itself if it has no match. Errors as of `try_replacen`.
+    pub fn replace<'t, R: Replacer>(
+        &self,
+        alloc: Global,
+        text: &'t str,
+        rep: R,
+    ) -> Result<CowStr<'t>>
+        requires { R.is_ready rep }
+        ensures replaced { IfOk result (λ v. IsReplacedBy R.answers self.now.meta text.entry.now (counted 1 (all_matches self.now.meta text.entry.now (whole text.entry.now))) rep (cow_str_bytes v) (R.fixed_text rep)) }
+        ensures borrowed { IfOk result (λ v. counted 1 (all_matches self.now.meta text.entry.now (whole text.entry.now)) ≡ [] → v ≡ CowStr.Borrowed text.entry) }
+        ensures stays { IfOk result (λ _. ReplacementStays self.now.meta text.entry.now (counted 1 (all_matches self.now.meta text.entry.now (whole text.entry.now)))) }
+        ensures fails { IfErr result (λ e. IsReplaceError R.answers self.now.meta text.entry.now (counted 1 (all_matches self.now.meta text.entry.now (whole text.entry.now))) rep (R.fixed_text rep) e) }
+    {
+        self.try_replacen(alloc, text, 1, rep)
+    }
+
+    /// The text with all its matches replaced. The text itself if it has no match. Errors as of `try_replacen`.
+    pub fn replace_all<'t, R: Replacer>(
+        &self,
+        alloc: Global,
+        text: &'t str,
+        rep: R,
+    ) -> Result<CowStr<'t>>
+        requires { R.is_ready rep }
+        ensures replaced { IfOk result (λ v. IsReplacedBy R.answers self.now.meta text.entry.now (all_matches self.now.meta text.entry.now (whole text.entry.now)) rep (cow_str_bytes v) (R.fixed_text rep)) }
+        ensures borrowed { IfOk result (λ v. all_matches self.now.meta text.entry.now (whole text.entry.now) ≡ [] → v ≡ CowStr.Borrowed text.entry) }
+        ensures stays { IfOk result (λ _. ReplacementStays self.now.meta text.entry.now (all_matches self.now.meta text.entry.now (whole text.entry.now))) }
+        ensures fails { IfErr result (λ e. IsReplaceError R.answers self.now.meta text.entry.now (all_matches self.now.meta text.entry.now (whole text.entry.now)) rep (R.fixed_text rep) e) }
+    {
+        self.try_replacen(alloc, text, 0, rep)
+    }
+
+    /// The text with its first `limit` matches replaced, or with all of them for limit 0. The text itself if it has no match.
+    /// Errors as of `try_replacen`.
+    pub fn replacen<'t, R: Replacer>(
+        &self,
+        alloc: Global,
+        text: &'t str,
+        limit: usize,
+        rep: R,
+    ) -> Result<CowStr<'t>>
+        requires { R.is_ready rep }
+        ensures replaced { IfOk result (λ v. IsReplacedBy R.answers self.now.meta text.entry.now (counted limit (all_matches self.now.meta text.entry.now (whole text.entry.now))) rep (cow_str_bytes v) (R.fixed_text rep)) }
+        ensures borrowed { IfOk result (λ v. counted limit (all_matches self.now.meta text.entry.now (whole text.entry.now)) ≡ [] → v ≡ CowStr.Borrowed text.entry) }
+        ensures stays { IfOk result (λ _. ReplacementStays self.now.meta text.entry.now (counted limit (all_matches self.now.meta text.entry.now (whole text.entry.now)))) }
+        ensures fails { IfErr result (λ e. IsReplaceError R.answers self.now.meta text.entry.now (counted limit (all_matches self.now.meta text.entry.now (whole text.entry.now))) rep (R.fixed_text rep) e) }
+    {
+        self.try_replacen(alloc, text, limit, rep)
+    }
+
+    /// The text with its first `limit` matches replaced, or with all of them for limit 0. The text itself if it has no match.
+    /// If `no_expansion` returns a text, each match is replaced by it; otherwise the replacer is called once for each match
+    /// that is replaced, in order. One match more than the limit is searched for. Errors: `RuntimeError` of a search at a
+    /// limit, the error of a call of the replacer, or `Memory`.
+    pub fn try_replacen<'t, R: Replacer>(
+        &self,
+        alloc: Global,
+        text: &'t str,
+        limit: usize,
+        mut rep: R,
+    ) -> Result<CowStr<'t>>
+        requires { R.is_ready rep }
+        ensures replaced { IfOk result (λ v. IsReplacedBy R.answers self.now.meta text.entry.now (counted limit (all_matches self.now.meta text.entry.now (whole text.entry.now))) rep (cow_str_bytes v) (R.fixed_text rep)) }
+        ensures borrowed { IfOk result (λ v. counted limit (all_matches self.now.meta text.entry.now (whole text.entry.now)) ≡ [] → v ≡ CowStr.Borrowed text.entry) }
+        ensures stays { IfOk result (λ _. ReplacementStays self.now.meta text.entry.now (counted limit (all_matches self.now.meta text.entry.now (whole text.entry.now)))) }
+        ensures fails { IfErr result (λ e. IsReplaceError R.answers self.now.meta text.entry.now (counted limit (all_matches self.now.meta text.entry.now (whole text.entry.now))) rep (R.fixed_text rep) e) }
+    {
+        if let Some(fixed) = rep.no_expansion() {
+            return replace_by_calls(alloc, self, text, limit, &mut NoExpand(fixed.as_str()));
+        }
+        replace_by_calls(alloc, self, text, limit, &mut rep)
+    }
+}

@@ -1,0 +1,235 @@
+//! The searches of `Regex`. Every offset is in bytes from the start of the haystack. A search fails with `RuntimeError` at the
+//! backtrack limit or the limit of open branches, or with `Memory`, and the regex can be used again afterwards.
+
+ghost use Rattle.std.specs.Prelude.{◌≡◌, ◌≤◌, ◌+◌, ◌-◌, ◌^◌, IfOk, IfErr, IfSome, is_some, option_map, length, true, false, min, None, IsCharBoundary};
+ghost use Rattle.fancy_regex_input.specs.SearchInputs.{whole};
+ghost use Rattle.fancy_regex_meta.specs.SearchLimits.{IsMetaSearchError, MetaStaysInLimits, meta_uses_easy, meta_starts_tried, max_looks};
+ghost use Rattle.fancy_regex_meta.specs.MetaMatches.{meta_pattern, meta_match};
+ghost use Rattle.fancy_regex_search.specs.RemainingMatches.{remaining_matches, all_matches};
+ghost use Rattle.fancy_regex_search.specs.Looks.{MetaHasNoCountedRepeats, plain_looks};
+ghost use Rattle.fancy_regex_search.specs.CaptureSpans.{span_in, AreGroupsOf, IsResultFor};
+
+use crate::capture_matches::CaptureMatches;
+use crate::captures::Captures;
+use crate::group_spans::{find_slots, whole_match};
+use crate::matches::Matches;
+use crate::regex::Regex;
+use fancy_regex_class::Steps;
+use fancy_regex_input::{Input, RegexInput};
+use fancy_regex_meta::Result;
+use fancy_regex_tree_laws::weight_bound;
+use std::alloc::Global;
+
+impl Regex {
+    /// Whether the haystack has a match. `RuntimeError` if the search exceeds a limit; `Memory` if memory runs out.
+    pub fn is_match<S: Input>(&self, alloc: Global, haystack: S) -> Result<bool>
+        ensures answer { IfOk result (λ yes. yes ≡ is_some (meta_match self.now.meta (S.text haystack) (whole (S.text haystack)))) }
+        ensures limits { IfErr result (λ e. IsMetaSearchError self.now.meta (S.text haystack) (whole (S.text haystack)) false e) }
+        ensures stays { IfOk result (λ _. MetaStaysInLimits self.now.meta (S.text haystack) (whole (S.text haystack)) false) }
+    {
+        self.is_match_input(alloc, RegexInput::new(haystack))
+    }
+
+    /// Whether `find_input` returns a match for this input, with its errors.
+    pub fn is_match_input<S: Input>(&self, alloc: Global, input: RegexInput<S>) -> Result<bool>
+        ensures answer { IfOk result (λ yes. yes ≡ is_some (meta_match self.now.meta (S.text input.haystack) (input.config))) }
+        ensures limits { IfErr result (λ e. IsMetaSearchError self.now.meta (S.text input.haystack) input.config false e) }
+        ensures stays { IfOk result (λ _. MetaStaysInLimits self.now.meta (S.text input.haystack) input.config false) }
+    {
+        let found = find_slots(
+            alloc,
+            self,
+            input.haystack(),
+            input.config(),
+            false,
+            &mut Steps::new(),
+        )?;
+        Ok(found.is_some())
+    }
+
+    /// The first match in the haystack; `None` if there is none. `RuntimeError` if the search exceeds a limit; `Memory` if
+    /// memory runs out.
+    pub fn find<S: Input>(&self, alloc: Global, haystack: S) -> Result<Option<S::Match>>
+        ensures answer { IfOk result (λ found. option_map S.span found ≡ option_map span_in (meta_match self.now.meta (S.text haystack) (whole (S.text haystack)))) }
+        ensures text { IfOk result (λ found. IfSome found (λ m. S.match_text m ≡ S.text haystack)) }
+        ensures limits { IfErr result (λ e. IsMetaSearchError self.now.meta (S.text haystack) (whole (S.text haystack)) false e) }
+        ensures stays { IfOk result (λ _. MetaStaysInLimits self.now.meta (S.text haystack) (whole (S.text haystack)) false) }
+    {
+        self.find_input(alloc, RegexInput::new(haystack))
+    }
+
+    /// The first match that starts at the byte offset `position` or later, with the errors of `find`; `\G` matches at
+    /// `position`, which must be a character boundary of the haystack or lie past its end, where nothing is found.
+    pub fn find_from_pos<S: Input>(
+        &self,
+        alloc: Global,
+        haystack: S,
+        position: usize,
+    ) -> Result<Option<S::Match>>
+        requires { position ≤ length (S.text haystack) → IsCharBoundary (S.text haystack) position }
+        ensures answer { IfOk result (λ found. option_map S.span found ≡ option_map span_in (meta_match self.now.meta (S.text haystack) (record (whole (S.text haystack)) { start = position }))) }
+        ensures text { IfOk result (λ found. IfSome found (λ m. S.match_text m ≡ S.text haystack)) }
+        ensures limits { IfErr result (λ e. IsMetaSearchError self.now.meta (S.text haystack) (record (whole (S.text haystack)) { start = position }) false e) }
+        ensures stays { IfOk result (λ _. MetaStaysInLimits self.now.meta (S.text haystack) (record (whole (S.text haystack)) { start = position }) false) }
+    {
+        self.find_input(alloc, RegexInput::new(haystack).from_pos(position))
+    }
+
+    /// The first match of an input; `None` if there is none. `RuntimeError` if the search exceeds a limit; `Memory` if memory
+    /// runs out.
+    pub fn find_input<S: Input>(
+        &self,
+        alloc: Global,
+        input: RegexInput<S>,
+    ) -> Result<Option<S::Match>>
+        ensures answer { IfOk result (λ found. option_map S.span found ≡ option_map span_in (meta_match self.now.meta (S.text input.haystack) (input.config))) }
+        ensures text { IfOk result (λ found. IfSome found (λ m. S.match_text m ≡ S.text input.haystack)) }
+        ensures limits { IfErr result (λ e. IsMetaSearchError self.now.meta (S.text input.haystack) input.config false e) }
+        ensures stays { IfOk result (λ _. MetaStaysInLimits self.now.meta (S.text input.haystack) input.config false) }
+    {
+        self.find_input_counted(alloc, input, &mut Steps::new())
+    }
+
+    /// `find_input` that also counts: the counter is raised by one each time the linear-time matcher inspects a position of the
+    /// haystack, also if memory runs out, and it never falls. It stays as it is for a regex that needs a backtracking program.
+    pub fn find_input_counted<S: Input>(
+        &self,
+        alloc: Global,
+        input: RegexInput<S>,
+        steps: &mut Steps,
+    ) -> Result<Option<S::Match>>
+        ensures answer { IfOk result (λ found. option_map S.span found ≡ option_map span_in (meta_match self.now.meta (S.text input.haystack) (input.config))) }
+        ensures text { IfOk result (λ found. IfSome found (λ m. S.match_text m ≡ S.text input.haystack)) }
+        ensures limits { IfErr result (λ e. IsMetaSearchError self.now.meta (S.text input.haystack) input.config false e) }
+        ensures stays { IfOk result (λ _. MetaStaysInLimits self.now.meta (S.text input.haystack) input.config false) }
+        ensures looks_most { meta_uses_easy self.now.meta ≡ true → steps.new ≤ steps.old + max_looks self.now.meta input.config }
+        ensures looks_least { IfOk result (λ _. meta_uses_easy self.now.meta ≡ true
+            → min (steps.old + meta_starts_tried self.now.meta (S.text input.haystack) input.config false) (2 ^ 64 - 1) ≤ steps.new) }
+        ensures looks_plain { MetaHasNoCountedRepeats self.now.meta → meta_uses_easy self.now.meta ≡ true → steps.new ≤ steps.old + plain_looks self.now.meta input.config }
+        ensures looks_none { meta_uses_easy self.now.meta ≡ false → steps.new ≡ steps.old }
+        ensures counts { steps.old ≤ steps.new }
+    {
+        weight_bound();
+        let haystack = input.haystack();
+        let config = input.config();
+        match find_slots(alloc, self, haystack, config, false, steps)? {
+            Some(slots) => Ok(Some(whole_match(haystack, config, &slots))),
+            None => Ok(None),
+        }
+    }
+
+    /// The capture groups of the first match in the haystack; `None` if there is none. `RuntimeError` if the search exceeds a
+    /// limit; `Memory` if memory runs out.
+    pub fn captures<S: Input>(&self, alloc: Global, haystack: S) -> Result<Option<Captures<'_, S>>>
+        ensures answer { IfOk result (λ found. IsResultFor (λ c. AreGroupsOf (meta_pattern self.now.meta) c.slots.items) found (meta_match self.now.meta (S.text haystack) (whole (S.text haystack)))) }
+        ensures of { IfOk result (λ found. IfSome found (λ c. (c.haystack ≡ haystack) × (c.regex.now ≡ self.now))) }
+        ensures limits { IfErr result (λ e. IsMetaSearchError self.now.meta (S.text haystack) (whole (S.text haystack)) false e) }
+        ensures stays { IfOk result (λ _. MetaStaysInLimits self.now.meta (S.text haystack) (whole (S.text haystack)) false) }
+    {
+        self.captures_input(alloc, RegexInput::new(haystack))
+    }
+
+    /// The capture groups of the first match that starts at the byte offset `position` or later, with the errors of
+    /// `captures`; `\G` matches at `position`, which must be a character boundary of the haystack or lie past its end, where
+    /// nothing is found.
+    pub fn captures_from_pos<S: Input>(
+        &self,
+        alloc: Global,
+        haystack: S,
+        position: usize,
+    ) -> Result<Option<Captures<'_, S>>>
+        requires { position ≤ length (S.text haystack) → IsCharBoundary (S.text haystack) position }
+        ensures answer { IfOk result (λ found. IsResultFor (λ c. AreGroupsOf (meta_pattern self.now.meta) c.slots.items) found
+            (meta_match self.now.meta (S.text haystack) (record (whole (S.text haystack)) { start = position }))) }
+        ensures of { IfOk result (λ found. IfSome found (λ c. (c.haystack ≡ haystack) × (c.regex.now ≡ self.now))) }
+        ensures limits { IfErr result (λ e. IsMetaSearchError self.now.meta (S.text haystack) (record (whole (S.text haystack)) { start = position }) false e) }
+        ensures stays { IfOk result (λ _. MetaStaysInLimits self.now.meta (S.text haystack) (record (whole (S.text haystack)) { start = position }) false) }
+    {
+        self.captures_input(alloc, RegexInput::new(haystack).from_pos(position))
+    }
+
+    /// The capture groups of the first match of an input; `None` if there is none. `RuntimeError` if the search exceeds a
+    /// limit; `Memory` if memory runs out.
+    pub fn captures_input<S: Input>(
+        &self,
+        alloc: Global,
+        input: RegexInput<S>,
+    ) -> Result<Option<Captures<'_, S>>>
+        ensures answer { IfOk result (λ found. IsResultFor (λ c. AreGroupsOf (meta_pattern self.now.meta) c.slots.items) found (meta_match self.now.meta (S.text input.haystack) (input.config))) }
+        ensures of { IfOk result (λ found. IfSome found (λ c. (c.haystack ≡ input.haystack) × (c.regex.now ≡ self.now))) }
+        ensures limits { IfErr result (λ e. IsMetaSearchError self.now.meta (S.text input.haystack) input.config false e) }
+        ensures stays { IfOk result (λ _. MetaStaysInLimits self.now.meta (S.text input.haystack) input.config false) }
+    {
+        let haystack = input.haystack();
+        let found = find_slots(
+            alloc,
+            self,
+            haystack,
+            input.config(),
+            false,
+            &mut Steps::new(),
+        )?;
+        match found {
+            Some(slots) => Ok(Some(Captures::new(self, haystack, slots))),
+            None => Ok(None),
+        }
+    }
+
+    /// The non-overlapping matches in the haystack, from left to right. An item may be an error, and is the last one then.
+    pub fn find_iter<S: Input>(&self, alloc: Global, haystack: S) -> Matches<'_, S>
+        ensures left { remaining_matches result.match_iter.regex.now.meta (S.text result.match_iter.input.haystack) result.match_iter.input.config result.match_iter.state
+            ≡ all_matches self.now.meta (S.text haystack) (whole (S.text haystack)) }
+        ensures input { (result.match_iter.input.haystack ≡ haystack) × (result.match_iter.input.config ≡ whole (S.text haystack)) }
+        ensures regex { result.match_iter.regex.now ≡ self.now }
+        ensures begins { result.match_iter.state.continue_disabled ≡ false }
+        ensures going { result.match_iter.state.is_done ≡ false }
+        ensures first { result.match_iter.state.last ≡ None }
+    {
+        self.find_iter_input(alloc, RegexInput::new(haystack))
+    }
+
+    /// The non-overlapping matches of an input, from left to right. An item may be an error, and is the last one then.
+    pub fn find_iter_input<S: Input>(&self, alloc: Global, input: RegexInput<S>) -> Matches<'_, S>
+        ensures left { remaining_matches result.match_iter.regex.now.meta (S.text result.match_iter.input.haystack) result.match_iter.input.config result.match_iter.state
+            ≡ all_matches self.now.meta (S.text input.haystack) (input.config) }
+        ensures input { (result.match_iter.input.haystack ≡ input.haystack) × (result.match_iter.input.config ≡ input.config) }
+        ensures regex { result.match_iter.regex.now ≡ self.now }
+        ensures begins { result.match_iter.state.continue_disabled ≡ false }
+        ensures going { result.match_iter.state.is_done ≡ false }
+        ensures first { result.match_iter.state.last ≡ None }
+    {
+        Matches::new(alloc, self, input)
+    }
+
+    /// The capture groups of the non-overlapping matches in the haystack, from left to right. An item may be an error, and is
+    /// the last one then.
+    pub fn captures_iter<S: Input>(&self, alloc: Global, haystack: S) -> CaptureMatches<'_, S>
+        ensures left { remaining_matches result.match_iter.regex.now.meta (S.text result.match_iter.input.haystack) result.match_iter.input.config result.match_iter.state
+            ≡ all_matches self.now.meta (S.text haystack) (whole (S.text haystack)) }
+        ensures input { (result.match_iter.input.haystack ≡ haystack) × (result.match_iter.input.config ≡ whole (S.text haystack)) }
+        ensures regex { result.match_iter.regex.now ≡ self.now }
+        ensures begins { result.match_iter.state.continue_disabled ≡ false }
+        ensures going { result.match_iter.state.is_done ≡ false }
+        ensures first { result.match_iter.state.last ≡ None }
+    {
+        self.captures_iter_input(alloc, RegexInput::new(haystack))
+    }
+
+    /// The capture groups of the non-overlapping matches of an input, from left to right. An item may be an error, and is the
+    /// last one then.
+    pub fn captures_iter_input<S: Input>(
+        &self,
+        alloc: Global,
+        input: RegexInput<S>,
+    ) -> CaptureMatches<'_, S>
+        ensures left { remaining_matches result.match_iter.regex.now.meta (S.text result.match_iter.input.haystack) result.match_iter.input.config result.match_iter.state
+            ≡ all_matches self.now.meta (S.text input.haystack) (input.config) }
+        ensures input { (result.match_iter.input.haystack ≡ input.haystack) × (result.match_iter.input.config ≡ input.config) }
+        ensures regex { result.match_iter.regex.now ≡ self.now }
+        ensures begins { result.match_iter.state.continue_disabled ≡ false }
+        ensures going { result.match_iter.state.is_done ≡ false }
+        ensures first { result.match_iter.state.last ≡ None }
+    {
+        CaptureMatches::new(alloc, self, input)
+    }
+}
