@@ -1,5 +1,10 @@
-pub mod OffsetLemmas
-pub mod RemainingLemmas
-pub mod NameLemmas
-pub mod LookLemmas
-pub mod IterationLemmas
+pub mod Reprinting
+pub mod InOrderLemmas
+pub mod ByteSetProofs
+pub mod SetMemberLemmas
+pub mod SetPositionLemmas
+pub mod SetOneLemmas
+pub mod SetBuildLemmas
+pub mod SetSearchLemmas
+-- what proofs above cite of the lemmas of the crates below, under this crate's name
+pub use Rattle.fancy_regex_search.proofs.IterationLemmas

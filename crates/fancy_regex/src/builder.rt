@@ -1,13 +1,14 @@
 //! `RegexBuilder`: a pattern with its options. `build` compiles them to a `Regex`; each setter changes one option only.
 
 ghost use Rattle.std.specs.Prelude.{◌≡◌, Some, string_bytes, IfOk, IfErr};
+ghost use Rattle.fancy_regex_meta.specs.Caps.{MetaKeepsCap};
 ghost use Rattle.fancy_regex_meta.specs.Defaults.{default_options};
 ghost use Rattle.fancy_regex_meta.specs.Refusals.{Accepts, Refuses};
 
 use crate::options_builder::RegexOptionsBuilder;
-use crate::regex::Regex;
 use fancy_regex_info::BytesMode;
 use fancy_regex_meta::Result;
+use fancy_regex_search::Regex;
 use std::alloc::Global;
 
 /// A pattern and the options to compile it with. Each setter changes only what it names and returns the builder.
@@ -34,10 +35,12 @@ impl RegexBuilder {
 
     /// Parses and compiles the pattern with these options. `ParseError` if the text is no pattern, with the first error and
     /// its byte offset; `CompileError` if the pattern is refused, with one of the reasons that hold; `Memory` if memory runs
-    /// out. The builder can be used again, also after an error.
+    /// out. The builder can be used again, also after an error. If the pattern needs a program, that has at most
+    /// `max_prog_size` instructions.
     pub fn build(&self, alloc: Global) -> Result<Regex>
         ensures pattern { IfOk result (λ regex. string_bytes regex.meta.pattern ≡ string_bytes self.now.pattern) }
         ensures options { IfOk result (λ regex. regex.meta.options ≡ self.now.options.options) }
+        ensures cap { IfOk result (λ regex. MetaKeepsCap regex.meta) }
         ensures accepted { IfOk result (λ _. Accepts self.now.options.options (string_bytes self.now.pattern)) }
         ensures refused { IfErr result (λ e. Refuses self.now.options.options (string_bytes self.now.pattern) e) }
     {
@@ -61,7 +64,7 @@ impl RegexBuilder {
         ensures pattern { result.now.pattern ≡ self.old.pattern }
         ensures same { result.ghost_name ≡ self.entry.ghost_name }
     {
-        self.options.options.case_insensitive = yes;
+        self.options.case_insensitive(yes);
         self
     }
 
@@ -71,7 +74,7 @@ impl RegexBuilder {
         ensures pattern { result.now.pattern ≡ self.old.pattern }
         ensures same { result.ghost_name ≡ self.entry.ghost_name }
     {
-        self.options.options.multi_line = yes;
+        self.options.multi_line(yes);
         self
     }
 
@@ -81,7 +84,7 @@ impl RegexBuilder {
         ensures pattern { result.now.pattern ≡ self.old.pattern }
         ensures same { result.ghost_name ≡ self.entry.ghost_name }
     {
-        self.options.options.ignore_whitespace = yes;
+        self.options.ignore_whitespace(yes);
         self
     }
 
@@ -100,7 +103,7 @@ impl RegexBuilder {
         ensures pattern { result.now.pattern ≡ self.old.pattern }
         ensures same { result.ghost_name ≡ self.entry.ghost_name }
     {
-        self.options.options.dot_matches_new_line = yes;
+        self.options.dot_matches_new_line(yes);
         self
     }
 
@@ -110,7 +113,7 @@ impl RegexBuilder {
         ensures pattern { result.now.pattern ≡ self.old.pattern }
         ensures same { result.ghost_name ≡ self.entry.ghost_name }
     {
-        self.options.options.crlf = yes;
+        self.options.crlf(yes);
         self
     }
 
@@ -120,7 +123,7 @@ impl RegexBuilder {
         ensures pattern { result.now.pattern ≡ self.old.pattern }
         ensures same { result.ghost_name ≡ self.entry.ghost_name }
     {
-        self.options.options.unicode_mode = yes;
+        self.options.unicode_mode(yes);
         self
     }
 
@@ -130,7 +133,7 @@ impl RegexBuilder {
         ensures pattern { result.now.pattern ≡ self.old.pattern }
         ensures same { result.ghost_name ≡ self.entry.ghost_name }
     {
-        self.options.options.backtrack_limit = limit;
+        self.options.backtrack_limit(limit);
         self
     }
 
@@ -141,7 +144,7 @@ impl RegexBuilder {
         ensures pattern { result.now.pattern ≡ self.old.pattern }
         ensures same { result.ghost_name ≡ self.entry.ghost_name }
     {
-        self.options.options.max_prog_size = Some(limit);
+        self.options.max_prog_size(limit);
         self
     }
 
@@ -151,7 +154,7 @@ impl RegexBuilder {
         ensures pattern { result.now.pattern ≡ self.old.pattern }
         ensures same { result.ghost_name ≡ self.entry.ghost_name }
     {
-        self.options.options.find_not_empty = yes;
+        self.options.find_not_empty(yes);
         self
     }
 
@@ -162,8 +165,7 @@ impl RegexBuilder {
         ensures same { result.ghost_name ≡ self.entry.ghost_name }
     {
         self.options
-            .options
-            .ignore_numbered_groups_when_named_groups_exist = yes;
+            .ignore_numbered_groups_when_named_groups_exist(yes);
         self
     }
 
@@ -174,7 +176,7 @@ impl RegexBuilder {
         ensures pattern { result.now.pattern ≡ self.old.pattern }
         ensures same { result.ghost_name ≡ self.entry.ghost_name }
     {
-        self.options.options.seek = yes;
+        self.options.seek(yes);
         self
     }
 
@@ -184,7 +186,7 @@ impl RegexBuilder {
         ensures pattern { result.now.pattern ≡ self.old.pattern }
         ensures same { result.ghost_name ≡ self.entry.ghost_name }
     {
-        self.options.options.oniguruma_mode = yes;
+        self.options.oniguruma_mode(yes);
         self
     }
 
@@ -194,7 +196,7 @@ impl RegexBuilder {
         ensures pattern { result.now.pattern ≡ self.old.pattern }
         ensures same { result.ghost_name ≡ self.entry.ghost_name }
     {
-        self.options.options.bytes_mode = mode;
+        self.options.bytes_mode(mode);
         self
     }
 
@@ -205,7 +207,7 @@ impl RegexBuilder {
         ensures pattern { result.now.pattern ≡ self.old.pattern }
         ensures same { result.ghost_name ≡ self.entry.ghost_name }
     {
-        self.options.options.leftmost_longest = yes;
+        self.options.leftmost_longest(yes);
         self
     }
 }

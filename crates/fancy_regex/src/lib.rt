@@ -4,26 +4,25 @@
 #![tactic(auto)]
 
 mod builder;
-mod capture_matches;
-mod captures;
-mod group_spans;
-mod match_iter;
-mod matches;
-mod names;
+mod byte_sets;
 mod options_builder;
-mod regex;
-mod search;
+mod reprint;
+mod set;
+mod set_matches;
+mod set_search;
 
-pub use crate::regex::Regex;
 pub use builder::RegexBuilder;
-pub use capture_matches::CaptureMatches;
-pub use captures::{Captures, SubCaptureMatches};
+pub use fancy_regex_bytes::{ByteSet, ByteSetIter};
 pub use fancy_regex_class::Steps;
 pub use fancy_regex_info::{BytesMode, CompileError};
 pub use fancy_regex_input::{Input, Match, RegexInput, SearchConfig};
 pub use fancy_regex_machine::RuntimeError;
 pub use fancy_regex_meaning::laws_of_items;
 pub use fancy_regex_meta::{Error, Result};
+pub use fancy_regex_search::{
+    CaptureMatches, CaptureNames, Captures, Expander, FnReplacer, Matches, NoExpand, Regex,
+    Replacer, ReplacerRef, Split, SplitN, SubCaptureMatches, escape,
+};
 pub use fancy_regex_tree::{
     Absent, Assertion, AstNode, BacktrackingControlVerb, CaptureGroupTarget, Error as ExprError,
     Expr, ExprChildrenIter, ExprTree, FLAG_CASEI, FLAG_CRLF, FLAG_DOTNL,
@@ -31,6 +30,6 @@ pub use fancy_regex_tree::{
     FLAG_ONIGURUMA_MODE, FLAG_SWAP_GREED, FLAG_UNICODE, LookAround, NamedGroups, ParseError,
     ParseErrorPosition,
 };
-pub use matches::Matches;
-pub use names::CaptureNames;
 pub use options_builder::RegexOptionsBuilder;
+pub use set::RegexSet;
+pub use set_matches::{RegexSetMatch, RegexSetMatchesAt};

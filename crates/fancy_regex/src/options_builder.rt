@@ -2,12 +2,13 @@
 //! option only.
 
 ghost use Rattle.std.specs.Prelude.{◌≡◌, Some, string_bytes, IfOk, IfErr};
+ghost use Rattle.fancy_regex_meta.specs.Caps.{MetaKeepsCap};
 ghost use Rattle.fancy_regex_meta.specs.Defaults.{default_options};
 ghost use Rattle.fancy_regex_meta.specs.Refusals.{Accepts, Refuses};
 
-use crate::regex::Regex;
 use fancy_regex_info::BytesMode;
 use fancy_regex_meta::{RegexOptions, Result};
+use fancy_regex_search::Regex;
 use std::alloc::Global;
 
 /// The options to compile patterns with. Each setter changes only the option that it names and returns the builder.
@@ -39,10 +40,12 @@ impl RegexOptionsBuilder {
 
     /// Parses and compiles a pattern with these options. `ParseError` if the text is no pattern, with the first error and its
     /// byte offset; `CompileError` if the pattern is refused, with one of the reasons that hold; `Memory` if memory runs out.
-    /// The builder can be used again, also after an error.
+    /// The builder can be used again, also after an error. If the pattern needs a program, that has at most `max_prog_size`
+    /// instructions.
     pub fn build(&self, alloc: Global, pattern: String) -> Result<Regex>
         ensures pattern { IfOk result (λ regex. regex.meta.pattern ≡ pattern) }
         ensures options { IfOk result (λ regex. regex.meta.options ≡ self.now.options) }
+        ensures cap { IfOk result (λ regex. MetaKeepsCap regex.meta) }
         ensures accepted { IfOk result (λ _. Accepts self.now.options (string_bytes pattern)) }
         ensures refused { IfErr result (λ e. Refuses self.now.options (string_bytes pattern) e) }
     {

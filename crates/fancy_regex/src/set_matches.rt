@@ -1,0 +1,213 @@
+//! The members of a set that match at one position: `RegexSetMatchesAt`, and `RegexSetMatch` for each.
+
+ghost use Rattle.std.specs.Prelude.{◌≡◌, ◌≤◌, ◌+◌, ◌-◌, ◌<◌, None, Some, Ok, IfOk, IfErr, MatchOption, length, option_map, unwrap_or, slice_range, IsCharBoundary};
+ghost use Rattle.std.specs.Iterator.{at_most};
+ghost use Rattle.fancy_regex_input.specs.SearchInputs.{FitsText};
+ghost use Rattle.fancy_regex.specs.SetAnswers.{YieldsMember, IsMatchOfMember, set_continue_at};
+ghost use Rattle.fancy_regex_meta.specs.MatchOffsets.{AreBoundaries};
+
+use crate::set::RegexSet;
+use fancy_regex_input::{Input, SearchConfig};
+use fancy_regex_meta::Result;
+use fancy_regex_search::{AnchoredMatch, Captures, match_at};
+use std::alloc::Global;
+
+/// The match of one member of a set.
+#[derive(Drop)]
+pub struct RegexSetMatch<'s, S: Input> {
+    /// The number of the member.
+    pattern: usize,
+    /// The searched haystack.
+    haystack: S,
+    /// Its match.
+    matched: AnchoredMatch<'s, S>,
+    pub ghost cuts: { AreBoundaries (S.text haystack) matched.start matched.end },
+}
+
+impl<'s, S: Input> RegexSetMatch<'s, S> {
+    /// The number of the member that matched.
+    pub fn pattern(&self) -> usize
+        ensures { result ≡ self.now.pattern }
+    {
+        self.pattern
+    }
+
+    /// The capture groups of the match.
+    pub fn captures(&self) -> &Captures<'s, S>
+        ensures { result.now ≡ self.now.matched.captures }
+    {
+        &self.matched.captures
+    }
+
+    /// The match.
+    pub fn get(&self) -> S::Match
+        ensures span { S.span result ≡ (self.now.matched.start, self.now.matched.end) }
+        ensures text { S.match_text result ≡ S.text self.now.haystack }
+    {
+        self.haystack
+            .make_match(self.matched.start, self.matched.end)
+    }
+
+    /// The byte offset at which the match starts.
+    pub fn start(&self) -> usize
+        ensures { result ≡ self.now.matched.start }
+    {
+        self.matched.start
+    }
+
+    /// The byte offset at which the match ends, exclusive.
+    pub fn end(&self) -> usize
+        ensures { result ≡ self.now.matched.end }
+    {
+        self.matched.end
+    }
+}
+
+impl<'s, 't> RegexSetMatch<'s, &'t str> {
+    /// The text that matched.
+    pub fn as_str(&self) -> &'t str
+        ensures { result.now ≡ slice_range self.now.haystack.now self.now.matched.start self.now.matched.end }
+    {
+        &self.haystack[self.matched.start..self.matched.end]
+    }
+}
+
+/// The matches of the members of a set that match at one position, in the order of their numbers. An item is an error if the
+/// search of its member failed; the members behind it are still asked. The first item was found by the set's search, and each
+/// later member is asked when its item is wanted.
+#[derive(Drop)]
+pub struct RegexSetMatchesAt<'s, S: Input> {
+    /// The first match, until it is returned.
+    pub(crate) first: Option<RegexSetMatch<'s, S>>,
+    /// The members at the position.
+    pub(crate) members: MembersAt<'s, S>,
+    /// The number of the first member that was not asked.
+    pub(crate) next: usize,
+}
+
+impl<'s, S: Input> RegexSetMatchesAt<'s, S> {
+    /// The set.
+    pub fn regex_set(&self) -> &'s RegexSet
+        ensures { result ≡ self.now.members.set }
+    {
+        self.members.set
+    }
+
+    /// The searched haystack.
+    pub fn haystack(&self) -> S
+        ensures { result ≡ self.now.members.haystack }
+    {
+        self.members.haystack
+    }
+
+    /// The byte offset at which the members match. The span of a match may begin after it.
+    pub fn start(&self) -> usize
+        ensures { result ≡ self.now.members.position }
+    {
+        self.members.position
+    }
+}
+
+impl<'s, S: Input> Iterator for RegexSetMatchesAt<'s, S> {
+    type Item = Result<RegexSetMatch<'s, S>>;
+
+    ghost next_gives = { λ s r t. (t.first ≡ None) × (t.members ≡ s.members)
+        × MatchOption s.first (YieldsMember s.members.set.now.regexes.items (S.text s.members.haystack) s.members.config
+        (λ x found. IsMatchOfMember s.members.set.now.regexes.items found x.pattern x.matched.captures.regex.now x.matched.captures.slots.items (x.matched.start, x.matched.end)
+        × (x.haystack ≡ s.members.haystack) × (x.matched.captures.haystack ≡ s.members.haystack))
+        s.members.position s.next r t.next)
+        (λ x. (r ≡ Some (Ok x)) × (t.next ≡ s.next)) };
+
+    ghost remaining = { λ s. at_most (unwrap_or (option_map (λ _. 1) s.first) 0 + (length s.members.set.now.regexes.items - s.next)) };
+
+    /// The next member's match or error; `None` if no member is left that matches.
+    fn next(&mut self) -> Option<Result<RegexSetMatch<'s, S>>> {
+        match self.first.take() {
+            Some(found) => Some(Ok(found)),
+            None => self.members.advance(&mut self.next),
+        }
+    }
+}
+
+/// Where `\G` matches in a set's search: at its effective start; `None` if it matches nowhere.
+fn continue_at(config: SearchConfig) -> Option<usize>
+    ensures { result ≡ set_continue_at config }
+{
+    if config.continues {
+        Some(config.start.max(config.range_start))
+    } else {
+        None
+    }
+}
+
+/// The members of a set, to be asked for a match that starts at one position.
+#[derive(Drop)]
+pub(crate) struct MembersAt<'s, S: Input> {
+    /// The allocator.
+    pub alloc: Global,
+    /// The set.
+    pub set: &'s RegexSet,
+    /// The searched haystack.
+    pub haystack: S,
+    /// The configuration of the set's search.
+    pub config: SearchConfig,
+    /// The byte offset at which the matches start.
+    pub position: usize,
+    pub ghost fits: { FitsText (S.text haystack) config },
+    pub ghost boundary: { IsCharBoundary (S.text haystack) position },
+    pub ghost inside: { position ≤ config.range_end },
+}
+
+impl<'s, S: Input> MembersAt<'s, S> {
+    ghost use Rattle.fancy_regex.specs.SetAnswers.{YieldsMember, IsMatchOfMember, IsAnswerOfMember, IsErrorOfMember};
+
+    /// Asks the members from the number `next` on, in the order of their numbers. The match of the first that has one, or the
+    /// error of a member before it; `None` if none of them matches. `next` becomes the number of the first member that was not
+    /// asked.
+    pub fn advance(&self, next: &mut usize) -> Option<Result<RegexSetMatch<'s, S>>>
+        ensures { YieldsMember self.now.set.now.regexes.items (S.text self.now.haystack) self.now.config
+            (λ x found. IsMatchOfMember self.now.set.now.regexes.items found x.pattern x.matched.captures.regex.now x.matched.captures.slots.items (x.matched.start, x.matched.end)
+            × (x.haystack ≡ self.now.haystack) × (x.matched.captures.haystack ≡ self.now.haystack))
+            self.now.position next.old result next.new }
+    {
+        while *next < self.set.regexes.len() {
+            let number = *next;
+            *next += 1;
+            match self.ask(number) {
+                Ok(Some(found)) => return Some(Ok(found)),
+                Ok(None) => {}
+                Err(error) => return Some(Err(error)),
+            }
+        }
+        None
+    }
+
+    /// The match of the member with this number; `None` if it has no match that starts at the position. `RuntimeError` if its
+    /// search exceeds a limit; `Memory` if memory runs out.
+    fn ask(&self, number: usize) -> Result<Option<RegexSetMatch<'s, S>>>
+        requires { number < length self.now.set.now.regexes.items }
+        ensures answer { IfOk result (λ found. IsAnswerOfMember self.now.set.now.regexes.items (S.text self.now.haystack) self.now.config
+            (λ x found. IsMatchOfMember self.now.set.now.regexes.items found x.pattern x.matched.captures.regex.now x.matched.captures.slots.items (x.matched.start, x.matched.end)
+            × (x.haystack ≡ self.now.haystack) × (x.matched.captures.haystack ≡ self.now.haystack))
+            self.now.position number found) }
+        ensures limits { IfErr result (λ e. IsErrorOfMember self.now.set.now.regexes.items (S.text self.now.haystack) self.now.config self.now.position number e) }
+    {
+        let set = self.set;
+        match match_at(
+            self.alloc,
+            &set.regexes[number],
+            self.haystack,
+            self.config,
+            continue_at(self.config),
+            self.position,
+        ) {
+            Ok(Some(matched)) => Ok(Some(RegexSetMatch {
+                pattern: number,
+                haystack: self.haystack,
+                matched,
+            })),
+            Ok(None) => Ok(None),
+            Err(error) => Err(error),
+        }
+    }
+}
