@@ -1,39 +1,50 @@
-//! The program `fancy_search`: finds the matches of a pattern in the text on standard input. It calls `fancy_search_run::run`
-//! on the words and streams of the process. Exit status: 0 with matches, 1 without, 2 on a fault or for help.
+//! The program `fancy_search`: finds the matches of a pattern in the text on standard input. It calls
+//! `fancy_search_run::run_from` on the words and streams of the process. Exit status: 0 with matches and for help, 1 without
+//! matches, 2 on a fault.
 #![tactic(auto)]
 
-use fancy_search_run::{Fault, Status, run};
+ghost use Rattle.std.specs.Prelude.{◌≡◌};
+ghost use Rattle.std.specs.Process as process;
+ghost use Rattle.fancy_search_run.specs.ExitStatus.{exit_status_of};
+
+use fancy_search_run::{Fault, Source, Status, exit_status, run_from};
 use std::env;
 use std::io::ErrorKind;
 use std::process::ExitCode;
-
-/// The exit status after help was printed.
-const HELP: u8 = 2;
 
 /// The message if a word is not UTF-8.
 const NO_TEXT: &str = "error: invalid UTF-8 was detected in one or more arguments\n";
 
 fn main(rt: HostRuntime) -> ExitCode {
-    match answer(&rt) {
-        Ok(Status::Done) => ExitCode::from(0),
-        Ok(Status::Nothing) => ExitCode::from(1),
-        Err(Fault::Help(text)) => {
-            // If this write fails, there is no reader to tell.
-            let _ = print!(rt; "{text}");
-            ExitCode::from(HELP)
-        }
-        Err(fault) => {
-            // If this write fails too, the exit status still reports the fault.
-            let _ = eprintln!(rt; "fancy_search: {fault}");
-            ExitCode::from(2)
-        }
+    let answer = answer(&rt);
+    if let Err(fault) = &answer {
+        tell(&rt, fault);
     }
+    exit_code(&answer)
+}
+
+/// The exit code for an answer.
+fn exit_code(answer: &Result<Status, Fault>) -> ExitCode
+    ensures { process.exit_status result ≡ exit_status_of answer.now }
+{
+    ExitCode::from(exit_status(answer))
+}
+
+/// Prints help on standard output, every other fault on standard error. If the write fails, there is no reader to tell, and the
+/// exit status still reports the fault.
+fn tell(rt: &HostRuntime, fault: &Fault) {
+    let _ = match fault {
+        Fault::Help(text) => print!(rt; "{text}"),
+        _ => eprintln!(rt; "fancy_search: {fault}"),
+    };
 }
 
 /// Runs on the words, standard input and standard output of the process.
 fn answer(rt: &HostRuntime) -> Result<Status, Fault> {
     let words = words(rt)?;
-    run(rt.alloc(), &words, &mut rt.stdin(), &mut rt.stdout())
+    let mut stdin = rt.stdin();
+    let mut source = Source::new(&mut stdin);
+    run_from(rt.alloc(), &words, &mut source, &mut rt.stdout())
 }
 
 /// The words after the program's name. `Fault::Words` if one is not UTF-8, `Fault::Memory` if memory runs out.

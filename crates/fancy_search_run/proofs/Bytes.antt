@@ -1,6 +1,7 @@
 -- Bytes that are written, or read, one part after another.
-use Rattle.std.proofs.Common.{ℕ, List, ◌++◌, Option, Some, None, ap, ◌∙◌, append_assoc}
-use Rattle.std.specs.Io.KnownBytes.{Appends, Consumes}
+use Rattle.std.proofs.Common.{◌≡◌, ℕ, List, ◌++◌, Option, Some, None, take, ap, sym, ◌∙◌, append_assoc, append-nil}
+use Rattle.std.specs.Prelude.{IfSome}
+use Rattle.std.specs.Io.KnownBytes.{Appends, Consumes, IsAtEnd}
 
 pub Appends-more : (a b c : Option (List ℕ)) (xs ys : List ℕ) → Appends a b xs → Appends b c ys → Appends a c (xs ++ ys)
 Appends-more None b c xs ys p q = tt
@@ -8,8 +9,12 @@ Appends-more (Some x) None c xs ys p q = absurd p
 Appends-more (Some x) (Some y) None xs ys p q = absurd q
 Appends-more (Some x) (Some y) (Some z) xs ys p q = q ∙ ap (λ v. v ++ ys) p ∙ (simp append_assoc)
 
-pub Consumes-more : (a b c : Option (List ℕ)) (xs ys : List ℕ) → Consumes a b xs → Consumes b c ys → Consumes a c (xs ++ ys)
-Consumes-more None b c xs ys p q = tt
-Consumes-more (Some x) None c xs ys p q = absurd p
-Consumes-more (Some x) (Some y) None xs ys p q = absurd q
-Consumes-more (Some x) (Some y) (Some z) xs ys p q = p ∙ ap (λ v. xs ++ v) q ∙ (simp append_assoc)
+-- a read that gives no byte tells that all bytes were given
+pub given_all : (first last end : Option (List ℕ)) (bytes chunk : List ℕ) (n : ℕ) → Consumes first last bytes → Consumes last end (take n chunk) → n ≡ 0 → IsAtEnd end
+    → IfSome first (λ xs. bytes ≡ xs)
+given_all None last end bytes chunk n p q e h = tt
+given_all (Some x) None end bytes chunk n p q e h = absurd p
+given_all (Some x) (Some y) None bytes chunk n p q e h = absurd q
+given_all (Some x) (Some y) (Some z) bytes chunk n p q e h =
+    let empty : y ≡ z = q ∙ ap (λ k. take k chunk ++ z) e in
+    sym (p ∙ ap (λ v. bytes ++ v) (empty ∙ h) ∙ append-nil bytes)

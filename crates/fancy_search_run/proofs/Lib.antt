@@ -1,5 +1,3 @@
-pub mod RequestLemmas
+pub mod AnswerLemmas
 pub mod Bytes
 pub mod Outcomes
-pub mod SpanLemmas
-pub mod LineLemmas

@@ -1,91 +1,129 @@
 -- How a call ends by what its parts did.
-use Rattle.std.proofs.Common.{inl, inr, ◌≡◌, ℕ, Bool, false, List, [], Option, Some, None, Err, max, refl, subst, arith}
-use Rattle.std.specs.Prelude.{IfSome, IsUtf8, string_bytes}
-use Rattle.fancy_regex.specs.SearchInputs.{whole}
-use Rattle.fancy_regex.specs.SearchConfig.{SearchConfig}
-use Rattle.fancy_regex.specs.SearchLimits.{IsSearchError, IsMetaSearchError}
-use Rattle.fancy_regex.specs.EasyPatterns.{pattern_uses_easy}
-use Rattle.fancy_regex.specs.Refusals as building
-use Rattle.fancy_regex.specs.Error.{Error}
-use Rattle.fancy_regex.specs.Error.TheVariants as errors
+use Rattle.std.proofs.Common.{◌≡◌, ℕ, Bool, true, List, [], Option, Some, None, Result, Ok, Err, refl, subst}
+use Rattle.std.proofs.lemmas.Bool.{false≢true}
+use Rattle.std.specs.Prelude.{IfSome}
 use Rattle.fancy_regex.specs.RegexOptions.{RegexOptions}
-use Rattle.fancy_regex.specs.MetaRegex.{MetaRegex}
-use Rattle.fancy_regex.specs.IterationErrors.{IsItemError}
-use Rattle.fancy_regex.specs.IterationSearches.{KeepsSearches}
-use Rattle.fancy_search_words.specs.Requests.{Request, Refuses, requested}
+use Rattle.fancy_search_words.specs.Requests.{Request, Command, Refuses, requested}
+use Rattle.fancy_search_words.specs.Requests as commands
+use Rattle.fancy_search_words.specs.declared.arguments.Options.{Options}
 use Rattle.fancy_search_words.specs.declared.refusal.Refusal.{Refusal}
 use Rattle.fancy_search_words.specs.declared.refusal.Refusal.TheVariants as refusals
-use Rattle.fancy_search_run.specs.FaultConversions.{fault_of_refusal, fault_of_error}
-use Rattle.fancy_search_run.specs.RunOutcome.{Outcome, IsAccepted, IsReadFault, IsRegexFault, IsSearchFault, IsErrorOfSearch, RefusesWords, choices_from}
-use Rattle.fancy_search_run.specs.Requests.{regex_options}
+use Rattle.fancy_search_run.specs.Answers.{IsFault, IsSearchFault, IsPrintFault, IsSetFault}
+use Rattle.fancy_search_run.specs.FaultConversions.{fault_of_refusal}
+use Rattle.fancy_search_run.specs.Reading.{IsReadFault}
+use Rattle.fancy_search_run.specs.Requests.{regex_options, reads_input}
+use Rattle.fancy_search_run.specs.RunOutcome.{Outcome, IsTextFor, RefusesWords}
 use Rattle.fancy_search_run.specs.declared.fault.Fault.{Fault}
 use Rattle.fancy_search_run.specs.declared.fault.Fault.TheVariants as faults
+use Rattle.fancy_search_run.specs.declared.status.Status.{Status}
 
 -- an input that is the reader's, where that is known
 pub some_input : (known : Option (List ℕ)) → (input : List ℕ) × IfSome known (λ xs. input ≡ xs)
 some_input None = ([], tt)
 some_input (Some xs) = (xs, refl)
 
-pub outcome_regex : (request : Request) (old new : Option (List ℕ)) (text : List ℕ) → IsUtf8 text → (f : Fault) → IsRegexFault request text f → Outcome request old new text (Err f)
-outcome_regex request old new text u (faults.Regex error) h = (u, h)
-outcome_regex request old new text u faults.Memory h = tt
-outcome_regex request old new text u (faults.Words t) h = absurd h
-outcome_regex request old new text u (faults.Help t) h = absurd h
-outcome_regex request old new text u faults.Input h = absurd h
-outcome_regex request old new text u faults.NotUtf8 h = absurd h
-outcome_regex request old new text u faults.Output h = absurd h
+-- the fault is one that some command may have
+abbrev IsOfCommand : Fault → Type 0
+IsOfCommand (faults.Regex error) = Unit {0}
+IsOfCommand faults.NotReprinted = Unit {0}
+IsOfCommand faults.Memory = Unit {0}
+IsOfCommand _ = ⊥
 
--- what a refusal to build is told as
-pub refusal_is_regex_fault : (request : Request) (text : List ℕ) (error : Error) → building.Refuses (regex_options request.options) request.pattern error → IsRegexFault request text (fault_of_error error)
-refusal_is_regex_fault request text errors.Memory h = tt
-refusal_is_regex_fault request text (errors.ParseError position kind) h = inl h
-refusal_is_regex_fault request text (errors.CompileError cause) h = inl h
-refusal_is_regex_fault request text (errors.RuntimeError cause) h = inl h
+of_search : (o : RegexOptions) (pattern text : List ℕ) (f : Fault) → IsSearchFault o pattern text f → IsOfCommand f
+of_search o pattern text (faults.Regex error) h = tt
+of_search o pattern text faults.Memory h = tt
+of_search o pattern text faults.NotReprinted h = tt
+of_search o pattern text (faults.Words t) h = h
+of_search o pattern text (faults.Help t) h = h
+of_search o pattern text faults.Input h = h
+of_search o pattern text faults.NotUtf8 h = h
+of_search o pattern text faults.Output h = h
 
--- and the fault of a search
-searched : (request : Request) (text : List ℕ) (f : Fault) → IsAccepted request → IsSearchFault (regex_options request.options) request.pattern text f → IsRegexFault request text f
-searched request text (faults.Regex error) a h = inr (a, h)
-searched request text faults.Memory a h = tt
-searched request text (faults.Words t) a h = absurd h
-searched request text (faults.Help t) a h = absurd h
-searched request text faults.Input a h = absurd h
-searched request text faults.NotUtf8 a h = absurd h
-searched request text faults.Output a h = absurd h
+of_print : (o : RegexOptions) (pattern : List ℕ) (f : Fault) → IsPrintFault o pattern f → IsOfCommand f
+of_print o pattern (faults.Regex error) h = tt
+of_print o pattern faults.Memory h = tt
+of_print o pattern faults.NotReprinted h = tt
+of_print o pattern (faults.Words t) h = h
+of_print o pattern (faults.Help t) h = h
+of_print o pattern faults.Input h = h
+of_print o pattern faults.NotUtf8 h = h
+of_print o pattern faults.Output h = h
 
-pub search_fault_is_regex_fault : (request : Request) (text : List ℕ) (s : MetaRegex) → string_bytes s.pattern ≡ request.pattern → s.options ≡ regex_options request.options
-    → (f : Fault) → IsAccepted request → IsSearchFault s.options (string_bytes s.pattern) text f → IsRegexFault request text f
-search_fault_is_regex_fault request text s pattern options f a h =
-    searched request text f a (subst (λ (o : RegexOptions). IsSearchFault o request.pattern text f) options (subst (λ (p : List ℕ). IsSearchFault s.options p text f) pattern h))
+of_set : (o : RegexOptions) (patterns : List (List ℕ)) (text : List ℕ) (f : Fault) → IsSetFault o patterns text f → IsOfCommand f
+of_set o patterns text (faults.Regex error) h = tt
+of_set o patterns text faults.Memory h = tt
+of_set o patterns text faults.NotReprinted h = tt
+of_set o patterns text (faults.Words t) h = h
+of_set o patterns text (faults.Help t) h = h
+of_set o patterns text faults.Input h = h
+of_set o patterns text faults.NotUtf8 h = h
+of_set o patterns text faults.Output h = h
 
--- the error of an iteration over the whole text is one of a search that it makes
-pub item_error_is_search_error : (s : MetaRegex) (text : List ℕ) (config : SearchConfig) (k : ℕ) (continue_disabled : Bool) → config ≡ record (whole text) { start = k } → KeepsSearches s text (whole text) false config continue_disabled →
-    (e : Error) → IsItemError s text config continue_disabled e → IsErrorOfSearch s.options (string_bytes s.pattern) text e
-item_error_is_search_error s text config k continue_disabled is passes e h =
-    let q = h.0 in
-    let o = h.1 in
-    let fails = subst (λ (a : SearchConfig). IsMetaSearchError s text (record a { start = q }) o e) is h.3 in
-    let here : max q 0 ≡ q = omega arith in (
-      q,
-      o,
-      passes q o h.2,
-      subst (λ (p : ℕ). IsSearchError (pattern_uses_easy s.options (string_bytes s.pattern)) s.options.backtrack_limit (choices_from s.options (string_bytes s.pattern) text p o) e) here fails,
-    )
+of_command : (o : RegexOptions) (command : Command) (text : List ℕ) (f : Fault) → IsFault o command text f → IsOfCommand f
+of_command o (commands.find p) text f h = of_search o p text f h
+of_command o (commands.captures p) text f h = of_search o p text f h
+of_command o (commands.split p) text f h = of_search o p text f h
+of_command o (commands.replace p t) text f h = of_search o p text f h
+of_command o (commands.print p) text f h = of_print o p f h
+of_command o (commands.set ps) text f h = of_set o ps text f h
 
--- what it is told as
-pub error_is_search_fault : (o : RegexOptions) (pattern text : List ℕ) (e : Error) → IsErrorOfSearch o pattern text e → IsSearchFault o pattern text (fault_of_error e)
-error_is_search_fault o pattern text errors.Memory h = tt
-error_is_search_fault o pattern text (errors.ParseError position kind) h = h
-error_is_search_fault o pattern text (errors.CompileError cause) h = h
-error_is_search_fault o pattern text (errors.RuntimeError cause) h = h
+-- a fault of the command is none of reading or writing
+pub outcome_fault : (request : Request) (old new : Option (List ℕ)) (text : List ℕ) → IsTextFor request.command text → (f : Fault)
+    → IsFault (regex_options request.options) request.command text f → Outcome request old new text (Err f)
+outcome_fault request old new text u f h = by_case f h (of_command (regex_options request.options) request.command text f h)
+  where
+    by_case : (f : Fault) → IsFault (regex_options request.options) request.command text f → IsOfCommand f → Outcome request old new text (Err f)
+    by_case (faults.Regex error) h i = (u, h)
+    by_case faults.NotReprinted h i = (u, h)
+    by_case faults.Memory h i = tt
+    by_case (faults.Words t) h i = absurd i
+    by_case (faults.Help t) h i = absurd i
+    by_case faults.Input h i = absurd i
+    by_case faults.NotUtf8 h i = absurd i
+    by_case faults.Output h i = absurd i
 
-pub outcome_reading : (request : Request) (old new : Option (List ℕ)) (text : List ℕ) (f : Fault) → IsReadFault f → Outcome request old new text (Err f)
-outcome_reading request old new text faults.Input h = tt
-outcome_reading request old new text faults.Memory h = tt
-outcome_reading request old new text (faults.Regex error) h = absurd h
-outcome_reading request old new text (faults.Words t) h = absurd h
-outcome_reading request old new text (faults.Help t) h = absurd h
-outcome_reading request old new text faults.NotUtf8 h = absurd h
-outcome_reading request old new text faults.Output h = absurd h
+-- nor is it `Input`
+pub fault_is_not_input : (o : RegexOptions) (command : Command) (text : List ℕ) (f : Fault) → IsFault o command text f → f ≡ faults.Input → ⊥
+fault_is_not_input o command text f h e = subst IsOfCommand e (of_command o command text f h)
+
+-- the outcome of a print is the same for every input
+unread : (o : Options) (pattern : List ℕ) (old new : Option (List ℕ)) (xs ys : List ℕ) (r : Result Status Fault)
+    → Outcome (record { command = commands.print pattern; options = o }) old new xs r → Outcome (record { command = commands.print pattern; options = o }) old new ys r
+unread o pattern old new xs ys (Ok status) h = (h.0, ((λ e. absurd (false≢true e)), h.1.1), h.2)
+unread o pattern old new xs ys (Err faults.Output) h = (h.0, h.1, ((λ e. absurd (false≢true e)), h.2.1), h.3)
+unread o pattern old new xs ys (Err faults.NotUtf8) h = absurd (false≢true h.0)
+unread o pattern old new xs ys (Err faults.Input) h = h
+unread o pattern old new xs ys (Err faults.Memory) h = tt
+unread o pattern old new xs ys (Err (faults.Regex error)) h = ((λ e. absurd (false≢true e)), h.1)
+unread o pattern old new xs ys (Err faults.NotReprinted) h = ((λ e. absurd (false≢true e)), h.1)
+unread o pattern old new xs ys (Err (faults.Words t)) h = absurd h.1
+unread o pattern old new xs ys (Err (faults.Help t)) h = absurd h.1
+
+-- the outcome for the bytes that were read is one for the input of the reader, where that is known
+pub outcome_of_input : (request : Request) (old new known : Option (List ℕ)) (bytes : List ℕ) (r : Result Status Fault)
+    → (reads_input request.command ≡ true → IfSome known (λ xs. bytes ≡ xs)) → Outcome request old new bytes r
+    → (input : List ℕ) × IfSome known (λ xs. input ≡ xs) × Outcome request old new input r
+outcome_of_input request old new known bytes r = go request.command
+  where
+    go : (command : Command) → (reads_input command ≡ true → IfSome known (λ xs. bytes ≡ xs)) → Outcome (record { command = command; options = request.options }) old new bytes r
+        → (input : List ℕ) × IfSome known (λ xs. input ≡ xs) × Outcome (record { command = command; options = request.options }) old new input r
+    go (commands.find p) k h = (bytes, k refl, h)
+    go (commands.captures p) k h = (bytes, k refl, h)
+    go (commands.split p) k h = (bytes, k refl, h)
+    go (commands.replace p t) k h = (bytes, k refl, h)
+    go (commands.set ps) k h = (bytes, k refl, h)
+    go (commands.print p) k h = let input = some_input known in (input.0, input.1, unread request.options p old new bytes input.0 r h)
+
+pub outcome_reading : (request : Request) (old new : Option (List ℕ)) (text : List ℕ) (has_ended : Bool) (f : Fault) → IsReadFault has_ended f
+    → (f ≡ faults.Input → reads_input request.command ≡ true) → Outcome request old new text (Err f)
+outcome_reading request old new text has_ended faults.Input h k = k refl
+outcome_reading request old new text has_ended faults.Memory h k = tt
+outcome_reading request old new text has_ended faults.NotReprinted h k = absurd h
+outcome_reading request old new text has_ended (faults.Regex error) h k = absurd h
+outcome_reading request old new text has_ended (faults.Words t) h k = absurd h
+outcome_reading request old new text has_ended (faults.Help t) h k = absurd h
+outcome_reading request old new text has_ended faults.NotUtf8 h k = absurd h
+outcome_reading request old new text has_ended faults.Output h k = absurd h
 
 pub refuses_words : (words : List (List ℕ)) (r : Refusal) → Refuses words r → RefusesWords words (Err (fault_of_refusal r))
 refuses_words words (refusals.Words t) h = h

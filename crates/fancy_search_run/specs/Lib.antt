@@ -1,5 +1,7 @@
+pub mod Answers
+pub mod ExitStatus
 pub mod FaultConversions
-pub mod Lines
-pub mod Spans
+pub mod FaultTexts
+pub mod Reading
 pub mod Requests
 pub mod RunOutcome

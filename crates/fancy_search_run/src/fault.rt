@@ -1,4 +1,4 @@
-//! `Fault`: why `run` fails, with the conversions from the errors of the libraries.
+//! `Fault`: why `run` fails, with its text and the conversions from the errors of the libraries.
 
 ghost use Rattle.std.specs.Prelude.{◌≡◌};
 ghost use Rattle.fancy_search_run.specs.declared.fault.Fault.TheVariants.{Memory};
@@ -7,33 +7,50 @@ ghost use Rattle.fancy_search_run.specs.FaultConversions.{fault_of_error, fault_
 use fancy_regex::Error as RegexError;
 use fancy_search_words::Refusal;
 use std::alloc::{AllocError, AllocFailed};
-use thiserror::Error;
+use std::error::Error;
+use std::fmt;
 
 /// Why `run` failed. Its `Display` is the text that the program prints.
-#[derive(Debug, PartialEq, Eq, Drop, Error)]
+#[derive(Debug, PartialEq, Eq, Drop)]
 pub enum Fault {
     /// The words do not parse; the message of `clap`.
-    #[error("{0}")]
     Words(String),
     /// The words request help; the help text of `clap`.
-    #[error("{0}")]
     Help(String),
-    /// The pattern does not parse or is refused, or a search exceeded a limit.
-    #[error("{0}")]
+    /// The pattern does not parse or is refused, or a search exceeded a limit; never `RegexError::Memory`.
     Regex(RegexError),
+    /// The pattern does not reprint: it has no printed text that means the same.
+    NotReprinted,
     /// A read of the input failed.
-    #[error("cannot read input")]
     Input,
     /// The input is not UTF-8.
-    #[error("input is not UTF-8")]
     NotUtf8,
     /// A write failed, or accepted no byte although some were left.
-    #[error("cannot write output")]
     Output,
     /// Memory ran out.
-    #[error("Out of memory")]
     Memory,
 }
+
+impl fmt::Display for Fault {
+    ghost use Rattle.fancy_search_run.specs.FaultTexts.{fault_text};
+
+    ghost output = { fault_text ⟦<RegexError as fmt::Display>⟧.output };
+
+    fn fmt<W: fmt::Write>(&self, f: &mut fmt::Formatter<W>) -> fmt::Result {
+        match self {
+            Fault::Words(text) => f.write_str(text),
+            Fault::Help(text) => f.write_str(text),
+            Fault::Regex(error) => write!(f, "{error}"),
+            Fault::NotReprinted => f.write_str("pattern does not reprint"),
+            Fault::Input => f.write_str("cannot read input"),
+            Fault::NotUtf8 => f.write_str("input is not UTF-8"),
+            Fault::Output => f.write_str("cannot write output"),
+            Fault::Memory => f.write_str("Out of memory"),
+        }
+    }
+}
+
+impl Error for Fault {}
 
 impl From<AllocError> for Fault {
     ghost from_gives = { λ _ e. e ≡ Memory };

@@ -1,27 +1,38 @@
-//! Compiles the pattern that the words give.
+//! The regex of a pattern and the options that the words give.
 
 ghost use Rattle.std.specs.Prelude.{◌≡◌, IfOk, IfErr, string_bytes};
 ghost use Rattle.fancy_regex.specs.Refusals.{Accepts, Refuses};
+ghost use Rattle.fancy_regex.specs.SetMembers.{AreBuiltOf, RefusesPatterns};
+ghost use Rattle.fancy_search_words.specs.Requests.{texts_of};
 ghost use Rattle.fancy_search_run.specs.Requests.{regex_options};
 
-use fancy_regex::{Regex, RegexOptionsBuilder, Result};
-use fancy_search_words::{Arguments, Options};
+use fancy_regex::{Regex, RegexOptionsBuilder, RegexSet, Result};
+use fancy_search_words::Options;
 use std::alloc::Global;
 
 /// Compiles the pattern with the options that the words give. `ParseError` if it is no pattern, `CompileError` if it is
 /// refused, `Memory` if memory runs out.
-pub fn regex(alloc: Global, arguments: Arguments<'_>) -> Result<Regex>
-    ensures pattern { IfOk result (λ regex. string_bytes regex.meta.pattern ≡ arguments.entry.pattern.now) }
-    ensures options { IfOk result (λ regex. regex.meta.options ≡ regex_options arguments.entry.options) }
-    ensures accepted { IfOk result (λ _. Accepts (regex_options arguments.entry.options) arguments.entry.pattern.now) }
-    ensures refused { IfErr result (λ e. Refuses (regex_options arguments.entry.options) arguments.entry.pattern.now e) }
+pub fn regex(alloc: Global, options: Options, pattern: &str) -> Result<Regex>
+    ensures pattern { IfOk result (λ regex. string_bytes regex.meta.pattern ≡ pattern.now) }
+    ensures options { IfOk result (λ regex. regex.meta.options ≡ regex_options options) }
+    ensures accepted { IfOk result (λ _. Accepts (regex_options options) pattern.now) }
+    ensures refused { IfErr result (Refuses (regex_options options) pattern.now) }
 {
-    let pattern = String::from_str(alloc, arguments.pattern)?;
-    builder(arguments.options).build(alloc, pattern)
+    let pattern = String::from_str(alloc, pattern)?;
+    builder(options).build(alloc, pattern)
+}
+
+/// Compiles the patterns as a set with the options that the words give. `ParseError` if one is no pattern, `CompileError` if one
+/// is refused, `Memory` if memory runs out.
+pub fn set(alloc: Global, options: Options, patterns: &[&str]) -> Result<RegexSet>
+    ensures members { IfOk result (λ set. AreBuiltOf (regex_options options) (texts_of patterns.now) set.regexes.items) }
+    ensures refused { IfErr result (RefusesPatterns (regex_options options) (texts_of patterns.now)) }
+{
+    RegexSet::new_with_options(alloc, patterns, &builder(options))
 }
 
 /// The builder with these options; the others keep their defaults.
-fn builder(options: Options) -> RegexOptionsBuilder
+pub fn builder(options: Options) -> RegexOptionsBuilder
     ensures { result.options ≡ regex_options options }
 {
     let mut builder = RegexOptionsBuilder::new();

@@ -1,40 +1,32 @@
 //! `run`: the program as a function of its words, a reader and a writer.
 
-ghost use Rattle.std.specs.Prelude.{◌≡◌, ◌≢◌, ℕ, List, map, string_bytes, None, Some, IfOk, IfErr, IfSome, OnOk};
+ghost use Rattle.std.specs.Prelude.{◌≡◌, ◌≢◌, ℕ, List, [], true, false, map, None, Some, IfOk, IfErr, IfSome, OnOk};
 ghost use Rattle.std.specs.Io.KnownBytes.{IsAtEnd};
-ghost use Rattle.fancy_search_run.specs.RunOutcome.{Outcome, RefusesWords, IsAccepted, IsRegexFault, status_of_lines};
-ghost use Rattle.fancy_search_run.specs.Requests.{lines_in};
-ghost use Rattle.fancy_search_run.specs.declared.fault.Fault.TheVariants.{Output};
-ghost use Rattle.fancy_search_words.specs.Requests.{Request, requested, request_of_arguments};
+ghost use Rattle.fancy_search_run.specs.Reading.{IsReadFault};
+ghost use Rattle.fancy_search_run.specs.RunOutcome.{Outcome, RefusesWords};
+ghost use Rattle.fancy_search_run.specs.Requests.{reads_input};
+ghost use Rattle.fancy_search_run.specs.declared.fault.Fault.TheVariants.{Input, Output};
+ghost use Rattle.fancy_search_words.specs.Requests.{Request, requested, command_of, request_of_arguments};
 
+use crate::answer::answer_for;
 use crate::fault::Fault;
-use crate::{input, output, pattern, search};
+use crate::input::{Source, read_to_end};
+use crate::output::write_all;
+use crate::status::Status;
 use fancy_search_words::{Arguments, Subcommand, read_words};
 use std::alloc::Global;
 use std::convert::AsStr;
 use std::io::{Read, Write};
 
-/// How a call of `run` without a fault ended.
-#[derive(Clone, Copy, Debug, PartialEq, Eq)]
-pub enum Status {
-    /// There was a match.
-    Done,
-    /// There was no match, and nothing was written.
-    Nothing,
-}
-
-/// The output of a search, and the status that goes with it.
-#[derive(Debug, Drop)]
-struct Found {
-    /// The lines to write.
-    lines: String,
-    /// The status of the call once they are written.
-    status: Status,
-}
-
-/// Runs the command that the words after the program's name give: `find P` writes a line `START..END`, in byte offsets, for
-/// each match of the pattern P in the whole input; `captures P` writes a line with the spans of all groups of each match,
-/// with `-` for a group that did not participate.
+/// Runs the command that the words after the program's name give:
+///
+/// - `find P` writes a line `START..END`, in byte offsets, for each match of the pattern P in the whole input;
+/// - `captures P` writes a line with the spans of all groups of each match, with `-` for a group that did not participate;
+/// - `split P` writes a line for each piece between the matches: its length in bytes, `:` and the piece;
+/// - `replace P T` writes the input with each match replaced by the template T;
+/// - `print P` writes the printed pattern and a newline, and reads no input;
+/// - `set P..` writes a line `INDEX START..END` for each of the patterns that matches at the earliest position at which one of
+///   them does, with its number from 0.
 ///
 /// The fault is the first of these that holds: the words, reading, UTF-8, the pattern, a search, writing; `Memory` can come
 /// at any time. On a fault nothing is written, except on `Fault::Output`, when a proper prefix of the output is written.
@@ -47,48 +39,70 @@ pub fn run<S: AsStr, R: Read, W: Write>(
     ensures words { requested (map S.text words.now) ≡ None → RefusesWords (map S.text words.now) result × (reader.new ≡ reader.old) }
     ensures outcome { (request : Request) → requested (map S.text words.now) ≡ Some request → (input : List ℕ) × IfSome (R.remaining reader.old) (λ xs. input ≡ xs)
         × Outcome request (W.contents writer.old) (W.contents writer.new) input result }
-    ensures end { OnOk result (IsAtEnd (R.remaining reader.new)) }
+    ensures end { (request : Request) → requested (map S.text words.now) ≡ Some request → reads_input request.command ≡ true → OnOk result (IsAtEnd (R.remaining reader.new)) }
+    ensures unread { (request : Request) → requested (map S.text words.now) ≡ Some request → reads_input request.command ≡ false → reader.new ≡ reader.old }
+    ensures untouched { IfErr result (λ f. f ≢ Output → writer.new ≡ writer.old) }
+{
+    run_from(alloc, words, &mut Source::new(reader), writer)
+}
+
+/// `run` on a source: `Fault::Input` is the fault only if the last read did not tell the end.
+pub fn run_from<S: AsStr, R: Read, W: Write>(
+    alloc: Global,
+    words: &[S],
+    source: &mut Source<'_, R>,
+    writer: &mut W,
+) -> Result<Status, Fault>
+    ensures same_reader { source.new.reader.ghost_name ≡ source.old.reader.ghost_name }
+    ensures words { requested (map S.text words.now) ≡ None → RefusesWords (map S.text words.now) result × (source.new.reader.now ≡ source.old.reader.now) }
+    ensures outcome { (request : Request) → requested (map S.text words.now) ≡ Some request → (input : List ℕ) × IfSome (R.remaining source.old.reader.now) (λ xs. input ≡ xs)
+        × Outcome request (W.contents writer.old) (W.contents writer.new) input result }
+    ensures end { (request : Request) → requested (map S.text words.now) ≡ Some request → reads_input request.command ≡ true
+        → OnOk result (IsAtEnd (R.remaining source.new.reader.now) × (source.new.has_ended ≡ true)) }
+    ensures unread { (request : Request) → requested (map S.text words.now) ≡ Some request → reads_input request.command ≡ false → source.new.reader.now ≡ source.old.reader.now }
+    ensures input { IfErr result (λ f. f ≡ Input → source.new.has_ended ≡ false) }
     ensures untouched { IfErr result (λ f. f ≢ Output → writer.new ≡ writer.old) }
 {
     let arguments = read_words(alloc, words)?;
-    let input = input::read_to_end(alloc, reader)?;
+    let input = input_for(alloc, &arguments.subcommand, source)?;
     respond(alloc, arguments, &input, writer)
 }
 
-/// Searches the input and writes the lines. Faults: UTF-8, the pattern, a search, writing, in this order; or `Memory`.
+/// The input of a subcommand: all bytes up to the end of the source; none for `print`, which leaves the source as it is.
+/// `Fault::Input` if a read fails, or `Fault::Memory`.
+fn input_for<R: Read>(
+    alloc: Global,
+    subcommand: &Subcommand<'_>,
+    source: &mut Source<'_, R>,
+) -> Result<Vec<u8>, Fault>
+    ensures same_reader { source.new.reader.ghost_name ≡ source.old.reader.ghost_name }
+    ensures read { reads_input (command_of subcommand.now) ≡ true → IfOk result (λ v. IfSome (R.remaining source.old.reader.now) (λ xs. v.items ≡ xs)) }
+    ensures end { reads_input (command_of subcommand.now) ≡ true → OnOk result (IsAtEnd (R.remaining source.new.reader.now) × (source.new.has_ended ≡ true)) }
+    ensures unread { reads_input (command_of subcommand.now) ≡ false → (source.new.reader.now ≡ source.old.reader.now) × IfOk result (λ v. v.items ≡ []) }
+    ensures fault { IfErr result (λ f. IsReadFault source.new.has_ended f × (f ≡ Input → reads_input (command_of subcommand.now) ≡ true)) }
+{
+    match subcommand {
+        Subcommand::Print(_) => Ok(Vec::new(alloc)),
+        _ => read_to_end(alloc, source),
+    }
+}
+
+/// Writes what the subcommand answers for the input. Faults: UTF-8, the pattern, a search, writing, in this order; or `Memory`.
 fn respond<W: Write>(
     alloc: Global,
     arguments: Arguments<'_>,
     input: &[u8],
     writer: &mut W,
 ) -> Result<Status, Fault>
+    requires { reads_input (command_of arguments.subcommand) ≡ false → input.now ≡ [] }
     ensures outcome { Outcome (request_of_arguments arguments.entry) (W.contents writer.old) (W.contents writer.new) input.now result }
+    ensures input { IfErr result (λ f. f ≢ Input) }
     ensures untouched { IfErr result (λ f. f ≢ Output → writer.new ≡ writer.old) }
 {
     let Ok(text) = str::from_utf8(input) else {
         return Err(Fault::NotUtf8);
     };
-    let found = find(alloc, arguments, text)?;
-    output::write_all(writer, found.lines.as_bytes())?;
-    Ok(found.status)
-}
-
-/// Searches the text, and returns the lines to write with the status. Faults: the pattern, a search; or `Memory`.
-fn find(alloc: Global, arguments: Arguments<'_>, text: &str) -> Result<Found, Fault>
-    ensures lines { IfOk result (λ found. string_bytes found.lines ≡ lines_in (request_of_arguments arguments.entry) text.now) }
-    ensures status { IfOk result (λ found. found.status ≡ status_of_lines (string_bytes found.lines)) }
-    ensures accepted { IfOk result (λ _. IsAccepted (request_of_arguments arguments.entry)) }
-    ensures fault { IfErr result (IsRegexFault (request_of_arguments arguments.entry) text.now) }
-{
-    let regex = pattern::regex(alloc, arguments)?;
-    let lines = match arguments.subcommand {
-        Subcommand::Find => search::find_lines(alloc, &regex, text)?,
-        Subcommand::Captures => search::captures_lines(alloc, &regex, text)?,
-    };
-    let status = if lines.is_empty() {
-        Status::Nothing
-    } else {
-        Status::Done
-    };
-    Ok(Found { lines, status })
+    let answer = answer_for(alloc, arguments, text)?;
+    write_all(writer, answer.output.as_str().as_bytes())?;
+    Ok(answer.status)
 }

@@ -1,5 +1,5 @@
 -- Commands that are made step by step.
-use Rattle.std.proofs.Common.{◌≡◌, ◌∙◌, Result, Ok, Err, false, refl}
+use Rattle.std.proofs.Common.{◌≡◌, ◌∙◌, Result, Ok, Err, false, refl, ap}
 use Rattle.std.specs.Prelude.{IfOk}
 use Rattle.clap.specs.Built.{AddsArg}
 use Rattle.clap.specs.Simple.{App, Shape, app_of, with_rule, with_subcommand}
@@ -25,3 +25,6 @@ rule_same a b r s e f = rw (e, f) refl
 
 pub subcommand_same : (a b : App) (r s : Shape) → a ≡ b → r ≡ s → with_subcommand a r ≡ with_subcommand b s
 subcommand_same a b r s e f = rw (e, f) refl
+
+pub top_same : (a b c : App) → b ≡ c → with_subcommand a b.top ≡ with_subcommand a c.top
+top_same a b c e = ap (λ (x : App). with_subcommand a x.top) e

@@ -13,8 +13,7 @@ use Rattle.clap.specs.declared.parser.matches.Found.{Found}
 use Rattle.clap.proofs.WalkLemmas.{first_value-rows}
 use Rattle.clap.proofs.OnLiterals.{clap_on_literals}
 use Rattle.fancy_search_words.specs.CommandLine.{the_app}
-use Rattle.fancy_search_words.specs.Requests.{requested, request_if_accepted, request_of_subcommand, request_of, subcommand_named, is_given}
-use Rattle.fancy_search_words.specs.declared.arguments.Subcommand.{Subcommand}
+use Rattle.fancy_search_words.specs.Requests.{Command, requested, request_if_accepted, request_of_subcommand, request_with, command_from, pattern_command_from, command_with, is_given}
 
 pub is_read : is_simple_and_free the_app ≡ true
 unfolding clap_on_literals
@@ -35,16 +34,21 @@ pub pair_of : {A B : Type 0} (o : Option (A × B)) (n : A) (r : B) → Some n �
 pair_of None n r e f = cc
 pair_of (Some (a, b)) n r e f = cc
 
--- a request, of its parts
-pub request_is : (name : Text) (rows : List Row) (s : Subcommand) (p : Text) → subcommand_named name ≡ Some s → first_of (codes "pattern") rows ≡ Some p
-    → request_of_subcommand (name, rows) ≡ Some (request_of s rows p)
-request_is name rows s p e f = rw (e, f) refl
+-- the request of a command with the arguments that were matched
+pub request_is : (name : Text) (rows : List Row) (command : Command) → command_from name rows ≡ Some command
+    → request_of_subcommand (name, rows) ≡ Some (request_with rows command)
+request_is name rows command e = rw e refl
 
-pub no_subcommand : (name : Text) (rows : List Row) → subcommand_named name ≡ None → request_of_subcommand (name, rows) ≡ None
-no_subcommand name rows e = rw e refl
+pub no_request : (name : Text) (rows : List Row) → command_from name rows ≡ None → request_of_subcommand (name, rows) ≡ None
+no_request name rows e = rw e refl
 
-pub no_pattern : (name : Text) (rows : List Row) (s : Subcommand) → subcommand_named name ≡ Some s → first_of (codes "pattern") rows ≡ None → request_of_subcommand (name, rows) ≡ None
-no_pattern name rows s e f = rw (e, f) refl
+-- the command of a subcommand, of the arguments that were matched for it
+pub command_is : (name : Text) (rows : List Row) (pattern : Text) → first_of (codes "pattern") rows ≡ Some pattern
+    → pattern_command_from name rows ≡ command_with name pattern (first_of (codes "template") rows)
+command_is name rows pattern e = rw e refl
+
+pub no_pattern : (name : Text) (rows : List Row) → first_of (codes "pattern") rows ≡ None → pattern_command_from name rows ≡ None
+no_pattern name rows e = rw e refl
 
 -- what is requested where `clap` takes the words
 pub asked_taken : (words : List Text) → fault_of the_app words ≡ [] → requested words ≡ option_and_then request_of_subcommand (subcommand_of the_app words)

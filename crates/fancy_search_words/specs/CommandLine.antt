@@ -1,5 +1,6 @@
 -- The command line of the program, in the terms of `clap`'s specification.
 use Rattle.std.specs.Prelude.{ℕ, Some, true, codes}
+use Rattle.clap.specs.Lexer.{usize_max}
 use Rattle.clap.specs.Walk.{Rule, Text}
 use Rattle.clap.specs.Simple.{App, new_app, new_rule, on_top, with_rule, with_subcommand}
 use Rattle.clap.specs.declared.builder.action.ArgAction.TheVariants.{SetTrue}
@@ -12,6 +13,15 @@ max_limit = 18446744073709551615
 -- the positional argument: the pattern
 abbrev pub pattern_rule : Rule
 pattern_rule = record (new_rule (codes "pattern")) { value_names = 1; required = true }
+
+-- the positional argument of `set`: one pattern or more
+abbrev pub patterns_rule : Rule
+patterns_rule =
+    record (new_rule (codes "patterns")) { value_names = 1; required = true; range = Some (record { start_inclusive = 1; end_inclusive = usize_max }) }
+
+-- the positional argument after the pattern: the template
+abbrev pub template_rule : Rule
+template_rule = record (new_rule (codes "template")) { value_names = 1; required = true }
 
 -- a flag with a short name of one letter
 abbrev pub short_rule : Text → ℕ → Rule
@@ -44,14 +54,34 @@ with_long_options a =
     (long_rule (codes "longest") (codes "longest")))
     limit_rule
 
+-- the command with all options
+abbrev pub with_options : App → App
+with_options a = with_long_options (with_short_options a)
+
 -- a subcommand with a pattern and all options
-abbrev pub search_subcommand : Text → App
-search_subcommand name = with_long_options (with_short_options (with_rule (new_app name) pattern_rule))
+abbrev pub pattern_subcommand : Text → App
+pattern_subcommand name = with_options (with_rule (new_app name) pattern_rule)
+
+-- the subcommand with a pattern, a template and all options
+abbrev pub replace_subcommand : App
+replace_subcommand = with_options (with_rule (with_rule (new_app (codes "replace")) pattern_rule) template_rule)
+
+-- the subcommand with patterns and all options
+abbrev pub set_subcommand : App
+set_subcommand = with_options (with_rule (new_app (codes "set")) patterns_rule)
 
 -- the command without its subcommands; one is required, and the words do not include the program's name
 abbrev pub top : App
 top = on_top (λ s. record s { no_binary_name = true; subcommand_required = true }) (new_app (codes "fancy_search"))
 
--- the command with its two subcommands
+-- the command with one more subcommand, which has only a pattern
+abbrev pub with_pattern_subcommand : App → Text → App
+with_pattern_subcommand a name = with_subcommand a (pattern_subcommand name).top
+
+-- the command with the subcommands that search with a pattern
+abbrev pub with_searches : App → App
+with_searches a = with_pattern_subcommand (with_pattern_subcommand (with_pattern_subcommand a (codes "find")) (codes "captures")) (codes "split")
+
+-- the command with its subcommands
 abbrev pub the_app : App
-the_app = with_subcommand (with_subcommand top (search_subcommand (codes "find")).top) (search_subcommand (codes "captures")).top
+the_app = with_subcommand (with_pattern_subcommand (with_subcommand (with_searches top) replace_subcommand.top) (codes "print")) set_subcommand.top

@@ -1,12 +1,13 @@
 -- The request that words give, or why they give none.
-use Rattle.std.specs.Prelude.{◌≡◌, ◌≢◌, ℕ, Bool, false, List, [], ◌∷◌, Option, Some, None, codes, bytes_eq, option_and_then, option_map, if◌then◌else◌}
+use Rattle.std.specs.Prelude.{◌≡◌, ◌≢◌, ℕ, Bool, false, List, [], ◌∷◌, Option, Some, None, codes, bytes_eq, map, option_and_then, option_map, if◌then◌else◌}
+use Rattle.std.specs.Borrow.{Bor}
 use Rattle.std.specs.Option.{option_map_or}
 use Rattle.std.specs.Str.Parse.{digits_value, without_leading_plus}
 use Rattle.clap.specs.Faults.{fault_of}
 use Rattle.clap.specs.Kinds.{Kinds, IsAmong}
 use Rattle.clap.specs.Simple.{subcommand_of}
 use Rattle.clap.specs.ValueTests.{accepts}
-use Rattle.clap.specs.Walk.{Row, Text, first_of, one_of}
+use Rattle.clap.specs.Walk.{Row, Text, all_of, first_of, one_of}
 use Rattle.clap.specs.declared.builder.value_parser.ValueParser.TheVariants.{Unsigned}
 use Rattle.clap.specs.declared.error.kind.ErrorKind.{ErrorKind}
 use Rattle.clap.specs.declared.error.kind.ErrorKind.TheVariants as kind
@@ -14,14 +15,24 @@ use Rattle.fancy_search_words.specs.CommandLine.{max_limit, the_app}
 use Rattle.fancy_search_words.specs.declared.arguments.Arguments.{Arguments}
 use Rattle.fancy_search_words.specs.declared.arguments.Options.{Options}
 use Rattle.fancy_search_words.specs.declared.arguments.Subcommand.{Subcommand}
-use Rattle.fancy_search_words.specs.declared.arguments.Subcommand.TheVariants.{Find, Captures}
+use Rattle.fancy_search_words.specs.declared.arguments.Subcommand.TheVariants.{Find, Captures, Split, Replace, Print, Set}
 use Rattle.fancy_search_words.specs.declared.refusal.Refusal.{Refusal}
 use Rattle.fancy_search_words.specs.declared.refusal.Refusal.TheVariants as refusals
 
--- A request: a subcommand, its pattern and its options.
+-- What a subcommand asks, with the texts of its arguments.
+pub data Command : Type 0 where
+  find : Text → Command
+  captures : Text → Command
+  split : Text → Command
+  -- a pattern and a template
+  replace : Text → Text → Command
+  print : Text → Command
+  -- one pattern or more
+  set : List Text → Command
+
+-- A request: a command and its options.
 pub record Request : Type 0 where
-  pub subcommand : Subcommand
-  pub pattern : Text
+  pub command : Command
   pub options : Options
 
 -- the flag was given
@@ -50,17 +61,31 @@ options_of rows = record {
   limit = limit_of rows;
 }
 
--- the subcommand with this name
-abbrev pub subcommand_named : Text → Option Subcommand
-subcommand_named name = if bytes_eq name (codes "find") then Some Find else (if bytes_eq name (codes "captures") then Some Captures else None)
+-- the command of a subcommand by name, with its pattern, and its template where one was given
+abbrev pub command_with : Text → Text → Option Text → Option Command
+command_with name pattern template =
+    if bytes_eq name (codes "find") then Some (find pattern)
+    else (if bytes_eq name (codes "captures") then Some (captures pattern)
+    else (if bytes_eq name (codes "split") then Some (split pattern)
+    else (if bytes_eq name (codes "replace") then option_map (replace pattern) template
+    else (if bytes_eq name (codes "print") then Some (print pattern) else None))))
 
--- the request of a subcommand, its arguments and its pattern
-abbrev pub request_of : Subcommand → List Row → Text → Request
-request_of subcommand rows pattern = record { subcommand = subcommand; pattern = pattern; options = options_of rows }
+-- the command of a subcommand that takes one pattern, by name, with the arguments that were matched for it
+abbrev pub pattern_command_from : Text → List Row → Option Command
+pattern_command_from name rows = option_and_then (λ p. command_with name p (first_of (codes "template") rows)) (first_of (codes "pattern") rows)
+
+-- the command of a subcommand by name, with the arguments that were matched for it
+abbrev pub command_from : Text → List Row → Option Command
+command_from name rows =
+    if bytes_eq name (codes "set") then option_map set (all_of (codes "patterns") rows) else pattern_command_from name rows
+
+-- the request of a command with the options that were matched
+abbrev pub request_with : List Row → Command → Request
+request_with rows command = record { command = command; options = options_of rows }
 
 -- the request of a subcommand by name, with the arguments that were matched for it
 abbrev pub request_of_subcommand : Text × List Row → Option Request
-request_of_subcommand found = option_and_then (λ s. option_map (request_of s found.1) (first_of (codes "pattern") found.1)) (subcommand_named found.0)
+request_of_subcommand found = option_map (request_with found.1) (command_from found.0 found.1)
 
 -- the request of matched words; none if `clap` reported an error
 abbrev pub request_if_accepted : Kinds → Option (Text × List Row) → Option Request
@@ -71,9 +96,22 @@ request_if_accepted (k ∷ ks) found = None
 abbrev pub requested : List Text → Option Request
 requested words = request_if_accepted (fault_of the_app words) (subcommand_of the_app words)
 
+-- the patterns behind references
+abbrev pub texts_of : List (Bor Text) → List Text
+texts_of patterns = map (λ p. p.now) patterns
+
+-- the subcommand as a value of the definitions
+abbrev pub command_of : Subcommand → Command
+command_of (Find p) = find p.now
+command_of (Captures p) = captures p.now
+command_of (Split p) = split p.now
+command_of (Replace p t) = replace p.now t.now
+command_of (Print p) = print p.now
+command_of (Set ps) = set (texts_of ps.items)
+
 -- the request as a value of the definitions
 abbrev pub request_of_arguments : Arguments → Request
-request_of_arguments a = record { subcommand = a.subcommand; pattern = a.pattern.now; options = a.options }
+request_of_arguments a = record { command = command_of a.subcommand; options = a.options }
 
 -- the refusal fits an error of this kind
 abbrev pub IsRefusalFor : ErrorKind → Refusal → Type 0

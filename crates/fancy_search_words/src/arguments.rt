@@ -1,12 +1,25 @@
 //! The parsed command-line words.
 
-/// The subcommand: what is printed for each match.
-#[derive(Clone, Copy, Debug, PartialEq, Eq)]
-pub enum Subcommand {
-    /// `find`: the span of the match.
-    Find,
-    /// `captures`: the spans of all groups.
-    Captures,
+/// The subcommand, with its own arguments.
+#[derive(Debug, Drop, PartialEq, Eq)]
+pub enum Subcommand<'a> {
+    /// `find`: the spans of the matches of this pattern.
+    Find(&'a str),
+    /// `captures`: the spans of all groups of the matches of this pattern.
+    Captures(&'a str),
+    /// `split`: the pieces of the input between the matches of this pattern.
+    Split(&'a str),
+    /// `replace`: the input with each match replaced.
+    Replace {
+        /// The text of the pattern.
+        pattern: &'a str,
+        /// The template that each match is replaced by.
+        template: &'a str,
+    },
+    /// `print`: this pattern, printed; no input is read.
+    Print(&'a str),
+    /// `set`: the members of the set of these patterns that match at the earliest place.
+    Set(Vec<&'a str>),
 }
 
 /// The options of a subcommand.
@@ -32,13 +45,11 @@ pub struct Options {
     pub limit: Option<u64>,
 }
 
-/// The parsed words: a subcommand, its pattern and its options.
-#[derive(Clone, Copy, Debug)]
+/// The parsed words: a subcommand and its options.
+#[derive(Debug, Drop)]
 pub struct Arguments<'a> {
-    /// What is printed for each match.
-    pub subcommand: Subcommand,
-    /// The text of the pattern.
-    pub pattern: &'a str,
+    /// What to do, with the patterns to do it with.
+    pub subcommand: Subcommand<'a>,
     /// The options given, with defaults for the others.
     pub options: Options,
 }

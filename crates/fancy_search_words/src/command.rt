@@ -1,34 +1,58 @@
-//! The program's command line as a `clap` command: two subcommands with the same pattern and options, and the help texts.
+//! The program's command line as a `clap` command: the subcommands, each with its arguments and all options, and the help texts.
 //! Every function fails only if memory runs out.
 
 ghost use Rattle.std.specs.Prelude.{◌≡◌, false, IfOk};
 ghost use Rattle.clap.specs.Words.{app_of, rule_of, new_app, with_rule, with_subcommand};
 ghost use Rattle.clap.specs.declared.builder.command.Command.TheViews.{out-Command};
 ghost use Rattle.fancy_search_words.specs.CommandLine as rules;
-ghost use Rattle.fancy_search_words.specs.CommandLine.{the_app, short_rule, long_rule, limit_rule, pattern_rule};
+ghost use Rattle.fancy_search_words.specs.CommandLine.{the_app, short_rule, long_rule, limit_rule, pattern_rule, patterns_rule, template_rule};
 
 use clap::builder::ValueParser;
 use clap::{Arg, ArgAction, Command};
 use std::alloc::{AllocError, Global};
 
-const ABOUT: &str = "Finds the matches of a pattern in the text on standard input.";
+/// The program's name.
+const NAME: &str = "fancy_search";
+
+const ABOUT: &str =
+    "Finds, splits at or replaces the matches of a pattern in the text on standard input.";
 
 const USES: &str = "\
 Examples:
   fancy_search find 'ab|b'
   fancy_search captures -i '(?<year>\\d{4})-(?<month>\\d{2})'
+  fancy_search split ',\\s*'
+  fancy_search replace '(\\w+) (\\w+)' '$2 $1'
+  fancy_search print '(?:a|b)c'
+  fancy_search set '\\d+' '\\w+'
   fancy_search find -- '-a'
 
 Status:
-  0  matches were printed
-  1  nothing was found
-  2  a fault, told on standard error, or help";
+  0  done, or this help
+  1  find, captures or set found nothing
+  2  a fault, told on standard error";
 
 const FIND: &str =
     "Prints the span of each match, in bytes, as START..END, a line for each. Example: find 'a+'";
 
 const CAPTURES: &str =
     "Prints a line for each match: the spans of all groups in order, - for a group that is not set. Example: captures '(a)|(b)'";
+
+const SPLIT: &str =
+    "Prints each piece of the input between the matches, a line for each: its length in bytes, a colon and the piece. Example: split ',\\s*'";
+
+const REPLACE: &str =
+    "Prints the input with each match replaced by the template, where $1 or ${name} is the text of a group. Example: replace '(a)b' '$1'";
+
+const PRINT: &str =
+    "Prints the pattern as one that means the same without -i, -m, -s, -x and --oniguruma, and reads no input. Example: print -i a";
+
+const SET: &str =
+    "Prints the patterns that match at the earliest place where one of them does, a line for each: its number, from 0, and its span. Example: set '\\d+' '\\w+'";
+
+const PATTERNS: &str = "The patterns, one or more. Those that begin with - stand after --";
+
+const TEMPLATE: &str = "The template. One that begins with - stands after --";
 
 const PATTERN: &str = "The pattern. One that begins with - stands after --";
 
@@ -59,21 +83,44 @@ const LIMIT: &str =
 pub fn command<'a>(alloc: Global) -> Result<Command<'a>, AllocError>
     ensures { IfOk result (λ c. app_of c ≡ the_app) }
 {
-    let find = search_subcommand(alloc, "find", FIND)?;
-    let captures = search_subcommand(alloc, "captures", CAPTURES)?;
-    let more = joined(top(alloc), find)?;
-    joined(more, captures)
+    let search = with_searches(alloc, top(alloc)?)?;
+    let replace = joined(search, replace_subcommand(alloc)?)?;
+    let print = with_pattern_subcommand(alloc, replace, "print", PRINT)?;
+    joined(print, set_subcommand(alloc)?)
 }
 
-/// The command without its subcommands.
-fn top<'a>(alloc: Global) -> Command<'a>
-    ensures app { app_of result ≡ rules.top }
+/// The command with the subcommands that search with a pattern: `find`, `captures`, `split`.
+fn with_searches<'a>(alloc: Global, command: Command<'a>) -> Result<Command<'a>, AllocError>
+    ensures { IfOk result (λ c. app_of c ≡ rules.with_searches (app_of command.entry)) }
 {
-    Command::new(alloc, "fancy_search")
+    let find = with_pattern_subcommand(alloc, command, "find", FIND)?;
+    let captures = with_pattern_subcommand(alloc, find, "captures", CAPTURES)?;
+    with_pattern_subcommand(alloc, captures, "split", SPLIT)
+}
+
+/// The command with one more subcommand, which has a pattern and all options.
+fn with_pattern_subcommand<'a>(
+    alloc: Global,
+    command: Command<'a>,
+    name: &'a str,
+    about: &'a str,
+) -> Result<Command<'a>, AllocError>
+    ensures { IfOk result (λ c. app_of c ≡ rules.with_pattern_subcommand (app_of command.entry) name.entry.now) }
+{
+    let subcommand = pattern_subcommand(alloc, name, about)?;
+    joined(command, subcommand)
+}
+
+/// The command without its subcommands. Usage lines begin with the program's name, which is none of the words.
+fn top<'a>(alloc: Global) -> Result<Command<'a>, AllocError>
+    ensures app { IfOk result (λ c. app_of c ≡ rules.top) }
+{
+    Command::new(alloc, NAME)
         .no_binary_name(true)
         .subcommand_required(true)
         .about(ABOUT)
         .after_help(USES)
+        .bin_name(NAME)
 }
 
 /// The command with one more subcommand.
@@ -85,16 +132,41 @@ fn joined<'a>(command: Command<'a>, subcommand: Command<'a>) -> Result<Command<'
 }
 
 /// A subcommand with a pattern and all options.
-fn search_subcommand<'a>(
+fn pattern_subcommand<'a>(
     alloc: Global,
     name: &'a str,
     about: &'a str,
 ) -> Result<Command<'a>, AllocError>
-    ensures app { IfOk result (λ c. app_of c ≡ rules.search_subcommand name.entry.now) }
+    ensures app { IfOk result (λ c. app_of c ≡ rules.pattern_subcommand name.entry.now) }
     ensures local { IfOk result (λ c. (out-Command c).has_globals ≡ false) }
 {
-    let bare = with(bare(alloc, name, about), pattern(alloc))?;
-    let flagged = with_short_options(alloc, bare)?;
+    with_options(alloc, with(bare(alloc, name, about), pattern(alloc))?)
+}
+
+/// The subcommand `replace`, with a pattern, a template and all options.
+fn replace_subcommand<'a>(alloc: Global) -> Result<Command<'a>, AllocError>
+    ensures app { IfOk result (λ c. app_of c ≡ rules.replace_subcommand) }
+    ensures local { IfOk result (λ c. (out-Command c).has_globals ≡ false) }
+{
+    let pattern = with(bare(alloc, "replace", REPLACE), pattern(alloc))?;
+    with_options(alloc, with(pattern, template(alloc))?)
+}
+
+/// The subcommand `set`, with patterns and all options.
+fn set_subcommand<'a>(alloc: Global) -> Result<Command<'a>, AllocError>
+    ensures app { IfOk result (λ c. app_of c ≡ rules.set_subcommand) }
+    ensures local { IfOk result (λ c. (out-Command c).has_globals ≡ false) }
+{
+    with_options(alloc, with(bare(alloc, "set", SET), patterns(alloc))?)
+}
+
+/// The command with all options.
+fn with_options<'a>(alloc: Global, command: Command<'a>) -> Result<Command<'a>, AllocError>
+    requires { (out-Command command).has_globals ≡ false }
+    ensures app { IfOk result (λ c. app_of c ≡ rules.with_options (app_of command.entry)) }
+    ensures local { IfOk result (λ c. (out-Command c).has_globals ≡ false) }
+{
+    let flagged = with_short_options(alloc, command)?;
     with_long_options(alloc, flagged)
 }
 
@@ -158,6 +230,29 @@ fn pattern<'a>(alloc: Global) -> Arg<'a>
         .value_name("PATTERN")
         .required(true)
         .help(PATTERN)
+}
+
+/// The positional argument of `set`: one pattern or more.
+fn patterns<'a>(alloc: Global) -> Arg<'a>
+    ensures rule { rule_of result ≡ patterns_rule }
+    ensures local { result.global ≡ false }
+{
+    Arg::new(alloc, "patterns")
+        .value_name("PATTERN")
+        .num_args(1..)
+        .required(true)
+        .help(PATTERNS)
+}
+
+/// The positional argument of `replace` after the pattern: the template.
+fn template<'a>(alloc: Global) -> Arg<'a>
+    ensures rule { rule_of result ≡ template_rule }
+    ensures local { result.global ≡ false }
+{
+    Arg::new(alloc, "template")
+        .value_name("TEMPLATE")
+        .required(true)
+        .help(TEMPLATE)
 }
 
 /// A flag with a short name of one letter.

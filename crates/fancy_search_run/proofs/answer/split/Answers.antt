@@ -1,0 +1,30 @@
+use Rattle.std.proofs.Common.{◌∙◌, ap}
+use Rattle.std.specs.Cow.{cow_str_bytes}
+use Rattle.std.proofs.lemmas.Result.{err_from_is_err_and}
+use Rattle.fancy_regex.specs.Searches.{pieces}
+use Rattle.fancy_search_text.specs.Lines.{piece_lines}
+use Rattle.fancy_search_text.specs.Matches.{matches_in}
+use Rattle.fancy_search_run.specs.Requests.{regex_options}
+use Rattle.fancy_search_run.proofs.AnswerLemmas.{of_compiled, refusal_is_fault, error_is_fault}
+use Rattle.fancy_search_run.proofs.answer.split.Goals as goal
+
+pub returns-in_err-regex : goal.returns-in_err-regex
+returns-in_err-regex c =
+    let p = err_from_is_err_and c.from_residual.result c.from_residual.ensures.1 in
+    rw (p.1, p.2) (refusal_is_fault (regex_options c.args.options) c.args.pattern.now c.args.text.now _ c.in_err-regex.ensures.refused)
+
+pub returns-in_err-lines : goal.returns-in_err-lines
+returns-in_err-lines c =
+    let p = err_from_is_err_and c.from_residual-in_err-lines.result c.from_residual-in_err-lines.ensures.1 in
+    let made = c.in_ok-regex.ensures in
+    rw (p.1, p.2) (error_is_fault (regex_options c.args.options) c.args.pattern.now c.args.text.now c.in_ok-regex.regex.meta made.pattern made.options made.accepted _ c.in_err-lines.ensures.fails)
+
+pub returns : goal.returns
+returns c =
+    let made = c.in_ok-regex.ensures in
+    let text = c.args.text.now in (
+      made.accepted,
+      ap cow_str_bytes c.done.ensures.output ∙ c.in_ok-lines.ensures.lines
+          ∙ of_compiled (λ o p. piece_lines (pieces text (matches_in o p text))) c.in_ok-regex.regex.meta (regex_options c.args.options) c.args.pattern.now made.pattern made.options,
+      c.done.ensures.status,
+    )

@@ -1,0 +1,67 @@
+//! The matches of a regex in a text, as lines. Offsets are in bytes, in decimal digits.
+
+ghost use Rattle.std.specs.Prelude.{◌≡◌, ◌++◌, IfOk, IfErr, OnOk, codes, string_bytes};
+ghost use Rattle.fancy_regex.specs.Ways.{Pairs};
+ghost use Rattle.fancy_search_text.specs.Lines.{span_lines, group_lines, groups_text, span_text};
+ghost use Rattle.fancy_search_text.specs.Matches.{matches_in, IsErrorOfSearch};
+ghost use Rattle.fancy_search_text.specs.Spans.{AreGroupSpans};
+
+use fancy_regex::{Captures, Match, Regex, Result, laws_of_items};
+use std::alloc::{AllocError, Global};
+
+/// A line `START..END` for each match in the text. `RuntimeError` if a search exceeds a limit, or `Memory`.
+pub fn span_lines(alloc: Global, regex: &Regex, text: &str) -> Result<String>
+    ensures lines { IfOk result (λ lines. string_bytes lines ≡ span_lines (matches_in regex.now.meta.options (string_bytes regex.now.meta.pattern) text.now)) }
+    ensures fails { IfErr result (IsErrorOfSearch regex.now.meta.options (string_bytes regex.now.meta.pattern) text.now) }
+{
+    let mut lines = String::new(alloc);
+    let mut matches = regex.find_iter(alloc, text);
+    while let Some(found) = matches.next() {
+        write_span(&mut lines, found?)?;
+        lines.push('\n')?;
+    }
+    Ok(lines)
+}
+
+/// A line for each match in the text, with the spans of all its groups, and `-` for a group that did not participate.
+/// `RuntimeError` if a search exceeds a limit, or `Memory`.
+pub fn group_lines(alloc: Global, regex: &Regex, text: &str) -> Result<String>
+    ensures lines { IfOk result (λ lines. string_bytes lines ≡ group_lines (matches_in regex.now.meta.options (string_bytes regex.now.meta.pattern) text.now)) }
+    ensures fails { IfErr result (IsErrorOfSearch regex.now.meta.options (string_bytes regex.now.meta.pattern) text.now) }
+{
+    laws_of_items();
+    let mut lines = String::new(alloc);
+    let mut matches = regex.captures_iter(alloc, text);
+    while let Some(found) = matches.next() {
+        write_groups(&mut lines, &found?)?;
+        lines.push('\n')?;
+    }
+    Ok(lines)
+}
+
+/// Appends the spans of the groups in order, separated by a space, with `-` for a group that did not participate.
+fn write_groups(
+    line: &mut String,
+    groups: &Captures<'_, &str>,
+) -> std::result::Result<(), AllocError>
+    ensures { OnOk result ((spans : Pairs) → AreGroupSpans groups.now.haystack.now groups.now.slots.items spans
+        → string_bytes line.new ≡ string_bytes line.old ++ groups_text spans) }
+{
+    for group in 0..groups.len() {
+        if group > 0 {
+            line.push(' ')?;
+        }
+        match groups.get(group) {
+            Some(found) => write_span(line, found)?,
+            None => line.push('-')?,
+        }
+    }
+    Ok(())
+}
+
+/// Appends the span of a match as `START..END`.
+fn write_span(line: &mut String, found: Match<'_>) -> std::result::Result<(), AllocError>
+    ensures { OnOk result (string_bytes line.new ≡ string_bytes line.old ++ span_text (found.entry.start, found.entry.end)) }
+{
+    write!(line, "{}..{}", found.start(), found.end())
+}
