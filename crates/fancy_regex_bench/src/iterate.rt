@@ -33,8 +33,8 @@ fn measure(rt: &HostRuntime, pattern: &str, text: &str) -> Result<(), Fault> {
     Ok(())
 }
 
-/// The number of matches.
-fn count_matches(alloc: Global, regex: &Regex, text: &str) -> Result<u64, Fault> {
+/// The number of matches of a regex in a text.
+pub fn count_matches(alloc: Global, regex: &Regex, text: &str) -> Result<u64, Fault> {
     let mut count: u64 = 0;
     let mut matches = regex.find_iter(alloc, text);
     while let Some(found) = matches.next() {

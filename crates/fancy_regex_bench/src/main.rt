@@ -12,6 +12,7 @@ mod hard;
 mod iterate;
 mod plain;
 mod text;
+mod words;
 
 /// The default size of the haystack, in bytes.
 const SMALL: usize = 2000;
@@ -23,13 +24,15 @@ fn main(rt: HostRuntime) -> ExitCode {
     }
 }
 
-/// Plain patterns on the whole size, hard ones on a tenth of it, iterations on a tenth, a fifth, a half and the whole.
+/// Plain patterns on the whole size, hard ones on a tenth of it, iterations and replacements on a tenth, a fifth, a half and the
+/// whole.
 fn measure_all(rt: &HostRuntime) -> Result<(), Fault> {
     let size = asked_size(rt)?;
     plain::measure_all(rt, size)?;
     hard::measure_all(rt, size / 10)?;
     for part in [10, 5, 2, 1] {
         iterate::measure_all(rt, size / part)?;
+        words::measure_all(rt, size / part)?;
     }
     Ok(())
 }

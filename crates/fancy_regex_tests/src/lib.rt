@@ -3,8 +3,24 @@
 #![tactic(auto)]
 
 #[cfg(test)]
+mod byte_sets;
+#[cfg(test)]
+mod calls;
+#[cfg(test)]
 mod input;
 #[cfg(test)]
 mod meta;
 #[cfg(test)]
+mod pieces;
+#[cfg(test)]
 mod regex;
+#[cfg(test)]
+mod replacement;
+#[cfg(test)]
+mod reprint;
+#[cfg(test)]
+mod sets;
+#[cfg(test)]
+mod templates;
+#[cfg(test)]
+mod texts;

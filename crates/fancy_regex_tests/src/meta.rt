@@ -85,6 +85,17 @@ fn each_of_many_groups_has_its_places(rt: HostRuntime) -> Result<(), Fail> {
 }
 
 #[test]
+fn a_group_that_only_calls_itself_is_refused(rt: HostRuntime) -> Result<(), Fail> {
+    let alloc = rt.alloc();
+    let pattern = String::from_str(alloc, "(?(DEFINE)(?<a>\\g<a>))")?;
+    match MetaRegex::new(alloc, pattern, &RegexOptions::default()) {
+        Err(Error::CompileError(CompileError::LeftRecursiveSubroutineCall(1))) => Ok(()),
+        Err(Error::CompileError(CompileError::NeverEndingRecursion)) => Ok(()),
+        _ => panic!(rt; "refused otherwise, or not at all"),
+    }
+}
+
+#[test]
 fn a_pattern_past_its_cap_is_too_complex(rt: HostRuntime) -> Result<(), Fail> {
     let alloc = rt.alloc();
     let options = RegexOptions {

@@ -1,6 +1,9 @@
 //! Worked searches, each with the spans that have to be found, and the calls of regexes and builders.
 
-use fancy_regex::{Captures, Regex, RegexBuilder, RegexInput, RegexOptionsBuilder, Result};
+use fancy_regex::{
+    Captures, CompileError, Error, Regex, RegexBuilder, RegexInput, RegexOptionsBuilder, Result,
+    RuntimeError,
+};
 use std::alloc::{AllocError, Global};
 use std::fmt::Write;
 use std::test::Fail;
@@ -74,7 +77,7 @@ static FIND: [(&str, &str, &str, &str); 41] = [
 ];
 
 /// The spans of all groups.
-static CAPTURES: [(&str, &str, &str, &str); 10] = [
+static CAPTURES: [(&str, &str, &str, &str); 13] = [
     ("((?s).).", "", "\n\n", "0..2 0..1"),
     ("(a|b?)*", "", "ab", "0..2 2..2"),
     (
@@ -90,6 +93,9 @@ static CAPTURES: [(&str, &str, &str, &str); 10] = [
     ("(a|ab)(c|bcd)(d*)", "l", "abcd", "0..4 0..1 1..4 4..4"),
     ("(a|ab)(c|bcd)(d*)(?!e)", "l", "abcd", "0..4 0..1 1..4 4..4"),
     ("(?=(a|ab))a", "l", "ab", "0..1 0..1"),
+    ("(((?P>2){0}))", "", "a", "0..0 0..0 0..0"),
+    ("(\\g<0>){0}", "", "a", "0..0 -"),
+    ("((\\g<1>{0}))", "", "a", "0..0 0..0 0..0"),
 ];
 
 /// A search of a range of a text from a byte offset, and the spans of the groups that have to be found.
@@ -223,14 +229,15 @@ static SEARCHES: [SearchRow; 13] = [
     },
 ];
 
-/// The regex of a pattern under the options of these letters.
-fn build(alloc: Global, pattern: &str, letters: &str) -> Result<Regex> {
+/// The regex of a pattern under the options of these letters, and the option `seek`.
+fn build(alloc: Global, pattern: &str, letters: &str, seek: bool) -> Result<Regex> {
     let mut options = RegexOptionsBuilder::new();
     options
         .leftmost_longest(letters.contains('l'))
         .find_not_empty(letters.contains('n'))
         .oniguruma_mode(letters.contains('o'))
-        .unicode_mode(!letters.contains('u'));
+        .unicode_mode(!letters.contains('u'))
+        .seek(seek);
     options.build(alloc, String::from_str(alloc, pattern)?)
 }
 
@@ -254,14 +261,34 @@ fn shown(alloc: Global, groups: &Captures<'_, &str>) -> std::result::Result<Stri
     Ok(text)
 }
 
+/// The span of the first match, or `none`.
+fn span_found(
+    alloc: Global,
+    pattern: &str,
+    options: &str,
+    seek: bool,
+    text: &str,
+) -> Result<String> {
+    let regex = build(alloc, pattern, options, seek)?;
+    match regex.find(alloc, text)? {
+        Some(found) => {
+            let start = found.start();
+            let end = found.end();
+            Ok(format!(in alloc; "{start}..{end}")?)
+        }
+        None => Ok(String::from_str(alloc, "none")?),
+    }
+}
+
 /// The spans of the groups of the first match, or `none`.
 fn groups_found(
     alloc: Global,
     pattern: &str,
     options: &str,
+    seek: bool,
     input: RegexInput<&str>,
 ) -> Result<String> {
-    let regex = build(alloc, pattern, options)?;
+    let regex = build(alloc, pattern, options, seek)?;
     match regex.captures_input(alloc, input)? {
         Some(groups) => Ok(shown(alloc, &groups)?),
         None => Ok(String::from_str(alloc, "none")?),
@@ -269,33 +296,45 @@ fn groups_found(
 }
 
 #[test]
-fn finds_the_spans(rt: HostRuntime) -> std::result::Result<(), Fail> {
+fn finds_the_spans(rt: HostRuntime) {
     let alloc = rt.alloc();
     for (pattern, options, text, wanted) in FIND.iter() {
-        let Ok(regex) = build(alloc, pattern, options) else {
-            panic!(rt; "{pattern} is refused");
-        };
-        let Ok(found) = regex.find(alloc, *text) else {
+        let Ok(found) = span_found(alloc, pattern, options, false, text) else {
             panic!(rt; "{pattern} fails");
         };
-        let shown = match found {
-            Some(found) => {
-                let start = found.start();
-                let end = found.end();
-                format!(in alloc; "{start}..{end}")?
-            }
-            None => String::from_str(alloc, "none")?,
-        };
-        assert_eq!(rt; shown.as_str(), *wanted);
+        assert_eq!(rt; found.as_str(), *wanted);
     }
-    Ok(())
+}
+
+#[test]
+fn finds_the_same_spans_with_seek(rt: HostRuntime) {
+    let alloc = rt.alloc();
+    for (pattern, options, text, wanted) in FIND.iter() {
+        let Ok(found) = span_found(alloc, pattern, options, true, text) else {
+            panic!(rt; "{pattern} fails");
+        };
+        assert_eq!(rt; found.as_str(), *wanted);
+    }
 }
 
 #[test]
 fn finds_the_groups(rt: HostRuntime) {
     let alloc = rt.alloc();
     for (pattern, options, text, wanted) in CAPTURES.iter() {
-        let Ok(shown) = groups_found(alloc, pattern, options, RegexInput::new(*text)) else {
+        let input = RegexInput::new(*text);
+        let Ok(shown) = groups_found(alloc, pattern, options, false, input) else {
+            panic!(rt; "{pattern} fails");
+        };
+        assert_eq!(rt; shown.as_str(), *wanted);
+    }
+}
+
+#[test]
+fn finds_the_same_groups_with_seek(rt: HostRuntime) {
+    let alloc = rt.alloc();
+    for (pattern, options, text, wanted) in CAPTURES.iter() {
+        let input = RegexInput::new(*text);
+        let Ok(shown) = groups_found(alloc, pattern, options, true, input) else {
             panic!(rt; "{pattern} fails");
         };
         assert_eq!(rt; shown.as_str(), *wanted);
@@ -327,7 +366,7 @@ fn finds_in_ranges(rt: HostRuntime) {
         let Some(input) = input_of(row) else {
             panic!(rt; "no boundary");
         };
-        let Ok(regex) = build(alloc, row.pattern, row.options) else {
+        let Ok(regex) = build(alloc, row.pattern, row.options, false) else {
             panic!(rt; "build");
         };
         let Ok(copy) = input.clone() else {
@@ -337,7 +376,7 @@ fn finds_in_ranges(rt: HostRuntime) {
             panic!(rt; "is match");
         };
         assert!(rt; yes == (row.found != "none"));
-        let Ok(shown) = groups_found(alloc, row.pattern, row.options, input) else {
+        let Ok(shown) = groups_found(alloc, row.pattern, row.options, false, input) else {
             panic!(rt; "search");
         };
         assert_eq!(rt; shown.as_str(), row.found);
@@ -345,43 +384,75 @@ fn finds_in_ranges(rt: HostRuntime) {
 }
 
 #[test]
-fn finds_captures_and_iterates(rt: HostRuntime) -> std::result::Result<(), Fail> {
+fn finds_the_same_in_ranges_with_seek(rt: HostRuntime) {
+    let alloc = rt.alloc();
+    for row in SEARCHES.iter() {
+        let Some(input) = input_of(row) else {
+            panic!(rt; "no boundary");
+        };
+        let Ok(shown) = groups_found(alloc, row.pattern, row.options, true, input) else {
+            panic!(rt; "search");
+        };
+        assert_eq!(rt; shown.as_str(), row.found);
+    }
+}
+
+// The program of the pattern goes back once for each start that fails, so it goes back only without the start bytes.
+#[test]
+fn seek_skips_starts(rt: HostRuntime) {
+    let alloc = rt.alloc();
+    for seek in [false, true] {
+        let Ok(mut builder) = RegexBuilder::new(alloc, "(a)\\1") else {
+            panic!(rt; "builder");
+        };
+        let Ok(regex) = builder.backtrack_limit(0).seek(seek).build(alloc) else {
+            panic!(rt; "build");
+        };
+        match regex.find(alloc, "baa") {
+            Ok(Some(found)) => assert!(rt; seek && found.start() == 1 && found.end() == 3),
+            Err(Error::RuntimeError(RuntimeError::BacktrackLimitExceeded)) => assert!(rt; !seek),
+            _ => panic!(rt; "finds nothing, or fails otherwise"),
+        }
+    }
+}
+
+/// The texts of the groups with these names in the first match, with a space between.
+fn texts_by_name(alloc: Global, regex: &Regex, text: &str, names: &[&str]) -> Result<String> {
+    let mut texts = String::new(alloc);
+    let Some(groups) = regex.captures(alloc, text)? else {
+        return Ok(texts);
+    };
+    for name in names {
+        if let Some(found) = groups.name(name) {
+            texts.push_str(found.as_str())?;
+        }
+        texts.push_str(" ")?;
+    }
+    Ok(texts)
+}
+
+#[test]
+fn groups_are_found_by_name(rt: HostRuntime) {
     let alloc = rt.alloc();
     let Ok(regex) = Regex::new(alloc, "(?<year>\\d{4})-(?<month>\\d{2})(?!x)") else {
         panic!(rt; "build");
     };
-    assert!(rt; regex.captures_len() == 3);
     let text = "It was between 2018-04 and 2020-01";
-    let Ok(Some(found)) = regex.find(alloc, text) else {
-        panic!(rt; "find");
-    };
-    assert!(rt; found.range() == (15..22));
-    let Ok(Some(groups)) = regex.captures(alloc, text) else {
+    let Ok(texts) = texts_by_name(alloc, &regex, text, &["month", "year", "day"]) else {
         panic!(rt; "captures");
     };
-    let Some(month) = groups.name("month") else {
-        panic!(rt; "name");
+    assert_eq!(rt; texts.as_str(), "04 2018  ");
+}
+
+#[test]
+fn a_regex_tells_its_groups(rt: HostRuntime) {
+    let Ok(regex) = Regex::new(rt.alloc(), "(?<year>\\d{4})-(?<month>\\d{2})(?!x)") else {
+        panic!(rt; "build");
     };
-    assert!(rt; month.as_str() == "04");
-    assert!(rt; groups.group_text_by_name("month") == "04");
+    assert!(rt; regex.captures_len() == 3);
     let mut names = regex.capture_names();
     assert!(rt; names.next() == Some(None) && names.next() == Some(Some("year")));
     assert!(rt; names.next() == Some(Some("month")) && names.next() == None);
-    let mut matches = regex.find_iter(alloc, text);
-    let mut count = 0usize;
-    while let Some(item) = matches.next() {
-        let Ok(found) = item else {
-            panic!(rt; "item");
-        };
-        count = count.saturating_add(found.as_str().len());
-    }
-    assert!(rt; count == 14);
-    let mut all = regex.captures_iter(alloc, text);
-    let Some(Ok(first)) = all.next() else {
-        panic!(rt; "first");
-    };
-    assert!(rt; first.len() == 3);
-    Ok(())
 }
 
 #[test]
@@ -407,4 +478,49 @@ fn builders_build(rt: HostRuntime) -> std::result::Result<(), Fail> {
     };
     assert!(rt; found.as_str() == "ab");
     Ok(())
+}
+
+/// The spans of the groups of the first match, or `none`, under this backtrack limit.
+fn groups_within(alloc: Global, limit: usize, pattern: &str, text: &str) -> Result<String> {
+    let regex = RegexBuilder::new(alloc, pattern)?
+        .backtrack_limit(limit)
+        .build(alloc)?;
+    match regex.captures(alloc, text)? {
+        Some(groups) => Ok(shown(alloc, &groups)?),
+        None => Ok(String::from_str(alloc, "none")?),
+    }
+}
+
+#[test]
+fn a_search_gives_up_only_where_its_program_does(rt: HostRuntime) {
+    let alloc = rt.alloc();
+    for (limit, pattern, text, wanted) in [
+        (10, "(a)*(?!b)", "aaaaaaaaaa", "0..10 9..10"),
+        (0, "(a)\\1", "aa", "0..2 0..1"),
+    ] {
+        let Ok(found) = groups_within(alloc, limit, pattern, text) else {
+            panic!(rt; "{pattern} fails");
+        };
+        assert_eq!(rt; found.as_str(), wanted);
+    }
+    let Err(Error::RuntimeError(RuntimeError::BacktrackLimitExceeded)) = groups_within(
+        alloc, 0, "(a)\\1", "baa",
+    ) else {
+        panic!(rt; "no limit");
+    };
+}
+
+#[test]
+fn the_cap_is_on_programs_alone(rt: HostRuntime) {
+    let alloc = rt.alloc();
+    for (pattern, builds) in [("(a)\\1", false), ("a", true)] {
+        let Ok(mut builder) = RegexBuilder::new(alloc, pattern) else {
+            panic!(rt; "builder");
+        };
+        match builder.max_prog_size(0).build(alloc) {
+            Ok(_) => assert!(rt; builds),
+            Err(Error::CompileError(CompileError::PatternTooComplex)) => assert!(rt; !builds),
+            Err(_) => panic!(rt; "{pattern} is refused otherwise"),
+        }
+    }
 }

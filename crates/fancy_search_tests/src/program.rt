@@ -3,7 +3,7 @@
 ghost use Rattle.std.specs.Prelude.{Some};
 
 use fancy_regex::{CompileError, Error, ParseError, RuntimeError};
-use fancy_search_run::{Fault, Status, run};
+use fancy_search_run::{Fault, Source, Status, exit_status, run, run_from};
 use std::alloc::Global;
 use std::io;
 use std::io::{ErrorKind, Read, Write};
@@ -48,6 +48,16 @@ impl Write for Full {
 
     fn flush(&mut self) -> io::Result<()> {
         Ok(())
+    }
+}
+
+/// A reader that always fails.
+#[derive(Drop)]
+struct Closed;
+
+impl Read for Closed {
+    fn read(&mut self, _buf: &mut [u8]) -> io::Result<usize> {
+        Err(io::Error::from(ErrorKind::BrokenPipe))
     }
 }
 
@@ -152,6 +162,93 @@ fn finds(rt: HostRuntime) {
 }
 
 #[test]
+fn splits_and_replaces(rt: HostRuntime) {
+    for (words, input, output) in [
+        (["split", ",(?=b)"].as_slice(), "a,b,c", "1:a\n3:b,c\n"),
+        (["split", ""].as_slice(), "1é", "0:\n1:1\n2:é\n0:\n"),
+        (["split", "x"].as_slice(), "", "0:\n"),
+        (
+            ["replace", "(\\w+) (\\w+)", "$2 $1"].as_slice(),
+            "hello world",
+            "world hello",
+        ),
+        (["replace", "foo\\Kbar", "X"].as_slice(), "foobar", "fooX"),
+        (["replace", "x", "$0"].as_slice(), "ab", "ab"),
+        (
+            ["replace", "--longest", "a|ab", "-"].as_slice(),
+            "abab",
+            "--",
+        ),
+    ] {
+        let (result, written) = answer(rt.alloc(), words, input.as_bytes());
+        assert_eq!(rt; result, Ok(Status::Done));
+        assert_eq!(rt; written.as_slice(), output.as_bytes());
+    }
+}
+
+#[test]
+fn asks_sets(rt: HostRuntime) {
+    for (words, input, output, status) in [
+        (
+            ["set", "\\d+", "\\w+"].as_slice(),
+            "a1",
+            "1 0..2\n",
+            Status::Done,
+        ),
+        (
+            ["set", "foo", "\\bbar\\b"].as_slice(),
+            "fooé bar",
+            "0 0..3\n",
+            Status::Done,
+        ),
+        (
+            ["set", "a+", "a"].as_slice(),
+            "aaa",
+            "0 0..3\n1 0..1\n",
+            Status::Done,
+        ),
+        (["set", "a"].as_slice(), "b", "", Status::Nothing),
+        (
+            ["set", "--longest", "a|ab", "abc|a"].as_slice(),
+            "xabc",
+            "0 1..3\n1 1..4\n",
+            Status::Done,
+        ),
+    ] {
+        let (result, written) = answer(rt.alloc(), words, input.as_bytes());
+        assert_eq!(rt; result, Ok(status));
+        assert_eq!(rt; written.as_slice(), output.as_bytes());
+    }
+}
+
+/// What `print` with a reader that fails at once returns and writes.
+fn printed(alloc: Global, pattern: &str) -> (Result<Status, Fault>, Vec<u8>) {
+    let mut output = Vec::new(alloc);
+    let result = run(alloc, &["print", pattern], &mut Closed, &mut output);
+    (result, output)
+}
+
+#[test]
+fn prints(rt: HostRuntime) {
+    for (pattern, output) in [("(?:a|b)c", "(?:a|b)c\n"), ("a", "a\n"), ("", "\n")] {
+        let (result, written) = printed(rt.alloc(), pattern);
+        assert_eq!(rt; result, Ok(Status::Done));
+        assert_eq!(rt; written.as_slice(), output.as_bytes());
+    }
+    for (pattern, fault) in [
+        ("a\\Z", Fault::NotReprinted),
+        (
+            "(",
+            Fault::Regex(Error::ParseError(1, ParseError::UnclosedOpenParen)),
+        ),
+    ] {
+        let (result, written) = printed(rt.alloc(), pattern);
+        assert_eq!(rt; result, Err(fault));
+        assert!(rt; written.is_empty());
+    }
+}
+
+#[test]
 fn options_reach_the_pattern(rt: HostRuntime) {
     for (words, input, output) in [
         (["find", "-i", "É"].as_slice(), "é", "0..2\n"),
@@ -209,6 +306,18 @@ fn refuses(rt: HostRuntime) {
             ["captures", "--limit", "0", "(?:(a|aa)+)\\1x"].as_slice(),
             Error::RuntimeError(RuntimeError::BacktrackLimitExceeded),
         ),
+        (
+            ["split", "--limit", "0", "x|(a)\\1x"].as_slice(),
+            Error::RuntimeError(RuntimeError::BacktrackLimitExceeded),
+        ),
+        (
+            ["set", "--limit", "0", "a", "(?:(a|aa)+)\\1"].as_slice(),
+            Error::RuntimeError(RuntimeError::BacktrackLimitExceeded),
+        ),
+        (
+            ["replace", "--limit", "0", "x|(a)\\1x", "-"].as_slice(),
+            Error::RuntimeError(RuntimeError::BacktrackLimitExceeded),
+        ),
     ] {
         assert_eq!(rt;
             fault_of(rt.alloc(), words, b"aaaaaa"),
@@ -243,6 +352,7 @@ fn shows_faults(rt: HostRuntime) -> Result<(), Fail> {
     let alloc = rt.alloc();
     for (fault, text) in [
         (Fault::Words(String::from_str(alloc, "w")?), "w"),
+        (Fault::Help(String::from_str(alloc, "h")?), "h"),
         (
             Fault::Regex(Error::ParseError(4, ParseError::UnclosedOpenParen)),
             "Parsing error at position 4: Opening parenthesis without closing parenthesis",
@@ -255,6 +365,7 @@ fn shows_faults(rt: HostRuntime) -> Result<(), Fail> {
             Fault::Regex(Error::RuntimeError(RuntimeError::BacktrackLimitExceeded)),
             "Error executing regex: backtrack limit exceeded",
         ),
+        (Fault::NotReprinted, "pattern does not reprint"),
         (Fault::Input, "cannot read input"),
         (Fault::NotUtf8, "input is not UTF-8"),
         (Fault::Output, "cannot write output"),
@@ -272,6 +383,57 @@ fn reader_fails(rt: HostRuntime) {
     let result = run(rt.alloc(), &["find", "b"], &mut reader, &mut output);
     assert_eq!(rt; result, Err(Fault::Input));
     assert!(rt; output.is_empty());
+}
+
+#[test]
+fn source_notes_the_end(rt: HostRuntime) {
+    let mut output = Vec::new(rt.alloc());
+    let mut broken = Broken { is_first: true };
+    let mut source = Source::new(&mut broken);
+    let result = run_from(rt.alloc(), &["find", "b"], &mut source, &mut output);
+    assert_eq!(rt; result, Err(Fault::Input));
+    assert!(rt; !source.has_ended());
+    let mut whole = b"ab".as_slice();
+    let mut source = Source::new(&mut whole);
+    assert!(rt; !source.has_ended());
+    let result = run_from(rt.alloc(), &["find", "b"], &mut source, &mut output);
+    assert_eq!(rt; result, Ok(Status::Done));
+    assert!(rt; source.has_ended());
+    assert_eq!(rt; output.as_slice(), b"1..2\n".as_slice());
+}
+
+#[test]
+fn exit_statuses(rt: HostRuntime) {
+    for (words, input, status) in [
+        (["find", "a"].as_slice(), "a", 0),
+        (["find", "a"].as_slice(), "b", 1),
+        (["find", "--help"].as_slice(), "b", 0),
+        (["--help"].as_slice(), "", 0),
+        (["help"].as_slice(), "", 0),
+        (["find"].as_slice(), "a", 2),
+        (["split", "a"].as_slice(), "b", 0),
+        (["set", "a", "c"].as_slice(), "b", 1),
+        (["set", "a", "b"].as_slice(), "b", 0),
+        (["set", "a", "("].as_slice(), "b", 2),
+        (["find", "("].as_slice(), "a", 2),
+        (
+            ["find", "--limit", "0", "(?:(a|aa)+)\\1x"].as_slice(),
+            "aaaaaa",
+            2,
+        ),
+    ] {
+        let (result, _written) = answer(rt.alloc(), words, input.as_bytes());
+        assert_eq!(rt; exit_status(&result), status, "{input}");
+    }
+    for fault in [
+        Fault::NotReprinted,
+        Fault::Input,
+        Fault::NotUtf8,
+        Fault::Output,
+        Fault::Memory,
+    ] {
+        assert_eq!(rt; exit_status(&Err(fault)), 2);
+    }
 }
 
 #[test]

@@ -2,6 +2,7 @@
 
 use fancy_search_words::{Arguments, Options, Refusal, Subcommand, read_words};
 use std::alloc::Global;
+use std::test::Fail;
 
 /// No option.
 const NONE: Options = Options {
@@ -16,18 +17,13 @@ const NONE: Options = Options {
     limit: None,
 };
 
-/// What the words ask, apart from the pattern, or a word for why they ask nothing.
-fn requested(
+/// What the words ask, or a word for why they ask nothing.
+fn requested<'a>(
     alloc: Global,
-    words: &[&str],
-    pattern: &str,
-) -> Result<(Subcommand, Options), &'static str> {
+    words: &'a [&'a str],
+) -> Result<(Subcommand<'a>, Options), &'static str> {
     match read_words(alloc, words) {
-        Ok(requested) if requested.pattern == pattern => Ok((
-            requested.subcommand,
-            requested.options,
-        )),
-        Ok(_) => Err("another pattern"),
+        Ok(requested) => Ok((requested.subcommand, requested.options)),
         Err(Refusal::Help(_)) => Err("help"),
         Err(Refusal::Words(_)) => Err("words"),
         Err(Refusal::Memory) => Err("memory"),
@@ -36,6 +32,30 @@ fn requested(
 
 #[test]
 fn options_and_patterns(rt: HostRuntime) {
+    for (words, pattern, options) in [
+        (["find", "a"].as_slice(), "a", NONE),
+        (["find", ""].as_slice(), "", NONE),
+        (["find", "--", "-a"].as_slice(), "-a", NONE),
+        (["find", "-"].as_slice(), "-", NONE),
+        (
+            ["find", "--limit=18446744073709551615", "a"].as_slice(),
+            "a",
+            Options {
+                limit: Some(18_446_744_073_709_551_615),
+                ..NONE
+            },
+        ),
+    ] {
+        assert_eq!(rt;
+            requested(rt.alloc(), words),
+            Ok((Subcommand::Find(pattern), options)),
+            "{pattern}"
+        );
+    }
+}
+
+#[test]
+fn all_options(rt: HostRuntime) {
     let all = Options {
         case_insensitive: true,
         multi_line: true,
@@ -59,38 +79,85 @@ fn options_and_patterns(rt: HostRuntime) {
         "--oniguruma",
         "--not-empty",
         "--longest",
-    ];
-    for (words, pattern, options) in [
-        (["find", "a"].as_slice(), "a", NONE),
-        (["find", ""].as_slice(), "", NONE),
-        (["find", "--", "-a"].as_slice(), "-a", NONE),
-        (["find", "-"].as_slice(), "-", NONE),
-        (
-            ["find", "--limit=18446744073709551615", "a"].as_slice(),
-            "a",
-            Options {
-                limit: Some(18_446_744_073_709_551_615),
-                ..NONE
-            },
-        ),
-    ] {
-        assert_eq!(rt;
-            requested(rt.alloc(), words, pattern),
-            Ok((Subcommand::Find, options)),
-            "{pattern}"
-        );
-    }
+    ]
+    .as_slice();
     assert_eq!(rt;
-        requested(rt.alloc(), &many, "(a)"),
-        Ok((Subcommand::Captures, all))
+        requested(rt.alloc(), many),
+        Ok((Subcommand::Captures("(a)"), all))
     );
 }
 
 #[test]
+fn subcommands(rt: HostRuntime) {
+    for (words, subcommand) in [
+        (["split", "a"].as_slice(), Subcommand::Split("a")),
+        (
+            ["replace", "a", "$0"].as_slice(),
+            Subcommand::Replace {
+                pattern: "a",
+                template: "$0",
+            },
+        ),
+        (
+            ["replace", "a", ""].as_slice(),
+            Subcommand::Replace {
+                pattern: "a",
+                template: "",
+            },
+        ),
+        (
+            ["replace", "--", "-a", "-b"].as_slice(),
+            Subcommand::Replace {
+                pattern: "-a",
+                template: "-b",
+            },
+        ),
+        (["print", "a"].as_slice(), Subcommand::Print("a")),
+    ] {
+        assert_eq!(rt; requested(rt.alloc(), words), Ok((subcommand, NONE)));
+    }
+}
+
+#[test]
+fn patterns_of_a_set(rt: HostRuntime) -> Result<(), Fail> {
+    let alloc = rt.alloc();
+    for (words, second) in [
+        (["set", "--", "a", "-b"].as_slice(), "-b"),
+        (["set", "a", "--", "-b"].as_slice(), "-b"),
+        (["set", "a", ""].as_slice(), ""),
+    ] {
+        let mut patterns = Vec::new(alloc);
+        patterns.push("a")?;
+        patterns.push(second)?;
+        assert_eq!(rt;
+            requested(alloc, words),
+            Ok((Subcommand::Set(patterns), NONE))
+        );
+    }
+    Ok(())
+}
+
+/// Whether these are words that do not parse.
+fn is_refused(alloc: Global, words: &[&str]) -> bool {
+    match read_words(alloc, words) {
+        Err(Refusal::Words(_text)) => true,
+        Err(Refusal::Help(_text)) => false,
+        Err(Refusal::Memory) => false,
+        Ok(_asked) => false,
+    }
+}
+
+#[test]
 fn words_that_do_not_parse(rt: HostRuntime) {
-    assert_eq!(rt; requested(rt.alloc(), &[], ""), Err("words"));
+    assert!(rt; is_refused(rt.alloc(), &[]));
     for words in [
         ["find"].as_slice(),
+        ["split"].as_slice(),
+        ["replace", "a"].as_slice(),
+        ["replace", "a", "b", "c"].as_slice(),
+        ["print"].as_slice(),
+        ["set"].as_slice(),
+        ["set", "a", "-b"].as_slice(),
         ["a"].as_slice(),
         ["seek", "a"].as_slice(),
         ["find", "a", "b"].as_slice(),
@@ -104,7 +171,7 @@ fn words_that_do_not_parse(rt: HostRuntime) {
         ["find", "--ascii=1", "a"].as_slice(),
         ["find", "-i", "-i", "a"].as_slice(),
     ] {
-        assert_eq!(rt; requested(rt.alloc(), words, ""), Err("words"));
+        assert!(rt; is_refused(rt.alloc(), words));
     }
 }
 
@@ -116,8 +183,9 @@ fn words_that_ask_for_help(rt: HostRuntime) {
         ["help"].as_slice(),
         ["find", "--help"].as_slice(),
         ["captures", "a", "-h"].as_slice(),
+        ["replace", "a", "-h"].as_slice(),
     ] {
-        assert_eq!(rt; requested(rt.alloc(), words, ""), Err("help"));
+        assert_eq!(rt; requested(rt.alloc(), words), Err("help"));
     }
 }
 
@@ -131,10 +199,61 @@ fn help(alloc: Global, words: &[&str]) -> String {
     }
 }
 
+/// The text for words that do not parse.
+fn refusal(alloc: Global, words: &[&str]) -> String {
+    match read_words(alloc, words) {
+        Err(Refusal::Words(text)) => text,
+        Err(Refusal::Help(_text)) => String::new(alloc),
+        Err(Refusal::Memory) => String::new(alloc),
+        Ok(_asked) => String::new(alloc),
+    }
+}
+
+#[test]
+fn usage_names_the_program(rt: HostRuntime) {
+    for (text, usage) in [
+        (
+            help(rt.alloc(), &["--help"]),
+            "Usage: fancy_search <COMMAND>\n",
+        ),
+        (
+            help(rt.alloc(), &["find", "-h"]),
+            "Usage: fancy_search find [OPTIONS] <PATTERN>\n",
+        ),
+        (
+            help(rt.alloc(), &["replace", "-h"]),
+            "Usage: fancy_search replace [OPTIONS] <PATTERN> <TEMPLATE>\n",
+        ),
+        (
+            help(rt.alloc(), &["help", "captures"]),
+            "Usage: fancy_search captures [OPTIONS] <PATTERN>\n",
+        ),
+        (
+            refusal(rt.alloc(), &["captures"]),
+            "Usage: fancy_search captures <PATTERN>\n",
+        ),
+        (
+            refusal(rt.alloc(), &["seek"]),
+            "Usage: fancy_search <COMMAND>\n",
+        ),
+    ] {
+        assert!(rt; text.contains(usage), "{usage}");
+    }
+}
+
 #[test]
 fn help_tells_all(rt: HostRuntime) {
     let text = help(rt.alloc(), &["--help"]);
-    for part in ["find", "captures", "Status:", "Examples:"] {
+    for part in [
+        "find",
+        "captures",
+        "split",
+        "replace",
+        "print",
+        "set",
+        "Status:",
+        "Examples:",
+    ] {
         assert!(rt; text.contains(part), "{part}");
     }
     let options = help(rt.alloc(), &["captures", "--help"]);
