@@ -46,7 +46,7 @@ fn one_less(limit: Option<usize>) -> Option<usize>
 
 /// The text with its first matches replaced by what the replacer answers for each, or with all of them for limit 0. Errors:
 /// those of the searches, the last of which is the one behind the last match that is replaced, that of the replacer, or `Memory`.
-// Not inlined: LLVM does not end on a caller in which both calls are inlined and one is never reached.
+// Not inlined: where it was, LLVM had not compiled `try_replacen` for `NoExpand` after half an hour. Why was not looked into.
 #[inline(never)]
 fn replace_by_calls<'t, R: Replacer>(
     alloc: Global,

@@ -10,12 +10,12 @@ use crate::fault::Fault;
 pub enum Status {
     /// All is written.
     Done,
-    /// `find` or `captures` found no match, and nothing was written.
+    /// `find`, `captures` or `set` found no match, and nothing was written.
     Nothing,
 }
 
-/// The exit status of the program for an answer of `run`: 0 if it is done or the words request help, 1 if `find` or
-/// `captures` found nothing, 2 on every other fault.
+/// The exit status of the program for an answer of `run`: 0 if it is done or the words request help, 1 if `find`, `captures`
+/// or `set` found nothing, 2 on every other fault.
 pub fn exit_status(answer: &Result<Status, Fault>) -> u8
     ensures { result ≡ exit_status_of answer.now }
 {

@@ -1,5 +1,5 @@
-//! What the program `fancy_search` prints, over a compiled regex and a text: a line for each match or each piece, the replaced
-//! text, and the line of a printed pattern. Each is the text that the definitions of the regex's matches give.
+//! What the program `fancy_search` prints, over a regex or a set and a text: a line for each match, piece or member, the replaced
+//! text, and the line of a printed pattern. Each is the text that the definitions of the patterns' matches give.
 #![tactic(auto)]
 
 mod lines;
