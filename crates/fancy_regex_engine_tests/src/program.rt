@@ -170,6 +170,49 @@ fn a_call_opens_nineteen_times(rt: HostRuntime) -> Result<(), Fail> {
     Ok(())
 }
 
+/// So many groups that are matched only where they are called, each with a letter and maybe a call of the next one, the last
+/// one of the first; then a call of the first group.
+fn ring(alloc: Global, count: usize) -> Result<Expr, AllocError> {
+    let mut groups = Vec::new(alloc);
+    for group in 1..=count {
+        let next = if group < count { group + 1 } else { 1 };
+        let call = optional(alloc, Expr::SubroutineCall(next))?;
+        let body = row(alloc, character(alloc, 'a')?, call)?;
+        groups.push(Expr::Group(Box::new(alloc, body)?))?;
+    }
+    let never = Expr::Repeat {
+        child: Box::new(alloc, Expr::Concat(groups))?,
+        lo: 0,
+        hi: 0,
+        greedy: true,
+    };
+    row(alloc, never, Expr::SubroutineCall(1))
+}
+
+/// Whether a ring compiles, with so many repeats and one call that fails.
+fn has_heads(alloc: Global, count: usize, heads: usize) -> Result<bool, Fail> {
+    let prog = compiled(alloc, ring(alloc, count)?, true, &CompileOptions::default())?;
+    let failing = prog
+        .body()
+        .iter()
+        .filter(|insn| matches!(insn, Insn::Fail))
+        .count();
+    let repeats = prog
+        .body()
+        .iter()
+        .filter(|insn| matches!(insn, Insn::RepeatGr(_)))
+        .count();
+    Ok(failing == 1 && repeats == heads)
+}
+
+#[test]
+fn long_rings_of_calls_compile(rt: HostRuntime) -> Result<(), Fail> {
+    let alloc = rt.alloc();
+    assert!(rt; has_heads(alloc, 36, 684)?);
+    assert!(rt; has_heads(alloc, 200, 3_800)?);
+    Ok(())
+}
+
 #[test]
 fn recursion_meets_the_size_limit(rt: HostRuntime) -> Result<(), Fail> {
     let alloc = rt.alloc();

@@ -20,3 +20,6 @@ mod ClassLemmas
 mod RoomLemmas
 mod LengthLemmas
 mod CapLemmas
+mod WorkLemmas
+mod StepLemmas
+mod BranchSteps

@@ -9,7 +9,9 @@ use Rattle.fancy_regex_class.specs.Classes.{in_class, folded}
 use Rattle.fancy_regex_meaning.specs.Ways.{is_at_call_limit}
 use Rattle.fancy_regex_desugar.specs.CorePatterns.{CorePattern, any, literal, class, nothing, read, general_newline, check, continue, keep_out, fail, cat, alt, group, ahead, never, back, atomic, repeat, backref, exists, conditional, absent}
 use Rattle.fancy_regex_desugar.specs.ProgramSizes.{room}
-use Rattle.fancy_regex_desugar.specs.Unfolded.{Written, cat_all, alt_all}
+use Rattle.fancy_regex_desugar.specs.Unfolded.{Written, cat_all, alt_all, look}
+use Rattle.fancy_regex_tree.specs.declared.expr.LookAround.{LookAround}
+use Rattle.fancy_regex_tree.specs.declared.expr.LookAround.TheVariants.{LookAhead, LookAheadNeg, LookBehind, LookBehindNeg}
 use Rattle.fancy_regex_sizes.specs.AnalysisErrors.{is_too_complex}
 use Rattle.fancy_regex_info.specs.Infos.{InfoTree}
 use Rattle.fancy_regex_info.specs.declared.error.CompileError.{CompileError}
@@ -313,6 +315,10 @@ pub room_fail : room fail ≡ 12
 unfolding room
 room_fail = refl
 
+pub room_alt : (a b : CorePattern) → room (alt a b) ≡ 2 + (room a + room b)
+unfolding room
+room_alt a b = refl
+
 pub room_behind : (n : ℕ) (p : CorePattern) → room (cat (back n) p) ≡ 1 + room p
 unfolding room
 room_behind n p = refl
@@ -336,6 +342,13 @@ room_atomic p = refl
 pub room_repeat : (p : CorePattern) (lo : ℕ) (hi : Option ℕ) (greedy : Bool) → room (repeat p lo hi greedy) ≡ 12 + room p
 unfolding room
 room_repeat p lo hi greedy = refl
+
+pub room_look : (how : LookAround) (u : Written) → 12 ≤ room (look how u)
+unfolding room
+room_look LookAhead u = omega arith
+room_look LookAheadNeg u = omega arith
+room_look LookBehind u = omega arith
+room_look LookBehindNeg u = omega arith
 
 pub room_conditional : (c a b : CorePattern) → room (conditional c a b) ≡ 12 + (room c + (room a + room b))
 unfolding room

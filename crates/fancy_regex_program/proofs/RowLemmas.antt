@@ -1,7 +1,7 @@
 -- Rows, branches and calls, as the functions of the emitter go over them.
-use Rattle.std.proofs.Common.{◌≡◌, ℕ, suc, zero, ◌+◌, ◌-◌, ◌<◌, ◌≤◌, Bool, true, false, cond, List, [], ◌∷◌, ◌++◌, map, take, length, get_or, Some, Result, IfOk, refl, sym, ap, ap₂, ◌∙◌, subst, arith, length-append}
+use Rattle.std.proofs.Common.{◌≡◌, ℕ, suc, zero, ◌+◌, ◌-◌, ◌<◌, ◌≤◌, Bool, true, false, cond, List, [], ◌∷◌, ◌++◌, map, take, length, get_or, Some, None, Result, IfOk, refl, sym, ap, ap₂, ◌∙◌, subst, arith, length-append}
 use Rattle.std.proofs.Math.Seq.{take-append_seam}
-use Rattle.std.specs.Prelude.{slice_get}
+use Rattle.std.specs.Prelude.{slice_get, ◌==◌}
 use Rattle.std.proofs.lemmas.List.{map_more, take_more, take_all, length-map, length-take-le, get_or-take}
 use Rattle.std.proofs.lemmas.Result.{IfOk-weaker}
 use borrow.Enum.Known.{ValuesAt}
@@ -10,7 +10,9 @@ use Rattle.fancy_regex_tree.specs.contracts.expr.Expr.{enum}
 use Rattle.fancy_regex_tree.specs.declared.expr.Absent.{Absent}
 use Rattle.fancy_regex_tree.specs.declared.expr.Expr.TheVariants as view
 use Rattle.fancy_regex_meaning.specs.Ways.{is_at_call_limit}
-use Rattle.fancy_regex_desugar.specs.CorePatterns.{CorePattern, nothing, fail, cat, back}
+use Rattle.fancy_regex_desugar.specs.CorePatterns.{CorePattern, nothing, fail, cat, back, repeat}
+use Rattle.fancy_regex_meaning.specs.Sizes.{unbounded, bound_of}
+use Rattle.std.proofs.lemmas.Bool.Decides.{nat_tests}
 use Rattle.fancy_regex_desugar.specs.Unfolded.{Written, cat_all, alt_all, repeated, pat_for}
 use Rattle.fancy_regex_info.specs.Infos.{InfoTree}
 use Rattle.fancy_regex_info.specs.declared.info.Info.{Info}
@@ -28,6 +30,21 @@ pub repeated_never : (p : CorePattern) (lo hi : ℕ) (greedy : Bool) → lo ≤ 
 repeated_never p zero zero greedy le is = refl
 repeated_never p zero (suc hi) greedy le is = absurd (omega (arith, is))
 repeated_never p (suc lo) hi greedy le is = absurd (omega (arith, le, is))
+
+-- what is repeated at all, with and without a greatest count
+pub repeated_some : (p : CorePattern) (lo hi : ℕ) (greedy : Bool) → lo ≤ hi → (hi ≡ 0 → ⊥) → repeated p lo hi greedy ≡ repeat p lo (bound_of hi) greedy
+repeated_some p zero zero greedy le some = absurd (some refl)
+repeated_some p zero (suc hi) greedy le some = refl
+repeated_some p (suc lo) hi greedy le some = refl
+
+pub repeated_endless : (p : CorePattern) (lo hi : ℕ) (greedy : Bool) → lo ≤ hi → hi ≡ unbounded → repeated p lo hi greedy ≡ repeat p lo None greedy
+repeated_endless p lo hi greedy le is =
+    repeated_some p lo hi greedy le (λ none. absurd (let never : 0 ≡ unbounded = sym none ∙ is in omega (arith, never)))
+    ∙ ap (λ n. repeat p lo (bound_of n) greedy) is
+
+pub repeated_counted : (p : CorePattern) (lo hi : ℕ) (greedy : Bool) → lo ≤ hi → (hi ≡ 0 → ⊥) → (hi ≡ unbounded → ⊥) → repeated p lo hi greedy ≡ repeat p lo (Some hi) greedy
+repeated_counted p lo hi greedy le some counted =
+    repeated_some p lo hi greedy le some ∙ ap (λ b. repeat p lo (cond b None (Some hi)) greedy) (let other : (hi == unbounded) ≡ false = grind (arith, nat_tests, counted) in other)
 
 module _ (u w : Bool) where
   abbrev P : CorePattern → ℕ → Draft → Draft

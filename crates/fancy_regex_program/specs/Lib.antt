@@ -10,3 +10,4 @@ pub mod Groups
 pub mod Programs
 pub mod Extents
 pub mod Refusals
+pub mod Tasks

@@ -1,42 +1,51 @@
-//! Instructions of the nodes of an analyzed tree. Each function takes the first free slot and returns the next one; the
-//! errors are those of `compile`.
+//! Instructions of the nodes of an analyzed tree. What is left to emit stands on a stack of tasks, so nothing recurses. Each
+//! function takes the first free slot and returns the next one; the errors are those of `compile`.
 
-ghost use Rattle.std.specs.Prelude.{◌≡◌, ◌≤◌, ◌+◌, false, length, slice_get, map, IfOk, IfErr, Some, None, true};
+ghost use Rattle.std.specs.Prelude.{◌≡◌, Bool, ◌≤◌, ◌<◌, ◌+◌, ℕ, List, [], ◌∷◌, ◌++◌, false, true, slice_get, IfOk, IfErr, OnOk, Some, None};
 ghost use Rattle.fancy_regex_meaning.specs.Ways.{is_at_call_limit as is_full_of};
 ghost use Rattle.fancy_regex_desugar.specs.CorePatterns as pat;
 ghost use Rattle.fancy_regex_desugar.specs.ProgramSizes.{room};
-ghost use Rattle.fancy_regex_desugar.specs.Unfolded.{cat_all, alt_all, repeated, look};
+ghost use Rattle.fancy_regex_desugar.specs.Unfolded.{repeated, look};
 ghost use Rattle.fancy_regex_sizes.specs.AnalysisErrors.{is_too_complex};
-ghost use Rattle.fancy_regex_info.specs.Infos.{info_of};
+ghost use Rattle.fancy_regex_info.specs.Infos.{InfoTree, info_of};
 ghost use Rattle.fancy_regex_info.specs.declared.info.Info.TheViews.{out-Info};
 ghost use Rattle.fancy_regex_program.specs.Extents.{IsFull};
 ghost use Rattle.fancy_regex_program.specs.Known.{info_call};
-ghost use Rattle.fancy_regex_program.specs.Ops as op;
-ghost use Rattle.fancy_regex_program.specs.Ops.{op_of};
-ghost use Rattle.fancy_regex_program.specs.Refusals.{IsReasonWhere, IsExpandedPart, AreExpandedParts, IsExpandedRepeat, IsExpandedAbsent, IsExpandedConditional, IsExpandedTarget, looks_behind};
+ghost use Rattle.fancy_regex_program.specs.Machine.{unset};
+ghost use Rattle.fancy_regex_program.specs.Ops.{end_atomic};
+ghost use Rattle.fancy_regex_program.specs.Refusals.{IsMemoryOrTooComplex, IsReasonWhere, IsExpandedPart, AreExpandedParts, IsExpandedRepeat, IsExpandedAbsent};
+ghost use Rattle.fancy_regex_program.specs.Refusals.{IsExpandedConditional, IsExpandedTarget, looks_behind};
 ghost use Rattle.fancy_regex_program.specs.Shapes.{IsAllowed};
-ghost use Rattle.fancy_regex_program.specs.Writing.{Wrote, WroteClosed, WroteChoice, infos_of, part, side};
+ghost use Rattle.fancy_regex_program.specs.Tasks.{listed, node_pattern, row_pattern, branches_pattern, past_pattern, past_others, progress, task_room, IsExpandedTask};
+ghost use Rattle.fancy_regex_program.specs.Tasks.{Leads, LeadsTo, LeadsOn, call_work, info_work, infos_work, task_work, tasks_work};
+ghost use Rattle.fancy_regex_program.specs.Writing.{Wrote, draft_of, with_op, closed_draft, infos_of, part};
+ghost use Rattle.fancy_regex_program.specs.declared.emitter.CompileContext.{CompileContext as TheContext};
+ghost use Rattle.fancy_regex_program.specs.declared.emitter.Emitter.{Emitter as TheEmitter};
+ghost use Rattle.fancy_regex_program.specs.declared.task.Task.TheVariants as the_task;
 
-use crate::emitter::{CompileContext, Emitter, Scope, descend, first_slot, past_slots};
-use crate::insn::{AbsentRepeater, Insn, Repeat, RepeatEpsilon};
+use crate::closing::{Closing, close};
+use crate::emitter::{CompileContext, Emitter, Scope, first_slot, past_slots};
+use crate::insn::{AbsentRepeater, Insn};
 use crate::leaf::{emit_leaf, not_supported};
+use crate::task::{Step, Task, Tasks};
 use fancy_regex_info::{CompileError, Info};
 use fancy_regex_tree::{Absent, Expr, LookAround};
+use std::alloc::AllocError;
+use std::slice;
 
 /// How often one group may be inlined inside of itself.
 pub(crate) const OPEN_CALLS_OF_ONE: usize = 19;
 
 /// Emits a node; `slot` is the first free slot. Returns the first free slot after it.
-#[cycle(emit)]
-pub(crate) fn emit(
-    context: &CompileContext<'_, '_, '_>,
+pub(crate) fn emit<'i, 'e>(
+    context: &CompileContext<'_, 'i, 'e>,
     emitter: &mut Emitter,
-    info: &Info<'_>,
+    info: &'i Info<'e>,
     scope: Scope,
     slot: usize,
 ) -> Result<usize, CompileError>
     ensures cap { emitter.new.body.cap ≡ emitter.old.body.cap }
-    ensures full { IfErr result (IsFull emitter.old.body (room (part context.now scope emitter.old.opened.items info.now).front)) }
+    ensures full { IfErr result (IsFull emitter.old.body (room ((part context.now scope emitter.old.opened.items info.now).front))) }
     ensures wrote { IfOk result (λ after. Wrote context.now.unicode context.now.whole emitter.old emitter.new slot after
         (part context.now scope emitter.old.opened.items info.now).front) }
     ensures allowed { IfOk result (λ after. IsAllowed context.now.unicode scope.may_keep
@@ -44,48 +53,375 @@ pub(crate) fn emit(
     ensures refused { IfErr result (IsReasonWhere context.now.unicode (infos_of context.now)
         (λ tree_context. IsExpandedPart tree_context scope.may_keep scope.may_be_absent false (info_of info.now))) }
 {
-    let depth_left = descend(scope.depth_left)?;
-    let inside = Scope {
-        depth_left,
-        ..scope
+    let mut tasks = Vec::new(context.alloc);
+    tasks.push(node(info, scope))?;
+    let mut next = slot;
+    while let Some(task) = tasks.pop() {
+        let step = emit_task(context, emitter, task, next)?;
+        add_tasks(&mut tasks, step.tasks)?;
+        next = step.slot;
+    }
+    Ok(next)
+}
+
+/// The task of a node that does not go back first.
+fn node<'i, 'e>(info: &'i Info<'e>, scope: Scope) -> Task<'i, 'e>
+    ensures { result ≡ the_task.Node info.entry false scope }
+{
+    Task::Node {
+        info,
+        behind: false,
+        scope,
+    }
+}
+
+/// Adds tasks to those that are left. The error is want of memory.
+fn add_tasks<'i, 'e>(left: &mut Vec<Task<'i, 'e>>, tasks: Tasks<'i, 'e>) -> Result<(), AllocError>
+    ensures { IfOk result (λ _. left.new.items ≡ left.old.items ++ listed tasks.entry) }
+{
+    match tasks {
+        Tasks::Nothing => {}
+        Tasks::One(task) => left.push(task)?,
+        Tasks::Two { first, then } => {
+            left.push(then)?;
+            left.push(first)?;
+        }
+    }
+    Ok(())
+}
+
+/// A step that leads to these tasks, and needs no slot.
+fn leads_to<'i, 'e>(slot: usize, tasks: Tasks<'i, 'e>) -> Step<'i, 'e>
+    ensures { result ≡ record { slot = slot; tasks = tasks.entry } }
+{
+    Step { slot, tasks }
+}
+
+/// Emits what a task has of its own.
+fn emit_task<'i, 'e>(
+    context: &CompileContext<'_, 'i, 'e>,
+    emitter: &mut Emitter,
+    task: Task<'i, 'e>,
+    slot: usize,
+) -> Result<Step<'i, 'e>, CompileError>
+    ensures cap { emitter.new.body.cap ≡ emitter.old.body.cap }
+    ensures full { IfErr result (IsFull emitter.old.body (task_room context.now task.entry emitter.old.opened.items)) }
+    ensures leads { IfOk result (LeadsOn context.now task.entry emitter.old emitter.new slot) }
+    ensures refused { IfErr result (IsReasonWhere context.now.unicode (infos_of context.now)
+        (λ tree_context. IsExpandedTask tree_context task.entry)) }
+    ensures work { IfOk result (λ step. tasks_work (infos_of context.now) (listed step.tasks) < task_work (infos_of context.now) task.entry) }
+{
+    match task {
+        Task::Node {
+            info,
+            behind,
+            scope,
+        } => emit_ahead_or_behind(context, emitter, info, behind, scope, slot),
+        Task::Row { parts, scope } => Ok(leads_to(slot, row(parts, scope))),
+        Task::Branches {
+            branches,
+            behind,
+            scope,
+        } => emit_branches(emitter, branches, behind, scope, slot),
+        Task::Otherwise {
+            split,
+            first,
+            branches,
+            behind,
+            scope,
+        } => emit_otherwise(emitter, (split, first), branches, behind, scope, slot),
+        Task::Tested {
+            slot: kept,
+            split,
+            first,
+            yes,
+            no,
+            scope,
+        } => emit_tested(emitter, kept, (split, first), (yes, no), scope, slot),
+        Task::Close(closing) => {
+            close(&mut emitter.body, closing)?;
+            Ok(leads_to(slot, Tasks::Nothing))
+        }
+        Task::EndCall => {
+            emitter.opened.pop();
+            Ok(leads_to(slot, Tasks::Nothing))
+        }
+    }
+}
+
+/// The first part of a concatenation, and the others.
+fn row<'i, 'e>(parts: &'i [Info<'e>], scope: Scope) -> Tasks<'i, 'e>
+    ensures leads { (context : TheContext) (e : TheEmitter) (slot : ℕ) → Leads context e e slot slot (listed result)
+        (past_pattern context (row_pattern context parts.now scope e.opened.items) (progress e slot))
+        (IsAllowed context.unicode scope.may_keep (row_pattern context parts.now scope e.opened.items)) (room (row_pattern context parts.now scope e.opened.items))
+        (λ tree_context. AreExpandedParts tree_context scope.may_keep scope.may_be_absent false parts.now) }
+    ensures work { (groups : List InfoTree) → tasks_work groups (listed result) < infos_work groups scope parts.now }
+{
+    match parts.split_first() {
+        Some((info, parts)) => Tasks::Two {
+            first: node(info, scope),
+            then: Task::Row { parts, scope },
+        },
+        None => Tasks::Nothing,
+    }
+}
+
+/// Begins an alternation.
+fn emit_branches<'i, 'e>(
+    emitter: &mut Emitter,
+    branches: &'i [Info<'e>],
+    behind: bool,
+    scope: Scope,
+    slot: usize,
+) -> Result<Step<'i, 'e>, CompileError>
+    ensures cap { emitter.new.body.cap ≡ emitter.old.body.cap }
+    ensures full { IfErr result (λ e. (context : TheContext) → IsFull emitter.old.body (room (branches_pattern context branches.now behind scope emitter.old.opened.items)) e) }
+    ensures leads { IfOk result (λ step. (context : TheContext) → LeadsTo context
+        (branches_pattern context branches.now behind scope emitter.old.opened.items) scope.may_keep
+        (λ tree_context. AreExpandedParts tree_context scope.may_keep scope.may_be_absent behind branches.now) emitter.old emitter.new slot step) }
+    ensures refused { IfErr result IsMemoryOrTooComplex }
+    ensures work { IfOk result (λ step. (groups : List InfoTree) → tasks_work groups (listed step.tasks) < infos_work groups scope branches.now) }
+{
+    let Some((info, others)) = branches.split_first() else {
+        emitter.body.flush_and_push(Insn::Fail)?;
+        return Ok(leads_to(slot, Tasks::Nothing));
     };
+    let branch = Task::Node {
+        info,
+        behind,
+        scope,
+    };
+    if others.is_empty() {
+        return Ok(leads_to(slot, Tasks::One(branch)));
+    }
+    emitter.body.flush()?;
+    let split = emitter.body.len();
+    emitter.body.push_insn(Insn::Split(0, 0))?;
+    let otherwise = Task::Otherwise {
+        split,
+        first: emitter.body.len(),
+        branches: others,
+        behind,
+        scope,
+    };
+    Ok(leads_to(
+        slot,
+        Tasks::Two {
+            first: branch,
+            then: otherwise,
+        },
+    ))
+}
+
+/// Ends a branch by a jump over the others, which is patched later, and goes on with those.
+fn emit_otherwise<'i, 'e>(
+    emitter: &mut Emitter,
+    begins: (usize, usize),
+    branches: &'i [Info<'e>],
+    behind: bool,
+    scope: Scope,
+    slot: usize,
+) -> Result<Step<'i, 'e>, CompileError>
+    ensures cap { emitter.new.body.cap ≡ emitter.old.body.cap }
+    ensures full { IfErr result (IsFull emitter.old.body 1) }
+    ensures leads { IfOk result (λ step. (context : TheContext) → Leads context emitter.old emitter.new slot step.slot (listed step.tasks)
+        (past_others context begins.0 begins.1 (branches_pattern context branches.now behind scope emitter.old.opened.items) (progress emitter.old slot))
+        (IsAllowed context.unicode scope.may_keep (branches_pattern context branches.now behind scope emitter.old.opened.items))
+        (1 + room (branches_pattern context branches.now behind scope emitter.old.opened.items))
+        (λ tree_context. AreExpandedParts tree_context scope.may_keep scope.may_be_absent behind branches.now)) }
+    ensures refused { IfErr result IsMemoryOrTooComplex }
+    ensures work { IfOk result (λ step. (groups : List InfoTree) → tasks_work groups (listed step.tasks) ≤ 1 + infos_work groups scope branches.now) }
+{
+    emitter.body.flush()?;
+    let jump = emitter.body.len();
+    emitter.body.push_insn(Insn::Jmp(0))?;
+    let second = emitter.body.len();
+    let (split, first) = begins;
+    emitter.body.patch(split, Insn::Split(first, second));
+    let others = Task::Branches {
+        branches,
+        behind,
+        scope,
+    };
+    Ok(leads_to(
+        slot,
+        Tasks::Two {
+            first: others,
+            then: Task::Close(Closing::Alternatives { jump }),
+        },
+    ))
+}
+
+/// Ends the condition of a conditional, and goes on with what is matched where it matches.
+fn emit_tested<'i, 'e>(
+    emitter: &mut Emitter,
+    kept: usize,
+    begins: (usize, usize),
+    branches: (&'i Info<'e>, &'i Info<'e>),
+    scope: Scope,
+    slot: usize,
+) -> Result<Step<'i, 'e>, CompileError>
+    ensures cap { emitter.new.body.cap ≡ emitter.old.body.cap }
+    ensures full { IfErr result (IsFull emitter.old.body 1) }
+    ensures leads { IfOk result (λ step. (context : TheContext) → Leads context emitter.old emitter.new slot step.slot (listed step.tasks)
+        (past_others context begins.0 begins.1 (node_pattern context branches.entry.1.now false scope emitter.old.opened.items)
+        (past_pattern context (node_pattern context branches.entry.0.now false scope emitter.old.opened.items)
+        (record { draft = with_op (end_atomic kept) (closed_draft (draft_of emitter.old.body)); slot = slot; opened = emitter.old.opened.items })))
+        (IsAllowed context.unicode scope.may_keep (node_pattern context branches.entry.0.now false scope emitter.old.opened.items)
+        × IsAllowed context.unicode scope.may_keep (node_pattern context branches.entry.1.now false scope emitter.old.opened.items))
+        (2 + (room (node_pattern context branches.entry.0.now false scope emitter.old.opened.items) + room (node_pattern context branches.entry.1.now false scope emitter.old.opened.items)))
+        (λ tree_context. IsExpandedPart tree_context scope.may_keep scope.may_be_absent false (info_of branches.entry.0.now)
+        × IsExpandedPart tree_context scope.may_keep scope.may_be_absent false (info_of branches.entry.1.now))) }
+    ensures refused { IfErr result IsMemoryOrTooComplex }
+    ensures work { IfOk result (λ step. (groups : List InfoTree) → tasks_work groups (listed step.tasks) ≤
+        7 + (info_work groups scope branches.entry.0.now + info_work groups scope branches.entry.1.now)) }
+{
+    emitter.body.flush_and_push(Insn::EndAtomic(kept))?;
+    let (split, first) = begins;
+    let (yes, no) = branches;
+    let otherwise = Task::Otherwise {
+        split,
+        first,
+        branches: slice::from_ref(no),
+        behind: false,
+        scope,
+    };
+    Ok(leads_to(
+        slot,
+        Tasks::Two {
+            first: node(yes, scope),
+            then: otherwise,
+        },
+    ))
+}
+
+/// Emits a node; with `behind` it first goes back by its own length.
+fn emit_ahead_or_behind<'i, 'e>(
+    context: &CompileContext<'_, 'i, 'e>,
+    emitter: &mut Emitter,
+    info: &'i Info<'e>,
+    behind: bool,
+    scope: Scope,
+    slot: usize,
+) -> Result<Step<'i, 'e>, CompileError>
+    ensures cap { emitter.new.body.cap ≡ emitter.old.body.cap }
+    ensures full { IfErr result (IsFull emitter.old.body (room (node_pattern context.now info.now behind scope emitter.old.opened.items))) }
+    ensures leads { IfOk result (LeadsTo context.now
+        (node_pattern context.now info.now behind scope emitter.old.opened.items) scope.may_keep
+        (λ tree_context. IsExpandedPart tree_context scope.may_keep scope.may_be_absent behind (info_of info.now)) emitter.old emitter.new slot) }
+    ensures refused { IfErr result (IsReasonWhere context.now.unicode (infos_of context.now)
+        (λ tree_context. IsExpandedPart tree_context scope.may_keep scope.may_be_absent behind (info_of info.now))) }
+    ensures work { IfOk result (λ step. tasks_work (infos_of context.now) (listed step.tasks) < info_work (infos_of context.now) scope info.now) }
+{
+    if behind {
+        emit_look_behind_body(context, emitter, info, scope, slot)
+    } else {
+        emit_node(context, emitter, info, scope, slot)
+    }
+}
+
+/// Emits the body of a look-behind: goes back by its length, then matches it. In an alternation of unequal lengths each branch
+/// goes back by its own. The error is `LookBehindNotConst` for a body of variable length.
+fn emit_look_behind_body<'i, 'e>(
+    context: &CompileContext<'_, 'i, 'e>,
+    emitter: &mut Emitter,
+    info: &'i Info<'e>,
+    scope: Scope,
+    slot: usize,
+) -> Result<Step<'i, 'e>, CompileError>
+    ensures cap { emitter.new.body.cap ≡ emitter.old.body.cap }
+    ensures full { IfErr result (IsFull emitter.old.body (room (node_pattern context.now info.now true scope emitter.old.opened.items))) }
+    ensures leads { IfOk result (LeadsTo context.now
+        (node_pattern context.now info.now true scope emitter.old.opened.items) scope.may_keep
+        (λ tree_context. IsExpandedPart tree_context scope.may_keep scope.may_be_absent true (info_of info.now)) emitter.old emitter.new slot) }
+    ensures refused { IfErr result (IsReasonWhere context.now.unicode (infos_of context.now)
+        (λ tree_context. IsExpandedPart tree_context scope.may_keep scope.may_be_absent true (info_of info.now))) }
+    ensures work { IfOk result (λ step. tasks_work (infos_of context.now) (listed step.tasks) < info_work (infos_of context.now) scope info.now) }
+{
+    if info.const_size {
+        emitter.body.flush_and_push(Insn::GoBack(info.min_size))?;
+        return emit_node(context, emitter, info, scope, slot);
+    }
     match info.expr {
-        Expr::Empty => Ok(slot),
-        Expr::Concat(_) => emit_row(context, emitter, &info.children, inside, slot),
-        Expr::Alt(_) => emit_branches(context, emitter, &info.children, false, inside, slot),
+        Expr::Alt(_) => Ok(leads_to(
+            slot,
+            Tasks::One(Task::Branches {
+                branches: &info.children,
+                behind: true,
+                scope,
+            }),
+        )),
+        _ => Err(CompileError::LookBehindNotConst),
+    }
+}
+
+/// Emits what a node has of its own.
+fn emit_node<'i, 'e>(
+    context: &CompileContext<'_, 'i, 'e>,
+    emitter: &mut Emitter,
+    info: &'i Info<'e>,
+    scope: Scope,
+    slot: usize,
+) -> Result<Step<'i, 'e>, CompileError>
+    ensures cap { emitter.new.body.cap ≡ emitter.old.body.cap }
+    ensures full { IfErr result (IsFull emitter.old.body (room (node_pattern context.now info.now false scope emitter.old.opened.items))) }
+    ensures leads { IfOk result (LeadsTo context.now
+        (node_pattern context.now info.now false scope emitter.old.opened.items) scope.may_keep
+        (λ tree_context. IsExpandedPart tree_context scope.may_keep scope.may_be_absent false (info_of info.now)) emitter.old emitter.new slot) }
+    ensures refused { IfErr result (IsReasonWhere context.now.unicode (infos_of context.now)
+        (λ tree_context. IsExpandedPart tree_context scope.may_keep scope.may_be_absent false (info_of info.now))) }
+    ensures work { IfOk result (λ step. tasks_work (infos_of context.now) (listed step.tasks) < info_work (infos_of context.now) scope info.now) }
+{
+    match info.expr {
+        Expr::Empty => Ok(leads_to(slot, Tasks::Nothing)),
+        Expr::Concat(_) => Ok(leads_to(
+            slot,
+            Tasks::One(Task::Row {
+                parts: &info.children,
+                scope,
+            }),
+        )),
+        Expr::Alt(_) => Ok(leads_to(
+            slot,
+            Tasks::One(Task::Branches {
+                branches: &info.children,
+                behind: false,
+                scope,
+            }),
+        )),
         Expr::Group(_) => {
             let child = child_at(info, 0)?;
-            emit_group(context, emitter, child, info.start_group(), inside, slot)
+            emit_group(emitter, child, info.start_group(), scope, slot)
         }
         Expr::LookAround(_, how) => {
             let child = child_at(info, 0)?;
-            emit_look_around(context, emitter, child, *how, inside, slot)
+            emit_look_around(emitter, child, *how, scope, slot)
         }
         Expr::Repeat { lo, hi, greedy, .. } => {
             let child = child_at(info, 0)?;
-            emit_repeat(context, emitter, child, (*lo, *hi), *greedy, inside, slot)
+            emit_repeat(emitter, child, (*lo, *hi), *greedy, scope, slot)
         }
         Expr::AtomicGroup(_) => {
             let child = child_at(info, 0)?;
-            emit_atomic(context, emitter, child, inside, slot)
+            emit_atomic(emitter, child, scope, slot)
         }
         Expr::Conditional { .. } => {
             let condition = child_at(info, 0)?;
             let branches = (child_at(info, 1)?, child_at(info, 2)?);
-            emit_conditional(context, emitter, condition, branches, inside, slot)
+            emit_conditional(emitter, condition, branches, scope, slot)
         }
-        Expr::SubroutineCall(target) => emit_call(context, emitter, *target, inside, slot),
+        Expr::SubroutineCall(target) => emit_call(context, emitter, *target, scope, slot),
         Expr::Absent(absent) => match absent {
             Absent::Repeater(_) => {
                 let child = child_at(info, 0)?;
-                emit_absent(context, emitter, child, inside, slot)
+                emit_absent(context, emitter, child, scope, slot)
             }
             _ => Err(not_supported(context.alloc, "absent operator")),
         },
-        Expr::DefineGroup { .. } => Ok(slot),
+        Expr::DefineGroup { .. } => Ok(leads_to(slot, Tasks::Nothing)),
         leaf => {
-            emit_leaf(context, emitter, leaf, inside)?;
-            Ok(slot)
+            emit_leaf(context, emitter, leaf, scope)?;
+            Ok(leads_to(slot, Tasks::Nothing))
         }
     }
 }
@@ -102,555 +438,316 @@ fn child_at<'i, 'e>(info: &'i Info<'e>, place: usize) -> Result<&'i Info<'e>, Co
     }
 }
 
-/// Emits a concatenation.
-#[cycle(emit)]
-fn emit_row(
-    context: &CompileContext<'_, '_, '_>,
+/// Begins the capture group of this number.
+fn emit_group<'i, 'e>(
     emitter: &mut Emitter,
-    parts: &[Info<'_>],
-    scope: Scope,
-    slot: usize,
-) -> Result<usize, CompileError>
-    ensures cap { emitter.new.body.cap ≡ emitter.old.body.cap }
-    ensures full { IfErr result (IsFull emitter.old.body (room (cat_all (map (part context.now scope emitter.old.opened.items) parts.now)))) }
-    ensures wrote { IfOk result (λ after. Wrote context.now.unicode context.now.whole emitter.old emitter.new slot after
-        (cat_all (map (part context.now scope emitter.old.opened.items) parts.now))) }
-    ensures allowed { IfOk result (λ after. IsAllowed context.now.unicode scope.may_keep
-        (cat_all (map (part context.now scope emitter.old.opened.items) parts.now))) }
-    ensures refused { IfErr result (IsReasonWhere context.now.unicode (infos_of context.now) (λ tree_context. AreExpandedParts tree_context scope.may_keep scope.may_be_absent false parts.now)) }
-{
-    let mut next = slot;
-    for info in parts {
-        next = emit(context, emitter, info, scope, next)?;
-    }
-    Ok(next)
-}
-
-/// Emits an alternation; with `behind` each branch first goes back by its own length.
-#[cycle(emit)]
-fn emit_branches(
-    context: &CompileContext<'_, '_, '_>,
-    emitter: &mut Emitter,
-    branches: &[Info<'_>],
-    behind: bool,
-    scope: Scope,
-    slot: usize,
-) -> Result<usize, CompileError>
-    ensures cap { emitter.new.body.cap ≡ emitter.old.body.cap }
-    ensures full { IfErr result (IsFull emitter.old.body (room (alt_all (map (λ x. side behind (part context.now scope emitter.old.opened.items x)) branches.now)))) }
-    ensures wrote { IfOk result (λ after. Wrote context.now.unicode context.now.whole emitter.old emitter.new slot after
-        (alt_all (map (λ x. side behind (part context.now scope emitter.old.opened.items x)) branches.now))) }
-    ensures allowed { IfOk result (λ after. IsAllowed context.now.unicode scope.may_keep
-        (alt_all (map (λ x. side behind (part context.now scope emitter.old.opened.items x)) branches.now))) }
-    ensures refused { IfErr result (IsReasonWhere context.now.unicode (infos_of context.now) (λ tree_context. AreExpandedParts tree_context scope.may_keep scope.may_be_absent behind branches.now)) }
-{
-    if branches.is_empty() {
-        emitter.body.flush_and_push(Insn::Fail)?;
-        return Ok(slot);
-    }
-    if branches.len() == 1 {
-        return emit_ahead_or_behind(context, emitter, &branches[0], behind, scope, slot);
-    }
-    emit_alternatives(context, emitter, branches, behind, scope, slot)
-}
-
-/// Emits an alternation of two branches or more.
-#[cycle(emit)]
-fn emit_alternatives(
-    context: &CompileContext<'_, '_, '_>,
-    emitter: &mut Emitter,
-    branches: &[Info<'_>],
-    behind: bool,
-    scope: Scope,
-    slot: usize,
-) -> Result<usize, CompileError>
-    requires { 2 ≤ length branches.now }
-    ensures cap { emitter.new.body.cap ≡ emitter.old.body.cap }
-    ensures full { IfErr result (IsFull emitter.old.body (room (alt_all (map (λ x. side behind (part context.now scope emitter.old.opened.items x)) branches.now)))) }
-    ensures wrote { IfOk result (λ after. Wrote context.now.unicode context.now.whole emitter.old emitter.new slot after
-        (alt_all (map (λ x. side behind (part context.now scope emitter.old.opened.items x)) branches.now))) }
-    ensures allowed { IfOk result (λ after. IsAllowed context.now.unicode scope.may_keep
-        (alt_all (map (λ x. side behind (part context.now scope emitter.old.opened.items x)) branches.now))) }
-    ensures refused { IfErr result (IsReasonWhere context.now.unicode (infos_of context.now) (λ tree_context. AreExpandedParts tree_context scope.may_keep scope.may_be_absent behind branches.now)) }
-{
-    emitter.body.flush()?;
-    let last = branches.len() - 1;
-    let mut jumps = Vec::new(context.alloc);
-    let mut next = slot;
-    for info in &branches[..last] {
-        next = emit_alternative(context, emitter, info, behind, scope, next)?;
-        jumps.push(emitter.body.len().saturating_sub(1))?;
-    }
-    next = emit_flushed(context, emitter, &branches[last], behind, scope, next)?;
-    let end = emitter.body.len();
-    for jump in &jumps {
-        emitter.body.patch(*jump, Insn::Jmp(end));
-    }
-    Ok(next)
-}
-
-/// Emits a node; with `behind` it first goes back by its own length.
-#[cycle(emit)]
-fn emit_ahead_or_behind(
-    context: &CompileContext<'_, '_, '_>,
-    emitter: &mut Emitter,
-    info: &Info<'_>,
-    behind: bool,
-    scope: Scope,
-    slot: usize,
-) -> Result<usize, CompileError>
-    ensures cap { emitter.new.body.cap ≡ emitter.old.body.cap }
-    ensures full { IfErr result (IsFull emitter.old.body (room (side behind (part context.now scope emitter.old.opened.items info.now)))) }
-    ensures wrote { IfOk result (λ after. Wrote context.now.unicode context.now.whole emitter.old emitter.new slot after
-        (side behind (part context.now scope emitter.old.opened.items info.now))) }
-    ensures allowed { IfOk result (λ after. IsAllowed context.now.unicode scope.may_keep
-        (side behind (part context.now scope emitter.old.opened.items info.now))) }
-    ensures refused { IfErr result (IsReasonWhere context.now.unicode (infos_of context.now)
-        (λ tree_context. IsExpandedPart tree_context scope.may_keep scope.may_be_absent behind (info_of info.now))) }
-{
-    if behind {
-        emit_look_behind_body(context, emitter, info, scope, slot)
-    } else {
-        emit(context, emitter, info, scope, slot)
-    }
-}
-
-/// Emits a node like `emit_ahead_or_behind`, and makes its pending literal text an instruction.
-#[cycle(emit)]
-fn emit_flushed(
-    context: &CompileContext<'_, '_, '_>,
-    emitter: &mut Emitter,
-    info: &Info<'_>,
-    behind: bool,
-    scope: Scope,
-    slot: usize,
-) -> Result<usize, CompileError>
-    ensures cap { emitter.new.body.cap ≡ emitter.old.body.cap }
-    ensures full { IfErr result (IsFull emitter.old.body (room (side behind (part context.now scope emitter.old.opened.items info.now)))) }
-    ensures wrote { IfOk result (λ after. WroteClosed context.now.unicode context.now.whole emitter.old emitter.new slot after
-        (side behind (part context.now scope emitter.old.opened.items info.now))) }
-    ensures allowed { IfOk result (λ after. IsAllowed context.now.unicode scope.may_keep
-        (side behind (part context.now scope emitter.old.opened.items info.now))) }
-    ensures refused { IfErr result (IsReasonWhere context.now.unicode (infos_of context.now)
-        (λ tree_context. IsExpandedPart tree_context scope.may_keep scope.may_be_absent behind (info_of info.now))) }
-{
-    let after = emit_ahead_or_behind(context, emitter, info, behind, scope, slot)?;
-    emitter.body.flush()?;
-    Ok(after)
-}
-
-/// Emits the body of a look-behind: goes back by its length, then matches it. In an alternation of unequal lengths each branch
-/// goes back by its own. The error is `LookBehindNotConst` for a body of variable length.
-#[cycle(emit)]
-fn emit_look_behind_body(
-    context: &CompileContext<'_, '_, '_>,
-    emitter: &mut Emitter,
-    info: &Info<'_>,
-    scope: Scope,
-    slot: usize,
-) -> Result<usize, CompileError>
-    ensures cap { emitter.new.body.cap ≡ emitter.old.body.cap }
-    ensures full { IfErr result (IsFull emitter.old.body (room (part context.now scope emitter.old.opened.items info.now).behind)) }
-    ensures wrote { IfOk result (λ after. Wrote context.now.unicode context.now.whole emitter.old emitter.new slot after
-        (part context.now scope emitter.old.opened.items info.now).behind) }
-    ensures allowed { IfOk result (λ after. IsAllowed context.now.unicode scope.may_keep
-        (part context.now scope emitter.old.opened.items info.now).behind) }
-    ensures refused { IfErr result (IsReasonWhere context.now.unicode (infos_of context.now) (λ tree_context. IsExpandedPart tree_context scope.may_keep scope.may_be_absent true (info_of info.now))) }
-{
-    if info.const_size {
-        emitter.body.flush_and_push(Insn::GoBack(info.min_size))?;
-        return emit(context, emitter, info, scope, slot);
-    }
-    let depth_left = descend(scope.depth_left)?;
-    let inside = Scope {
-        depth_left,
-        ..scope
-    };
-    match info.expr {
-        Expr::Alt(_) => emit_branches(context, emitter, &info.children, true, inside, slot),
-        _ => Err(CompileError::LookBehindNotConst),
-    }
-}
-
-/// Emits the capture group of this number.
-#[cycle(emit)]
-fn emit_group(
-    context: &CompileContext<'_, '_, '_>,
-    emitter: &mut Emitter,
-    child: &Info<'_>,
+    child: &'i Info<'e>,
     number: usize,
     scope: Scope,
     slot: usize,
-) -> Result<usize, CompileError>
+) -> Result<Step<'i, 'e>, CompileError>
     ensures cap { emitter.new.body.cap ≡ emitter.old.body.cap }
-    ensures full { IfErr result (IsFull emitter.old.body (room (pat.group number (part context.now scope emitter.old.opened.items child.now).front))) }
-    ensures wrote { IfOk result (λ after. Wrote context.now.unicode context.now.whole emitter.old emitter.new slot after
-        (pat.group number (part context.now scope emitter.old.opened.items child.now).front)) }
-    ensures allowed { IfOk result (λ after. IsAllowed context.now.unicode scope.may_keep
-        (pat.group number (part context.now scope emitter.old.opened.items child.now).front)) }
-    ensures refused { IfErr result (IsReasonWhere context.now.unicode (infos_of context.now)
-        (λ tree_context. IsExpandedPart tree_context scope.may_keep scope.may_be_absent false (info_of child.now))) }
+    ensures full { IfErr result (IsFull emitter.old.body 2) }
+    ensures leads { IfOk result (λ step. (context : TheContext) → LeadsTo context
+        (pat.group number (node_pattern context child.now false scope emitter.old.opened.items)) scope.may_keep
+        (λ tree_context. IsExpandedPart tree_context scope.may_keep scope.may_be_absent false (info_of child.now)) emitter.old emitter.new slot step) }
+    ensures refused { IfErr result IsMemoryOrTooComplex }
+    ensures work { IfOk result (λ step. (groups : List InfoTree) → tasks_work groups (listed step.tasks) ≤ 1 + info_work groups scope child.now) }
 {
     let inside = past_slots(slot, 1)?;
     let start = first_slot(number)?;
     let end = past_slots(start, 1)?;
     emitter.body.flush_and_push(Insn::Save(slot))?;
-    let after = emit_flushed(context, emitter, child, false, scope, inside)?;
-    emitter.body.push_insn(Insn::SaveCaptureGroupStart {
+    let closing = Closing::Group {
         kept: slot,
-        slot: start,
-    })?;
-    emitter.body.push_insn(Insn::Save(end))?;
-    Ok(after)
+        start,
+        end,
+    };
+    Ok(around(child, false, scope, closing, inside))
 }
 
-/// Emits an atomic group.
-#[cycle(emit)]
-fn emit_atomic(
-    context: &CompileContext<'_, '_, '_>,
+/// A step to the part of a construct, and then to its end.
+fn around<'i, 'e>(
+    info: &'i Info<'e>,
+    behind: bool,
+    scope: Scope,
+    closing: Closing,
+    slot: usize,
+) -> Step<'i, 'e>
+    ensures tasks { listed result.tasks ≡ the_task.Close closing ∷ the_task.Node info.entry behind scope ∷ [] }
+    ensures slot { result.slot ≡ slot }
+    ensures work { (groups : List InfoTree) → tasks_work groups (listed result.tasks) ≤ 1 + info_work groups scope info.now }
+{
+    let first = Task::Node {
+        info,
+        behind,
+        scope,
+    };
+    let then = Task::Close(closing);
+    Step {
+        slot,
+        tasks: Tasks::Two { first, then },
+    }
+}
+
+/// Begins an atomic group.
+fn emit_atomic<'i, 'e>(
     emitter: &mut Emitter,
-    child: &Info<'_>,
+    child: &'i Info<'e>,
     scope: Scope,
     slot: usize,
-) -> Result<usize, CompileError>
+) -> Result<Step<'i, 'e>, CompileError>
     ensures cap { emitter.new.body.cap ≡ emitter.old.body.cap }
-    ensures full { IfErr result (IsFull emitter.old.body (room (pat.atomic (part context.now scope emitter.old.opened.items child.now).front))) }
-    ensures wrote { IfOk result (λ after. Wrote context.now.unicode context.now.whole emitter.old emitter.new slot after
-        (pat.atomic (part context.now scope emitter.old.opened.items child.now).front)) }
-    ensures allowed { IfOk result (λ after. IsAllowed context.now.unicode scope.may_keep
-        (pat.atomic (part context.now scope emitter.old.opened.items child.now).front)) }
-    ensures refused { IfErr result (IsReasonWhere context.now.unicode (infos_of context.now)
-        (λ tree_context. IsExpandedPart tree_context scope.may_keep scope.may_be_absent false (info_of child.now))) }
+    ensures full { IfErr result (IsFull emitter.old.body 2) }
+    ensures leads { IfOk result (λ step. (context : TheContext) → LeadsTo context
+        (pat.atomic (node_pattern context child.now false scope emitter.old.opened.items)) scope.may_keep
+        (λ tree_context. IsExpandedPart tree_context scope.may_keep scope.may_be_absent false (info_of child.now)) emitter.old emitter.new slot step) }
+    ensures refused { IfErr result IsMemoryOrTooComplex }
+    ensures work { IfOk result (λ step. (groups : List InfoTree) → tasks_work groups (listed step.tasks) ≤ 1 + info_work groups scope child.now) }
 {
     let inside = past_slots(slot, 1)?;
     emitter.body.flush_and_push(Insn::BeginAtomic(slot))?;
-    let after = emit_flushed(context, emitter, child, false, scope, inside)?;
-    emitter.body.push_insn(Insn::EndAtomic(slot))?;
-    Ok(after)
+    let closing = Closing::AtomicGroup { slot };
+    Ok(around(child, false, scope, closing, inside))
 }
 
-/// Emits a look-around.
-#[cycle(emit)]
-fn emit_look_around(
-    context: &CompileContext<'_, '_, '_>,
+/// Begins a look-around.
+fn emit_look_around<'i, 'e>(
     emitter: &mut Emitter,
-    child: &Info<'_>,
+    child: &'i Info<'e>,
     how: LookAround,
     scope: Scope,
     slot: usize,
-) -> Result<usize, CompileError>
+) -> Result<Step<'i, 'e>, CompileError>
     ensures cap { emitter.new.body.cap ≡ emitter.old.body.cap }
-    ensures full { IfErr result (IsFull emitter.old.body (room (look how (part context.now scope emitter.old.opened.items child.now)))) }
-    ensures wrote { IfOk result (λ after. Wrote context.now.unicode context.now.whole emitter.old emitter.new slot after
-        (look how (part context.now scope emitter.old.opened.items child.now))) }
-    ensures allowed { IfOk result (λ after. IsAllowed context.now.unicode scope.may_keep
-        (look how (part context.now scope emitter.old.opened.items child.now))) }
-    ensures refused { IfErr result (IsReasonWhere context.now.unicode (infos_of context.now)
-        (λ tree_context. IsExpandedPart tree_context false scope.may_be_absent (looks_behind how) (info_of child.now))) }
+    ensures full { IfErr result (IsFull emitter.old.body 2) }
+    ensures leads { IfOk result (λ step. (context : TheContext) → LeadsTo context
+        (look how (part context scope emitter.old.opened.items child.now)) scope.may_keep
+        (λ tree_context. IsExpandedPart tree_context false scope.may_be_absent (looks_behind how) (info_of child.now)) emitter.old emitter.new slot step) }
+    ensures refused { IfErr result IsMemoryOrTooComplex }
+    ensures work { IfOk result (λ step. (groups : List InfoTree) → tasks_work groups (listed step.tasks) ≤ 1 + info_work groups scope child.now) }
 {
+    match how {
+        LookAround::LookAhead => emit_positive_look_around(emitter, child, false, scope, slot),
+        LookAround::LookAheadNeg => emit_negative_look_around(emitter, child, false, scope, slot),
+        LookAround::LookBehind => emit_positive_look_around(emitter, child, true, scope, slot),
+        LookAround::LookBehindNeg => emit_negative_look_around(emitter, child, true, scope, slot),
+    }
+}
+
+/// Begins a positive look-around.
+fn emit_positive_look_around<'i, 'e>(
+    emitter: &mut Emitter,
+    info: &'i Info<'e>,
+    behind: bool,
+    scope: Scope,
+    slot: usize,
+) -> Result<Step<'i, 'e>, CompileError>
+    ensures cap { emitter.new.body.cap ≡ emitter.old.body.cap }
+    ensures full { IfErr result (IsFull emitter.old.body 2) }
+    ensures leads { IfOk result (λ step. (context : TheContext) → LeadsTo context
+        (pat.ahead (node_pattern context info.now behind scope emitter.old.opened.items)) scope.may_keep
+        (λ tree_context. IsExpandedPart tree_context false scope.may_be_absent behind (info_of info.now)) emitter.old emitter.new slot step) }
+    ensures refused { IfErr result IsMemoryOrTooComplex }
+    ensures work { IfOk result (λ step. (groups : List InfoTree) → tasks_work groups (listed step.tasks) ≤ 1 + info_work groups scope info.now) }
+{
+    let inside = past_slots(slot, 1)?;
+    emitter.body.flush_and_push(Insn::Save(slot))?;
+    let closing = Closing::PositiveLookAround { slot };
     let looking = Scope {
         may_keep: false,
         ..scope
     };
-    match how {
-        LookAround::LookAhead => emit_positive_look_around(
-            context, emitter, child, false, looking, slot,
-        ),
-        LookAround::LookAheadNeg => emit_negative_look_around(
-            context, emitter, child, false, looking, slot,
-        ),
-        LookAround::LookBehind => emit_positive_look_around(
-            context, emitter, child, true, looking, slot,
-        ),
-        LookAround::LookBehindNeg => emit_negative_look_around(
-            context, emitter, child, true, looking, slot,
-        ),
-    }
+    Ok(around(info, behind, looking, closing, inside))
 }
 
-/// Emits a positive look-around.
-#[cycle(emit)]
-fn emit_positive_look_around(
-    context: &CompileContext<'_, '_, '_>,
+/// Begins a negative look-around.
+fn emit_negative_look_around<'i, 'e>(
     emitter: &mut Emitter,
-    child: &Info<'_>,
+    info: &'i Info<'e>,
     behind: bool,
     scope: Scope,
     slot: usize,
-) -> Result<usize, CompileError>
+) -> Result<Step<'i, 'e>, CompileError>
     ensures cap { emitter.new.body.cap ≡ emitter.old.body.cap }
-    ensures full { IfErr result (IsFull emitter.old.body (room (pat.ahead (side behind (part context.now scope emitter.old.opened.items child.now))))) }
-    ensures wrote { IfOk result (λ after. Wrote context.now.unicode context.now.whole emitter.old emitter.new slot after
-        (pat.ahead (side behind (part context.now scope emitter.old.opened.items child.now)))) }
-    ensures allowed { IfOk result (λ after. IsAllowed context.now.unicode scope.may_keep
-        (side behind (part context.now scope emitter.old.opened.items child.now))) }
-    ensures refused { IfErr result (IsReasonWhere context.now.unicode (infos_of context.now)
-        (λ tree_context. IsExpandedPart tree_context scope.may_keep scope.may_be_absent behind (info_of child.now))) }
-{
-    let inside = past_slots(slot, 1)?;
-    emitter.body.flush_and_push(Insn::Save(slot))?;
-    let after = emit_flushed(context, emitter, child, behind, scope, inside)?;
-    emitter.body.push_insn(Insn::Restore(slot))?;
-    Ok(after)
-}
-
-/// Emits a negative look-around.
-#[cycle(emit)]
-fn emit_negative_look_around(
-    context: &CompileContext<'_, '_, '_>,
-    emitter: &mut Emitter,
-    child: &Info<'_>,
-    behind: bool,
-    scope: Scope,
-    slot: usize,
-) -> Result<usize, CompileError>
-    ensures cap { emitter.new.body.cap ≡ emitter.old.body.cap }
-    ensures full { IfErr result (IsFull emitter.old.body (room (pat.never (side behind (part context.now scope emitter.old.opened.items child.now))))) }
-    ensures wrote { IfOk result (λ after. Wrote context.now.unicode context.now.whole emitter.old emitter.new slot after
-        (pat.never (side behind (part context.now scope emitter.old.opened.items child.now)))) }
-    ensures allowed { IfOk result (λ after. IsAllowed context.now.unicode scope.may_keep
-        (side behind (part context.now scope emitter.old.opened.items child.now))) }
-    ensures refused { IfErr result (IsReasonWhere context.now.unicode (infos_of context.now)
-        (λ tree_context. IsExpandedPart tree_context scope.may_keep scope.may_be_absent behind (info_of child.now))) }
+    ensures full { IfErr result (IsFull emitter.old.body 2) }
+    ensures leads { IfOk result (λ step. (context : TheContext) → LeadsTo context
+        (pat.never (node_pattern context info.now behind scope emitter.old.opened.items)) scope.may_keep
+        (λ tree_context. IsExpandedPart tree_context false scope.may_be_absent behind (info_of info.now)) emitter.old emitter.new slot step) }
+    ensures refused { IfErr result IsMemoryOrTooComplex }
+    ensures work { IfOk result (λ step. (groups : List InfoTree) → tasks_work groups (listed step.tasks) ≤ 1 + info_work groups scope info.now) }
 {
     let inside = past_slots(slot, 1)?;
     emitter.body.flush_and_push(Insn::BeginAtomic(slot))?;
     let split = emitter.body.len();
     emitter.body.push_insn(Insn::Split(0, 0))?;
     let first = emitter.body.len();
-    let after = emit_flushed(context, emitter, child, behind, scope, inside)?;
-    emitter.body.push_insn(Insn::FailNegativeLookAround(slot))?;
-    let second = emitter.body.len();
-    emitter.body.patch(split, Insn::Split(first, second));
-    Ok(after)
+    let closing = Closing::NegativeLookAround { slot, split, first };
+    let looking = Scope {
+        may_keep: false,
+        ..scope
+    };
+    Ok(around(info, behind, looking, closing, inside))
 }
 
-/// Emits a branch that others follow. The jump after it, over the others, is patched later.
-#[cycle(emit)]
-fn emit_alternative(
-    context: &CompileContext<'_, '_, '_>,
-    emitter: &mut Emitter,
-    info: &Info<'_>,
-    behind: bool,
-    scope: Scope,
-    slot: usize,
-) -> Result<usize, CompileError>
-    ensures cap { emitter.new.body.cap ≡ emitter.old.body.cap }
-    ensures full { IfErr result (IsFull emitter.old.body (room (side behind (part context.now scope emitter.old.opened.items info.now)) + 2)) }
-    ensures wrote { IfOk result (λ after. WroteChoice context.now.unicode context.now.whole emitter.old emitter.new slot after
-        (side behind (part context.now scope emitter.old.opened.items info.now))) }
-    ensures allowed { IfOk result (λ after. IsAllowed context.now.unicode scope.may_keep
-        (side behind (part context.now scope emitter.old.opened.items info.now))) }
-    ensures refused { IfErr result (IsReasonWhere context.now.unicode (infos_of context.now)
-        (λ tree_context. IsExpandedPart tree_context scope.may_keep scope.may_be_absent behind (info_of info.now))) }
-{
-    let split = emitter.body.len();
-    emitter.body.push_insn(Insn::Split(0, 0))?;
-    let first = emitter.body.len();
-    let after = emit_flushed(context, emitter, info, behind, scope, slot)?;
-    emitter.body.push_insn(Insn::Jmp(0))?;
-    let second = emitter.body.len();
-    emitter.body.patch(split, Insn::Split(first, second));
-    Ok(after)
-}
-
-/// Emits a quantifier; the greatest count `usize::MAX` is no bound. A body that is repeated zero times is left out. The error
+/// Begins a quantifier; the greatest count `usize::MAX` is no bound. A body that is repeated zero times is left out. The error
 /// is `RepeatBoundsReversed` if the least count exceeds the greatest, and `Memory` for a least count of `usize::MAX`.
-#[cycle(emit)]
-fn emit_repeat(
-    context: &CompileContext<'_, '_, '_>,
+fn emit_repeat<'i, 'e>(
     emitter: &mut Emitter,
-    child: &Info<'_>,
+    child: &'i Info<'e>,
     bounds: (usize, usize),
     greedy: bool,
     scope: Scope,
     slot: usize,
-) -> Result<usize, CompileError>
+) -> Result<Step<'i, 'e>, CompileError>
     ensures cap { emitter.new.body.cap ≡ emitter.old.body.cap }
-    ensures full { IfErr result (IsFull emitter.old.body (room (repeated (part context.now scope emitter.old.opened.items child.now).front bounds.0 bounds.1 greedy))) }
-    ensures wrote { IfOk result (λ after. Wrote context.now.unicode context.now.whole emitter.old emitter.new slot after
-        (repeated (part context.now scope emitter.old.opened.items child.now).front bounds.0 bounds.1 greedy)) }
-    ensures allowed { IfOk result (λ after. IsAllowed context.now.unicode scope.may_keep
-        (repeated (part context.now scope emitter.old.opened.items child.now).front bounds.0 bounds.1 greedy)) }
-    ensures refused { IfErr result (IsReasonWhere context.now.unicode (infos_of context.now)
-        (λ tree_context. IsExpandedRepeat tree_context scope.may_keep scope.may_be_absent bounds.0 bounds.1 (info_of child.now))) }
+    ensures full { IfErr result (λ e. (context : TheContext) →
+        IsFull emitter.old.body (room (repeated (node_pattern context child.now false scope emitter.old.opened.items) bounds.0 bounds.1 greedy)) e) }
+    ensures leads { IfOk result (λ step. (context : TheContext) → LeadsTo context
+        (repeated (node_pattern context child.now false scope emitter.old.opened.items) bounds.0 bounds.1 greedy) scope.may_keep
+        (λ tree_context. IsExpandedRepeat tree_context scope.may_keep scope.may_be_absent bounds.0 bounds.1 (info_of child.now)) emitter.old emitter.new slot step) }
+    ensures refused { IfErr result (λ e. (unicode : Bool) (groups : List InfoTree) → IsReasonWhere unicode groups
+        (λ tree_context. IsExpandedRepeat tree_context scope.may_keep scope.may_be_absent bounds.0 bounds.1 (info_of child.now)) e) }
+    ensures work { IfOk result (λ step. (groups : List InfoTree) → tasks_work groups (listed step.tasks) ≤ 1 + info_work groups scope child.now) }
 {
     let (lo, hi) = bounds;
     if lo > hi {
         return Err(CompileError::RepeatBoundsReversed);
     }
     if hi == 0 {
-        return Ok(slot);
+        return Ok(leads_to(slot, Tasks::Nothing));
     }
     if lo == usize::MAX {
         return Err(CompileError::Memory);
     }
     if hi == usize::MAX {
-        emit_unbounded_repeat(context, emitter, child, lo, greedy, scope, slot)
+        emit_unbounded_repeat(emitter, child, lo, greedy, scope, slot)
     } else {
-        emit_bounded_repeat(context, emitter, child, (lo, hi), greedy, scope, slot)
+        emit_bounded_repeat(emitter, child, (lo, hi), greedy, scope, slot)
     }
 }
 
-/// Emits a bounded repeat.
-#[cycle(emit)]
-fn emit_bounded_repeat(
-    context: &CompileContext<'_, '_, '_>,
+/// Begins a bounded repeat.
+fn emit_bounded_repeat<'i, 'e>(
     emitter: &mut Emitter,
-    child: &Info<'_>,
+    child: &'i Info<'e>,
     bounds: (usize, usize),
     greedy: bool,
     scope: Scope,
     slot: usize,
-) -> Result<usize, CompileError>
+) -> Result<Step<'i, 'e>, CompileError>
     ensures cap { emitter.new.body.cap ≡ emitter.old.body.cap }
-    ensures full { IfErr result (IsFull emitter.old.body (room (pat.repeat (part context.now scope emitter.old.opened.items child.now).front bounds.0 (Some bounds.1) greedy))) }
-    ensures wrote { IfOk result (λ after. Wrote context.now.unicode context.now.whole emitter.old emitter.new slot after
-        (pat.repeat (part context.now scope emitter.old.opened.items child.now).front bounds.0 (Some bounds.1) greedy)) }
-    ensures allowed { IfOk result (λ after. IsAllowed context.now.unicode scope.may_keep
-        (pat.repeat (part context.now scope emitter.old.opened.items child.now).front bounds.0 (Some bounds.1) greedy)) }
-    ensures refused { IfErr result (IsReasonWhere context.now.unicode (infos_of context.now)
-        (λ tree_context. IsExpandedPart tree_context scope.may_keep scope.may_be_absent false (info_of child.now))) }
+    ensures full { IfErr result (IsFull emitter.old.body 2) }
+    ensures leads { IfOk result (λ step. (context : TheContext) → LeadsTo context
+        (pat.repeat (node_pattern context child.now false scope emitter.old.opened.items) bounds.0 (Some bounds.1) greedy) scope.may_keep
+        (λ tree_context. IsExpandedPart tree_context scope.may_keep scope.may_be_absent false (info_of child.now)) emitter.old emitter.new slot step) }
+    ensures refused { IfErr result IsMemoryOrTooComplex }
+    ensures work { IfOk result (λ step. (groups : List InfoTree) → tasks_work groups (listed step.tasks) ≤ 1 + info_work groups scope child.now) }
 {
     let inside = past_slots(slot, 1)?;
     emitter.body.flush_and_push(Insn::BeginRepeat(slot))?;
     let head = emitter.body.len();
     emitter.body.push_insn(Insn::Fail)?;
-    let after = emit_flushed(context, emitter, child, false, scope, inside)?;
-    emitter.body.push_insn(Insn::Jmp(head))?;
-    let (lo, hi) = bounds;
-    let counted = Repeat {
-        lo,
-        hi,
-        next: emitter.body.len(),
-        repeat: slot,
+    let closing = Closing::BoundedRepeat {
+        head,
+        bounds,
+        greedy,
+        slot,
     };
-    emitter
-        .body
-        .patch(head, bounded_repeat_head(counted, greedy));
-    Ok(after)
+    Ok(around(child, false, scope, closing, inside))
 }
 
-/// The head of a bounded repeat.
-fn bounded_repeat_head(repeat: Repeat, greedy: bool) -> Insn
-    ensures { op_of result ≡ op.repeat greedy repeat.lo repeat.hi repeat.next repeat.repeat }
-{
-    if greedy {
-        Insn::RepeatGr(repeat)
-    } else {
-        Insn::RepeatNg(repeat)
-    }
-}
-
-/// Emits an unbounded repeat.
-#[cycle(emit)]
-fn emit_unbounded_repeat(
-    context: &CompileContext<'_, '_, '_>,
+/// Begins an unbounded repeat.
+fn emit_unbounded_repeat<'i, 'e>(
     emitter: &mut Emitter,
-    child: &Info<'_>,
+    child: &'i Info<'e>,
     lo: usize,
     greedy: bool,
     scope: Scope,
     slot: usize,
-) -> Result<usize, CompileError>
+) -> Result<Step<'i, 'e>, CompileError>
+    requires { lo < unset }
     ensures cap { emitter.new.body.cap ≡ emitter.old.body.cap }
-    ensures full { IfErr result (IsFull emitter.old.body (room (pat.repeat (part context.now scope emitter.old.opened.items child.now).front lo None greedy))) }
-    ensures wrote { IfOk result (λ after. Wrote context.now.unicode context.now.whole emitter.old emitter.new slot after
-        (pat.repeat (part context.now scope emitter.old.opened.items child.now).front lo None greedy)) }
-    ensures allowed { IfOk result (λ after. IsAllowed context.now.unicode scope.may_keep (part context.now scope emitter.old.opened.items child.now).front) }
-    ensures refused { IfErr result (IsReasonWhere context.now.unicode (infos_of context.now)
-        (λ tree_context. IsExpandedPart tree_context scope.may_keep scope.may_be_absent false (info_of child.now))) }
+    ensures full { IfErr result (IsFull emitter.old.body 2) }
+    ensures leads { IfOk result (λ step. (context : TheContext) → LeadsTo context
+        (pat.repeat (node_pattern context child.now false scope emitter.old.opened.items) lo None greedy) scope.may_keep
+        (λ tree_context. IsExpandedPart tree_context scope.may_keep scope.may_be_absent false (info_of child.now)) emitter.old emitter.new slot step) }
+    ensures refused { IfErr result IsMemoryOrTooComplex }
+    ensures work { IfOk result (λ step. (groups : List InfoTree) → tasks_work groups (listed step.tasks) ≤ 1 + info_work groups scope child.now) }
 {
     let check = past_slots(slot, 1)?;
     let inside = past_slots(slot, 2)?;
     emitter.body.flush_and_push(Insn::BeginRepeat(slot))?;
     let head = emitter.body.len();
     emitter.body.push_insn(Insn::Fail)?;
-    let after = emit_flushed(context, emitter, child, false, scope, inside)?;
-    emitter.body.push_insn(Insn::Jmp(head))?;
-    let endless = RepeatEpsilon {
+    let closing = Closing::UnboundedRepeat {
+        head,
         lo,
-        next: emitter.body.len(),
-        repeat: slot,
+        greedy,
+        slot,
         check,
     };
-    emitter
-        .body
-        .patch(head, unbounded_repeat_head(endless, greedy));
-    Ok(after)
+    Ok(around(child, false, scope, closing, inside))
 }
 
-/// The head of an unbounded repeat.
-fn unbounded_repeat_head(repeat: RepeatEpsilon, greedy: bool) -> Insn
-    ensures { op_of result ≡ op.repeat_epsilon greedy repeat.lo repeat.next repeat.repeat repeat.check }
-{
-    if greedy {
-        Insn::RepeatEpsilonGr(repeat)
-    } else {
-        Insn::RepeatEpsilonNg(repeat)
-    }
-}
-
-/// Emits a conditional: the first branch if the condition matches, the second if it does not.
-#[cycle(emit)]
-fn emit_conditional(
-    context: &CompileContext<'_, '_, '_>,
+/// Begins a conditional: the first branch if the condition matches, the second if it does not.
+fn emit_conditional<'i, 'e>(
     emitter: &mut Emitter,
-    condition: &Info<'_>,
-    branches: (&Info<'_>, &Info<'_>),
+    condition: &'i Info<'e>,
+    branches: (&'i Info<'e>, &'i Info<'e>),
     scope: Scope,
     slot: usize,
-) -> Result<usize, CompileError>
+) -> Result<Step<'i, 'e>, CompileError>
     ensures cap { emitter.new.body.cap ≡ emitter.old.body.cap }
-    ensures full { IfErr result (IsFull emitter.old.body (room
-        (pat.conditional (part context.now scope emitter.old.opened.items condition.now).front
-        (part context.now scope emitter.old.opened.items branches.entry.0.now).front (part context.now scope emitter.old.opened.items branches.entry.1.now).front))) }
-    ensures wrote { IfOk result (λ after. Wrote context.now.unicode context.now.whole emitter.old emitter.new slot after
-        (pat.conditional (part context.now scope emitter.old.opened.items condition.now).front
-        (part context.now scope emitter.old.opened.items branches.entry.0.now).front (part context.now scope emitter.old.opened.items branches.entry.1.now).front)) }
-    ensures allowed { IfOk result (λ after. IsAllowed context.now.unicode scope.may_keep
-        (pat.conditional (part context.now scope emitter.old.opened.items condition.now).front
-        (part context.now scope emitter.old.opened.items branches.entry.0.now).front (part context.now scope emitter.old.opened.items branches.entry.1.now).front)) }
-    ensures refused { IfErr result (IsReasonWhere context.now.unicode (infos_of context.now)
-        (λ tree_context. IsExpandedConditional tree_context scope.may_keep scope.may_be_absent (info_of condition.now) (info_of branches.entry.0.now) (info_of branches.entry.1.now))) }
+    ensures full { IfErr result (IsFull emitter.old.body 2) }
+    ensures leads { IfOk result (λ step. (context : TheContext) → LeadsTo context
+        (pat.conditional (node_pattern context condition.now false scope emitter.old.opened.items) (node_pattern context branches.entry.0.now false scope emitter.old.opened.items)
+        (node_pattern context branches.entry.1.now false scope emitter.old.opened.items)) scope.may_keep
+        (λ tree_context. IsExpandedConditional tree_context scope.may_keep scope.may_be_absent (info_of condition.now) (info_of branches.entry.0.now) (info_of branches.entry.1.now))
+        emitter.old emitter.new slot step) }
+    ensures refused { IfErr result IsMemoryOrTooComplex }
+    ensures work { IfOk result (λ step. (groups : List InfoTree) → tasks_work groups (listed step.tasks) ≤
+        8 + (info_work groups scope condition.now + (info_work groups scope branches.entry.0.now + info_work groups scope branches.entry.1.now))) }
 {
     let (yes, no) = branches;
     let inside = past_slots(slot, 1)?;
     emitter.body.flush_and_push(Insn::BeginAtomic(slot))?;
     let split = emitter.body.len();
     emitter.body.push_insn(Insn::Split(0, 0))?;
-    let first = emitter.body.len();
-    let tested = emit_flushed(context, emitter, condition, false, scope, inside)?;
-    emitter.body.push_insn(Insn::EndAtomic(slot))?;
-    let chosen = emit_flushed(context, emitter, yes, false, scope, tested)?;
-    let jump = emitter.body.len();
-    emitter.body.push_insn(Insn::Jmp(0))?;
-    let second = emitter.body.len();
-    let after = emit_flushed(context, emitter, no, false, scope, chosen)?;
-    let end = emitter.body.len();
-    emitter.body.patch(split, Insn::Split(first, second));
-    emitter.body.patch(jump, Insn::Jmp(end));
-    Ok(after)
+    let tested = Task::Tested {
+        slot,
+        split,
+        first: emitter.body.len(),
+        yes,
+        no,
+        scope,
+    };
+    Ok(leads_to(
+        inside,
+        Tasks::Two {
+            first: node(condition, scope),
+            then: tested,
+        },
+    ))
 }
 
-/// Emits a subroutine call by inlining the body of its target, or `Fail` where the target is inlined inside of itself as often
-/// as is allowed. The error is `SubroutineCallTargetNotFound` if there is no such group.
-#[cycle(emit)]
-fn emit_call(
-    context: &CompileContext<'_, '_, '_>,
+/// Begins a subroutine call, which is inlined: the body of its target, or `Fail` where the target is inlined inside of itself
+/// as often as is allowed. The error is `SubroutineCallTargetNotFound` if there is no such group.
+fn emit_call<'i, 'e>(
+    context: &CompileContext<'_, 'i, 'e>,
     emitter: &mut Emitter,
     target: usize,
     scope: Scope,
     slot: usize,
-) -> Result<usize, CompileError>
+) -> Result<Step<'i, 'e>, CompileError>
     ensures cap { emitter.new.body.cap ≡ emitter.old.body.cap }
     ensures full { IfErr result (IsFull emitter.old.body (room (info_call (infos_of context.now) scope.calls_left emitter.old.opened.items target))) }
-    ensures wrote { IfOk result (λ after. Wrote context.now.unicode context.now.whole emitter.old emitter.new slot after
-        (info_call (infos_of context.now) scope.calls_left emitter.old.opened.items target)) }
-    ensures allowed { IfOk result (λ after. IsAllowed context.now.unicode scope.may_keep
-        (info_call (infos_of context.now) scope.calls_left emitter.old.opened.items target)) }
+    ensures leads { IfOk result (LeadsTo context.now
+        (info_call (infos_of context.now) scope.calls_left emitter.old.opened.items target) scope.may_keep
+        (λ tree_context. IsExpandedTarget tree_context scope.may_keep scope.may_be_absent (infos_of context.now) target) emitter.old emitter.new slot) }
     ensures refused { IfErr result (IsReasonWhere context.now.unicode (infos_of context.now)
         (λ tree_context. IsExpandedTarget tree_context scope.may_keep scope.may_be_absent (infos_of context.now) target)) }
+    ensures work { IfOk result (λ step. tasks_work (infos_of context.now) (listed step.tasks) ≤ call_work (infos_of context.now) scope.calls_left target) }
 {
     if target >= context.groups.len() {
         return Err(CompileError::SubroutineCallTargetNotFound(format!(in context.alloc;
@@ -660,16 +757,20 @@ fn emit_call(
     let body = context.groups[target];
     if is_at_call_limit(&emitter.opened, target) || scope.calls_left == 0 {
         emitter.body.flush_and_push(Insn::Fail)?;
-        return Ok(slot);
+        return Ok(leads_to(slot, Tasks::Nothing));
     }
     emitter.opened.push(target)?;
     let called = Scope {
         calls_left: scope.calls_left - 1,
         ..scope
     };
-    let after = emit(context, emitter, body, called, slot)?;
-    emitter.opened.pop();
-    Ok(after)
+    Ok(leads_to(
+        slot,
+        Tasks::Two {
+            first: node(body, called),
+            then: Task::EndCall,
+        },
+    ))
 }
 
 /// Whether the target is inlined as often as is allowed.
@@ -679,22 +780,22 @@ fn is_at_call_limit(opened: &[usize], target: usize) -> bool
     opened.iter().filter(|k| **k == target).count() >= OPEN_CALLS_OF_ONE
 }
 
-/// Emits an absent repeater. The error is `FeatureNotYetSupported` inside of another one.
-#[cycle(emit)]
-fn emit_absent(
+/// Begins an absent repeater. The error is `FeatureNotYetSupported` inside of another one.
+fn emit_absent<'i, 'e>(
     context: &CompileContext<'_, '_, '_>,
     emitter: &mut Emitter,
-    child: &Info<'_>,
+    child: &'i Info<'e>,
     scope: Scope,
     slot: usize,
-) -> Result<usize, CompileError>
+) -> Result<Step<'i, 'e>, CompileError>
     ensures cap { emitter.new.body.cap ≡ emitter.old.body.cap }
-    ensures full { IfErr result (IsFull emitter.old.body (room (pat.absent (part context.now scope emitter.old.opened.items child.now).front))) }
-    ensures wrote { IfOk result (λ after. Wrote context.now.unicode context.now.whole emitter.old emitter.new slot after
-        (pat.absent (part context.now scope emitter.old.opened.items child.now).front)) }
-    ensures allowed { IfOk result (λ after. IsAllowed context.now.unicode scope.may_keep
-        (pat.absent (part context.now scope emitter.old.opened.items child.now).front)) }
-    ensures refused { IfErr result (IsReasonWhere context.now.unicode (infos_of context.now) (λ tree_context. IsExpandedAbsent tree_context scope.may_be_absent (info_of child.now))) }
+    ensures full { IfErr result (IsFull emitter.old.body 2) }
+    ensures leads { IfOk result (λ step. (context : TheContext) → LeadsTo context
+        (pat.absent (node_pattern context child.now false scope emitter.old.opened.items)) scope.may_keep
+        (λ tree_context. IsExpandedAbsent tree_context scope.may_be_absent (info_of child.now)) emitter.old emitter.new slot step) }
+    ensures refused { IfErr result (λ e. (unicode : Bool) (groups : List InfoTree) → IsReasonWhere unicode groups
+        (λ tree_context. IsExpandedAbsent tree_context scope.may_be_absent (info_of child.now)) e) }
+    ensures work { IfOk result (λ step. (groups : List InfoTree) → tasks_work groups (listed step.tasks) ≤ 1 + info_work groups scope child.now) }
 {
     if !scope.may_be_absent {
         return Err(not_supported(context.alloc, "absent operator"));
@@ -710,13 +811,10 @@ fn emit_absent(
     emitter.body.flush_and_push(Insn::AbsentRepeater(begin))?;
     let scan = emitter.body.len();
     emitter.body.push_insn(Insn::Fail)?;
-    let after = emit_flushed(context, emitter, child, false, within, inside)?;
-    let limits = AbsentRepeater::Limit { limit };
-    emitter.body.push_insn(Insn::AbsentRepeater(limits))?;
-    let end = emitter.body.len();
-    let ends = AbsentRepeater::End { start: slot, limit };
-    emitter.body.push_insn(Insn::AbsentRepeater(ends))?;
-    let scans = AbsentRepeater::Scan { limit, end };
-    emitter.body.patch(scan, Insn::AbsentRepeater(scans));
-    Ok(after)
+    let closing = Closing::AbsentRepeater {
+        scan,
+        start: slot,
+        limit,
+    };
+    Ok(around(child, false, within, closing, inside))
 }

@@ -35,24 +35,10 @@ pub(crate) struct Emitter {
 pub(crate) struct Scope {
     /// How many more calls may be inlined inside of each other here.
     pub calls_left: usize,
-    /// How many more levels of nesting are allowed, inlined calls included.
-    pub depth_left: usize,
     /// Whether `\K` is allowed: no look-around and no absent repeater encloses this.
     pub may_keep: bool,
     /// Whether an absent repeater is allowed: no other one encloses this.
     pub may_be_absent: bool,
-}
-
-/// One level of nesting deeper. The error is `Memory` at the limit, since the call stack is limited too.
-pub(crate) fn descend(depth_left: usize) -> Result<usize, CompileError>
-    ensures left { IfOk result (λ left. left + 1 ≡ depth_left) }
-    ensures full { IfErr result (λ e. is_too_complex e ≡ false) }
-    ensures refused { IfErr result IsMemoryOrTooComplex }
-{
-    match depth_left.checked_sub(1) {
-        Some(left) => Ok(left),
-        None => Err(CompileError::Memory),
-    }
 }
 
 /// The slot `count` slots after this one. The error is `Memory` if it exceeds `usize`.

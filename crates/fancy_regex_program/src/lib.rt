@@ -3,6 +3,7 @@
 //! a cap on the length is kept.
 #![tactic(auto)]
 
+mod closing;
 mod compiler;
 mod emit;
 mod emitter;
@@ -12,6 +13,7 @@ mod leaf;
 mod prog;
 mod program_builder;
 mod range;
+mod task;
 mod writing;
 
 pub use compiler::compile;

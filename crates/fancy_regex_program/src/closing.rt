@@ -1,0 +1,259 @@
+//! The ends of constructs: what is written behind their parts, and what is patched in front of them then.
+
+ghost use Rattle.std.specs.Prelude.{◌≡◌, OnOk, IfErr};
+ghost use Rattle.fancy_regex_program.specs.Extents.{IsFull};
+ghost use Rattle.fancy_regex_program.specs.Ops as op;
+ghost use Rattle.fancy_regex_program.specs.Ops.{op_of};
+ghost use Rattle.fancy_regex_program.specs.Refusals.{IsMemoryOrTooComplex};
+ghost use Rattle.fancy_regex_program.specs.Tasks.{closed_by, closing_room};
+ghost use Rattle.fancy_regex_program.specs.Writing.{draft_of};
+ghost use Rattle.fancy_regex_program.specs.declared.closing.Closing.TheVariants as ends;
+
+use crate::insn::{AbsentRepeater, Insn, Repeat, RepeatEpsilon};
+use crate::program_builder::ProgramBuilder;
+use fancy_regex_info::CompileError;
+
+/// A construct that ends behind the part that was emitted last.
+#[derive(Clone, Copy)]
+pub(crate) enum Closing {
+    /// A capture group.
+    Group {
+        /// The slot in which its start was saved.
+        kept: usize,
+        /// The group's first slot.
+        start: usize,
+        /// The group's second slot.
+        end: usize,
+    },
+    /// A positive look-around, whose position is in the slot.
+    PositiveLookAround {
+        /// The slot.
+        slot: usize,
+    },
+    /// A negative look-around.
+    NegativeLookAround {
+        /// The slot of the height of the backtrack stack.
+        slot: usize,
+        /// The index of its split.
+        split: usize,
+        /// The index of its body.
+        first: usize,
+    },
+    /// An atomic group.
+    AtomicGroup {
+        /// The slot of the height of the backtrack stack.
+        slot: usize,
+    },
+    /// A bounded repeat.
+    BoundedRepeat {
+        /// The index of its head.
+        head: usize,
+        /// The least and the greatest count of iterations.
+        bounds: (usize, usize),
+        /// Whether more iterations are tried first.
+        greedy: bool,
+        /// The slot that counts the iterations.
+        slot: usize,
+    },
+    /// An unbounded repeat.
+    UnboundedRepeat {
+        /// The index of its head.
+        head: usize,
+        /// The least count of iterations.
+        lo: usize,
+        /// Whether more iterations are tried first.
+        greedy: bool,
+        /// The slot that counts the iterations.
+        slot: usize,
+        /// The slot of the position at which the last iteration began.
+        check: usize,
+    },
+    /// An absent repeater.
+    AbsentRepeater {
+        /// The index of its scan.
+        scan: usize,
+        /// The slot of the start.
+        start: usize,
+        /// The slot of the limit.
+        limit: usize,
+    },
+    /// Alternatives, of which the first ends with a jump over the others.
+    Alternatives {
+        /// The index of the jump.
+        jump: usize,
+    },
+}
+
+/// Writes the end of a construct.
+pub(crate) fn close(body: &mut ProgramBuilder, closing: Closing) -> Result<(), CompileError>
+    ensures cap { body.new.cap ≡ body.old.cap }
+    ensures draft { OnOk result (draft_of body.new ≡ closed_by closing (draft_of body.old)) }
+    ensures full { IfErr result (IsFull body.old (closing_room closing)) }
+    ensures refused { IfErr result IsMemoryOrTooComplex }
+{
+    match closing {
+        Closing::Group { kept, start, end } => close_group(body, kept, start, end),
+        Closing::PositiveLookAround { slot } => body.flush_and_push(Insn::Restore(slot)),
+        Closing::NegativeLookAround { slot, split, first } => {
+            close_negative_look_around(body, slot, split, first)
+        }
+        Closing::AtomicGroup { slot } => body.flush_and_push(Insn::EndAtomic(slot)),
+        Closing::BoundedRepeat {
+            head,
+            bounds,
+            greedy,
+            slot,
+        } => close_bounded_repeat(body, head, bounds, greedy, slot),
+        Closing::UnboundedRepeat {
+            head,
+            lo,
+            greedy,
+            slot,
+            check,
+        } => close_unbounded_repeat(body, head, lo, greedy, (slot, check)),
+        Closing::AbsentRepeater { scan, start, limit } => close_absent(body, scan, start, limit),
+        Closing::Alternatives { jump } => close_alternatives(body, jump),
+    }
+}
+
+/// Sets the slots of a group.
+fn close_group(
+    body: &mut ProgramBuilder,
+    kept: usize,
+    start: usize,
+    end: usize,
+) -> Result<(), CompileError>
+    ensures cap { body.new.cap ≡ body.old.cap }
+    ensures draft { OnOk result (draft_of body.new ≡ closed_by (ends.Group kept start end) (draft_of body.old)) }
+    ensures full { IfErr result (IsFull body.old 2) }
+    ensures refused { IfErr result IsMemoryOrTooComplex }
+{
+    body.flush_and_push(Insn::SaveCaptureGroupStart { kept, slot: start })?;
+    body.push_insn(Insn::Save(end))?;
+    Ok(())
+}
+
+/// Lets a negative look-around fail where its body matched, and go on behind it where it did not.
+fn close_negative_look_around(
+    body: &mut ProgramBuilder,
+    slot: usize,
+    split: usize,
+    first: usize,
+) -> Result<(), CompileError>
+    ensures cap { body.new.cap ≡ body.old.cap }
+    ensures draft { OnOk result (draft_of body.new ≡ closed_by (ends.NegativeLookAround slot split first) (draft_of body.old)) }
+    ensures full { IfErr result (IsFull body.old 2) }
+    ensures refused { IfErr result IsMemoryOrTooComplex }
+{
+    body.flush_and_push(Insn::FailNegativeLookAround(slot))?;
+    let second = body.len();
+    body.patch(split, Insn::Split(first, second));
+    Ok(())
+}
+
+/// Leads back to the head of a bounded repeat, which is written now.
+fn close_bounded_repeat(
+    body: &mut ProgramBuilder,
+    head: usize,
+    bounds: (usize, usize),
+    greedy: bool,
+    slot: usize,
+) -> Result<(), CompileError>
+    ensures cap { body.new.cap ≡ body.old.cap }
+    ensures draft { OnOk result (draft_of body.new ≡ closed_by (ends.BoundedRepeat head bounds greedy slot) (draft_of body.old)) }
+    ensures full { IfErr result (IsFull body.old 2) }
+    ensures refused { IfErr result IsMemoryOrTooComplex }
+{
+    body.flush_and_push(Insn::Jmp(head))?;
+    let (lo, hi) = bounds;
+    let counted = Repeat {
+        lo,
+        hi,
+        next: body.len(),
+        repeat: slot,
+    };
+    body.patch(head, bounded_repeat_head(counted, greedy));
+    Ok(())
+}
+
+/// The head of a bounded repeat.
+fn bounded_repeat_head(repeat: Repeat, greedy: bool) -> Insn
+    ensures { op_of result ≡ op.repeat greedy repeat.lo repeat.hi repeat.next repeat.repeat }
+{
+    if greedy {
+        Insn::RepeatGr(repeat)
+    } else {
+        Insn::RepeatNg(repeat)
+    }
+}
+
+/// Leads back to the head of an unbounded repeat, which is written now.
+fn close_unbounded_repeat(
+    body: &mut ProgramBuilder,
+    head: usize,
+    lo: usize,
+    greedy: bool,
+    slots: (usize, usize),
+) -> Result<(), CompileError>
+    ensures cap { body.new.cap ≡ body.old.cap }
+    ensures draft { OnOk result (draft_of body.new ≡ closed_by (ends.UnboundedRepeat head lo greedy slots.0 slots.1) (draft_of body.old)) }
+    ensures full { IfErr result (IsFull body.old 2) }
+    ensures refused { IfErr result IsMemoryOrTooComplex }
+{
+    body.flush_and_push(Insn::Jmp(head))?;
+    let (repeat, check) = slots;
+    let endless = RepeatEpsilon {
+        lo,
+        next: body.len(),
+        repeat,
+        check,
+    };
+    body.patch(head, unbounded_repeat_head(endless, greedy));
+    Ok(())
+}
+
+/// The head of an unbounded repeat.
+fn unbounded_repeat_head(repeat: RepeatEpsilon, greedy: bool) -> Insn
+    ensures { op_of result ≡ op.repeat_epsilon greedy repeat.lo repeat.next repeat.repeat repeat.check }
+{
+    if greedy {
+        Insn::RepeatEpsilonGr(repeat)
+    } else {
+        Insn::RepeatEpsilonNg(repeat)
+    }
+}
+
+/// Writes the end of an absent repeater, and its scan.
+fn close_absent(
+    body: &mut ProgramBuilder,
+    scan: usize,
+    start: usize,
+    limit: usize,
+) -> Result<(), CompileError>
+    ensures cap { body.new.cap ≡ body.old.cap }
+    ensures draft { OnOk result (draft_of body.new ≡ closed_by (ends.AbsentRepeater scan start limit) (draft_of body.old)) }
+    ensures full { IfErr result (IsFull body.old 2) }
+    ensures refused { IfErr result IsMemoryOrTooComplex }
+{
+    let limits = AbsentRepeater::Limit { limit };
+    body.flush_and_push(Insn::AbsentRepeater(limits))?;
+    let end = body.len();
+    let ends = AbsentRepeater::End { start, limit };
+    body.push_insn(Insn::AbsentRepeater(ends))?;
+    let scans = AbsentRepeater::Scan { limit, end };
+    body.patch(scan, Insn::AbsentRepeater(scans));
+    Ok(())
+}
+
+/// Lets the jump behind the first of some alternatives lead here.
+fn close_alternatives(body: &mut ProgramBuilder, jump: usize) -> Result<(), CompileError>
+    ensures cap { body.new.cap ≡ body.old.cap }
+    ensures draft { OnOk result (draft_of body.new ≡ closed_by (ends.Alternatives jump) (draft_of body.old)) }
+    ensures full { IfErr result (IsFull body.old 0) }
+    ensures refused { IfErr result IsMemoryOrTooComplex }
+{
+    body.flush()?;
+    let end = body.len();
+    body.patch(jump, Insn::Jmp(end));
+    Ok(())
+}

@@ -1,0 +1,92 @@
+//! What is left to emit.
+
+use crate::closing::Closing;
+use crate::emitter::Scope;
+use fancy_regex_info::Info;
+
+/// A part of a program that is still to be emitted.
+#[derive(Clone, Copy)]
+pub(crate) enum Task<'i, 'e> {
+    /// A node; with `behind` it first goes back by its own length.
+    Node {
+        /// The node.
+        info: &'i Info<'e>,
+        /// Whether it goes back first.
+        behind: bool,
+        /// Its context.
+        scope: Scope,
+    },
+    /// The parts of a concatenation.
+    Row {
+        /// The parts.
+        parts: &'i [Info<'e>],
+        /// Their context.
+        scope: Scope,
+    },
+    /// The branches of an alternation; with `behind` each first goes back by its own length.
+    Branches {
+        /// The branches.
+        branches: &'i [Info<'e>],
+        /// Whether each goes back first.
+        behind: bool,
+        /// Their context.
+        scope: Scope,
+    },
+    /// Branches that are tried where the one that was just emitted does not match: its end, and then they.
+    Otherwise {
+        /// The index of the split in front of the branch that was emitted.
+        split: usize,
+        /// The index of that branch.
+        first: usize,
+        /// The other branches.
+        branches: &'i [Info<'e>],
+        /// Whether each goes back first.
+        behind: bool,
+        /// Their context.
+        scope: Scope,
+    },
+    /// The branches of a conditional, whose condition was just emitted.
+    Tested {
+        /// The slot of the height of the backtrack stack.
+        slot: usize,
+        /// The index of the split in front of the condition.
+        split: usize,
+        /// The index of the condition.
+        first: usize,
+        /// What is matched where the condition matches.
+        yes: &'i Info<'e>,
+        /// What is matched where it does not.
+        no: &'i Info<'e>,
+        /// Their context.
+        scope: Scope,
+    },
+    /// The end of a construct.
+    Close(Closing),
+    /// The end of a call that was inlined.
+    EndCall,
+}
+
+/// The tasks that a task leads to, at most two.
+#[derive(Clone, Copy)]
+pub(crate) enum Tasks<'i, 'e> {
+    /// None.
+    Nothing,
+    /// One task.
+    One(Task<'i, 'e>),
+    /// One task, and then another one.
+    Two {
+        /// The task that comes next.
+        first: Task<'i, 'e>,
+        /// The task that comes after it.
+        then: Task<'i, 'e>,
+    },
+}
+
+/// What a task left: the first free slot, and the tasks that come next.
+#[derive(Clone, Copy)]
+pub(crate) struct Step<'i, 'e> {
+    /// The first free slot.
+    pub slot: usize,
+    /// The tasks.
+    pub tasks: Tasks<'i, 'e>,
+}
