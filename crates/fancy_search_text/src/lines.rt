@@ -7,6 +7,7 @@ ghost use Rattle.fancy_search_text.specs.Matches.{matches_in, IsErrorOfSearch};
 ghost use Rattle.fancy_search_text.specs.Spans.{AreGroupSpans};
 
 use fancy_regex::{Captures, Match, Regex, Result, laws_of_items};
+use itoa::Buffer;
 use std::alloc::{AllocError, Global};
 
 /// A line `START..END` for each match in the text. `RuntimeError` if a search exceeds a limit, or `Memory`.
@@ -63,5 +64,8 @@ fn write_groups(
 fn write_span(line: &mut String, found: Match<'_>) -> std::result::Result<(), AllocError>
     ensures { OnOk result (string_bytes line.new ≡ string_bytes line.old ++ span_text (found.entry.start, found.entry.end)) }
 {
-    write!(line, "{}..{}", found.start(), found.end())
+    let mut digits = Buffer::new();
+    line.push_str(digits.format(found.start()))?;
+    line.push_str("..")?;
+    line.push_str(digits.format(found.end()))
 }
