@@ -31,7 +31,7 @@ use Rattle.fancy_regex_meta.specs.SearchLimits.{setting_from, search_at}
 use Rattle.fancy_regex_meta.specs.declared.options.RegexOptions.{RegexOptions}
 use Rattle.fancy_regex_meta.proofs.MatchOffsetLemmas.{first_fits, first_lies}
 use Rattle.fancy_regex_meta.proofs.SearchLemmas.{none-past}
-use Rattle.fancy_regex.specs.ByteSetLaws.{StartsIn, HoldsAll, MatchesHave, MatchesStartIn, MatchesRequire}
+use Rattle.fancy_regex.specs.ByteSetLaws.{StartsIn, HoldsAll, MatchesHave, MatchesStartIn, FindsOnlyIn, MatchesRequire}
 use Rattle.fancy_regex.proofs.InOrderLemmas.{in_order}
 
 boundary_after : (text : List ℕ) (p : ℕ) → IsUtf8 text → IsCharBoundary text p → p < length text → IsCharBoundary text (position_after text p)
@@ -133,3 +133,14 @@ pub starts_hold_if : (o : RegexOptions) (pattern : List ℕ) (t : Tree) (found :
     IfSome found (λ set. StartBytesHold o.unicode_mode t (has set)) → IfSome found (λ set. MatchesStartIn o pattern (has set))
 starts_hold_if o pattern t None same law = tt
 starts_hold_if o pattern t (Some set) same law = starts_hold o pattern (has set) (subst (λ u. StartBytesHold o.unicode_mode u (has set)) same law)
+
+pub only_in : (o : RegexOptions) (pattern : List ℕ) (set : Bytes) → StartBytesHold o.unicode_mode (tree_in o pattern) set → FindsOnlyIn o pattern set
+only_in o pattern set law built text config continue_at p m utf8 at e =
+    (law (record (setting_in o text config) { continue_at = continue_at }) (refl, refl)).0 utf8 (accepted_in_order o pattern built)
+    (record { first = p; stop = config.range_end; anchored = true; options = options_in o }) p m at e
+
+-- the same of a set that may not be known, of the tree that was parsed
+pub only_in_if : (o : RegexOptions) (pattern : List ℕ) (t : Tree) (found : Option ByteSet) → t ≡ tree_in o pattern →
+    IfSome found (λ set. StartBytesHold o.unicode_mode t (has set)) → IfSome found (λ set. FindsOnlyIn o pattern (has set))
+only_in_if o pattern t None same law = tt
+only_in_if o pattern t (Some set) same law = only_in o pattern (has set) (subst (λ u. StartBytesHold o.unicode_mode u (has set)) same law)

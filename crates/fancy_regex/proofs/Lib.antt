@@ -6,5 +6,6 @@ pub mod SetPositionLemmas
 pub mod SetOneLemmas
 pub mod SetBuildLemmas
 pub mod SetSearchLemmas
+pub mod SetStartLemmas
 -- what proofs above cite of the lemmas of the crates below, under this crate's name
 pub use Rattle.fancy_regex_search.proofs.IterationLemmas

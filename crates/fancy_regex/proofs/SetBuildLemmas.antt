@@ -9,7 +9,7 @@ use Rattle.fancy_regex_meta.specs.declared.options.RegexOptions.{RegexOptions}
 use Rattle.fancy_regex_meta.specs.declared.error.Error.{Error}
 use Rattle.fancy_regex_meta.specs.declared.error.Error.TheVariants as told
 use Rattle.fancy_regex_search.specs.declared.regex.Regex.{Regex}
-use Rattle.fancy_regex.specs.SetMembers.{IsBuiltOf, AreBuiltOf, IsErrorOfPattern, RefusesPatterns}
+use Rattle.fancy_regex.specs.SetMembers.{IsBuiltOf, AreBuiltOf, RefusesPatterns}
 
 module _ (o : RegexOptions) where
   pub built_more : (ps : List (List ℕ)) (rs : List Regex) (p : List ℕ) (r : Regex) → AreBuiltOf o ps rs → IsBuiltOf o p r →

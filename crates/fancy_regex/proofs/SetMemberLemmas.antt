@@ -1,5 +1,5 @@
 -- What the members of a set find at a position, member by member.
-use Rattle.std.proofs.Common.{◌≡◌, ℕ, ◌+◌, ◌<◌, ◌≤◌, List, [], ◌∷◌, length, get_or, drop, Option, Some, None, refl, sym, ap, subst, ◌∙◌, ⊎_elim, arith}
+use Rattle.std.proofs.Common.{◌≡◌, ℕ, zero, suc, ◌+◌, ◌-◌, ◌<◌, ◌≤◌, IsUtf8, IsCharBoundary, List, [], ◌∷◌, length, get_or, drop, Option, Some, None, inl, inr, refl, sym, ap, subst, ◌∙◌, ⊎_elim, arith}
 use Rattle.std.specs.Prelude.{slice_get}
 use Rattle.std.proofs.lemmas.List.{drop_more, drop_all}
 use Rattle.std.proofs.lemmas.Option.{get_or_from_slice_get, slice_get_within, slice_get_cases, same_Some}
@@ -7,10 +7,12 @@ use Rattle.fancy_regex_meaning.specs.Searches.{Match, member_match, found_at}
 use Rattle.fancy_regex_input.specs.SearchInputs.{input_of}
 use Rattle.fancy_regex_input.specs.declared.config.SearchConfig.{SearchConfig}
 use Rattle.fancy_regex_meta.specs.MetaMatches.{meta_pattern}
-use Rattle.fancy_regex_meta.specs.MemberSearches.{meta_match_at}
+use Rattle.fancy_regex_meta.specs.MemberSearches.{meta_match_at, MemberStaysInLimits}
 use Rattle.fancy_regex_search.specs.CaptureSpans.{AreGroupsOf, span_in}
 use Rattle.fancy_regex_search.specs.declared.regex.Regex.{Regex}
-use Rattle.fancy_regex.specs.SetAnswers.{member_of, members_of, match_of_member, found_from, set_continue_at, IsMatchOfMember}
+use Rattle.std.proofs.lemmas.Bool.{cases_lt}
+use Rattle.fancy_regex.specs.SetAnswers.{member_of, members_of, match_of_member, found_from, set_continue_at, IsInLimits, AreInLimits, IsMatchOfMember}
+use Rattle.fancy_regex.specs.SetStarts.{FindsNoneAt, FindNoneBetween}
 
 pub drop_here : {A : Type 0} (xs : List A) (k : ℕ) (x : A) → slice_get xs k ≡ Some x → drop k xs ≡ x ∷ drop (k + 1) xs
 drop_here xs k x e = drop_more xs k x (slice_get_within xs k x e) ∙ ap (λ y. y ∷ drop (k + 1) xs) (get_or_from_slice_get xs k x x e)
@@ -50,6 +52,30 @@ module _ (regexes : List Regex) (text : List ℕ) (config : SearchConfig) (p : �
       (λ (h : (length regexes ≤ k) × (slice_get regexes k ≡ None)). absurd (omega (arith, lt, h.0)))
       (slice_get_cases regexes k).1
 
+  none_of : (o : Option Match) → ((m : Match) → o ≡ Some m → ⊥) → o ≡ None
+  none_of None k = refl
+  none_of (Some m) k = absurd (k m refl)
+
+  -- members that cannot match for the byte at the position add nothing
+  module _ (utf8 : IsUtf8 text) (cut : IsCharBoundary text p) (byte : Option ℕ) (here : slice_get text p ≡ byte) where
+    found_over : (n i k : ℕ) → i + n ≡ k → k ≤ length regexes → FindNoneBetween regexes byte i k → found i ≡ found k
+    found_over zero i k is le none = let same : i ≡ k = omega (arith, is) in ap found same
+    found_over (suc n) i k is le none =
+        let r = some_member i (omega (arith, is, le)) in
+        let nothing : own r.0 ≡ None =
+        none_of (own r.0) (λ m e. none i (omega arith) (omega (arith, is)) r.0 r.1 text config (set_continue_at config) p m utf8 cut here e) in
+        found_none i r.0 r.1 nothing
+        ∙ found_over n (i + 1) k (omega (arith, is)) le (λ j low high. none j (omega (arith, low)) high)
+
+    pub found_passed : (i k : ℕ) → i ≤ k → k ≤ length regexes → FindNoneBetween regexes byte i k → found i ≡ found k
+    found_passed i k low le none = found_over (k - i) i k (omega (arith, low)) le none
+
+    pub found_rest : (i : ℕ) → FindNoneBetween regexes byte i (length regexes) → found i ≡ []
+    found_rest i none =
+        ⊎_elim (λ (lt : i < length regexes). found_passed i (length regexes) (omega (arith, lt)) (omega arith) none ∙ found_past (length regexes) (omega arith))
+        (λ (past : length regexes ≤ i). found_past i past)
+        (cases_lt i (length regexes))
+
   -- the search of the member with a number is that of the regex that stands there
   pub asked : (k : ℕ) (taken regex : Regex) (at : Option ℕ) (o : Option Match) → slice_get regexes k ≡ Some taken → slice_get regexes k ≡ Some regex →
       at ≡ set_continue_at config → meta_match_at taken.meta text config at p ≡ o → own regex ≡ o
@@ -57,6 +83,31 @@ module _ (regexes : List Regex) (text : List ℕ) (config : SearchConfig) (p : �
       ap own (same_Some regex taken (sym there ∙ here))
       ∙ sym (ap (λ (a : Option ℕ). meta_match_at taken.meta text config a p) continues)
       ∙ is
+
+  abbrev limits_at : ℕ → Type 0
+  limits_at = IsInLimits regexes text config p
+
+  abbrev limits_from : ℕ → ℕ → Type 0
+  limits_from = AreInLimits regexes text config p
+
+  -- the member that was asked stays within its limits
+  pub asked_stays : (k : ℕ) (taken : Regex) (at : Option ℕ) → slice_get regexes k ≡ Some taken → at ≡ set_continue_at config →
+      MemberStaysInLimits taken.meta text config at p → limits_at k
+  asked_stays k taken at here continues h = λ regex there.
+      inr (subst (λ (a : Option ℕ). MemberStaysInLimits regex.meta text config a p) continues
+      (subst (λ (r : Regex). MemberStaysInLimits r.meta text config at p) (same_Some taken regex (sym here ∙ there)) h))
+
+  pub limits_over : (before i k : ℕ) (byte : Option ℕ) → slice_get text p ≡ byte → limits_from before i → FindNoneBetween regexes byte i k → limits_from before k
+  limits_over before i k byte here h none = λ j low high.
+      ⊎_elim (λ (lt : j < i). h j low lt)
+      (λ (ge : i ≤ j). λ regex there. inl (subst (λ (b : Option ℕ). FindsNoneAt regex b) (sym here) (none j ge high regex there)))
+      (cases_lt j i)
+
+  pub limits_one : (before k : ℕ) → limits_from before k → limits_at k → limits_from before (k + 1)
+  limits_one before k h last = λ j low high.
+      ⊎_elim (λ (lt : j < k). h j low lt)
+      (λ (ge : k ≤ j). let same : k ≡ j = omega (arith, ge, high) in subst limits_at same last)
+      (cases_lt j k)
 
   pub is_match : (k : ℕ) (taken shown : Regex) (m : Match) (slots : List ℕ) (span : ℕ × ℕ) → slice_get regexes k ≡ Some taken → shown ≡ taken →
       AreGroupsOf (meta_pattern taken.meta) slots m → span ≡ span_in m → IsMatchOfMember regexes (k, m) k shown slots span

@@ -1,5 +1,5 @@
 -- The positions that the search of a set tries, one after another.
-use Rattle.std.proofs.Common.{◌≡◌, ℕ, ◌+◌, ◌-◌, ◌<◌, ◌≤◌, min, max, Bool, true, false, List, [], ◌∷◌, length, Option, Some, None, refl, sym, ap, ◌∙◌, ⊎_elim, arith, nat_lt, lt-ltb, le-ltb, if◌then◌else◌, IsUtf8, IsCharBoundary}
+use Rattle.std.proofs.Common.{◌≡◌, ℕ, ◌+◌, ◌-◌, ◌<◌, ◌≤◌, min, Bool, true, false, List, [], ◌∷◌, length, Option, Some, None, refl, sym, ap, ◌∙◌, ⊎_elim, arith, nat_lt, lt-ltb, le-ltb, if◌then◌else◌, IsUtf8, IsCharBoundary}
 use Rattle.std.specs.Prelude.{option_map, unwrap_or}
 use Rattle.std.specs.List.{filter}
 use Rattle.std.specs.Char.{len_utf8}
@@ -9,7 +9,7 @@ use Rattle.fancy_regex_meaning.specs.Positions.{numbers_from, boundaries, positi
 use Rattle.fancy_regex_meaning.specs.Searches.{Match, SetAnswer, answer_if_any, first_some, set_starts, set_answer}
 use Rattle.fancy_regex_meaning.proofs.NextBoundaryLemmas.{from_here, next_place, last_place, end_place, char_of}
 use Rattle.std.proofs.lemmas.Str.{IsUtf8-drop}
-use Rattle.fancy_regex_input.specs.SearchInputs.{input_of, FitsText}
+use Rattle.fancy_regex_input.specs.SearchInputs.{input_of}
 use Rattle.fancy_regex_input.specs.declared.config.SearchConfig.{SearchConfig}
 use Rattle.fancy_regex_meta.specs.SearchLimits.{effective_start}
 use Rattle.fancy_regex_search.specs.declared.regex.Regex.{Regex}

@@ -66,15 +66,20 @@ module _ (regexes : List Regex) (text : List ℕ) (config : SearchConfig) (utf8 
     pub tried_here : effective_start config ≤ p → IsTriedAt text config p
     tried_here behind = record { boundary = at_boundary p cut within; behind = behind; inside = within }
 
-    pub none_later : ((q : ℕ) → IsTriedAt text config q → q < p → found_from regexes text config q 0 ≡ []) → found_from regexes text config p 0 ≡ [] →
-        (q : ℕ) → IsTriedAt text config q → q < position_after text p → found_from regexes text config q 0 ≡ []
-    none_later none here q tried lt =
-        ⊎_elim (λ (before : q < p). none q tried before)
+    -- what holds at all tried positions up to this one holds at all before the next one
+    pub all_later : (P : ℕ → Type 0) → ((q : ℕ) → IsTriedAt text config q → q < p → P q) → P p →
+        (q : ℕ) → IsTriedAt text config q → q < position_after text p → P q
+    all_later P before here q tried lt =
+        ⊎_elim (λ (early : q < p). before q tried early)
         (λ (from : p ≤ q).
         ⊎_elim (λ (past : p < q). absurd (none_between text p q past lt tried.boundary))
-        (λ (upto : q ≤ p). let same : p ≡ q = omega arith in subst (λ x. found_from regexes text config x 0 ≡ []) same here)
+        (λ (upto : q ≤ p). let same : p ≡ q = omega arith in subst P same here)
         (cases_lt p q))
         (cases_lt q p)
+
+    pub none_later : ((q : ℕ) → IsTriedAt text config q → q < p → found_from regexes text config q 0 ≡ []) → found_from regexes text config p 0 ≡ [] →
+        (q : ℕ) → IsTriedAt text config q → q < position_after text p → found_from regexes text config q 0 ≡ []
+    none_later none here q tried lt = all_later (λ x. found_from regexes text config x 0 ≡ []) none here q tried lt
 
     pub answer_behind : answer_of_set regexes text config ≡ first_some (answer_at regexes text config) (boundaries text p (last_tried config)) →
         found_from regexes text config p 0 ≡ [] →

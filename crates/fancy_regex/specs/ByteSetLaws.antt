@@ -1,9 +1,9 @@
 -- What the byte sets of a pattern say of the searches of its regexes.
-use Rattle.std.specs.Prelude.{◌≡◌, ℕ, true, List, Ok, Some, slice_get, IsUtf8}
+use Rattle.std.specs.Prelude.{◌≡◌, ℕ, true, List, Ok, Option, Some, slice_get, IsUtf8, IsCharBoundary}
 use Rattle.regex_hir.specs.Text.{is_some_and}
 use Rattle.fancy_regex_tree.specs.Parse.{Parsed}
 use Rattle.fancy_regex_meaning.specs.WayLaws.{Each}
-use Rattle.fancy_regex_meaning.specs.Searches.{Match, find_input, all_items}
+use Rattle.fancy_regex_meaning.specs.Searches.{Match, find_input, all_items, match_at}
 use Rattle.fancy_regex_class.specs.declared.class.ClassError.TheVariants as of_class
 use Rattle.fancy_regex_info.specs.declared.error.CompileError.{CompileError}
 use Rattle.fancy_regex_info.specs.declared.error.CompileError.TheVariants as of_building
@@ -36,6 +36,15 @@ pub record MatchesHave (o : RegexOptions) (pattern : List ℕ) (P : List ℕ →
 -- Each match of a regex that is built of the pattern with these options starts at a byte of the set.
 abbrev pub MatchesStartIn : RegexOptions → List ℕ → Bytes → Type 0
 MatchesStartIn o pattern set = Accepts o pattern → MatchesHave o pattern (StartsIn set)
+
+-- A regex that is built of the pattern with these options finds a match at a place, as a pattern set asks for it, only where a byte
+-- of the set stands. There it starts.
+abbrev pub FindsOnlyIn : RegexOptions → List ℕ → Bytes → Type 0
+FindsOnlyIn o pattern set =
+    Accepts o pattern → (text : List ℕ) (config : SearchConfig) (continue_at : Option ℕ) (p : ℕ) (m : Match) → IsUtf8 text → IsCharBoundary text p →
+    match_at (record (setting_in o text config) { continue_at = continue_at }) (pattern_in o pattern)
+    (record { first = p; stop = config.range_end; anchored = true; options = options_in o }) p ≡ Some m →
+    (m.start ≡ p) × (is_some_and (slice_get text p) set ≡ true)
 
 -- Each text with a match has each byte of the set.
 abbrev pub MatchesRequire : RegexOptions → List ℕ → Bytes → Type 0

@@ -1,6 +1,7 @@
 pub mod Reprinting
 pub mod ByteSetLaws
 pub mod SetMembers
+pub mod SetStarts
 pub mod SetAnswers
 -- what the public clauses cite of the crates below, under this crate's name
 pub use Rattle.fancy_regex_search.specs.RemainingMatches

@@ -1,16 +1,17 @@
 -- The answer of a set of regexes, by the ordered matches of each member.
-use Rattle.std.specs.Prelude.{◌≡◌, ℕ, ◌+◌, ◌≤◌, ◌<◌, min, not, List, [], ◌∷◌, map, drop, Option, Some, None, MatchOption, MatchResult, slice_get, IsCharBoundary, if◌then◌else◌}
+use Rattle.std.specs.Prelude.{◌≡◌, ◌⊎◌, ℕ, ◌+◌, ◌≤◌, ◌<◌, min, not, length, List, [], ◌∷◌, map, drop, Option, Some, None, MatchOption, MatchResult, slice_get, IsCharBoundary, if◌then◌else◌}
 use Rattle.std.specs.declared.result.Result.{Result}
 use Rattle.fancy_regex_meaning.specs.Searches.{Match, Member, SetAnswer, found_at, set_answer}
 use Rattle.fancy_regex_input.specs.SearchInputs.{input_of}
 use Rattle.fancy_regex_input.specs.declared.config.SearchConfig.{SearchConfig}
 use Rattle.fancy_regex_meta.specs.Patterns.{options_in, setting_in}
 use Rattle.fancy_regex_meta.specs.MetaMatches.{meta_pattern, meta_match}
-use Rattle.fancy_regex_meta.specs.MemberSearches.{meta_match_at, IsMemberError}
+use Rattle.fancy_regex_meta.specs.MemberSearches.{meta_match_at, IsMemberError, MemberStaysInLimits}
 use Rattle.fancy_regex_meta.specs.SearchLimits.{effective_start}
 use Rattle.fancy_regex_meta.specs.declared.error.Error.{Error}
 use Rattle.fancy_regex_search.specs.CaptureSpans.{AreGroupsOf, IsResultFor, span_in}
 use Rattle.fancy_regex_search.specs.declared.regex.Regex.{Regex}
+use Rattle.fancy_regex.specs.SetStarts.{FindsNoneAt}
 
 -- where `\G` matches: at the effective start of the set's search, whatever position is tried
 abbrev pub set_continue_at : SearchConfig → Option ℕ
@@ -57,13 +58,41 @@ module _ (regexes : List Regex) (text : List ℕ) (config : SearchConfig) where
   IsAnswerOfMember Shows p k found =
       (regex : Regex) → slice_get regexes k ≡ Some regex → IsResultFor (λ x m. Shows x (k, m)) found (match_of_member text config p regex)
 
+  -- The search of the member with this number at a position stays within its limits, or is not needed: the member has no match at
+  -- any place with the byte that stands there.
+  abbrev pub IsInLimits : ℕ → ℕ → Type 0
+  IsInLimits p k =
+      (regex : Regex) → slice_get regexes k ≡ Some regex →
+      FindsNoneAt regex (slice_get text p) ⊎ MemberStaysInLimits regex.meta text config (set_continue_at config) p
+
+  -- so for each member with a number from i on, below k
+  abbrev pub AreInLimits : ℕ → ℕ → ℕ → Type 0
+  AreInLimits p i k = (j : ℕ) → i ≤ j → j < k → IsInLimits p j
+
+  -- so for each member at each tried position before p
+  abbrev pub AreInLimitsBefore : ℕ → Type 0
+  AreInLimitsBefore p = (q : ℕ) → IsTriedAt text config q → q < p → AreInLimits q 0 (length regexes)
+
+  -- What an iterator passes over on its way, by the number of the next member before and after it: all that are left, where there
+  -- is no item; else those before the member of the item, and that member where its item is no error.
+  abbrev pub PassesInLimits : {X : Type 0} → ℕ → ℕ → Option (Result X Error) → ℕ → Type 0
+  PassesInLimits p before result after =
+      MatchOption result (AreInLimits p before (length regexes))
+      (λ item. MatchResult item (λ x. AreInLimits p before after) (λ e. (k : ℕ) → after ≡ k + 1 → AreInLimits p before k))
+
+  -- what the search passes over on its way to its answer, by the position and the number of the next member
+  abbrev pub SearchesInLimits : Option (ℕ × ℕ) → Type 0
+  SearchesInLimits None = AreInLimitsBefore (last_tried config + 1)
+  SearchesInLimits (Some at) = AreInLimitsBefore at.0 × AreInLimits at.0 0 at.1
+
   -- The error is the first one met: a member's at a tried position, where no member matches at an earlier one, and no member with
-  -- a smaller number at this one.
+  -- a smaller number at this one, and the searches of all those stay within their limits or are not needed.
   abbrev pub IsSetError : Error → Type 0
   IsSetError e =
       (p : ℕ) × (k : ℕ) × IsTriedAt text config p
       × ((q : ℕ) → IsTriedAt text config q → q < p → found_from q 0 ≡ [])
       × (found_from p 0 ≡ found_from p k) × IsErrorOfMember p k e
+      × AreInLimitsBefore p × AreInLimits p 0 k
 
   -- What asking the members gives, by the number of the next one before and after it: no member is left that matches; or the
   -- first of those that are left and match; or the error of a member before which none of them matches, and the next one is

@@ -169,7 +169,7 @@ impl RegexBuilder {
         self
     }
 
-    /// Allows a search to skip start offsets at which no match can start. It changes no answer and has no effect yet.
+    /// Allows a search to skip start offsets at which no match can start. It changes no answer, and has no effect on plain patterns.
     /// Default: false.
     pub fn seek(&mut self, yes: bool) -> &mut Self
         ensures value { result.now.options.options ≡ record (self.old.options.options) { seek = yes } }

@@ -6,7 +6,7 @@ ghost use Rattle.fancy_regex_bytes.specs.StartBytes as starts;
 ghost use Rattle.fancy_regex_bytes.specs.RequiredBytes as required;
 ghost use Rattle.fancy_regex_meta.specs.Patterns.{tree_in};
 ghost use Rattle.fancy_regex_meta.specs.Reading.{IsReadingError};
-ghost use Rattle.fancy_regex.specs.ByteSetLaws.{MatchesStartIn, MatchesRequire, IsStartBytesError};
+ghost use Rattle.fancy_regex.specs.ByteSetLaws.{MatchesStartIn, FindsOnlyIn, MatchesRequire, IsStartBytesError};
 
 use crate::options_builder::RegexOptionsBuilder;
 use fancy_regex_bytes::{ByteSet, required_bytes, start_bytes};
@@ -25,6 +25,7 @@ impl RegexOptionsBuilder {
     pub fn start_bytes(&self, alloc: Global, pattern: &str) -> Result<Option<ByteSet>>
         ensures answer { IfOk result (λ set. option_map has set ≡ starts.start_bytes self.now.options.unicode_mode (tree_in self.now.options pattern.now)) }
         ensures starts { IfOk result (λ found. IfSome found (λ set. MatchesStartIn self.now.options pattern.now (has set))) }
+        ensures members { IfOk result (λ found. IfSome found (λ set. FindsOnlyIn self.now.options pattern.now (has set))) }
         ensures refused { IfErr result (λ e. IsStartBytesError self.now.options pattern.now e) }
     {
         let tree = self.options.parse(alloc, pattern)?;

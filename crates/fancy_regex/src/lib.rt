@@ -10,6 +10,7 @@ mod reprint;
 mod set;
 mod set_matches;
 mod set_search;
+mod set_starts;
 
 pub use builder::RegexBuilder;
 pub use fancy_regex_bytes::{ByteSet, ByteSetIter};

@@ -151,7 +151,7 @@ impl RegexOptionsBuilder {
         self
     }
 
-    /// Allows a search to skip start offsets at which no match can start. It changes no answer and has no effect yet.
+    /// Allows a search to skip start offsets at which no match can start. It changes no answer, and has no effect on plain patterns.
     /// Default: false.
     pub fn seek(&mut self, yes: bool) -> &mut Self
         ensures value { result.now.options ≡ record (self.old.options) { seek = yes } }

@@ -1,9 +1,9 @@
 //! The members of a set that match at one position: `RegexSetMatchesAt`, and `RegexSetMatch` for each.
 
-ghost use Rattle.std.specs.Prelude.{◌≡◌, ◌≤◌, ◌+◌, ◌-◌, ◌<◌, None, Some, Ok, IfOk, IfErr, MatchOption, length, option_map, unwrap_or, slice_range, IsCharBoundary};
+ghost use Rattle.std.specs.Prelude.{◌≡◌, ◌≤◌, ◌+◌, ◌-◌, ◌<◌, None, Some, Ok, IfOk, IfErr, MatchOption, length, option_map, unwrap_or, slice_get, slice_range, IsUtf8, IsCharBoundary};
 ghost use Rattle.std.specs.Iterator.{at_most};
 ghost use Rattle.fancy_regex_input.specs.SearchInputs.{FitsText};
-ghost use Rattle.fancy_regex.specs.SetAnswers.{YieldsMember, IsMatchOfMember, set_continue_at};
+ghost use Rattle.fancy_regex.specs.SetAnswers.{YieldsMember, PassesInLimits, IsMatchOfMember, set_continue_at};
 ghost use Rattle.fancy_regex_meta.specs.MatchOffsets.{AreBoundaries};
 
 use crate::set::RegexSet;
@@ -116,7 +116,9 @@ impl<'s, S: Input> Iterator for RegexSetMatchesAt<'s, S> {
         (λ x found. IsMatchOfMember s.members.set.now.regexes.items found x.pattern x.matched.captures.regex.now x.matched.captures.slots.items (x.matched.start, x.matched.end)
         × (x.haystack ≡ s.members.haystack) × (x.matched.captures.haystack ≡ s.members.haystack))
         s.members.position s.next r t.next)
-        (λ x. (r ≡ Some (Ok x)) × (t.next ≡ s.next)) };
+        (λ x. (r ≡ Some (Ok x)) × (t.next ≡ s.next))
+        × MatchOption s.first (PassesInLimits s.members.set.now.regexes.items (S.text s.members.haystack) s.members.config s.members.position s.next r t.next)
+        (λ _. Unit {0}) };
 
     ghost remaining = { λ s. at_most (unwrap_or (option_map (λ _. 1) s.first) 0 + (length s.members.set.now.regexes.items - s.next)) };
 
@@ -159,20 +161,21 @@ pub(crate) struct MembersAt<'s, S: Input> {
 }
 
 impl<'s, S: Input> MembersAt<'s, S> {
-    ghost use Rattle.fancy_regex.specs.SetAnswers.{YieldsMember, IsMatchOfMember, IsAnswerOfMember, IsErrorOfMember};
+    ghost use Rattle.fancy_regex.specs.SetAnswers.{YieldsMember, PassesInLimits, IsInLimits, IsMatchOfMember, IsAnswerOfMember, IsErrorOfMember};
 
-    /// Asks the members from the number `next` on, in the order of their numbers. The match of the first that has one, or the
-    /// error of a member before it; `None` if none of them matches. `next` becomes the number of the first member that was not
-    /// asked.
+    /// Asks the members from the number `next` on, in the order of their numbers, but for those that cannot match here for the byte
+    /// that stands here. The match of the first that has one, or the error of a member before it; `None` if none of them matches.
+    /// `next` becomes the number of the first member that was not asked.
     pub fn advance(&self, next: &mut usize) -> Option<Result<RegexSetMatch<'s, S>>>
-        ensures { YieldsMember self.now.set.now.regexes.items (S.text self.now.haystack) self.now.config
+        ensures item { YieldsMember self.now.set.now.regexes.items (S.text self.now.haystack) self.now.config
             (λ x found. IsMatchOfMember self.now.set.now.regexes.items found x.pattern x.matched.captures.regex.now x.matched.captures.slots.items (x.matched.start, x.matched.end)
             × (x.haystack ≡ self.now.haystack) × (x.matched.captures.haystack ≡ self.now.haystack))
             self.now.position next.old result next.new }
+        ensures limits { PassesInLimits self.now.set.now.regexes.items (S.text self.now.haystack) self.now.config self.now.position next.old result next.new }
     {
-        while *next < self.set.regexes.len() {
-            let number = *next;
-            *next += 1;
+        let byte = self.byte();
+        while let Some(number) = self.set.candidate(byte, *next) {
+            *next = number + 1;
             match self.ask(number) {
                 Ok(Some(found)) => return Some(Ok(found)),
                 Ok(None) => {}
@@ -180,6 +183,14 @@ impl<'s, S: Input> MembersAt<'s, S> {
             }
         }
         None
+    }
+
+    /// The byte at the position; `None` at the end of the haystack.
+    fn byte(&self) -> Option<u8>
+        ensures value { result ≡ slice_get (S.text self.now.haystack) self.now.position }
+        ensures utf8 { IsUtf8 (S.text self.now.haystack) }
+    {
+        self.haystack.as_bytes().get(self.position).copied()
     }
 
     /// The match of the member with this number; `None` if it has no match that starts at the position. `RuntimeError` if its
@@ -191,6 +202,7 @@ impl<'s, S: Input> MembersAt<'s, S> {
             × (x.haystack ≡ self.now.haystack) × (x.matched.captures.haystack ≡ self.now.haystack))
             self.now.position number found) }
         ensures limits { IfErr result (λ e. IsErrorOfMember self.now.set.now.regexes.items (S.text self.now.haystack) self.now.config self.now.position number e) }
+        ensures stays { IfOk result (λ _. IsInLimits self.now.set.now.regexes.items (S.text self.now.haystack) self.now.config self.now.position number) }
     {
         let set = self.set;
         match match_at(

@@ -1,9 +1,9 @@
 //! The search of a set.
 
-ghost use Rattle.std.specs.Prelude.{◌≡◌, ◌∷◌, [], IfOk, IfErr, IfSome, MatchOption, None, Some};
+ghost use Rattle.std.specs.Prelude.{◌≡◌, ◌∷◌, [], IfOk, IfErr, IfSome, MatchOption, None, Some, option_map};
 ghost use Rattle.fancy_regex_meta.specs.MetaMatches.{meta_match};
 ghost use Rattle.fancy_regex_search.specs.declared.regex.Regex.{Regex};
-ghost use Rattle.fancy_regex.specs.SetAnswers.{answer_of_set, last_tried, IsSetError, IsAnswerOfSet, IsAnswerOfOne, IsMatchOfMember};
+ghost use Rattle.fancy_regex.specs.SetAnswers.{answer_of_set, last_tried, IsSetError, SearchesInLimits, IsAnswerOfSet, IsAnswerOfOne, IsMatchOfMember};
 
 use crate::set::RegexSet;
 use crate::set_matches::{MembersAt, RegexSetMatchesAt};
@@ -47,6 +47,8 @@ impl RegexSet {
             regex s.members.position s.first s.next)) }
         ensures of { IfOk result (λ found. IfSome found (λ s. (s.members.set.now ≡ self.now) × (s.members.haystack ≡ input.haystack) × (s.members.config ≡ input.config))) }
         ensures limits { IfErr result (λ e. IsSetError self.now.regexes.items (S.text input.haystack) input.config e) }
+        ensures stays { IfOk result (λ found. SearchesInLimits self.now.regexes.items (S.text input.haystack) input.config
+            (option_map (λ s. (s.members.position, s.next)) found)) }
     {
         laws_of_matches();
         self.first_answer(alloc, input)
@@ -65,6 +67,8 @@ impl RegexSet {
             s.members.position s.first s.next)) }
         ensures of { IfOk result (λ found. IfSome found (λ s. (s.members.set.now ≡ self.now) × (s.members.haystack ≡ input.haystack) × (s.members.config ≡ input.config))) }
         ensures limits { IfErr result (λ e. IsSetError self.now.regexes.items (S.text input.haystack) input.config e) }
+        ensures stays { IfOk result (λ found. SearchesInLimits self.now.regexes.items (S.text input.haystack) input.config
+            (option_map (λ s. (s.members.position, s.next)) found)) }
     {
         let haystack = input.haystack();
         let config = input.config();

@@ -4,7 +4,7 @@ use Rattle.std.proofs.lemmas.Bool.{cases_lt, and_parts}
 use Rattle.fancy_regex_runner.specs.Meaning.{View, reads, is_unbounded}
 use Rattle.fancy_regex_runner.specs.Program.{never_empty}
 use Rattle.fancy_regex_runner.specs.Attempt.{AttemptResult, Continuation, guard, either, save, prefer, pick, rounds, times_try, upto_try, star_try, tail_try, attempt}
-use Rattle.fancy_regex_runner.specs.declared.node.Leaf.{Leaf}
+use Rattle.fancy_regex_states.specs.declared.atom.Leaf.{Leaf}
 use Rattle.fancy_regex_runner.specs.Re.{Re, nothing, read, test, cat, alt, group, repeat}
 
 pub guard_cong : (b : Bool) (x y : AttemptResult) → (b ≡ true → x ≡ y) → guard b x ≡ guard b y

@@ -27,9 +27,9 @@ use Rattle.fancy_regex_class.specs.RunInputs.{group_slots, match_slots, setting_
 use Rattle.fancy_regex_runner.specs.SettingView.{view_of}
 use Rattle.fancy_regex_runner.specs.Easy.{AreStatesOf, IsMade, hit_places}
 use Rattle.fancy_regex_class.specs.declared.input.RunInput.{RunInput}
-use Rattle.fancy_regex_runner.specs.declared.state.State.{State}
-use Rattle.fancy_regex_runner.specs.declared.state.State.TheVariants.{Split, Enter, Leave}
-use Rattle.fancy_regex_runner.specs.declared.state.State.TheVariants as S
+use Rattle.fancy_regex_states.specs.declared.state.State.{State}
+use Rattle.fancy_regex_states.specs.declared.state.State.TheVariants.{Split, Enter, Leave}
+use Rattle.fancy_regex_states.specs.declared.state.State.TheVariants as S
 use Rattle.fancy_regex_runner.proofs.TreeLemmas.{emit_means}
 use Rattle.fancy_regex_runner.proofs.WeightLemmas.{emitted_weighs}
 use Rattle.fancy_regex_runner.proofs.WaysLemmas.{best_from, onward, attempt_lists}

@@ -3,7 +3,7 @@ use Rattle.std.proofs.Common.{◌≡◌, ℕ, zero, suc, ◌*◌, ◌-◌, ◌<�
 use Rattle.std.proofs.lemmas.Bool.{cases_lt, lt-leb, and_parts}
 use Rattle.fancy_regex_runner.specs.Meaning.{Spot, View, each, in_order, after_round, loop_ways, times_ways, upto_ways, tail_ways, is_unbounded, reads, ways, kept}
 use Rattle.fancy_regex_runner.specs.Re.{Re, nothing, read, test, cat, alt, group, repeat}
-use Rattle.fancy_regex_runner.specs.declared.node.Leaf.{Leaf}
+use Rattle.fancy_regex_states.specs.declared.atom.Leaf.{Leaf}
 
 abbrev pub AllOf : (Spot → Type 0) → List Spot → Type 0
 AllOf P [] = Unit {0}

@@ -18,14 +18,15 @@ use Rattle.fancy_regex_class.specs.Classes.{in_class}
 use Rattle.fancy_regex_class.specs.Matchers.{has}
 use Rattle.fancy_regex_class.specs.declared.class.CharClassMatcher.{CharClassMatcher}
 use Rattle.fancy_regex_class.proofs.AdjacentCharLemmas.{char_before_past}
-use Rattle.fancy_regex_runner.specs.CharTests.{leaf_matches_char, is_char, passes, ShowsAll}
+use Rattle.fancy_regex_runner.specs.CharTests.{ShowsAll}
+use Rattle.fancy_regex_states.specs.CharTests.{leaf_matches_char, is_char, passes}
 use Rattle.fancy_regex_runner.specs.SettingView.{leaf_matches, view_of, assertion_of}
 use Rattle.fancy_regex_runner.specs.Easy.{HaveMatchers, rules_for}
 use Rattle.fancy_regex_class.specs.RunInputs.{setting_for}
-use Rattle.fancy_regex_runner.specs.declared.node.Leaf.{Leaf}
-use Rattle.fancy_regex_runner.specs.declared.node.Leaf.TheVariants.{Any, Char, Folded, Class}
-use Rattle.fancy_regex_runner.specs.declared.node.Test.{Test}
-use Rattle.fancy_regex_runner.specs.declared.node.Test.TheVariants.{StartText, EndText, StartLine, EndLine, WordBoundary, NotWordBoundary, LeftWordBoundary, RightWordBoundary}
+use Rattle.fancy_regex_states.specs.declared.atom.Leaf.{Leaf}
+use Rattle.fancy_regex_states.specs.declared.atom.Leaf.TheVariants.{Any, Char, Folded, Class}
+use Rattle.fancy_regex_states.specs.declared.atom.Test.{Test}
+use Rattle.fancy_regex_states.specs.declared.atom.Test.TheVariants.{StartText, EndText, StartLine, EndLine, WordBoundary, NotWordBoundary, LeftWordBoundary, RightWordBoundary}
 use Rattle.fancy_regex_class.specs.declared.input.RunInput.{RunInput}
 use Rattle.fancy_regex_meaning.proofs.NextBoundaryLemmas.{char_of}
 

@@ -11,7 +11,7 @@ use Rattle.fancy_regex_runner.specs.declared.frame.Frame.{Frame}
 use Rattle.fancy_regex_runner.specs.declared.frame.Frame.TheVariants.{Explore, Restore}
 use Rattle.fancy_regex_runner.proofs.WaysLemmas.{better-None, better_assoc, better_stays, better_goes, land_better, land_write}
 
-land_none : (slots : List ℕ) → land slots None ≡ None
+pub land_none : (slots : List ℕ) → land slots None ≡ None
 unfolding land
 land_none slots = refl
 

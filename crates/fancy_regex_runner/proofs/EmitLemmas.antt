@@ -3,10 +3,11 @@ use Rattle.std.proofs.Common.{◌≡◌, ℕ, zero, suc, ◌+◌, ◌*◌, ◌<�
 use Rattle.std.proofs.lemmas.Bool.{cases_lt}
 use Rattle.fancy_regex_runner.specs.Meaning.{View, reads}
 use Rattle.fancy_regex_runner.specs.Attempt.{Continuation, guard, either, save, prefer}
-use Rattle.fancy_regex_runner.specs.Program.{loop_head, push, state_at, NamesBelow, visit, Agrees, AgreeBut}
-use Rattle.fancy_regex_runner.specs.declared.state.State.{State}
-use Rattle.fancy_regex_runner.specs.declared.state.State.TheVariants.{Split, Enter, Leave, Match}
-use Rattle.fancy_regex_runner.specs.declared.state.State.TheVariants as S
+use Rattle.fancy_regex_states.specs.First.{state_at}
+use Rattle.fancy_regex_runner.specs.Program.{loop_head, push, NamesBelow, visit, Agrees, AgreeBut}
+use Rattle.fancy_regex_states.specs.declared.state.State.{State}
+use Rattle.fancy_regex_states.specs.declared.state.State.TheVariants.{Split, Enter, Leave, Match}
+use Rattle.fancy_regex_states.specs.declared.state.State.TheVariants as S
 
 -- the same, but for one place
 unfoldable override : (ℕ → Continuation) → ℕ → Continuation → ℕ → Continuation

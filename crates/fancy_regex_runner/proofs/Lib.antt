@@ -11,6 +11,7 @@ pub mod DfsLemmas
 pub mod StackLemmas
 pub mod StepLemmas
 pub mod StartLemmas
+pub mod RefusalLemmas
 pub mod CarryLemmas
 pub mod PlainLemmas
 pub mod MeaningLemmas

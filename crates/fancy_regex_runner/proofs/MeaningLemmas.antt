@@ -22,8 +22,8 @@ use Rattle.fancy_regex_runner.specs.Meaning as plain
 use Rattle.fancy_regex_runner.specs.Plain.{IsPlain, ArePlain, IsServed, test_of, served, has_no_iteration, unless, classes, row_classes, re_of, row_of, branches_of}
 use Rattle.fancy_regex_class.specs.RunInputs.{group_slots}
 use Rattle.fancy_regex_runner.specs.SettingView.{view_of, leaf_matches}
-use Rattle.fancy_regex_runner.specs.declared.node.Leaf.{Leaf}
-use Rattle.fancy_regex_runner.specs.declared.node.Leaf.TheVariants.{Any, Char, Folded, Class}
+use Rattle.fancy_regex_states.specs.declared.atom.Leaf.{Leaf}
+use Rattle.fancy_regex_states.specs.declared.atom.Leaf.TheVariants.{Any, Char, Folded, Class}
 use Rattle.fancy_regex_runner.proofs.BoundLemmas.{AllOf, Between, Ends, ways_end, tail_ends}
 use Rattle.fancy_regex_runner.proofs.PlainLemmas.{lacks}
 use Rattle.fancy_regex_runner.proofs.CarryLemmas.{Lacks, put, ways_carry, map_twice}

@@ -10,7 +10,7 @@ use Rattle.fancy_regex_runner.specs.Re as re
 use Rattle.fancy_regex_runner.specs.Meaning.{is_unbounded}
 use Rattle.fancy_regex_runner.specs.Program.{never_empty, IsSound, weight, repeat_weight}
 use Rattle.fancy_regex_runner.specs.Plain.{IsPlain, ArePlain, test_of, served, has_no_iteration, unless, classes, re_of, row_of, branches_of}
-use Rattle.fancy_regex_runner.specs.declared.node.Test.{Test}
+use Rattle.fancy_regex_states.specs.declared.atom.Test.{Test}
 use Rattle.fancy_regex_runner.proofs.CarryLemmas.{Lacks}
 
 lacks_served : (m : ℕ) (o : Option Test) → Lacks m (served o)

@@ -3,9 +3,10 @@ use Rattle.std.proofs.Common.{◌≡◌, ℕ, zero, suc, ◌-◌, ◌<◌, ◌�
 use Rattle.std.proofs.lemmas.Bool.{cases_lt, cases_eq}
 use Rattle.fancy_regex_runner.specs.Meaning.{View}
 use Rattle.fancy_regex_runner.specs.Attempt.{Continuation, prefer, pick, times_try, upto_try, star_try, tail_try}
-use Rattle.fancy_regex_runner.specs.Program.{loop_head, push, Emitter, BothEmitter, emitted_times, emitted_both_times, emitted_upto, emitted_both_upto, emitted_star, emitted_both_star, emitted_plus, emitted_both_plus, emitted_many, emitted_both_many, emitted_repeat, emitted_both_repeat, state_at, NamesBelow, visit, AgreeBut}
-use Rattle.fancy_regex_runner.specs.declared.state.State.{State}
-use Rattle.fancy_regex_runner.specs.declared.state.State.TheVariants.{Match}
+use Rattle.fancy_regex_states.specs.First.{state_at}
+use Rattle.fancy_regex_runner.specs.Program.{loop_head, push, Emitter, BothEmitter, emitted_times, emitted_both_times, emitted_upto, emitted_both_upto, emitted_star, emitted_both_star, emitted_plus, emitted_both_plus, emitted_many, emitted_both_many, emitted_repeat, emitted_both_repeat, NamesBelow, visit, AgreeBut}
+use Rattle.fancy_regex_states.specs.declared.state.State.{State}
+use Rattle.fancy_regex_states.specs.declared.state.State.TheVariants.{Match}
 use Rattle.fancy_regex_runner.proofs.AgreeLemmas.{prefer_cong, pick_same, pick_moved, pick_agree, Looks, Moves, star_agree, times_agree, upto_agree, star_unfold, plus_unfold}
 use Rattle.fancy_regex_runner.proofs.EmitLemmas.{length-push, push_done, Pushed, visit_loop_head, Done, DoneBoth}
 

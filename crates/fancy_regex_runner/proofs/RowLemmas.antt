@@ -4,8 +4,8 @@ use Rattle.std.proofs.lemmas.List.{take_more, take_all, map-append}
 use Rattle.fancy_regex_runner.specs.Re.{Re, cats, alts, shape, shapes}
 use Rattle.fancy_regex_runner.specs.declared.node.Node.{Node}
 use Rattle.fancy_regex_runner.specs.Program.{push, emitted, emitted_both, with_branch, with_branch_both, with_branches, with_branches_both}
-use Rattle.fancy_regex_runner.specs.declared.state.State.{State}
-use Rattle.fancy_regex_runner.specs.declared.state.State.TheVariants.{Split}
+use Rattle.fancy_regex_states.specs.declared.state.State.{State}
+use Rattle.fancy_regex_states.specs.declared.state.State.TheVariants.{Split}
 
 -- the last child of a concatenation comes first
 pub last_first : (xs : List Re) (x : Re) (states : List State) (next : ℕ)

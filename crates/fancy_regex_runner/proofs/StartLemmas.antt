@@ -1,6 +1,5 @@
 -- The starts that a search tries, one character after another.
 use Rattle.std.proofs.Common.{◌≡◌, ℕ, ◌+◌, ◌≤◌, Bool, true, false, List, [], ◌∷◌, Option, Some, None, refl, ap, ◌∙◌, arith, IsCharBoundary}
-use Rattle.fancy_regex_meaning.specs.Positions.{boundaries}
 use Rattle.fancy_regex_meaning.proofs.NextBoundaryLemmas.{from_here}
 use Rattle.fancy_regex_runner.specs.Meaning.{Spot}
 use Rattle.fancy_regex_runner.specs.Find.{earliest, attempted, places}

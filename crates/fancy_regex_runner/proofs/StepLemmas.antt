@@ -9,11 +9,12 @@ use Rattle.std.specs.Prelude.{IfSome, IsCharBoundary}
 use Rattle.fancy_regex_runner.specs.Meaning.{Spot, View, reads}
 use Rattle.fancy_regex_runner.specs.Attempt.{Continuation, save, guard}
 use Rattle.fancy_regex_runner.specs.Visited.{Adds}
-use Rattle.fancy_regex_runner.specs.CharTests.{leaf_matches_char, Shows, read_next}
+use Rattle.fancy_regex_runner.specs.CharTests.{Shows, read_next}
+use Rattle.fancy_regex_states.specs.CharTests.{leaf_matches_char}
 use Rattle.fancy_regex_runner.specs.Search.{Dfs, After, NextWithin}
-use Rattle.fancy_regex_runner.specs.declared.node.Leaf.{Leaf}
+use Rattle.fancy_regex_states.specs.declared.atom.Leaf.{Leaf}
 use Rattle.fancy_regex_class.specs.declared.class.CharClassMatcher.{CharClassMatcher}
-use Rattle.fancy_regex_runner.specs.declared.rules.Rules.{Rules}
+use Rattle.fancy_regex_states.specs.declared.rules.Rules.{Rules}
 use Rattle.fancy_regex_runner.specs.declared.frame.Next.{Next}
 use Rattle.fancy_regex_runner.specs.declared.frame.Next.TheVariants.{Pair, Back}
 use Rattle.fancy_regex_runner.specs.declared.frame.Frame.{Frame}

@@ -12,8 +12,8 @@ use Rattle.fancy_regex_runner.specs.Easy.{IsMade, HaveMatchers, IsCompiledPatter
 use Rattle.fancy_regex_runner.specs.Translation.{Extends}
 use Rattle.fancy_regex_runner.specs.declared.build.Translator.{Translator}
 use Rattle.fancy_regex_runner.specs.declared.node.Node.{Node}
-use Rattle.fancy_regex_runner.specs.declared.state.State.{State}
-use Rattle.fancy_regex_runner.specs.declared.state.State.TheVariants.{Match as End}
+use Rattle.fancy_regex_states.specs.declared.state.State.{State}
+use Rattle.fancy_regex_states.specs.declared.state.State.TheVariants.{Match as End}
 
 -- states that are emitted for a sound pattern
 pub is_made : (re : Re) (states : List State) (entry : ℕ) → IsSound re → emitted re (End ∷ []) 0 ≡ (states, entry) → IsMade states entry

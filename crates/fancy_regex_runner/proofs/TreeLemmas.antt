@@ -5,9 +5,9 @@ use Rattle.fancy_regex_runner.specs.Meaning.{View, is_unbounded}
 use Rattle.fancy_regex_runner.specs.Attempt.{AttemptResult, Continuation, guard, either, save, pick, attempt}
 use Rattle.fancy_regex_runner.specs.Program.{IsSound, push, emitted, emitted_both, emitted_both_group, AgreeBut}
 use Rattle.fancy_regex_runner.specs.Re.{Re, nothing, read, test, cat, alt, group, repeat}
-use Rattle.fancy_regex_runner.specs.declared.state.State.{State}
-use Rattle.fancy_regex_runner.specs.declared.state.State.TheVariants.{Split, Enter, Leave, Match}
-use Rattle.fancy_regex_runner.specs.declared.state.State.TheVariants as S
+use Rattle.fancy_regex_states.specs.declared.state.State.{State}
+use Rattle.fancy_regex_states.specs.declared.state.State.TheVariants.{Split, Enter, Leave, Match}
+use Rattle.fancy_regex_states.specs.declared.state.State.TheVariants as S
 use Rattle.fancy_regex_runner.proofs.AgreeLemmas.{guard_cong, reads_below, pick_same, pick_moved, attempt_agree, attempt_moves}
 use Rattle.fancy_regex_runner.proofs.EmitLemmas.{length-push, push_done, Done}
 use Rattle.fancy_regex_runner.proofs.RepeatLemmas.{Emits, EmitsTwo, seq_done, seq_two_done, repeat_done, repeat_two_done}

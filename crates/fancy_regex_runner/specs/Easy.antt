@@ -1,19 +1,16 @@
 -- Compiled easy patterns.
-use Rattle.std.specs.Prelude.{◌≡◌, ℕ, Bool, false, List, [], ◌∷◌, if◌then◌else◌, slice_set}
+use Rattle.std.specs.Prelude.{◌≡◌, ℕ, Bool, List, [], ◌∷◌, if◌then◌else◌, slice_set}
 use Rattle.fancy_regex_tree.specs.Tree.{Text}
 use Rattle.fancy_regex_meaning.specs.Groups.{Pattern}
-use Rattle.fancy_regex_meaning.specs.Ways.{Setting}
-use Rattle.fancy_regex_meaning.specs.Searches.{Search}
-use Rattle.fancy_regex_class.specs.Classes.{setting_of}
 use Rattle.fancy_regex_class.specs.Matchers.{IsMatcherOf}
 use Rattle.fancy_regex_class.specs.declared.class.CharClassMatcher.{CharClassMatcher}
 use Rattle.fancy_regex_runner.specs.Re.{Re}
 use Rattle.fancy_regex_runner.specs.Program.{emitted, IsSound}
 use Rattle.fancy_regex_runner.specs.Plain.{IsPlain, classes, re_of}
 use Rattle.fancy_regex_runner.specs.Find.{Hit}
-use Rattle.fancy_regex_runner.specs.declared.state.State.{State}
-use Rattle.fancy_regex_runner.specs.declared.state.State.TheVariants.{Match as End}
-use Rattle.fancy_regex_runner.specs.declared.rules.Rules.{Rules}
+use Rattle.fancy_regex_states.specs.declared.state.State.{State}
+use Rattle.fancy_regex_states.specs.declared.state.State.TheVariants.{Match as End}
+use Rattle.fancy_regex_states.specs.declared.rules.Rules.{Rules}
 use Rattle.fancy_regex_class.specs.declared.input.RunInput.{RunInput}
 
 -- these are the states of the pattern, which continue at the final state

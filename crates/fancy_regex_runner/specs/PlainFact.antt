@@ -2,7 +2,7 @@
 use mathlib.Core.HLevel.{Π_prop, ×_prop, Unit-prop, ⊥_prop}
 use Rattle.std.specs.Prelude.{Option, Some, None}
 use Rattle.fancy_regex_tree.specs.Tree.{Tree, Trees, empty, any, assertion, literal, concat, alt, group, repeat, delegate, no_trees, more_trees}
-use Rattle.fancy_regex_runner.specs.declared.node.Test.{Test}
+use Rattle.fancy_regex_states.specs.declared.atom.Test.{Test}
 use Rattle.fancy_regex_runner.specs.Plain.{IsPlain, ArePlain, IsServed, test_of}
 
 served_fact : (o : Option Test) → IsProp (IsServed o)

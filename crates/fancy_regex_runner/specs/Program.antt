@@ -1,11 +1,12 @@
 -- The states that a tree becomes.
-use Rattle.std.specs.Prelude.{◌≡◌, ℕ, zero, suc, ◌-◌, true, false, ◌&&◌, ◌||◌, max, nat_lt, ◌+◌, ◌*◌, ◌<◌, ◌≤◌, ◌⊎◌, Bool, List, [], ◌∷◌, ◌++◌, length, slice_set, slice_index_or, if◌then◌else◌}
+use Rattle.std.specs.Prelude.{◌≡◌, ℕ, zero, suc, ◌-◌, true, false, ◌&&◌, ◌||◌, max, nat_lt, ◌+◌, ◌*◌, ◌<◌, ◌≤◌, ◌⊎◌, Bool, List, [], ◌∷◌, ◌++◌, length, slice_set, if◌then◌else◌}
+use Rattle.fancy_regex_states.specs.First.{state_at}
 use Rattle.fancy_regex_runner.specs.Attempt.{Continuation, guard, either, save, accept}
 use Rattle.fancy_regex_runner.specs.Meaning.{View, reads, is_unbounded}
 use Rattle.fancy_regex_runner.specs.Re.{Re, nothing, read, test, cat, alt, group, repeat}
-use Rattle.fancy_regex_runner.specs.declared.state.State.{State}
-use Rattle.fancy_regex_runner.specs.declared.state.State.TheVariants.{Split, Enter, Leave, Match}
-use Rattle.fancy_regex_runner.specs.declared.state.State.TheVariants as S
+use Rattle.fancy_regex_states.specs.declared.state.State.{State}
+use Rattle.fancy_regex_states.specs.declared.state.State.TheVariants.{Split, Enter, Leave, Match}
+use Rattle.fancy_regex_states.specs.declared.state.State.TheVariants as S
 
 -- the loop at its head: another round, or out
 abbrev pub loop_head : Bool → ℕ → ℕ → State
@@ -211,9 +212,6 @@ weight (cat a b) = weight a + weight b
 weight (alt a b) = weight a + weight b + 3
 weight (group g a) = weight a + 2
 weight (repeat lo hi greedy strict a) = repeat_weight (is_unbounded hi) strict lo hi (weight a)
-
-abbrev pub state_at : List State → ℕ → State
-state_at states q = slice_index_or states q Match
 
 -- each state that this one names is below n
 abbrev pub NamesBelow : ℕ → State → Type 0

@@ -1,7 +1,7 @@
 -- A pattern of two branches at most at each node, without where it lies in memory.
 use Rattle.std.specs.Prelude.{ℕ, Bool, List, [], ◌∷◌, map}
-use Rattle.fancy_regex_runner.specs.declared.node.Leaf.{Leaf}
-use Rattle.fancy_regex_runner.specs.declared.node.Test.{Test}
+use Rattle.fancy_regex_states.specs.declared.atom.Leaf.{Leaf}
+use Rattle.fancy_regex_states.specs.declared.atom.Test.{Test}
 use Rattle.fancy_regex_runner.specs.declared.node.Node.{Node, fold-Node}
 use Rattle.fancy_regex_runner.specs.declared.node.Node.TheOpen.{Node-F}
 

@@ -1,10 +1,11 @@
 -- A depth-first search over pairs of a state and a position, which looks at each pair once.
-use Rattle.std.specs.Prelude.{◌≡◌, ℕ, ◌+◌, ◌<◌, ◌≤◌, ◌⊎◌, Bool, List, [], ◌∷◌, ◌++◌, length, Option, Some, None, slice_set, IsCharBoundary}
+use Rattle.std.specs.Prelude.{◌≡◌, ℕ, ◌+◌, ◌<◌, ◌≤◌, ◌⊎◌, Bool, List, [], ◌∷◌, ◌++◌, length, Option, Some, None, slice_set, IsCharBoundary, IfSome}
 use Rattle.fancy_regex_runner.specs.Meaning.{Spot, View}
 use Rattle.fancy_regex_runner.specs.Attempt.{Trace, Continuation, score, better_spot, land}
-use Rattle.fancy_regex_runner.specs.Program.{state_at, NamesBelow, Agrees}
+use Rattle.fancy_regex_states.specs.First.{state_at, IsTableOf}
+use Rattle.fancy_regex_runner.specs.Program.{NamesBelow, Agrees}
 use Rattle.fancy_regex_runner.specs.CharTests.{ShowsAll}
-use Rattle.fancy_regex_runner.specs.declared.state.State.{State}
+use Rattle.fancy_regex_states.specs.declared.state.State.{State}
 use Rattle.fancy_regex_runner.specs.declared.search.SearchContext.{SearchContext}
 use Rattle.fancy_regex_runner.specs.declared.frame.Frame.{Frame}
 use Rattle.fancy_regex_runner.specs.declared.frame.Frame.TheVariants.{Explore, Restore}
@@ -47,6 +48,10 @@ pub record Explains (context : SearchContext) (text : List ℕ) (view : View) (g
   pub longest : view.longest ≡ context.rules.longest
   pub shows : ShowsAll context.matchers.now context.rules text view
   pub agree : AllAgree view context.stop context.states.now go
+
+-- the table of first characters, if there is one, is that of the states
+abbrev pub HasTable : SearchContext → Type 0
+HasTable context = ∥ IfSome context.first.now (IsTableOf context.rules.unicode context.matchers.now context.states.now context.entry) ∥₁
 
 -- there is an end that scores r at least
 abbrev pub Reaches : Bool → ℕ → Option Trace → Type 0

@@ -7,10 +7,10 @@ use Rattle.fancy_regex_tree.specs.declared.expr.Assertion.TheVariants as A
 use Rattle.fancy_regex_meaning.specs.Positions.{position_after}
 use Rattle.fancy_regex_meaning.specs.Ways.{Setting, is_any, holds}
 use Rattle.fancy_regex_runner.specs.Meaning.{View}
-use Rattle.fancy_regex_runner.specs.declared.node.Leaf.{Leaf}
-use Rattle.fancy_regex_runner.specs.declared.node.Leaf.TheVariants.{Any, Char, Folded, Class}
-use Rattle.fancy_regex_runner.specs.declared.node.Test.{Test}
-use Rattle.fancy_regex_runner.specs.declared.node.Test.TheVariants.{StartText, EndText, StartLine, EndLine, WordBoundary, NotWordBoundary, LeftWordBoundary, RightWordBoundary}
+use Rattle.fancy_regex_states.specs.declared.atom.Leaf.{Leaf}
+use Rattle.fancy_regex_states.specs.declared.atom.Leaf.TheVariants.{Any, Char, Folded, Class}
+use Rattle.fancy_regex_states.specs.declared.atom.Test.{Test}
+use Rattle.fancy_regex_states.specs.declared.atom.Test.TheVariants.{StartText, EndText, StartLine, EndLine, WordBoundary, NotWordBoundary, LeftWordBoundary, RightWordBoundary}
 
 abbrev pub assertion_of : Test → Assertion
 assertion_of StartText = A.StartText

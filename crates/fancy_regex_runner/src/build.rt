@@ -6,7 +6,7 @@ ghost use Rattle.fancy_regex_meaning.specs.Groups.{group_count, row_group_count}
 ghost use Rattle.fancy_regex_class.specs.Classes.{folded};
 ghost use Rattle.fancy_regex_runner.specs.Re.{shape};
 ghost use Rattle.fancy_regex_runner.specs.Re as re;
-ghost use Rattle.fancy_regex_runner.specs.declared.node.Leaf.TheVariants as leaf;
+ghost use Rattle.fancy_regex_states.specs.declared.atom.Leaf.TheVariants as leaf;
 ghost use Rattle.fancy_regex_meaning.specs.Sizes.{may_be_empty};
 ghost use Rattle.fancy_regex_runner.specs.Program.{IsSound, never_empty};
 ghost use Rattle.fancy_regex_runner.specs.Plain.{test_of as test_of_assertion, IsPlain, ArePlain, has_no_iteration, unless, classes, row_classes, re_of, row_of, branches_of};
@@ -15,9 +15,10 @@ ghost use Rattle.fancy_regex_runner.specs.Refusals.{IsRead, IsClassCause};
 ghost use Rattle.fancy_regex_info.specs.declared.error.CompileError.TheVariants as errors;
 ghost use Rattle.fancy_regex_class.specs.Matchers.{IsMatcherOf};
 
-use crate::node::{Leaf, Node, Test};
+use crate::node::Node;
 use fancy_regex_class::{CharClassMatcher, ClassError, fold};
 use fancy_regex_info::CompileError;
+use fancy_regex_states::{Leaf, Test};
 use fancy_regex_tree::{Assertion, Expr};
 use std::alloc::{AllocError, Global};
 

@@ -1,6 +1,6 @@
 //! Compiled easy patterns, and their searches.
 
-ghost use Rattle.std.specs.Prelude.{◌≡◌, Bool, false, IfErr, ◌+◌, ◌-◌, ◌*◌, ◌^◌, ◌≤◌, min, length, vec_len, IfOk, option_map, IsCharBoundary, replicate, slice_set, ◌<◌};
+ghost use Rattle.std.specs.Prelude.{◌≡◌, Bool, false, IfErr, ◌+◌, ◌-◌, ◌*◌, ◌^◌, ◌≤◌, min, length, vec_len, IfOk, option_map, IsCharBoundary, replicate, slice_set, ◌<◌, IfSome};
 ghost use Rattle.fancy_regex_meaning.specs.Groups.{Pattern};
 ghost use Rattle.fancy_regex_meaning.specs.Sizes.{tree_weight};
 ghost use Rattle.fancy_regex_meaning.specs.Searches.{first_match, match_at, starts};
@@ -8,16 +8,17 @@ ghost use Rattle.fancy_regex_runner.specs.Easy.{IsMade, rules_for, hit_places, h
 ghost use Rattle.fancy_regex_class.specs.RunInputs.{setting_for, search_for, match_slots};
 ghost use Rattle.fancy_regex_runner.specs.Find.{attempted};
 ghost use Rattle.fancy_regex_tree.specs.Tree.{Tree};
+ghost use Rattle.fancy_regex_states.specs.First.{IsTableOf};
 
 use crate::backtrack::BacktrackState;
 use crate::build::Translator;
 use crate::emit::emit;
-use crate::rules::Rules;
 use crate::search::{SearchContext, earliest_way};
-use crate::state::{State, add};
+use crate::state::add;
 use crate::visited::Visited;
 use fancy_regex_class::{CharClassMatcher, Counted, RunInput, Steps};
 use fancy_regex_info::{BytesMode, CompileError, CompileOptions, Info};
+use fancy_regex_states::{FirstChars, Rules, State};
 use std::alloc::{AllocError, Global};
 
 /// The greatest weight of a whole pattern.
@@ -35,7 +36,10 @@ pub struct Easy {
     whole: bool,
     unicode: bool,
     longest: bool,
+    /// The characters that a match can begin with, if they are known.
+    first: Option<FirstChars>,
     ghost made: { IsMade states.items entry },
+    ghost table: { ∥ IfSome first (IsTableOf unicode matchers.items states.items entry) ∥₁ },
 }
 
 impl Easy {
@@ -76,6 +80,7 @@ impl Easy {
         let mut states = Vec::new(alloc);
         add(&mut states, State::Match)?;
         let entry = emit(&translated.node, &mut states, 0)?;
+        let first = FirstChars::new(alloc, &states, entry, &translator.matchers, options.unicode)?;
         Ok(Easy {
             states,
             entry,
@@ -84,6 +89,7 @@ impl Easy {
             whole: !explicit,
             unicode: options.unicode,
             longest: options.leftmost_longest,
+            first,
         })
     }
 
@@ -120,6 +126,7 @@ impl Easy {
             matchers: &self.matchers,
             rules: self.rules(input),
             entry: self.entry,
+            first: &self.first,
             stop,
         };
         let mut visited = Visited::new(alloc, self.states.len(), input.first);

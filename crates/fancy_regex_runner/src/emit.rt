@@ -7,7 +7,8 @@ ghost use Rattle.fancy_regex_runner.specs.Meaning.{is_unbounded};
 
 use crate::emit_both::emit_both;
 use crate::node::Node;
-use crate::state::{State, add, make_head};
+use crate::state::{add, make_head};
+use fancy_regex_states::State;
 use std::alloc::AllocError;
 
 /// Adds the states of a node that continues at state `next`, and returns its entry state. The error is want of memory.

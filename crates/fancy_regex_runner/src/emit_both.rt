@@ -7,7 +7,8 @@ ghost use Rattle.fancy_regex_runner.specs.Program.{emitted_both, emitted_both_re
 ghost use Rattle.fancy_regex_runner.specs.Meaning.{is_unbounded};
 
 use crate::node::Node;
-use crate::state::{State, add, add_both, make_head};
+use crate::state::{add, add_both, make_head};
+use fancy_regex_states::State;
 use std::alloc::AllocError;
 
 /// Adds the states of a node that continues at state `same` where the iteration has consumed nothing, and at `moved` where it

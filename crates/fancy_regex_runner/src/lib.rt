@@ -6,13 +6,11 @@
 
 mod backtrack;
 mod build;
-mod char_tests;
 mod easy;
 mod emit;
 mod emit_both;
 mod frame;
 mod node;
-mod rules;
 mod search;
 mod state;
 mod visited;

@@ -1,27 +1,10 @@
-//! The states that a pattern is compiled to.
+//! Adding states to those of a pattern.
 
 ghost use Rattle.std.specs.Prelude.{◌≡◌, ◌≤◌, IfOk, length, vec_len};
 ghost use Rattle.fancy_regex_runner.specs.Program.{loop_head, push};
 
-use crate::node::{Leaf, Test};
+use fancy_regex_states::State;
 use std::alloc::AllocError;
-
-/// A state. `next`, `first` and `second` are numbers of states.
-#[derive(Clone, Copy, PartialEq, Eq, Debug)]
-pub enum State {
-    /// Consumes one character that the leaf matches.
-    Read { leaf: Leaf, next: usize },
-    /// Checks a zero-width assertion.
-    Look { test: Test, next: usize },
-    /// Two alternatives; the first is preferred.
-    Split { first: usize, second: usize },
-    /// Writes the start of the capture group of this number.
-    Enter { group: usize, next: usize },
-    /// Writes the end of the capture group of this number.
-    Leave { group: usize, next: usize },
-    /// The pattern has matched.
-    Match,
-}
 
 /// The head of a loop: another iteration, or the exit, in the order of preference.
 pub fn make_head(greedy: bool, round: usize, leave: usize) -> State

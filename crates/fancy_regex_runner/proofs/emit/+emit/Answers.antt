@@ -2,7 +2,7 @@ use Rattle.std.proofs.Common.{◌≡◌, ℕ, ◌+◌, ◌-◌, ◌∙◌, ◌++
 use Rattle.std.proofs.lemmas.List.{nil_from_length}
 use Rattle.fancy_regex_runner.specs.Re.{shape, shapes, cats, alts}
 use Rattle.fancy_regex_runner.specs.Program.{emitted, with_branches}
-use Rattle.fancy_regex_runner.specs.declared.state.State.{State}
+use Rattle.fancy_regex_states.specs.declared.state.State.{State}
 use Rattle.fancy_regex_runner.proofs.RowLemmas.{last_first, row_of_none, no_branches, with_no_branches, with_branches_last, with_branch_is, branches_are, shapes_last, shapes_split}
 use Rattle.fancy_regex_runner.proofs.emit.+emit.Goals as goal
 

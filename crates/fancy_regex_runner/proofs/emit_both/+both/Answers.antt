@@ -2,7 +2,7 @@ use Rattle.std.proofs.Common.{◌≡◌, ℕ, ◌+◌, ◌-◌, ◌∙◌, ◌++
 use Rattle.std.proofs.lemmas.List.{nil_from_length}
 use Rattle.fancy_regex_runner.specs.Re.{shape, shapes, cats, alts}
 use Rattle.fancy_regex_runner.specs.Program.{emitted_both, with_branches_both}
-use Rattle.fancy_regex_runner.specs.declared.state.State.{State}
+use Rattle.fancy_regex_states.specs.declared.state.State.{State}
 use Rattle.fancy_regex_runner.proofs.RowLemmas.{last_first_both, row_of_none_both, no_branches_both, with_no_branches_both, with_branches_last_both, with_branch_is_both, branches_are_both, shapes_last, shapes_split}
 use Rattle.fancy_regex_runner.proofs.emit_both.+both.Goals as goal
 

@@ -13,7 +13,7 @@ use Rattle.fancy_regex_runner.proofs.VisitedLemmas.{members_cap, none_has}
 use Rattle.fancy_regex_meaning.proofs.NextBoundaryLemmas.{next_place, last_place, end_place}
 use Rattle.fancy_regex_runner.proofs.StartLemmas.{found_here, failed_next, failed_last}
 use Rattle.fancy_regex_runner.proofs.search.earliest_way.Goals as goal
-use Rattle.fancy_regex_runner.proofs.search.earliest_way.Goals.{After-attempt, In_ok-end}
+use Rattle.fancy_regex_runner.proofs.search.earliest_way.Goals.{After-begin, In_ok-end}
 
 pub starts-init : goal.starts-init
 starts-init c = record {
@@ -32,45 +32,45 @@ starts-init c = record {
 }
 
 -- the bound, after an attempt
-bound : (c : After-attempt) → look_count c.attempt.new.text ≤ look_count c.args.text.now + (c.args.context.now.stop - c.args.start + 1) * length c.args.context.now.states.now + (c.args.context.now.stop - c.args.start + 1)
+bound : (c : After-begin) → look_count c.begin.new.text ≤ look_count c.args.text.now + (c.args.context.now.stop - c.args.start + 1) * length c.args.context.now.states.now + (c.args.context.now.stop - c.args.start + 1)
 bound c =
-    let rows = rw c.starts.invariant.base at c.attempt.ensures.rows in
-    let cap = members_cap c.attempt.new.visited (c.args.context.now.stop - c.args.start + 1) (length c.args.context.now.states.now) (omega (arith, rows)) (c.attempt.ensures.same.0 ∙ c.starts.invariant.count) in
-    omega (arith, cap, c.attempt.ensures.counted, c.look-after.ensures.ticked, c.starts.invariant.at_most, c.starts.invariant.from.0, c.starts.invariant.from.1)
+    let rows = rw c.starts.invariant.base at c.begin.ensures.rows in
+    let cap = members_cap c.begin.new.visited (c.args.context.now.stop - c.args.start + 1) (length c.args.context.now.states.now) (omega (arith, rows)) (c.begin.ensures.same.0 ∙ c.starts.invariant.count) in
+    omega (arith, cap, c.begin.ensures.counted, c.look-before.ensures.ticked, c.starts.invariant.at_most, c.starts.invariant.from.0, c.starts.invariant.from.1)
 
 pub returns-in_err-end-clause-at_most : goal.returns-in_err-end-clause-at_most
-returns-in_err-end-clause-at_most c = bound (goal.at.returns-in_err-end-clause-at_most c).After-attempt
+returns-in_err-end-clause-at_most c = bound (goal.at.returns-in_err-end-clause-at_most c).After-begin
 
 pub returns-in-Some-clause-at_most : goal.returns-in-Some-clause-at_most
-returns-in-Some-clause-at_most c = bound (goal.at.returns-in-Some-clause-at_most c).After-attempt
+returns-in-Some-clause-at_most c = bound (goal.at.returns-in-Some-clause-at_most c).After-begin
 
 pub returns-then-anchored-clause-at_most : goal.returns-then-anchored-clause-at_most
-returns-then-anchored-clause-at_most c = bound (goal.at.returns-then-anchored-clause-at_most c).After-attempt
+returns-then-anchored-clause-at_most c = bound (goal.at.returns-then-anchored-clause-at_most c).After-begin
 
 pub returns-in_default-after-clause-at_most : goal.returns-in_default-after-clause-at_most
-returns-in_default-after-clause-at_most c = bound (goal.at.returns-in_default-after-clause-at_most c).After-attempt
+returns-in_default-after-clause-at_most c = bound (goal.at.returns-in_default-after-clause-at_most c).After-begin
 
 pub returns-in_default-after-2-clause-at_most : goal.returns-in_default-after-2-clause-at_most
-returns-in_default-after-2-clause-at_most c = bound (goal.at.returns-in_default-after-2-clause-at_most c).After-attempt
+returns-in_default-after-2-clause-at_most c = bound (goal.at.returns-in_default-after-2-clause-at_most c).After-begin
 
 -- the counter has not fallen, after an attempt
-risen : (c : After-attempt) → min (look_count c.args.text.now) (2 ^ 64 - 1) ≤ look_count c.attempt.new.text
-risen c = omega (arith, c.look-after.ensures.ticked, c.attempt.ensures.more, c.starts.invariant.more)
+risen : (c : After-begin) → min (look_count c.args.text.now) (2 ^ 64 - 1) ≤ look_count c.begin.new.text
+risen c = omega (arith, c.look-before.ensures.ticked, c.begin.ensures.more, c.starts.invariant.more)
 
 pub returns-in_err-end-clause-more : goal.returns-in_err-end-clause-more
-returns-in_err-end-clause-more c = risen (goal.at.returns-in_err-end-clause-more c).After-attempt
+returns-in_err-end-clause-more c = risen (goal.at.returns-in_err-end-clause-more c).After-begin
 
 pub returns-in-Some-clause-more : goal.returns-in-Some-clause-more
-returns-in-Some-clause-more c = risen (goal.at.returns-in-Some-clause-more c).After-attempt
+returns-in-Some-clause-more c = risen (goal.at.returns-in-Some-clause-more c).After-begin
 
 pub returns-then-anchored-clause-more : goal.returns-then-anchored-clause-more
-returns-then-anchored-clause-more c = risen (goal.at.returns-then-anchored-clause-more c).After-attempt
+returns-then-anchored-clause-more c = risen (goal.at.returns-then-anchored-clause-more c).After-begin
 
 pub returns-in_default-after-clause-more : goal.returns-in_default-after-clause-more
-returns-in_default-after-clause-more c = risen (goal.at.returns-in_default-after-clause-more c).After-attempt
+returns-in_default-after-clause-more c = risen (goal.at.returns-in_default-after-clause-more c).After-begin
 
 pub returns-in_default-after-2-clause-more : goal.returns-in_default-after-2-clause-more
-returns-in_default-after-2-clause-more c = risen (goal.at.returns-in_default-after-2-clause-more c).After-attempt
+returns-in_default-after-2-clause-more c = risen (goal.at.returns-in_default-after-2-clause-more c).After-begin
 
 -- what a place gives
 abbrev with_position : (c : In_ok-end) → (ℕ → Continuation) → ℕ → Option Spot
@@ -84,14 +84,14 @@ these_places c = places (looked_text c.args.text.now) c.args.anchored c.starts.f
 
 -- an attempt from the place that answered None
 record Failed (c : In_ok-end) (view : View) (go : ℕ → Continuation) : Type 0 where
-  pub all : AllFail view.longest go (Has c.attempt.new.visited)
-  pub slots : c.attempt.new.backtrack.slots.items ≡ c.args.backtrack.now.slots.items
+  pub all : AllFail view.longest go (Has c.begin.new.visited)
+  pub slots : c.begin.new.backtrack.slots.items ≡ c.args.backtrack.now.slots.items
   pub none : with_position c go c.starts.from ≡ None
 
 failed : (c : In_ok-end) → c.in_ok-end.field-0 ≡ None → (view : View) (go : ℕ → Continuation) → Explains c.args.context.now (looked_text c.args.text.now) view go → Failed c view go
 failed c e view go explains =
     let inv = c.starts.invariant.found view go explains in
-    let here : Explains c.args.context.now (looked_text c.look-after.new.self) view go = rw (c.look-after.ensures.text, c.starts.invariant.text) explains in
+    let here : Explains c.args.context.now (looked_text c.look-before.new.self) view go = rw (c.look-before.ensures.text, c.starts.invariant.text) explains in
     let value = rw e at (c.in_ok-end.ensures.value view go here inv.0) in
     let after = rw e at c.in_ok-end.ensures.failed in
     let both = after view go here inv.0 in
@@ -105,12 +105,12 @@ failed c e view go explains =
 none_found : (c : In_ok-end) → c.in_ok-end.field-0 ≡ None → (view : View) (go : ℕ → Continuation) → Explains c.args.context.now (looked_text c.args.text.now) view go
     → these_places c ≡ c.starts.from ∷ []
     → (earliest (with_position c go) (all_places c) ≡ None)
-    × (min (look_count c.args.text.now + attempted (with_position c go) (all_places c)) (2 ^ 64 - 1) ≤ look_count c.attempt.new.text)
+    × (min (look_count c.args.text.now + attempted (with_position c go) (all_places c)) (2 ^ 64 - 1) ≤ look_count c.begin.new.text)
 none_found c e view go explains last =
     let inv = c.starts.invariant.found view go explains in
     let f = failed c e view go explains in
     let both = failed_last (with_position c go) c.starts.from (these_places c) last f.none in
-    (inv.2 ∙ both.0, omega (arith, inv.3, both.1, c.look-after.ensures.ticked, c.attempt.ensures.more))
+    (inv.2 ∙ both.0, omega (arith, inv.3, both.1, c.look-before.ensures.ticked, c.begin.ensures.more))
 
 one_place : (c : In_ok-end) → c.args.anchored ≡ true → these_places c ≡ c.starts.from ∷ []
 one_place c e = ap (λ a. places (looked_text c.args.text.now) a c.starts.from c.args.context.now.stop) e
@@ -127,15 +127,15 @@ returns-then-anchored-clause-at_least c view go explains =
 
 -- the place has a way
 some_found : (c : In_ok-end) (end : ℕ) → c.in_ok-end.field-0 ≡ Some end → (view : View) (go : ℕ → Continuation) → Explains c.args.context.now (looked_text c.args.text.now) view go
-    → (earliest (with_position c go) (all_places c) ≡ Some (record { start = c.starts.from; way = record { at = end; slots = c.attempt.new.backtrack.slots.items } }))
-    × (min (look_count c.args.text.now + attempted (with_position c go) (all_places c)) (2 ^ 64 - 1) ≤ look_count c.attempt.new.text)
+    → (earliest (with_position c go) (all_places c) ≡ Some (record { start = c.starts.from; way = record { at = end; slots = c.begin.new.backtrack.slots.items } }))
+    × (min (look_count c.args.text.now + attempted (with_position c go) (all_places c)) (2 ^ 64 - 1) ≤ look_count c.begin.new.text)
 some_found c end e view go explains =
     let inv = c.starts.invariant.found view go explains in
-    let here : Explains c.args.context.now (looked_text c.look-after.new.self) view go = rw (c.look-after.ensures.text, c.starts.invariant.text) explains in
+    let here : Explains c.args.context.now (looked_text c.look-before.new.self) view go = rw (c.look-before.ensures.text, c.starts.invariant.text) explains in
     let value = rw e at (c.in_ok-end.ensures.value view go here inv.0) in
     let both = found_here (with_position c go) (looked_text c.args.text.now) c.args.anchored c.starts.from c.args.context.now.stop _ c.starts.invariant.from.2 c.starts.invariant.from.1
     (ap (λ s. land s (go c.args.context.now.entry c.starts.from).answer) (sym inv.1) ∙ sym value) in
-    (inv.2 ∙ both.0, omega (arith, inv.3, both.1, c.look-after.ensures.ticked, c.attempt.ensures.more))
+    (inv.2 ∙ both.0, omega (arith, inv.3, both.1, c.look-before.ensures.ticked, c.begin.ensures.more))
 
 pub returns-in-Some-clause-answer : goal.returns-in-Some-clause-answer
 returns-in-Some-clause-answer c view go explains =
@@ -146,17 +146,17 @@ returns-in-Some-clause-at_least c view go explains =
     (some_found (goal.at.returns-in-Some-clause-at_least c).In_ok-end c.in-Some.end c.in-Some.is view go explains).1
 
 -- each pair that is visited is in the text
-seen : (c : In_ok-end) (o : Option ℕ) → c.look-after.result.1 ≡ o → char_at (looked_text c.args.text.now) c.starts.from ≡ o
-seen c o e = ap (λ t. char_at t c.starts.from) (sym c.starts.invariant.text) ∙ sym c.look-after.ensures.after ∙ e
+seen : (c : In_ok-end) (o : Option ℕ) → c.look-before.result.1 ≡ o → char_at (looked_text c.args.text.now) c.starts.from ≡ o
+seen c o e = ap (λ t. char_at t c.starts.from) (sym c.starts.invariant.text) ∙ sym c.look-before.ensures.after ∙ e
 
 many_places : (c : In_ok-end) → c.args.anchored ≡ false → these_places c ≡ boundaries (looked_text c.args.text.now) c.starts.from c.args.context.now.stop
 many_places c e = ap (λ a. places (looked_text c.args.text.now) a c.starts.from c.args.context.now.stop) e
 
-too_late : (c : In_ok-end) (d : ℕ) → c.args.anchored ≡ false → c.look-after.result.1 ≡ Some d → c.args.context.now.stop - c.starts.from < len_utf8 d → these_places c ≡ c.starts.from ∷ []
+too_late : (c : In_ok-end) (d : ℕ) → c.args.anchored ≡ false → c.look-before.result.1 ≡ Some d → c.args.context.now.stop - c.starts.from < len_utf8 d → these_places c ≡ c.starts.from ∷ []
 too_late c d a e late =
     many_places c a ∙ last_place (looked_text c.args.text.now) c.starts.from c.args.context.now.stop d c.starts.invariant.from.2 (seen c (Some d) e) late c.starts.invariant.from.1
 
-at_end : (c : In_ok-end) → c.args.anchored ≡ false → c.look-after.result.1 ≡ None → these_places c ≡ c.starts.from ∷ []
+at_end : (c : In_ok-end) → c.args.anchored ≡ false → c.look-before.result.1 ≡ None → these_places c ≡ c.starts.from ∷ []
 at_end c a e =
     many_places c a
     ∙ end_place (looked_text c.args.text.now) c.starts.from c.args.context.now.stop c.requires.text c.starts.invariant.from.2 (seen c None e) c.starts.invariant.from.1 c.requires.range.1
@@ -201,17 +201,17 @@ starts-preserved c =
             f.all,
             f.slots,
             inv.2 ∙ both.0,
-            omega (arith, inv.3, both.1, c.look-after.ensures.ticked, c.attempt.ensures.more),
+            omega (arith, inv.3, both.1, c.look-before.ensures.ticked, c.begin.ensures.more),
           );
-      from = (omega (arith, c.starts.invariant.from.0), omega (arith, c.starts.invariant.from.1, fits, width), rw width (rw (c.in-Some-after.is, c.starts.invariant.text) at c.look-after.ensures.next));
-      count = c.attempt.ensures.same.0 ∙ c.starts.invariant.count;
-      base = c.attempt.ensures.same.1 ∙ c.starts.invariant.base;
-      rows = let r = rw c.starts.invariant.base at c.attempt.ensures.rows in r;
+      from = (omega (arith, c.starts.invariant.from.0), omega (arith, c.starts.invariant.from.1, fits, width), rw width (rw (c.in-Some-after.is, c.starts.invariant.text) at c.look-before.ensures.next));
+      count = c.begin.ensures.same.0 ∙ c.starts.invariant.count;
+      base = c.begin.ensures.same.1 ∙ c.starts.invariant.base;
+      rows = let r = rw c.starts.invariant.base at c.begin.ensures.rows in r;
       empty = rw c.in_default.is at c.in_ok-end.ensures.empty;
-      slots = c.attempt.ensures.slots ∙ c.starts.invariant.slots;
-      farthest = c.attempt.auto.farthest ∙ c.starts.invariant.farthest;
-      at_most = let some = len_utf8_bounds c.in-Some-after.c in omega (arith, width, some, c.attempt.ensures.counted, c.look-after.ensures.ticked, c.starts.invariant.at_most, c.starts.invariant.from.0);
-      more = omega (arith, c.look-after.ensures.ticked, c.attempt.ensures.more, c.starts.invariant.more);
-      text = c.attempt.ensures.text ∙ c.look-after.ensures.text ∙ c.starts.invariant.text;
-      same_counter = c.attempt.ensures.same_counter ∙ c.look-after.ensures.same_counter ∙ c.starts.invariant.same_counter;
+      slots = c.begin.ensures.slots ∙ c.starts.invariant.slots;
+      farthest = c.begin.auto.farthest ∙ c.starts.invariant.farthest;
+      at_most = let some = len_utf8_bounds c.in-Some-after.c in omega (arith, width, some, c.begin.ensures.counted, c.look-before.ensures.ticked, c.starts.invariant.at_most, c.starts.invariant.from.0);
+      more = omega (arith, c.look-before.ensures.ticked, c.begin.ensures.more, c.starts.invariant.more);
+      text = c.begin.ensures.text ∙ c.look-before.ensures.text ∙ c.starts.invariant.text;
+      same_counter = c.begin.ensures.same_counter ∙ c.look-before.ensures.same_counter ∙ c.starts.invariant.same_counter;
     }

@@ -1,7 +1,7 @@
 use Rattle.std.proofs.Common.{false, length}
 use Rattle.std.proofs.lemmas.List.{get_or_default}
-use Rattle.fancy_regex_runner.specs.declared.state.State.TheVariants.{Match, Read}
-use Rattle.fancy_regex_runner.specs.declared.node.Leaf.TheVariants.{Any}
+use Rattle.fancy_regex_states.specs.declared.state.State.TheVariants.{Match, Read}
+use Rattle.fancy_regex_states.specs.declared.atom.Leaf.TheVariants.{Any}
 use Rattle.fancy_regex_runner.proofs.DfsLemmas.{Dfs-seen}
 use Rattle.fancy_regex_runner.proofs.search.visit.Goals as goal
 

@@ -2,7 +2,7 @@ use Rattle.std.proofs.Common.{◌≡◌, ◌≤◌, ◌<◌, ◌+◌, ◌-◌, �
 use Rattle.fancy_regex_meaning.specs.Positions.{boundaries}
 use Rattle.fancy_regex_meaning.specs.Searches.{first_some}
 use Rattle.fancy_regex_meta.specs.SearchLimits.{effective_start}
-use Rattle.fancy_regex.specs.SetAnswers.{found_from, answer_of_set, last_tried, IsTriedAt}
+use Rattle.fancy_regex.specs.SetAnswers.{found_from, answer_of_set, last_tried, IsTriedAt, AreInLimitsBefore}
 use Rattle.fancy_regex.proofs.SetPositionLemmas.{answer_at}
 use Rattle.fancy_regex.proofs.set.RegexSet.first_answer.Given as goal
 
@@ -13,6 +13,7 @@ invariant-loop-position g l =
     record {
       cut : l.position ≤ length text → IsCharBoundary text l.position;
       behind : effective_start l.config ≤ l.position;
+      limits : AreInLimitsBefore regexes text l.config l.position;
       none : (q : ℕ) → IsTriedAt text l.config q → q < l.position → found_from regexes text l.config q 0 ≡ [];
       answer : answer_of_set regexes text l.config ≡ first_some (answer_at regexes text l.config) (boundaries text l.position (last_tried l.config));
     }

@@ -1,7 +1,7 @@
 use Rattle.std.proofs.Common.{◌≡◌, length, Some, refl}
 use Rattle.std.specs.Prelude.{slice_get}
 use Rattle.std.proofs.lemmas.Option.{slice_get_read}
-use Rattle.fancy_regex.proofs.SetMemberLemmas.{asked, is_match}
+use Rattle.fancy_regex.proofs.SetMemberLemmas.{asked, asked_stays, is_match}
 use Rattle.fancy_regex.proofs.set_matches.MembersAt.ask.Goals as goal
 
 pub returns-in-Ok-Some-clause-answer : goal.returns-in-Ok-Some-clause-answer
@@ -34,3 +34,19 @@ returns-in-Err-clause-limits g c =
     let here : slice_get items c.args.number ≡ Some c.index.result.now =
     slice_get_read items (length items) c.args.number c.index.result.now refl c.requires c.index.ensures in
     (c.index.result.now, here, rw c.continue_at.ensures at c.in-Err.ensures.limits)
+
+pub returns-in-Ok-Some-clause-stays : goal.returns-in-Ok-Some-clause-stays
+returns-in-Ok-Some-clause-stays g c =
+    let s = c.args.self.now in
+    let items = s.set.now.regexes.items in
+    let k = c.args.number in
+    let here : slice_get items k ≡ Some c.index.result.now = slice_get_read items (length items) k c.index.result.now refl c.requires c.index.ensures in
+    asked_stays items (g.S.Input.text s.haystack) s.config s.position k c.index.result.now c.continue_at.result here c.continue_at.ensures c.in-Ok-Some.ensures.stays
+
+pub returns-in-Ok-None-clause-stays : goal.returns-in-Ok-None-clause-stays
+returns-in-Ok-None-clause-stays g c =
+    let s = c.args.self.now in
+    let items = s.set.now.regexes.items in
+    let k = c.args.number in
+    let here : slice_get items k ≡ Some c.index.result.now = slice_get_read items (length items) k c.index.result.now refl c.requires c.index.ensures in
+    asked_stays items (g.S.Input.text s.haystack) s.config s.position k c.index.result.now c.continue_at.result here c.continue_at.ensures c.in-Ok-None.ensures.stays

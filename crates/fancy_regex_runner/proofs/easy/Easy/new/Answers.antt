@@ -11,8 +11,8 @@ use Rattle.fancy_regex_meaning.specs.Groups.{group_count}
 use Rattle.fancy_regex_runner.specs.Easy.{HaveMatchers}
 use Rattle.fancy_regex_runner.specs.Translation.{Extends}
 use Rattle.fancy_regex_runner.specs.Refusals.{IsClassCause, IsCause}
-use Rattle.fancy_regex_runner.specs.declared.state.State.{State}
-use Rattle.fancy_regex_runner.specs.declared.state.State.TheVariants.{Match as End}
+use Rattle.fancy_regex_states.specs.declared.state.State.{State}
+use Rattle.fancy_regex_states.specs.declared.state.State.TheVariants.{Match as End}
 use Rattle.fancy_regex_runner.proofs.TranslationLemmas.{is_made, count_is, whole_is, program_is, serves_all, serves}
 use Rattle.fancy_regex_runner.proofs.ServedLemmas.{info_is_of, info_plain, light_by, heavy_by, read_by, cause_of}
 use Rattle.fancy_regex_runner.proofs.easy.Easy.new.Goals as goal
@@ -25,7 +25,10 @@ states c =
     rw one at c.in_ok-entry.ensures.made
 
 pub invariant_of-result : goal.invariant_of-result
-invariant_of-result c = record { made = is_made (shape c.in_ok-translated.translated.node) c.emit.new.states.items c.in_ok-entry.entry c.in_ok-translated.ensures.sound (states c) }
+invariant_of-result c = record {
+  made = is_made (shape c.in_ok-translated.translated.node) c.emit.new.states.items c.in_ok-entry.entry c.in_ok-translated.ensures.sound (states (goal.at.invariant_of-result c).In_ok-entry);
+  table = ∣ rw (c.deref.ensures.value, c.deref-2.ensures.value) at c.in_ok-first.ensures ∣₁;
+}
 
 pub returns-clause-made : goal.returns-clause-made
 returns-clause-made c = λ explicit t is.

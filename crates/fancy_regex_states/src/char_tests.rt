@@ -2,9 +2,9 @@
 
 ghost use Rattle.std.specs.Prelude.{◌≡◌};
 ghost use Rattle.regex_hir.specs.Text.{is_some_and};
-ghost use Rattle.fancy_regex_runner.specs.CharTests.{leaf_matches_char, passes, is_word_char, is_char as is_char_of};
+ghost use Rattle.fancy_regex_states.specs.CharTests.{leaf_matches_char, passes, is_word_char, is_char as is_char_of};
 
-use crate::node::{Leaf, Test};
+use crate::atom::{Leaf, Test};
 use crate::rules::Rules;
 use fancy_regex_class::{CharClassMatcher, fold, is_word};
 

@@ -1,0 +1,45 @@
+-- Which characters a leaf matches, and between which characters an assertion holds.
+use Rattle.std.specs.Prelude.{ℕ, Bool, false, true, not, ◌&&◌, ◌||◌, List, Option, ◌==◌, is_none, slice_get, codes}
+use Rattle.regex_hir.specs.Text.{is_some_and}
+use Rattle.fancy_regex_class.specs.Matchers.{has}
+use Rattle.fancy_regex_class.specs.Classes.{in_class, folded}
+use Rattle.fancy_regex_states.specs.declared.atom.Leaf.{Leaf}
+use Rattle.fancy_regex_states.specs.declared.atom.Leaf.TheVariants.{Any, Char, Folded, Class}
+use Rattle.fancy_regex_states.specs.declared.atom.Test.{Test}
+use Rattle.fancy_regex_states.specs.declared.atom.Test.TheVariants.{StartText, EndText, StartLine, EndLine, WordBoundary, NotWordBoundary, LeftWordBoundary, RightWordBoundary}
+use Rattle.fancy_regex_class.specs.declared.class.CharClassMatcher.{CharClassMatcher}
+use Rattle.fancy_regex_states.specs.declared.rules.Rules.{Rules}
+
+-- whether the leaf matches the character
+abbrev pub leaf_matches_char : Bool → List CharClassMatcher → Leaf → ℕ → Bool
+leaf_matches_char unicode matchers (Any newline crlf) c = newline || not (c == 10 || (crlf && c == 13))
+leaf_matches_char unicode matchers (Char d) c = c == d
+leaf_matches_char unicode matchers (Folded d) c = folded unicode c == d
+leaf_matches_char unicode matchers (Class k) c = is_some_and (slice_get matchers k) (λ m. has m c)
+
+-- `\w` has the character
+abbrev pub is_word_char : Bool → ℕ → Bool
+is_word_char unicode = in_class unicode (codes "\\w") false
+
+abbrev pub is_char : ℕ → Option ℕ → Bool
+is_char d o = is_some_and o (λ c. c == d)
+
+-- whether the assertion holds between two characters
+abbrev pub passes : Rules → Test → Option ℕ → Option ℕ → Bool
+passes rules StartText before after = is_none before && not rules.no_start_text
+passes rules EndText before after = is_none after && not rules.no_end_text
+passes rules (StartLine crlf) before after =
+    is_none before || is_char 10 before || (crlf && is_char 13 before && not (is_char 10 after))
+passes rules (EndLine false) before after = is_none after || is_char 10 after
+passes rules (EndLine true) before after =
+    is_none after || is_char 13 after || (is_char 10 after && not (is_char 13 before))
+passes rules WordBoundary before after =
+    not (is_some_and before (is_word_char rules.unicode)) && is_some_and after (is_word_char rules.unicode)
+    || is_some_and before (is_word_char rules.unicode) && not (is_some_and after (is_word_char rules.unicode))
+passes rules NotWordBoundary before after =
+    not (is_some_and before (is_word_char rules.unicode)) && not (is_some_and after (is_word_char rules.unicode))
+    || is_some_and before (is_word_char rules.unicode) && is_some_and after (is_word_char rules.unicode)
+passes rules LeftWordBoundary before after =
+    not (is_some_and before (is_word_char rules.unicode)) && is_some_and after (is_word_char rules.unicode)
+passes rules RightWordBoundary before after =
+    is_some_and before (is_word_char rules.unicode) && not (is_some_and after (is_word_char rules.unicode))

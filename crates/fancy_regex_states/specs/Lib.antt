@@ -1,0 +1,2 @@
+pub mod CharTests
+pub mod First

@@ -1,0 +1,14 @@
+//! The states that an easy pattern is compiled to: what each tests, and which characters a match can begin with.
+#![tactic(auto)]
+
+mod atom;
+mod char_tests;
+mod first;
+mod rules;
+mod state;
+
+pub use atom::{Leaf, Test};
+pub use char_tests::{leaf_matches, test_holds};
+pub use first::FirstChars;
+pub use rules::Rules;
+pub use state::State;
