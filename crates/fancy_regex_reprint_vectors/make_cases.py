@@ -17,24 +17,15 @@ hexadecimal digits.
 """
 import json
 import sys
+from importlib.util import module_from_spec, spec_from_file_location
+from pathlib import Path
 
-LETTERS = {
-    "case_insensitive": "i",
-    "multi_line": "m",
-    "dot_matches_new_line": "s",
-    "ignore_whitespace": "x",
-    "unicode_mode": "u",
-    "crlf": "R",
-    "oniguruma_mode": "o",
-    "ignore_numbered_groups_when_named_groups_exist": "n",
-    "leftmost_longest": "l",
-    "find_not_empty": "e",
-}
+# The quoting and the letters of the options that concern reading are those of the table of trees.
+SPEC = spec_from_file_location("trees", Path(__file__).resolve().parents[1] / "fancy_regex_tree_vectors" / "make_cases.py")
+trees = module_from_spec(SPEC)
+SPEC.loader.exec_module(trees)
 
-
-def quoted(text):
-    plain = lambda byte: 0x20 < byte < 0x7F and byte != ord("%")
-    return "".join(chr(byte) if plain(byte) else "%%%02X" % byte for byte in text.encode())
+LETTERS = trees.LETTERS | {"leftmost_longest": "l", "find_not_empty": "e"}
 
 
 def letters_of(options):
@@ -45,7 +36,7 @@ def main():
     for text in open(sys.argv[1], encoding="utf-8"):
         case = json.loads(text)
         if case.get("reprint") is not None and "causes" not in case:
-            fields = [letters_of(case["options"])] + [quoted(case[name]) for name in ("pattern", "reprint", "text")]
+            fields = [letters_of(case["options"])] + [trees.quoted(case[name]) for name in ("pattern", "reprint", "text")]
             print("\t".join(fields))
 
 

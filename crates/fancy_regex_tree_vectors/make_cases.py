@@ -142,4 +142,5 @@ def main():
         print(line(option_letters(case["options"]), case["pattern"], library_fields(case)))
 
 
-main()
+if __name__ == "__main__":
+    main()
