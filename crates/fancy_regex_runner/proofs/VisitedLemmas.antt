@@ -5,14 +5,14 @@ use Rattle.std.proofs.lemmas.List.Sums.{sum_by-set, sum_by-append, count_by-le-l
 use Rattle.std.proofs.lemmas.List.Folds.{sum_by-replicate}
 use Rattle.std.proofs.lemmas.List.FromFn.{length-map-range_with_len, get_or-map-range_with_len}
 use Rattle.std.proofs.lemmas.Bool.{cases_eq, cases_lt, not-true, not-false}
-use Rattle.std.proofs.lemmas.Nat.{one_shl, pow_pos, same_from_place}
+use Rattle.std.proofs.lemmas.Nat.{one_shl, pow_pos, same_from_place, mul-le}
 use Rattle.std.proofs.lemmas.Nat.Bits.{bit_at_set_same, bit_at_set_other, bit_at-zero, and_pow}
 use Rattle.std.specs.Prelude.{bit_and, bit_or, count_by}
 use Rattle.std.specs.Bool.{MatchBool}
 use Rattle.std.specs.Int.{bit_at}
 use Rattle.std.specs.List.{range_with_len}
 use Rattle.std.proofs.Math.Nat.{mul-le-mul_left}
-use Rattle.fancy_regex_runner.specs.Visited.{flag_at, flags, flags_of, Has, members, Adds, IsSame}
+use Rattle.fancy_regex_runner.specs.Visited.{flag_at, flags, flags_of, Has, members, spent, Adds, IsSame}
 use Rattle.fancy_regex_runner.specs.declared.visited.Visited.{Visited}
 
 -- the test `word & bit == 0`
@@ -264,3 +264,25 @@ unfolding Has
 none_has v q i e h =
     let len : length (flags_of v) ≡ 0 * v.count = length-flags v.count v.width v.rows v.words.items ∙ ap (λ n. n * v.count) e in
     true≢false (sym h.2 ∙ get_or_past (flags_of v) _ false (omega arith))
+
+-- what is spent is within the rows up to the stop
+pub spent_most : (v : Visited) (stop : ℕ) → v.base ≤ stop → v.rows ≤ stop - v.base + 1 → spent v ≤ (stop + 1) * v.count
+spent_most v stop low rows =
+    let all : (v.base + v.rows) * v.count ≤ (stop + 1) * v.count = mul-le (v.base + v.rows) v.count (stop + 1) v.count (omega (arith, rows, low)) (omega arith) in
+    omega (arith, all, members_most v)
+
+-- dropping the rows spends no less
+pub spent_dropped : (v : Visited) (from : ℕ) → v.base ≤ from → v.rows ≤ from - v.base → spent v ≤ from * v.count
+spent_dropped v from low rows =
+    let all : (v.base + v.rows) * v.count ≤ from * v.count = mul-le (v.base + v.rows) v.count from v.count (omega (arith, rows, low)) (omega arith) in
+    omega (arith, all, members_most v)
+
+looks_in : (looks old spent start m count extra : ℕ) → looks + start * count ≤ old + spent + extra → spent ≤ (start + m) * count → extra ≤ m → looks ≤ old + m * count + m
+looks_in looks old spent start m count extra a b c = omega (arith, a, b, c)
+
+-- the bound on looks, by what was spent
+pub looks_within : (looks old spent start stop count extra : ℕ) → start ≤ stop → looks + start * count ≤ old + spent + extra
+    → spent ≤ (stop + 1) * count → extra ≤ stop - start + 1 → looks ≤ old + (stop - start + 1) * count + (stop - start + 1)
+looks_within looks old spent start stop count extra low a b c =
+    let split : stop + 1 ≡ start + (stop - start + 1) = omega arith in
+    looks_in looks old spent start (stop - start + 1) count extra a (subst (λ (k : ℕ). spent ≤ k * count) split b) c

@@ -23,6 +23,10 @@ Has v q i = (q < v.count) × (v.base ≤ i) × (slice_index_or (flags_of v) ((i 
 unfoldable pub members : Visited → ℕ
 members v = count_by (λ b. b) (flags_of v)
 
+-- the pairs of all offsets before the first row, and those in the set: no fewer than were ever added
+abbrev pub spent : Visited → ℕ
+spent v = v.base * v.count + members v
+
 -- `after` holds what `before` does, and perhaps (q, i)
 abbrev pub Adds : (ℕ → ℕ → Type 0) → (ℕ → ℕ → Type 0) → ℕ → ℕ → Type 0
 Adds before after q i = (p j : ℕ) → after p j → before p j ⊎ ((p ≡ q) × (j ≡ i))

@@ -1,7 +1,8 @@
 //! The linear-time engine for easy patterns: those without back references, look-around, atomic groups and the like. A
 //! pattern is compiled to states, and a search is a depth-first search over pairs of a state and a byte offset. A visited set
 //! that all starts of the search share lets it try each pair at most once, so the number of look-ups in the text is bounded
-//! by the pattern's weight times the length of the range plus one. A search fails for want of memory alone.
+//! by the pattern's weight times the length of the range plus one. The set's memory goes by the span of an attempt: where
+//! all of it lies before a start, it begins anew there. A search fails for want of memory alone.
 #![tactic(auto)]
 
 mod backtrack;

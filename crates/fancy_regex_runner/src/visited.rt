@@ -5,7 +5,8 @@ ghost use Rattle.std.specs.Bool.{MatchBool};
 
 use std::alloc::{AllocError, Global};
 
-/// The visited set, as rows of bits: one row for each byte offset, made when the search first reaches it.
+/// The visited set, as rows of bits: one row for each byte offset from the first row's on, made when the search first reaches
+/// it.
 #[derive(Drop)]
 pub struct Visited {
     /// The number of states.
@@ -22,7 +23,7 @@ pub struct Visited {
 }
 
 impl Visited {
-    ghost use Rattle.fancy_regex_runner.specs.Visited.{Has, members, Adds, IsSame};
+    ghost use Rattle.fancy_regex_runner.specs.Visited.{Has, members, spent, Adds, IsSame};
 
     /// The empty set, for `count` states and byte offsets from `base` on.
     pub fn new(alloc: Global, count: usize, base: usize) -> Visited
@@ -65,6 +66,22 @@ impl Visited {
             self.add_row()?;
         }
         Ok(())
+    }
+
+    /// Drops the rows if all are of byte offsets before `from`, and goes on from there. Their memory is kept for later rows.
+    pub fn drop_behind(&mut self, from: usize)
+        requires { self.old.base ≤ from }
+        ensures count { self.new.count ≡ self.old.count }
+        ensures base { (self.old.base ≤ self.new.base) × (self.new.base ≤ from) }
+        ensures rows { (stop : ℕ) → self.old.rows ≤ stop - self.old.base + 1 → self.new.rows ≤ stop - self.new.base + 1 }
+        ensures pairs { (q i : ℕ) → Has self.new q i → Has self.old q i }
+        ensures spent { spent self.old ≤ spent self.new }
+    {
+        if self.rows <= from - self.base {
+            self.words.clear();
+            self.rows = 0;
+            self.base = from;
+        }
     }
 
     /// Sets the bit of a pair whose row exists; returns whether it was clear.

@@ -1,4 +1,4 @@
-use Rattle.std.proofs.Common.{◌≡◌, ℕ, ◌+◌, ◌-◌, ◌*◌, ◌^◌, ◌<◌, ◌≤◌, ◌∙◌, ◌∷◌, [], min, List, Option, Some, None, true, false, refl, sym, ap, arith, length}
+use Rattle.std.proofs.Common.{◌≡◌, ℕ, ◌+◌, ◌-◌, ◌*◌, ◌^◌, ◌<◌, ◌≤◌, ◌∙◌, ◌∷◌, [], min, List, Option, Some, None, true, false, refl, sym, ap, ap₂, subst, arith, length}
 use Rattle.std.specs.Char.{len_utf8}
 use Rattle.std.proofs.lemmas.Str.{len_utf8_bounds}
 use Rattle.regex_hir.specs.Text.{char_at}
@@ -7,9 +7,9 @@ use Rattle.fancy_regex_class.specs.Looks.{looked_text, look_count}
 use Rattle.fancy_regex_runner.specs.Meaning.{Spot, View}
 use Rattle.fancy_regex_runner.specs.Attempt.{Continuation, land}
 use Rattle.fancy_regex_runner.specs.Find.{earliest, attempted, places}
-use Rattle.fancy_regex_runner.specs.Visited.{Has}
+use Rattle.fancy_regex_runner.specs.Visited.{Has, spent}
 use Rattle.fancy_regex_runner.specs.Search.{AllFail, Explains}
-use Rattle.fancy_regex_runner.proofs.VisitedLemmas.{members_cap, none_has}
+use Rattle.fancy_regex_runner.proofs.VisitedLemmas.{spent_most, looks_within, none_has}
 use Rattle.fancy_regex_meaning.proofs.NextBoundaryLemmas.{next_place, last_place, end_place}
 use Rattle.fancy_regex_runner.proofs.StartLemmas.{found_here, failed_next, failed_last}
 use Rattle.fancy_regex_runner.proofs.search.earliest_way.Goals as goal
@@ -20,12 +20,15 @@ starts-init c = record {
   found = λ view go explains. (λ q i r has reaches. absurd (none_has c.args.visited.now q i c.requires.fresh.1 has), refl, refl, omega arith);
   from = (omega arith, c.requires.range.0, c.requires.start);
   count = c.requires.count;
-  base = c.requires.fresh.0;
+  base = (omega (arith, c.requires.fresh.0), omega (arith, c.requires.fresh.0));
   rows = omega (arith, c.requires.fresh.1);
   empty = c.requires.empty;
   slots = refl;
   farthest = c.requires.slots;
-  at_most = omega arith;
+  at_most =
+      let first : c.args.start * length c.args.context.now.states.now ≡ c.args.visited.now.base * c.args.visited.now.count =
+      ap₂ (λ (a b : ℕ). a * b) (sym c.requires.fresh.0) (sym c.requires.count) in
+      omega (arith, first);
   more = omega arith;
   text = refl;
   same_counter = refl;
@@ -34,9 +37,13 @@ starts-init c = record {
 -- the bound, after an attempt
 bound : (c : After-begin) → look_count c.begin.new.text ≤ look_count c.args.text.now + (c.args.context.now.stop - c.args.start + 1) * length c.args.context.now.states.now + (c.args.context.now.stop - c.args.start + 1)
 bound c =
-    let rows = rw c.starts.invariant.base at c.begin.ensures.rows in
-    let cap = members_cap c.begin.new.visited (c.args.context.now.stop - c.args.start + 1) (length c.args.context.now.states.now) (omega (arith, rows)) (c.begin.ensures.same.0 ∙ c.starts.invariant.count) in
-    omega (arith, cap, c.begin.ensures.counted, c.look-before.ensures.ticked, c.starts.invariant.at_most, c.starts.invariant.from.0, c.starts.invariant.from.1)
+    let count : ℕ = length c.args.context.now.states.now in
+    let stop : ℕ = c.args.context.now.stop in
+    let cap = spent_most c.begin.new.visited stop (omega (arith, c.begin.ensures.base.1, c.starts.invariant.from.1)) c.begin.ensures.rows in
+    let most : spent c.begin.new.visited ≤ (stop + 1) * count = subst (λ (n : ℕ). spent c.begin.new.visited ≤ (stop + 1) * n) (c.begin.ensures.count ∙ c.starts.invariant.count) cap in
+    looks_within (look_count c.begin.new.text) (look_count c.args.text.now) (spent c.begin.new.visited) c.args.start stop count (c.starts.from - c.args.start + 1)
+    c.requires.range.0
+    (omega (arith, c.begin.ensures.counted, c.look-before.ensures.ticked, c.starts.invariant.at_most)) most (omega (arith, c.starts.invariant.from.0, c.starts.invariant.from.1))
 
 pub returns-in_err-end-clause-at_most : goal.returns-in_err-end-clause-at_most
 returns-in_err-end-clause-at_most c = bound (goal.at.returns-in_err-end-clause-at_most c).After-begin
@@ -204,9 +211,9 @@ starts-preserved c =
             omega (arith, inv.3, both.1, c.look-before.ensures.ticked, c.begin.ensures.more),
           );
       from = (omega (arith, c.starts.invariant.from.0), omega (arith, c.starts.invariant.from.1, fits, width), rw width (rw (c.in-Some-after.is, c.starts.invariant.text) at c.look-before.ensures.next));
-      count = c.begin.ensures.same.0 ∙ c.starts.invariant.count;
-      base = c.begin.ensures.same.1 ∙ c.starts.invariant.base;
-      rows = let r = rw c.starts.invariant.base at c.begin.ensures.rows in r;
+      count = c.begin.ensures.count ∙ c.starts.invariant.count;
+      base = (omega (arith, c.starts.invariant.base.0, c.begin.ensures.base.0), omega (arith, c.begin.ensures.base.1));
+      rows = c.begin.ensures.rows;
       empty = rw c.in_default.is at c.in_ok-end.ensures.empty;
       slots = c.begin.ensures.slots ∙ c.starts.invariant.slots;
       farthest = c.begin.auto.farthest ∙ c.starts.invariant.farthest;

@@ -1,9 +1,9 @@
-use Rattle.std.proofs.Common.{◌≡◌, ℕ, ◌+◌, ◌-◌, ◌^◌, ◌≤◌, length, vec_len, min, IsCharBoundary}
+use Rattle.std.proofs.Common.{◌≡◌, ℕ, ◌+◌, ◌-◌, ◌*◌, ◌^◌, ◌≤◌, length, vec_len, min, IsCharBoundary}
 use Rattle.fancy_regex_class.specs.Looks.{looked_text, look_count, SameCounter}
 use Rattle.fancy_regex_runner.specs.Meaning.{View}
 use Rattle.fancy_regex_runner.specs.Attempt.{Continuation, land}
 use Rattle.fancy_regex_runner.specs.Find.{earliest, attempted, places}
-use Rattle.fancy_regex_runner.specs.Visited.{Has, members}
+use Rattle.fancy_regex_runner.specs.Visited.{Has, spent}
 use Rattle.fancy_regex_runner.specs.Search.{AllFail, Explains}
 use Rattle.fancy_regex_runner.proofs.search.earliest_way.Given as goal
 
@@ -17,12 +17,12 @@ invariant-starts l = record {
       ≤ min (look_count l.text + attempted (λ i. land l.fn.backtrack.slots.items (go l.context.entry i).answer) (places (looked_text l.fn.text) l.anchored l.from l.context.stop)) (2 ^ 64 - 1));
   from : (l.start ≤ l.from) × (l.from ≤ l.context.stop) × IsCharBoundary (looked_text l.fn.text) l.from;
   count : l.visited.count ≡ length l.context.states.now;
-  base : l.visited.base ≡ l.start;
-  rows : l.visited.rows ≤ l.context.stop - l.start + 1;
+  base : (l.start ≤ l.visited.base) × (l.visited.base ≤ l.from);
+  rows : l.visited.rows ≤ l.context.stop - l.visited.base + 1;
   empty : vec_len l.backtrack.stack ≡ 0;
   slots : vec_len l.backtrack.slots ≡ vec_len l.fn.backtrack.slots;
   farthest : length l.farthest ≡ vec_len l.fn.backtrack.slots;
-  at_most : look_count l.text ≤ look_count l.fn.text + members l.visited + (l.from - l.start);
+  at_most : look_count l.text + l.start * length l.context.states.now ≤ look_count l.fn.text + spent l.visited + (l.from - l.start);
   more : min (look_count l.fn.text) (2 ^ 64 - 1) ≤ look_count l.text;
   text : looked_text l.text ≡ looked_text l.fn.text;
   same_counter : SameCounter l.fn.text l.text;
