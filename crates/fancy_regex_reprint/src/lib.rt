@@ -2,7 +2,9 @@
 #![tactic(auto)]
 
 mod classes;
+mod in_place;
 mod levels;
 mod printing;
 
+pub use in_place::print_in_place;
 pub use printing::reprint;
