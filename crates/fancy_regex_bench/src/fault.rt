@@ -1,7 +1,7 @@
 //! Why a measurement failed.
 
 use fancy_regex::Error;
-use std::alloc::AllocError;
+use std::alloc::{AllocError, AllocFailed};
 use std::io;
 use std::num::ParseIntError;
 
@@ -20,6 +20,12 @@ pub enum Fault {
 
 impl From<AllocError> for Fault {
     fn from(_: AllocError) -> Fault {
+        Fault::Memory
+    }
+}
+
+impl<T: Drop> From<AllocFailed<T>> for Fault {
+    fn from(_: AllocFailed<T>) -> Fault {
         Fault::Memory
     }
 }

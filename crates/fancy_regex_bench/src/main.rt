@@ -1,5 +1,6 @@
 //! A benchmark: measures searches and iteration over generated haystacks. The first word, if given, is the size of the largest
-//! haystack in bytes. Each measurement is a line on standard error. Exit status: 0, or 2 if a measurement failed.
+//! haystack in bytes. If the second word is `highlight`, it measures the highlighter alone, on the whole size. Each measurement
+//! is a line on standard error. Exit status: 0, or 2 if a measurement failed.
 #![tactic(auto)]
 
 use fault::Fault;
@@ -9,8 +10,10 @@ use std::process::ExitCode;
 mod clock;
 mod fault;
 mod hard;
+mod highlight;
 mod iterate;
 mod plain;
+mod source;
 mod text;
 mod words;
 
@@ -24,12 +27,16 @@ fn main(rt: HostRuntime) -> ExitCode {
     }
 }
 
-/// Plain patterns on the whole size, hard ones on a tenth of it, iterations and replacements on a tenth, a fifth, a half and the
-/// whole.
+/// Plain patterns on the whole size, hard ones and the highlighter on a tenth of it, iterations and replacements on a tenth, a
+/// fifth, a half and the whole.
 fn measure_all(rt: &HostRuntime) -> Result<(), Fault> {
     let size = asked_size(rt)?;
+    if is_highlighter_asked(rt)? {
+        return highlight::measure_all(rt, size);
+    }
     plain::measure_all(rt, size)?;
     hard::measure_all(rt, size / 10)?;
+    highlight::measure_all(rt, size / 10)?;
     for part in [10, 5, 2, 1] {
         iterate::measure_all(rt, size / part)?;
         words::measure_all(rt, size / part)?;
@@ -42,5 +49,13 @@ fn asked_size(rt: &HostRuntime) -> Result<usize, Fault> {
     match env::args(rt)?.nth(1) {
         Some(word) => Ok(word.parse::<usize>()?),
         None => Ok(SMALL),
+    }
+}
+
+/// Whether the second word asks for the highlighter alone.
+fn is_highlighter_asked(rt: &HostRuntime) -> Result<bool, Fault> {
+    match env::args(rt)?.nth(2) {
+        Some(word) => Ok(word.as_str() == "highlight"),
+        None => Ok(false),
     }
 }

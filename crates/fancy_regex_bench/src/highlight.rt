@@ -1,0 +1,154 @@
+//! A highlighter: the tokens of a source text, found by a set of thirty patterns, and by the same thirty asked one by one.
+
+use crate::clock::Pace;
+use crate::fault::Fault;
+use crate::source;
+use fancy_regex::{Regex, RegexInput, RegexSet};
+use std::alloc::Global;
+use std::time::Instant;
+
+/// Comments, strings, numbers, keywords, names and operators. Where several match at one place, the first of them counts.
+const TOKENS: [&str; 30] = [
+    "//[^\\n]*",
+    "/\\*(?:[^*]|\\*(?!/))*\\*/",
+    "r\"[^\"]*\"",
+    "b?\"(?:[^\"\\\\]|\\\\.)*\"",
+    "b?'(?:[^'\\\\\\n]|\\\\.)'",
+    "'[a-z_]\\w*\\b(?!')",
+    "#!?\\[[^\\]]*\\]",
+    "0x[0-9a-fA-F_]+",
+    "0b[01_]+",
+    "0o[0-7_]+",
+    "[0-9][0-9_]*\\.[0-9_]+(?:[eE][+-]?[0-9]+)?",
+    "[0-9][0-9_]*",
+    "\\b(?:if|else|match|while|for|loop|in)\\b",
+    "\\b(?:return|break|continue)\\b",
+    "\\b(?:fn|let|const|static|type)\\b",
+    "\\b(?:mut|ref|move|dyn|unsafe)\\b",
+    "\\b(?:pub|mod|use|crate|super|extern)\\b",
+    "\\b(?:struct|enum|trait|impl|where|union)\\b",
+    "\\b(?:true|false|None|Some|Ok|Err)\\b",
+    "\\b(?:self|Self)\\b",
+    "\\b(?:u8|u16|u32|u64|usize|i32|i64|f32|f64|bool|char|str)\\b",
+    "\\b[a-z_]\\w*(?=!\\()",
+    "\\b[a-z_]\\w*(?=\\()",
+    "\\b[A-Z][A-Z0-9_]+\\b",
+    "\\b[A-Z]\\w*",
+    "\\b[a-z_]\\w*",
+    "->|=>|::|\\.\\.=?",
+    "[-+*/%&|^]=?|<<=?|>>=?",
+    "[=!<>]=?",
+    "[(){}\\[\\],;:.?@]",
+];
+
+/// Times both over a source text of this size in bytes.
+pub fn measure_all(rt: &HostRuntime, size: usize) -> Result<(), Fault> {
+    let text = source::make(rt.alloc(), size)?;
+    measure_set(rt, &text)?;
+    measure_members(rt, &text)
+}
+
+/// Prints the time of the set, and the number of tokens.
+fn measure_set(rt: &HostRuntime, text: &str) -> Result<(), Fault> {
+    let set = RegexSet::new(rt.alloc(), &TOKENS)?;
+    let start = Instant::now(rt)?;
+    let count = count_by_set(rt.alloc(), &set, text)?;
+    let pace = Pace::since(rt, &start, text.len())?;
+    eprintln!(rt;
+        "highlight, a set over {} bytes: {} ms, {count} tokens",
+        text.len(),
+        pace.millis()
+    )?;
+    Ok(())
+}
+
+/// Prints the time of the members, and the number of tokens.
+fn measure_members(rt: &HostRuntime, text: &str) -> Result<(), Fault> {
+    let members = build_members(rt.alloc())?;
+    let start = Instant::now(rt)?;
+    let count = count_by_members(rt.alloc(), &members, text)?;
+    let pace = Pace::since(rt, &start, text.len())?;
+    eprintln!(rt;
+        "highlight, one by one over {} bytes: {} ms, {count} tokens",
+        text.len(),
+        pace.millis()
+    )?;
+    Ok(())
+}
+
+/// A regex for each of the thirty patterns.
+fn build_members(alloc: Global) -> Result<Vec<Regex>, Fault> {
+    let mut members = Vec::new(alloc);
+    for pattern in TOKENS {
+        members.push(Regex::new(alloc, pattern)?)?;
+    }
+    Ok(members)
+}
+
+/// The number of tokens that a set finds: at each place the match of the first member that has one, and on from its end.
+fn count_by_set(alloc: Global, set: &RegexSet, text: &str) -> Result<u64, Fault> {
+    let mut count: u64 = 0;
+    let mut place = 0;
+    for _ in 0..text.len() {
+        let Some(end) = next_end(alloc, set, text, place)? else {
+            break;
+        };
+        count = count.saturating_add(1);
+        place = end;
+    }
+    Ok(count)
+}
+
+/// The end of the next token from a place on; `None` if there is none.
+fn next_end(
+    alloc: Global,
+    set: &RegexSet,
+    text: &str,
+    place: usize,
+) -> Result<Option<usize>, Fault> {
+    if !text.is_char_boundary(place) {
+        return Ok(None);
+    }
+    let Some(mut found) = set.find_input(alloc, RegexInput::new(text).from_pos(place))? else {
+        return Ok(None);
+    };
+    match found.next() {
+        Some(item) => Ok(Some(item?.end())),
+        None => Ok(None),
+    }
+}
+
+/// The number of tokens that the members find, asked one after another at each place.
+fn count_by_members(alloc: Global, members: &[Regex], text: &str) -> Result<u64, Fault> {
+    let mut count: u64 = 0;
+    let mut place = 0;
+    while place < text.len() {
+        match first_end(alloc, members, text, place)? {
+            Some(end) if end > place => {
+                count = count.saturating_add(1);
+                place = end;
+            }
+            _ => place += 1,
+        }
+    }
+    Ok(count)
+}
+
+/// The end of the match of the first member that has one at a place; `None` if none has.
+fn first_end(
+    alloc: Global,
+    members: &[Regex],
+    text: &str,
+    place: usize,
+) -> Result<Option<usize>, Fault> {
+    if !text.is_char_boundary(place) {
+        return Ok(None);
+    }
+    for member in members {
+        let input = RegexInput::new(text).from_pos(place).anchored(true);
+        if let Some(found) = member.find_input(alloc, input)? {
+            return Ok(Some(found.end()));
+        }
+    }
+    Ok(None)
+}
