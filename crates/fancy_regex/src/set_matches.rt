@@ -8,7 +8,7 @@ ghost use Rattle.fancy_regex_meta.specs.MatchOffsets.{AreBoundaries};
 
 use crate::set::RegexSet;
 use fancy_regex_input::{Input, SearchConfig};
-use fancy_regex_meta::Result;
+use fancy_regex_meta::{MetaMemory, Result};
 use fancy_regex_search::{AnchoredMatch, Captures, match_at};
 use std::alloc::Global;
 
@@ -83,6 +83,8 @@ pub struct RegexSetMatchesAt<'s, S: Input> {
     pub(crate) members: MembersAt<'s, S>,
     /// The number of the first member that was not asked.
     pub(crate) next: usize,
+    /// What the searches allocate, used again by each.
+    pub(crate) memory: MetaMemory,
 }
 
 impl<'s, S: Input> RegexSetMatchesAt<'s, S> {
@@ -126,7 +128,7 @@ impl<'s, S: Input> Iterator for RegexSetMatchesAt<'s, S> {
     fn next(&mut self) -> Option<Result<RegexSetMatch<'s, S>>> {
         match self.first.take() {
             Some(found) => Some(Ok(found)),
-            None => self.members.advance(&mut self.next),
+            None => self.members.advance(&mut self.next, &mut self.memory),
         }
     }
 }
@@ -166,7 +168,11 @@ impl<'s, S: Input> MembersAt<'s, S> {
     /// Asks the members from the number `next` on, in the order of their numbers, but for those that cannot match here for the byte
     /// that stands here. The match of the first that has one, or the error of a member before it; `None` if none of them matches.
     /// `next` becomes the number of the first member that was not asked.
-    pub fn advance(&self, next: &mut usize) -> Option<Result<RegexSetMatch<'s, S>>>
+    pub fn advance(
+        &self,
+        next: &mut usize,
+        memory: &mut MetaMemory,
+    ) -> Option<Result<RegexSetMatch<'s, S>>>
         ensures item { YieldsMember self.now.set.now.regexes.items (S.text self.now.haystack) self.now.config
             (λ x found. IsMatchOfMember self.now.set.now.regexes.items found x.pattern x.matched.captures.regex.now x.matched.captures.slots.items (x.matched.start, x.matched.end)
             × (x.haystack ≡ self.now.haystack) × (x.matched.captures.haystack ≡ self.now.haystack))
@@ -176,7 +182,7 @@ impl<'s, S: Input> MembersAt<'s, S> {
         let byte = self.byte();
         while let Some(number) = self.set.candidate(byte, *next) {
             *next = number + 1;
-            match self.ask(number) {
+            match self.ask(number, memory) {
                 Ok(Some(found)) => return Some(Ok(found)),
                 Ok(None) => {}
                 Err(error) => return Some(Err(error)),
@@ -195,7 +201,7 @@ impl<'s, S: Input> MembersAt<'s, S> {
 
     /// The match of the member with this number; `None` if it has no match that starts at the position. `RuntimeError` if its
     /// search exceeds a limit; `Memory` if memory runs out.
-    fn ask(&self, number: usize) -> Result<Option<RegexSetMatch<'s, S>>>
+    fn ask(&self, number: usize, memory: &mut MetaMemory) -> Result<Option<RegexSetMatch<'s, S>>>
         requires { number < length self.now.set.now.regexes.items }
         ensures answer { IfOk result (λ found. IsAnswerOfMember self.now.set.now.regexes.items (S.text self.now.haystack) self.now.config
             (λ x found. IsMatchOfMember self.now.set.now.regexes.items found x.pattern x.matched.captures.regex.now x.matched.captures.slots.items (x.matched.start, x.matched.end)
@@ -212,6 +218,7 @@ impl<'s, S: Input> MembersAt<'s, S> {
             self.config,
             continue_at(self.config),
             self.position,
+            memory,
         ) {
             Ok(Some(matched)) => Ok(Some(RegexSetMatch {
                 pattern: number,

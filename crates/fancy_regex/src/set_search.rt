@@ -9,7 +9,7 @@ use crate::set::RegexSet;
 use crate::set_matches::{MembersAt, RegexSetMatchesAt};
 use fancy_regex_input::{Input, RegexInput, SearchConfig};
 use fancy_regex_meaning::laws_of_matches;
-use fancy_regex_meta::Result;
+use fancy_regex_meta::{MetaMemory, Result};
 use std::alloc::Global;
 
 /// The last position that a search tries: the end of its range, or, if it is anchored, the position at which it starts.
@@ -75,6 +75,7 @@ impl RegexSet {
         let mut position = input.effective_start();
         let _text = haystack.as_bytes();
         let last = last_position(config);
+        let mut memory = MetaMemory::new(alloc);
         while position <= last {
             let members = MembersAt {
                 alloc,
@@ -84,12 +85,13 @@ impl RegexSet {
                 position,
             };
             let mut next = 0;
-            match members.advance(&mut next) {
+            match members.advance(&mut next, &mut memory) {
                 Some(Ok(found)) => {
                     return Ok(Some(RegexSetMatchesAt {
                         first: Some(found),
                         members,
                         next,
+                        memory,
                     }));
                 }
                 Some(Err(error)) => return Err(error),

@@ -4,6 +4,7 @@
 #![tactic(auto)]
 
 mod error;
+mod memory;
 mod meta_regex;
 mod options;
 mod parse;
@@ -12,5 +13,6 @@ mod seek;
 mod strategy;
 
 pub use error::{Error, Result};
+pub use memory::MetaMemory;
 pub use meta_regex::MetaRegex;
 pub use options::RegexOptions;

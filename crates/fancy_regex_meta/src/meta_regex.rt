@@ -12,6 +12,7 @@ ghost use Rattle.fancy_regex_meta.specs.PatternMatches.{IsCompiledFrom, names_in
 ghost use Rattle.fancy_regex_meta.specs.EasyPatterns.{uses_easy, pattern_uses_easy, is_easy_strategy};
 
 use crate::error::Result;
+use crate::memory::MetaMemory;
 use crate::options::RegexOptions;
 use crate::strategy::Strategy;
 use fancy_regex_class::{RunInput, Span, Steps};
@@ -141,7 +142,8 @@ impl MetaRegex {
 
     /// The start and end byte offsets of each group of the first match, both `usize::MAX` for a group that did not
     /// participate; `None` if there is no match. If the flag is set, `\G` never matches. The counter is raised by one for
-    /// each look of the linear-time matcher at the haystack, also if memory runs out. Errors: `RuntimeError` if a program
+    /// each look of the linear-time matcher at the haystack, also if memory runs out. What is allocated for the search, but for
+    /// its answer, stays in `memory`; what earlier searches left there changes no answer. Errors: `RuntimeError` if a program
     /// exceeds a limit, or `Memory`.
     pub fn search(
         &self,
@@ -150,6 +152,7 @@ impl MetaRegex {
         config: SearchConfig,
         continue_disabled: bool,
         steps: &mut Steps,
+        memory: &mut MetaMemory,
     ) -> Result<Option<Vec<usize>>>
         requires { FitsText text.now config }
         ensures answer { IfOk result (λ found. option_map (λ v. v.items) found
@@ -168,10 +171,12 @@ impl MetaRegex {
         }
         let input = run_input(config, first, continue_disabled);
         self.strategy
-            .search(alloc, text, &input, &self.options, steps)
+            .search(alloc, text, &input, &self.options, steps, memory)
     }
+
     /// The start and end byte offsets of each group of the match that starts at `position`, both `usize::MAX` for a group that did
     /// not participate; `None` if no match starts there. `\G` matches at `continue_at` alone, and nowhere if that is `None`.
+    /// `memory` is used as by `search`.
     /// Errors: `RuntimeError` if a program exceeds a limit, or `Memory`.
     pub fn search_at(
         &self,
@@ -180,6 +185,7 @@ impl MetaRegex {
         config: SearchConfig,
         continue_at: Option<usize>,
         position: usize,
+        memory: &mut MetaMemory,
     ) -> Result<Option<Vec<usize>>>
         requires range { config.range_end ≤ length text.now }
         requires boundary { IsCharBoundary text.now position }
@@ -201,7 +207,13 @@ impl MetaRegex {
             no_start_text: !config.start_text,
             no_end_text: !config.end_text,
         };
-        self.strategy
-            .search(alloc, text, &input, &self.options, &mut Steps::new())
+        self.strategy.search(
+            alloc,
+            text,
+            &input,
+            &self.options,
+            &mut Steps::new(),
+            memory,
+        )
     }
 }

@@ -19,11 +19,12 @@ ghost use Rattle.fancy_regex_runner.specs.Runner.{IsEasyOf};
 ghost use Rattle.fancy_regex_meta.specs.Refusals.{compile_options_of, IsCompileRefusal};
 
 use crate::error::Result;
+use crate::memory::MetaMemory;
 use crate::options::RegexOptions;
 use crate::seek::seek_table;
 use fancy_regex_class::{RunInput, Steps};
 use fancy_regex_info::{CompileError, CompileOptions, Info};
-use fancy_regex_machine::{RunOptions, run};
+use fancy_regex_machine::{RunOptions, run_in};
 use fancy_regex_program::{Prog, compile};
 use fancy_regex_runner::Easy;
 use std::alloc::Global;
@@ -101,7 +102,7 @@ impl Strategy {
 
     /// The start and end byte offsets of each group of the first match, both `usize::MAX` for a group that did not
     /// participate; `None` if there is no match. The counter is raised by one for each look of the linear-time matcher at the
-    /// haystack. Errors: `RuntimeError` at a limit of the program, or `Memory`.
+    /// haystack. What is allocated for the search stays in the memory. Errors: `RuntimeError` at a limit of the program, or `Memory`.
     pub fn search(
         &self,
         alloc: Global,
@@ -109,6 +110,7 @@ impl Strategy {
         input: &RunInput,
         options: &RegexOptions,
         steps: &mut Steps,
+        memory: &mut MetaMemory,
     ) -> Result<Option<Vec<usize>>>
         requires first { IsCharBoundary text.now input.now.first }
         requires range { input.now.range.end ≤ length text.now }
@@ -129,14 +131,20 @@ impl Strategy {
         ensures counts { steps.old ≤ steps.new }
     {
         match self {
-            Strategy::Easy(easy) => Ok(easy.search(alloc, text, input, steps)?),
+            Strategy::Easy(easy) => Ok(easy.search_in(
+                alloc,
+                text,
+                input,
+                steps,
+                &mut memory.easy,
+            )?),
             Strategy::Program { prog, seek } => {
                 let options = RunOptions {
                     backtrack_limit: options.backtrack_limit,
                     find_not_empty: options.find_not_empty,
                     seek: *seek,
                 };
-                Ok(run(alloc, prog, text, input, &options)?)
+                Ok(run_in(alloc, prog, text, input, &options, &mut memory.program)?)
             }
         }
     }

@@ -10,7 +10,7 @@ ghost use Rattle.fancy_regex_search.specs.CaptureSpans.{AreGroupsOf, IsResultFor
 use crate::captures::Captures;
 use crate::regex::Regex;
 use fancy_regex_input::{Input, SearchConfig};
-use fancy_regex_meta::Result;
+use fancy_regex_meta::{MetaMemory, Result};
 use std::alloc::Global;
 
 /// A match that was asked for at one offset.
@@ -25,7 +25,7 @@ pub struct AnchoredMatch<'r, S: Input> {
 }
 
 /// The match that starts at `position`; `None` if no match starts there. `\G` matches at `continue_at` alone, and nowhere if
-/// that is `None`. `RuntimeError` if the search exceeds a limit; `Memory` if memory runs out.
+/// that is `None`. The memory is that of earlier searches, and changes no answer. `RuntimeError` if the search exceeds a limit; `Memory` if memory runs out.
 pub fn match_at<'r, S: Input>(
     alloc: Global,
     regex: &'r Regex,
@@ -33,6 +33,7 @@ pub fn match_at<'r, S: Input>(
     config: SearchConfig,
     continue_at: Option<usize>,
     position: usize,
+    memory: &mut MetaMemory,
 ) -> Result<Option<AnchoredMatch<'r, S>>>
     requires fits { FitsText (S.text haystack) config }
     requires boundary { IsCharBoundary (S.text haystack) position }
@@ -44,9 +45,14 @@ pub fn match_at<'r, S: Input>(
     ensures limits { IfErr result (λ e. IsMemberError regex.entry.now.meta (S.text haystack) config continue_at position e) }
     ensures stays { IfOk result (λ _. MemberStaysInLimits regex.entry.now.meta (S.text haystack) config continue_at position) }
 {
-    let found = regex
-        .meta
-        .search_at(alloc, haystack.as_str(), config, continue_at, position)?;
+    let found = regex.meta.search_at(
+        alloc,
+        haystack.as_str(),
+        config,
+        continue_at,
+        position,
+        memory,
+    )?;
     match found {
         Some(slots) => Ok(Some(AnchoredMatch {
             start: slots[0],

@@ -59,7 +59,8 @@ impl Expander {
     /// `ParseError` at 0 for a sign that begins nothing. `Memory` if memory runs out.
     pub fn check(&self, alloc: Global, template: &str, regex: &Regex) -> Result<()>
         ensures accepted { OnOk result (first_fault (groups_of regex.now.meta) (parts self.now.syntax (chars template.now)) ≡ None) }
-        ensures refused { IfErr result (λ e. e ≢ Memory → (fault : _) × (first_fault (groups_of regex.now.meta) (parts self.now.syntax (chars template.now)) ≡ Some fault) × IsErrorOfFault fault e) }
+        ensures refused { IfErr result (λ e. e ≢ Memory → (fault : _) × (first_fault (groups_of regex.now.meta) (parts self.now.syntax (chars template.now))
+            ≡ Some fault) × IsErrorOfFault fault e) }
     {
         match check_template(self.syntax, template, &RegexGroups { regex }) {
             Ok(()) => Ok(()),
@@ -85,7 +86,8 @@ impl Expander {
         template: &str,
         captures: &Captures<'_, &str>,
     ) -> Result<String>
-        ensures value { IfOk result (λ made. string_bytes made ≡ expanded self.now.syntax captures.now.regex.now.meta captures.now.haystack.now captures.now.slots.items template.now) }
+        ensures value { IfOk result (λ made. string_bytes made
+            ≡ expanded self.now.syntax captures.now.regex.now.meta captures.now.haystack.now captures.now.slots.items template.now) }
         ensures fails { IfErr result (λ e. e ≡ Memory) }
     {
         let mut text = String::new(alloc);
@@ -101,7 +103,8 @@ impl Expander {
         template: &str,
         captures: &Captures<'_, &str>,
     ) -> Result<()>
-        ensures appends { OnOk result (string_bytes dst.new ≡ string_bytes dst.old ++ expanded self.now.syntax captures.now.regex.now.meta captures.now.haystack.now captures.now.slots.items template.now) }
+        ensures appends { OnOk result (string_bytes dst.new ≡ string_bytes dst.old
+            ++ expanded self.now.syntax captures.now.regex.now.meta captures.now.haystack.now captures.now.slots.items template.now) }
         ensures fails { IfErr result (λ e. (e ≡ Memory) × (string_bytes dst.new ≡ string_bytes dst.old)) }
     {
         let texts = captures.texts();
@@ -134,7 +137,8 @@ impl Expander {
         template: &str,
         captures: &Captures<'_, &str>,
     ) -> Result<()>
-        ensures appends { OnOk result (dst.new.items ≡ dst.old.items ++ expanded self.now.syntax captures.now.regex.now.meta captures.now.haystack.now captures.now.slots.items template.now) }
+        ensures appends { OnOk result (dst.new.items ≡ dst.old.items
+            ++ expanded self.now.syntax captures.now.regex.now.meta captures.now.haystack.now captures.now.slots.items template.now) }
         ensures fails { IfErr result (λ e. (e ≡ Memory) × (dst.new.items ≡ dst.old.items)) }
     {
         let texts = captures.texts();
@@ -146,7 +150,8 @@ impl Expander {
 impl<'r, 't> Captures<'r, &'t str> {
     /// Appends what a template stands for in this match, as `Expander::append_expansion` of the default form does.
     pub fn expand(&self, alloc: Global, template: &str, dst: &mut String) -> Result<()>
-        ensures appends { OnOk result (string_bytes dst.new ≡ string_bytes dst.old ++ expanded Dollar self.now.regex.now.meta self.now.haystack.now self.now.slots.items template.now) }
+        ensures appends { OnOk result (string_bytes dst.new ≡ string_bytes dst.old
+            ++ expanded Dollar self.now.regex.now.meta self.now.haystack.now self.now.slots.items template.now) }
         ensures fails { IfErr result (λ e. (e ≡ Memory) × (string_bytes dst.new ≡ string_bytes dst.old)) }
     {
         Expander::default().append_expansion(alloc, dst, template, self)

@@ -40,7 +40,8 @@ impl<'r, 'h> GapIter<'r, 'h> {
 
     /// The iteration before its first search.
     pub fn new(alloc: Global, regex: &'r Regex, text: &'h str) -> GapIter<'r, 'h>
-        ensures left { remaining_matches result.match_iter.regex.now.meta result.match_iter.input.haystack.now result.match_iter.input.config result.match_iter.state ≡ all_matches regex.entry.now.meta text.entry.now (whole text.entry.now) }
+        ensures left { remaining_matches result.match_iter.regex.now.meta result.match_iter.input.haystack.now result.match_iter.input.config
+            result.match_iter.state ≡ all_matches regex.entry.now.meta text.entry.now (whole text.entry.now) }
         ensures input { (result.match_iter.input.haystack ≡ text.entry) × (result.match_iter.input.config ≡ whole text.entry.now) }
         ensures regex { result.match_iter.regex ≡ regex.entry }
         ensures begins { (result.match_iter.state.continue_disabled ≡ false) × (result.last_end ≡ 0) }
@@ -55,7 +56,8 @@ impl<'r, 'h> GapIter<'r, 'h> {
 
     /// The next match and the text before it. `None` after the last match and after an error.
     pub fn next_gap(&mut self) -> Option<Result<Gap<'h>>>
-        ensures gives { YieldsGap (λ gap. gap.text.now) (λ gap. gap.slots.items) (meta_pattern self.old.match_iter.regex.now.meta) self.old.match_iter.input.haystack.now self.old.last_end
+        ensures gives { YieldsGap (λ gap. gap.text.now) (λ gap. gap.slots.items) (meta_pattern self.old.match_iter.regex.now.meta)
+            self.old.match_iter.input.haystack.now self.old.last_end
             (remaining_matches self.old.match_iter.regex.now.meta self.old.match_iter.input.haystack.now self.old.match_iter.input.config self.old.match_iter.state) result self.new.last_end
             (remaining_matches self.new.match_iter.regex.now.meta self.new.match_iter.input.haystack.now self.new.match_iter.input.config self.new.match_iter.state) }
         ensures nears { IfSome result (λ _. remaining_searches self.new.match_iter.input.haystack.now self.new.match_iter.input.config self.new.match_iter.state
@@ -63,10 +65,12 @@ impl<'r, 'h> GapIter<'r, 'h> {
         ensures haystack { self.new.match_iter.input.haystack ≡ self.old.match_iter.input.haystack }
         ensures regex { self.new.match_iter.regex ≡ self.old.match_iter.regex }
         ensures config { self.new.match_iter.input.config ≡ record (self.old.match_iter.input.config) { start = self.new.match_iter.input.config.start } }
-        ensures fails { IfSome result (λ item. IfErr item (λ e. IsItemError self.old.match_iter.regex.now.meta self.old.match_iter.input.haystack.now self.old.match_iter.input.config
+        ensures fails { IfSome result (λ item. IfErr item (λ e. IsItemError self.old.match_iter.regex.now.meta self.old.match_iter.input.haystack.now
+            self.old.match_iter.input.config
             self.old.match_iter.state e)) }
         ensures stays { NextStays self.old.match_iter.regex.now.meta self.old.match_iter.input.haystack.now self.old.match_iter.input.config self.old.match_iter.state result }
-        ensures passes { IfSome result (λ item. IfOk item (λ _. KeepsSearches self.old.match_iter.regex.now.meta self.old.match_iter.input.haystack.now self.old.match_iter.input.config
+        ensures passes { IfSome result (λ item. IfOk item (λ _. KeepsSearches self.old.match_iter.regex.now.meta self.old.match_iter.input.haystack.now
+            self.old.match_iter.input.config
             self.old.match_iter.state.continue_disabled self.new.match_iter.input.config self.new.match_iter.state.continue_disabled)) }
         ensures returns { NextReturns self.old.match_iter.regex.now.meta self.old.match_iter.input.haystack.now self.old.match_iter.input.config self.old.match_iter.state result
             self.new.match_iter.input.config self.new.match_iter.state }

@@ -11,11 +11,12 @@ ghost use Rattle.fancy_regex_search.specs.CaptureSpans.{IsSpanAt};
 use crate::regex::Regex;
 use fancy_regex_class::Steps;
 use fancy_regex_input::{Input, SearchConfig};
-use fancy_regex_meta::Result;
+use fancy_regex_meta::{MetaMemory, Result};
 use std::alloc::Global;
 
 /// The start and end byte offsets of each group of the first match, or `None` if there is no match. If the flag is set, `\G`
-/// never matches. The counter is raised as `find_input_counted` says. Errors: `RuntimeError` at a limit, or `Memory`.
+/// never matches. The counter is raised as `find_input_counted` says. The memory is that of earlier searches, and changes no
+/// answer. Errors: `RuntimeError` at a limit, or `Memory`.
 pub fn find_slots<S: Input>(
     alloc: Global,
     regex: &Regex,
@@ -23,6 +24,7 @@ pub fn find_slots<S: Input>(
     config: SearchConfig,
     continue_disabled: bool,
     steps: &mut Steps,
+    memory: &mut MetaMemory,
 ) -> Result<Option<Vec<usize>>>
     requires { FitsText (S.text haystack) config }
     ensures answer { IfOk result (λ found. option_map (λ v. v.items) found
@@ -36,9 +38,14 @@ pub fn find_slots<S: Input>(
     ensures looks_none { meta_uses_easy regex.now.meta ≡ false → steps.new ≡ steps.old }
     ensures counts { steps.old ≤ steps.new }
 {
-    regex
-        .meta
-        .search(alloc, haystack.as_str(), config, continue_disabled, steps)
+    regex.meta.search(
+        alloc,
+        haystack.as_str(),
+        config,
+        continue_disabled,
+        steps,
+        memory,
+    )
 }
 
 /// The start and end byte offsets of a group; `None` if it did not participate or there is no such group.

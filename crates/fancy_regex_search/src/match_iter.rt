@@ -12,7 +12,7 @@ use crate::regex::Regex;
 use fancy_regex_class::Steps;
 use fancy_regex_input::{Input, RegexInput};
 use fancy_regex_meaning::laws_of_items;
-use fancy_regex_meta::{Error, Result};
+use fancy_regex_meta::{Error, MetaMemory, Result};
 use std::alloc::Global;
 
 /// The state that an iteration keeps between its searches.
@@ -37,6 +37,8 @@ pub struct MatchIter<'r, S: Input> {
     pub input: RegexInput<S>,
     /// The state between searches.
     pub state: IterState,
+    /// What the searches allocate, used again by each.
+    memory: MetaMemory,
 }
 
 /// The result of one search of an iteration.
@@ -62,7 +64,8 @@ impl<'r, S: Input> MatchIter<'r, S> {
 
     /// The iteration before its first search.
     pub fn new(alloc: Global, regex: &'r Regex, input: RegexInput<S>) -> MatchIter<'r, S>
-        ensures left { remaining_matches result.regex.now.meta (S.text result.input.haystack) result.input.config result.state ≡ all_matches regex.entry.now.meta (S.text input.haystack) input.config }
+        ensures left { remaining_matches result.regex.now.meta (S.text result.input.haystack) result.input.config result.state
+            ≡ all_matches regex.entry.now.meta (S.text input.haystack) input.config }
         ensures input { (result.input.haystack ≡ input.haystack) × (result.input.config ≡ input.config) }
         ensures regex { result.regex ≡ regex.entry }
         ensures begins { result.state.continue_disabled ≡ false }
@@ -78,6 +81,7 @@ impl<'r, S: Input> MatchIter<'r, S> {
                 continue_disabled: false,
                 is_done: false,
             },
+            memory: MetaMemory::new(alloc),
         }
     }
 
@@ -105,6 +109,7 @@ impl<'r, S: Input> MatchIter<'r, S> {
             config,
             self.state.continue_disabled,
             &mut Steps::new(),
+            &mut self.memory,
         );
         match found {
             Ok(Some(slots)) => self.step_past_match(slots),

@@ -56,11 +56,13 @@ fn replace_by_calls<'t, R: Replacer>(
     replacer: &mut R,
 ) -> Result<CowStr<'t>>
     requires { R.is_ready replacer.old }
-    ensures replaced { IfOk result (λ v. IsReplacedByCalls R.answers regex.now.meta text.entry.now 0 (counted limit (all_matches regex.now.meta text.entry.now (whole text.entry.now)))
+    ensures replaced { IfOk result (λ v. IsReplacedByCalls R.answers regex.now.meta text.entry.now 0 (counted limit
+        (all_matches regex.now.meta text.entry.now (whole text.entry.now)))
         replacer.old (cow_str_bytes v) replacer.new) }
     ensures borrowed { IfOk result (λ v. counted limit (all_matches regex.now.meta text.entry.now (whole text.entry.now)) ≡ [] → v ≡ CowStr.Borrowed text.entry) }
     ensures stays { IfOk result (λ _. ReplacementStays regex.now.meta text.entry.now (counted limit (all_matches regex.now.meta text.entry.now (whole text.entry.now)))) }
-    ensures fails { IfErr result (λ e. IsReplaceError R.answers regex.now.meta text.entry.now (counted limit (all_matches regex.now.meta text.entry.now (whole text.entry.now))) replacer.old None e) }
+    ensures fails { IfErr result (λ e. IsReplaceError R.answers regex.now.meta text.entry.now (counted limit
+        (all_matches regex.now.meta text.entry.now (whole text.entry.now))) replacer.old None e) }
 {
     let mut gaps = GapIter::new(alloc, regex, text);
     let mut out = String::new(alloc);
@@ -95,10 +97,12 @@ impl Regex {
         rep: R,
     ) -> Result<CowStr<'t>>
         requires { R.is_ready rep }
-        ensures replaced { IfOk result (λ v. IsReplacedBy R.answers self.now.meta text.entry.now (counted 1 (all_matches self.now.meta text.entry.now (whole text.entry.now))) rep (cow_str_bytes v) (R.fixed_text rep)) }
+        ensures replaced { IfOk result (λ v. IsReplacedBy R.answers self.now.meta text.entry.now (counted 1
+            (all_matches self.now.meta text.entry.now (whole text.entry.now))) rep (cow_str_bytes v) (R.fixed_text rep)) }
         ensures borrowed { IfOk result (λ v. counted 1 (all_matches self.now.meta text.entry.now (whole text.entry.now)) ≡ [] → v ≡ CowStr.Borrowed text.entry) }
         ensures stays { IfOk result (λ _. ReplacementStays self.now.meta text.entry.now (counted 1 (all_matches self.now.meta text.entry.now (whole text.entry.now)))) }
-        ensures fails { IfErr result (λ e. IsReplaceError R.answers self.now.meta text.entry.now (counted 1 (all_matches self.now.meta text.entry.now (whole text.entry.now))) rep (R.fixed_text rep) e) }
+        ensures fails { IfErr result (λ e. IsReplaceError R.answers self.now.meta text.entry.now (counted 1
+            (all_matches self.now.meta text.entry.now (whole text.entry.now))) rep (R.fixed_text rep) e) }
     {
         self.try_replacen(alloc, text, 1, rep)
     }
@@ -111,10 +115,12 @@ impl Regex {
         rep: R,
     ) -> Result<CowStr<'t>>
         requires { R.is_ready rep }
-        ensures replaced { IfOk result (λ v. IsReplacedBy R.answers self.now.meta text.entry.now (all_matches self.now.meta text.entry.now (whole text.entry.now)) rep (cow_str_bytes v) (R.fixed_text rep)) }
+        ensures replaced { IfOk result (λ v. IsReplacedBy R.answers self.now.meta text.entry.now
+            (all_matches self.now.meta text.entry.now (whole text.entry.now)) rep (cow_str_bytes v) (R.fixed_text rep)) }
         ensures borrowed { IfOk result (λ v. all_matches self.now.meta text.entry.now (whole text.entry.now) ≡ [] → v ≡ CowStr.Borrowed text.entry) }
         ensures stays { IfOk result (λ _. ReplacementStays self.now.meta text.entry.now (all_matches self.now.meta text.entry.now (whole text.entry.now))) }
-        ensures fails { IfErr result (λ e. IsReplaceError R.answers self.now.meta text.entry.now (all_matches self.now.meta text.entry.now (whole text.entry.now)) rep (R.fixed_text rep) e) }
+        ensures fails { IfErr result (λ e. IsReplaceError R.answers self.now.meta text.entry.now
+            (all_matches self.now.meta text.entry.now (whole text.entry.now)) rep (R.fixed_text rep) e) }
     {
         self.try_replacen(alloc, text, 0, rep)
     }
@@ -129,10 +135,12 @@ impl Regex {
         rep: R,
     ) -> Result<CowStr<'t>>
         requires { R.is_ready rep }
-        ensures replaced { IfOk result (λ v. IsReplacedBy R.answers self.now.meta text.entry.now (counted limit (all_matches self.now.meta text.entry.now (whole text.entry.now))) rep (cow_str_bytes v) (R.fixed_text rep)) }
+        ensures replaced { IfOk result (λ v. IsReplacedBy R.answers self.now.meta text.entry.now (counted limit
+            (all_matches self.now.meta text.entry.now (whole text.entry.now))) rep (cow_str_bytes v) (R.fixed_text rep)) }
         ensures borrowed { IfOk result (λ v. counted limit (all_matches self.now.meta text.entry.now (whole text.entry.now)) ≡ [] → v ≡ CowStr.Borrowed text.entry) }
         ensures stays { IfOk result (λ _. ReplacementStays self.now.meta text.entry.now (counted limit (all_matches self.now.meta text.entry.now (whole text.entry.now)))) }
-        ensures fails { IfErr result (λ e. IsReplaceError R.answers self.now.meta text.entry.now (counted limit (all_matches self.now.meta text.entry.now (whole text.entry.now))) rep (R.fixed_text rep) e) }
+        ensures fails { IfErr result (λ e. IsReplaceError R.answers self.now.meta text.entry.now (counted limit
+            (all_matches self.now.meta text.entry.now (whole text.entry.now))) rep (R.fixed_text rep) e) }
     {
         self.try_replacen(alloc, text, limit, rep)
     }
@@ -149,10 +157,12 @@ impl Regex {
         mut rep: R,
     ) -> Result<CowStr<'t>>
         requires { R.is_ready rep }
-        ensures replaced { IfOk result (λ v. IsReplacedBy R.answers self.now.meta text.entry.now (counted limit (all_matches self.now.meta text.entry.now (whole text.entry.now))) rep (cow_str_bytes v) (R.fixed_text rep)) }
+        ensures replaced { IfOk result (λ v. IsReplacedBy R.answers self.now.meta text.entry.now (counted limit
+            (all_matches self.now.meta text.entry.now (whole text.entry.now))) rep (cow_str_bytes v) (R.fixed_text rep)) }
         ensures borrowed { IfOk result (λ v. counted limit (all_matches self.now.meta text.entry.now (whole text.entry.now)) ≡ [] → v ≡ CowStr.Borrowed text.entry) }
         ensures stays { IfOk result (λ _. ReplacementStays self.now.meta text.entry.now (counted limit (all_matches self.now.meta text.entry.now (whole text.entry.now)))) }
-        ensures fails { IfErr result (λ e. IsReplaceError R.answers self.now.meta text.entry.now (counted limit (all_matches self.now.meta text.entry.now (whole text.entry.now))) rep (R.fixed_text rep) e) }
+        ensures fails { IfErr result (λ e. IsReplaceError R.answers self.now.meta text.entry.now (counted limit
+            (all_matches self.now.meta text.entry.now (whole text.entry.now))) rep (R.fixed_text rep) e) }
     {
         if let Some(fixed) = rep.no_expansion() {
             return replace_by_calls(alloc, self, text, limit, &mut NoExpand(fixed.as_str()));

@@ -16,7 +16,7 @@ use crate::matches::Matches;
 use crate::regex::Regex;
 use fancy_regex_class::Steps;
 use fancy_regex_input::{Input, RegexInput};
-use fancy_regex_meta::Result;
+use fancy_regex_meta::{MetaMemory, Result};
 use fancy_regex_tree_laws::weight_bound;
 use std::alloc::Global;
 
@@ -43,6 +43,7 @@ impl Regex {
             input.config(),
             false,
             &mut Steps::new(),
+            &mut MetaMemory::new(alloc),
         )?;
         Ok(found.is_some())
     }
@@ -67,7 +68,8 @@ impl Regex {
         position: usize,
     ) -> Result<Option<S::Match>>
         requires { position ≤ length (S.text haystack) → IsCharBoundary (S.text haystack) position }
-        ensures answer { IfOk result (λ found. option_map S.span found ≡ option_map span_in (meta_match self.now.meta (S.text haystack) (record (whole (S.text haystack)) { start = position }))) }
+        ensures answer { IfOk result (λ found. option_map S.span found
+            ≡ option_map span_in (meta_match self.now.meta (S.text haystack) (record (whole (S.text haystack)) { start = position }))) }
         ensures text { IfOk result (λ found. IfSome found (λ m. S.match_text m ≡ S.text haystack)) }
         ensures limits { IfErr result (λ e. IsMetaSearchError self.now.meta (S.text haystack) (record (whole (S.text haystack)) { start = position }) false e) }
         ensures stays { IfOk result (λ _. MetaStaysInLimits self.now.meta (S.text haystack) (record (whole (S.text haystack)) { start = position }) false) }
@@ -112,7 +114,8 @@ impl Regex {
         weight_bound();
         let haystack = input.haystack();
         let config = input.config();
-        match find_slots(alloc, self, haystack, config, false, steps)? {
+        let mut memory = MetaMemory::new(alloc);
+        match find_slots(alloc, self, haystack, config, false, steps, &mut memory)? {
             Some(slots) => Ok(Some(whole_match(haystack, config, &slots))),
             None => Ok(None),
         }
@@ -121,7 +124,8 @@ impl Regex {
     /// The capture groups of the first match in the haystack; `None` if there is none. `RuntimeError` if the search exceeds a
     /// limit; `Memory` if memory runs out.
     pub fn captures<S: Input>(&self, alloc: Global, haystack: S) -> Result<Option<Captures<'_, S>>>
-        ensures answer { IfOk result (λ found. IsResultFor (λ c. AreGroupsOf (meta_pattern self.now.meta) c.slots.items) found (meta_match self.now.meta (S.text haystack) (whole (S.text haystack)))) }
+        ensures answer { IfOk result (λ found. IsResultFor (λ c. AreGroupsOf (meta_pattern self.now.meta) c.slots.items) found (meta_match self.now.meta
+            (S.text haystack) (whole (S.text haystack)))) }
         ensures of { IfOk result (λ found. IfSome found (λ c. (c.haystack ≡ haystack) × (c.regex.now ≡ self.now))) }
         ensures limits { IfErr result (λ e. IsMetaSearchError self.now.meta (S.text haystack) (whole (S.text haystack)) false e) }
         ensures stays { IfOk result (λ _. MetaStaysInLimits self.now.meta (S.text haystack) (whole (S.text haystack)) false) }
@@ -155,7 +159,8 @@ impl Regex {
         alloc: Global,
         input: RegexInput<S>,
     ) -> Result<Option<Captures<'_, S>>>
-        ensures answer { IfOk result (λ found. IsResultFor (λ c. AreGroupsOf (meta_pattern self.now.meta) c.slots.items) found (meta_match self.now.meta (S.text input.haystack) (input.config))) }
+        ensures answer { IfOk result (λ found. IsResultFor (λ c. AreGroupsOf (meta_pattern self.now.meta) c.slots.items) found (meta_match self.now.meta
+            (S.text input.haystack) (input.config))) }
         ensures of { IfOk result (λ found. IfSome found (λ c. (c.haystack ≡ input.haystack) × (c.regex.now ≡ self.now))) }
         ensures limits { IfErr result (λ e. IsMetaSearchError self.now.meta (S.text input.haystack) input.config false e) }
         ensures stays { IfOk result (λ _. MetaStaysInLimits self.now.meta (S.text input.haystack) input.config false) }
@@ -168,6 +173,7 @@ impl Regex {
             input.config(),
             false,
             &mut Steps::new(),
+            &mut MetaMemory::new(alloc),
         )?;
         match found {
             Some(slots) => Ok(Some(Captures::new(self, haystack, slots))),

@@ -32,7 +32,8 @@ impl<'r, 'h> Split<'r, 'h> {
         ensures left { pieces_left result.is_done result.gaps.match_iter.input.haystack.now result.gaps.last_end
             (remaining_matches result.gaps.match_iter.regex.now.meta result.gaps.match_iter.input.haystack.now result.gaps.match_iter.input.config result.gaps.match_iter.state)
             ≡ pieces text.entry.now (all_matches regex.entry.now.meta text.entry.now (whole text.entry.now)) }
-        ensures matches { remaining_matches result.gaps.match_iter.regex.now.meta result.gaps.match_iter.input.haystack.now result.gaps.match_iter.input.config result.gaps.match_iter.state
+        ensures matches { remaining_matches result.gaps.match_iter.regex.now.meta result.gaps.match_iter.input.haystack.now result.gaps.match_iter.input.config
+            result.gaps.match_iter.state
             ≡ all_matches regex.entry.now.meta text.entry.now (whole text.entry.now) }
         ensures input { (result.gaps.match_iter.input.haystack ≡ text.entry) × (result.gaps.match_iter.input.config ≡ whole text.entry.now) }
         ensures regex { result.gaps.match_iter.regex ≡ regex.entry }
@@ -51,15 +52,18 @@ impl<'r, 'h> Split<'r, 'h> {
             (remaining_matches self.old.gaps.match_iter.regex.now.meta self.old.gaps.match_iter.input.haystack.now self.old.gaps.match_iter.input.config self.old.gaps.match_iter.state) result
             self.new.is_done self.new.gaps.last_end
             (remaining_matches self.new.gaps.match_iter.regex.now.meta self.new.gaps.match_iter.input.haystack.now self.new.gaps.match_iter.input.config self.new.gaps.match_iter.state) }
-        ensures nears { self.new.is_done ≡ false → remaining_searches self.new.gaps.match_iter.input.haystack.now self.new.gaps.match_iter.input.config self.new.gaps.match_iter.state
+        ensures nears { self.new.is_done ≡ false → remaining_searches self.new.gaps.match_iter.input.haystack.now self.new.gaps.match_iter.input.config
+            self.new.gaps.match_iter.state
             < remaining_searches self.old.gaps.match_iter.input.haystack.now self.old.gaps.match_iter.input.config self.old.gaps.match_iter.state }
         ensures haystack { self.new.gaps.match_iter.input.haystack ≡ self.old.gaps.match_iter.input.haystack }
         ensures regex { self.new.gaps.match_iter.regex ≡ self.old.gaps.match_iter.regex }
         ensures config { self.new.gaps.match_iter.input.config ≡ record (self.old.gaps.match_iter.input.config) { start = self.new.gaps.match_iter.input.config.start } }
         ensures fails { IfSome result (λ item. IfErr item (λ e. IsItemError self.old.gaps.match_iter.regex.now.meta self.old.gaps.match_iter.input.haystack.now
             self.old.gaps.match_iter.input.config self.old.gaps.match_iter.state e)) }
-        ensures stays { PieceStays self.old.gaps.match_iter.regex.now.meta self.old.gaps.match_iter.input.haystack.now self.old.gaps.match_iter.input.config self.old.gaps.match_iter.state result }
-        ensures passes { self.new.is_done ≡ false → IfSome result (λ item. IfOk item (λ _. KeepsSearches self.old.gaps.match_iter.regex.now.meta self.old.gaps.match_iter.input.haystack.now
+        ensures stays { PieceStays self.old.gaps.match_iter.regex.now.meta self.old.gaps.match_iter.input.haystack.now self.old.gaps.match_iter.input.config
+            self.old.gaps.match_iter.state result }
+        ensures passes { self.new.is_done ≡ false → IfSome result (λ item. IfOk item
+            (λ _. KeepsSearches self.old.gaps.match_iter.regex.now.meta self.old.gaps.match_iter.input.haystack.now
             self.old.gaps.match_iter.input.config self.old.gaps.match_iter.state.continue_disabled self.new.gaps.match_iter.input.config self.new.gaps.match_iter.state.continue_disabled)) }
         ensures ends { PieceEnds result self.old.gaps.match_iter.state self.new.is_done self.new.gaps.match_iter.state }
     {

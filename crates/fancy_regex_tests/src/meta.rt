@@ -3,12 +3,13 @@
 use fancy_regex_class::Steps;
 use fancy_regex_info::CompileError;
 use fancy_regex_input::RegexInput;
-use fancy_regex_meta::{Error, MetaRegex, RegexOptions};
+use fancy_regex_meta::{Error, MetaMemory, MetaRegex, RegexOptions};
 use std::test::Fail;
 
 #[test]
 fn plain_and_other_patterns_find(rt: HostRuntime) -> Result<(), Fail> {
     let alloc = rt.alloc();
+    let mut memory = MetaMemory::new(alloc);
     for (pattern, text, start, end) in [("a|b", "xb", 1, 2), ("(?=(a|ab)(?!x))\\1c", "abc", 0, 3)] {
         let meta = MetaRegex::new(
             alloc,
@@ -19,7 +20,14 @@ fn plain_and_other_patterns_find(rt: HostRuntime) -> Result<(), Fail> {
             panic!(rt; "build");
         };
         let config = RegexInput::new(text).config();
-        let found = meta.search(alloc, text, config, false, &mut Steps::new());
+        let found = meta.search(
+            alloc,
+            text,
+            config,
+            false,
+            &mut Steps::new(),
+            &mut memory,
+        );
         let Ok(Some(slots)) = found else {
             panic!(rt; "search");
         };
@@ -67,7 +75,14 @@ fn each_of_many_groups_has_its_places(rt: HostRuntime) -> Result<(), Fail> {
     };
     let text = "aaaaaaaaaaaaaaaaaaaa";
     let config = RegexInput::new(text).config();
-    let found = meta.search(alloc, text, config, false, &mut Steps::new());
+    let found = meta.search(
+        alloc,
+        text,
+        config,
+        false,
+        &mut Steps::new(),
+        &mut MetaMemory::new(alloc),
+    );
     let Ok(Some(slots)) = found else {
         panic!(rt; "search");
     };
