@@ -1,12 +1,12 @@
 //! The backtrack stack and the slots of the capture groups.
 
-ghost use Rattle.std.specs.Prelude.{◌≡◌, ℕ, List, ◌∷◌, ◌<◌, ◌≤◌, ◌+◌, vec_len, IfSome, IfNone, IfOk, OnOk, slice_set, slice_index, length};
+ghost use Rattle.std.specs.Prelude.{◌≡◌, ℕ, List, ◌∷◌, ◌<◌, ◌≤◌, ◌+◌, ◌-◌, ◌*◌, ◌^◌, replicate, vec_len, IfSome, IfNone, IfOk, OnOk, slice_set, slice_index, length};
 ghost use Rattle.std.specs.Bool.{MatchBool};
 ghost use Rattle.fancy_regex_runner.specs.Search.{top_first, put_back, resume_result};
 ghost use Rattle.fancy_regex_runner.specs.declared.frame.Frame.TheVariants.{Explore, Restore};
 
 use crate::frame::Frame;
-use std::alloc::AllocError;
+use std::alloc::{AllocError, Global};
 
 /// The backtrack stack, and two slots for each capture group: the start of group k in slot 2k, its end in slot 2k + 1.
 #[derive(Drop)]
@@ -18,6 +18,23 @@ pub struct BacktrackState {
 }
 
 impl BacktrackState {
+    /// No frames and no slots. It allocates nothing.
+    pub fn new(alloc: Global) -> BacktrackState {
+        BacktrackState {
+            stack: Vec::new(alloc),
+            slots: Vec::new(alloc),
+        }
+    }
+
+    /// Begins anew with no frames, and two unset slots for each group. The memory of both is kept. The error is want of memory.
+    pub fn restart(&mut self, groups: usize) -> Result<(), AllocError>
+        ensures stack { OnOk result (vec_len self.new.stack ≡ 0) }
+        ensures slots { OnOk result (self.new.slots.items ≡ replicate (2 * groups) (2 ^ 64 - 1)) }
+    {
+        self.stack.clear();
+        unset(&mut self.slots, groups)
+    }
+
     /// Pops frames, undoing writes, up to the next pair to explore, and returns its state and byte offset; `None` if the
     /// stack is empty.
     pub fn pop_explore(&mut self) -> Option<(usize, usize)>
@@ -70,4 +87,13 @@ impl BacktrackState {
         self.slots[slot] = at;
         Ok(true)
     }
+}
+
+/// Makes these two unset slots for each group. The error is want of memory.
+pub fn unset(slots: &mut Vec<usize>, groups: usize) -> Result<(), AllocError>
+    ensures { OnOk result (slots.new.items ≡ replicate (2 * groups) (2 ^ 64 - 1)) }
+{
+    slots.clear();
+    slots.resize(groups.saturating_mul(2), usize::MAX)?;
+    Ok(())
 }

@@ -6,16 +6,15 @@ ghost use Rattle.fancy_regex_meaning.specs.Sizes.{tree_weight};
 ghost use Rattle.fancy_regex_meaning.specs.Searches.{first_match, match_at, starts};
 ghost use Rattle.fancy_regex_runner.specs.Easy.{IsMade, rules_for, hit_places, hit_at};
 ghost use Rattle.fancy_regex_class.specs.RunInputs.{setting_for, search_for, match_slots};
-ghost use Rattle.fancy_regex_runner.specs.Find.{attempted};
+ghost use Rattle.fancy_regex_runner.specs.Find.{attempted, hit_of_span};
 ghost use Rattle.fancy_regex_tree.specs.Tree.{Tree};
 ghost use Rattle.fancy_regex_states.specs.First.{IsTableOf};
 
-use crate::backtrack::BacktrackState;
 use crate::build::Translator;
 use crate::emit::emit;
+use crate::memory::SearchMemory;
 use crate::search::{SearchContext, earliest_way};
 use crate::state::add;
-use crate::visited::Visited;
 use fancy_regex_class::{CharClassMatcher, Counted, RunInput, Steps};
 use fancy_regex_info::{BytesMode, CompileError, CompileOptions, Info};
 use fancy_regex_states::{FirstChars, Rules, State};
@@ -115,12 +114,76 @@ impl Easy {
             (starts (setting_for self.now.unicode text.now input.now) pattern (search_for self.now.longest input.now))) (2 ^ 64 - 1) ≤ steps.new) }
         ensures counts { steps.old ≤ steps.new }
     {
+        let mut memory = SearchMemory::new(alloc);
+        match self.span_in(text, input, steps, &mut memory)? {
+            Some((start, end)) => {
+                let SearchMemory { backtrack, .. } = memory;
+                Ok(Some(self.places(backtrack.slots, start, end)))
+            }
+            None => Ok(None),
+        }
+    }
+
+    /// Searches the text as `search` does, in memory that other searches may have used before: of this pattern or another,
+    /// also one that ran out of memory. The answer is the same for every memory. Only the answer is allocated where the
+    /// memory has the room, so nothing is where nothing is found. After an error the memory may be used again.
+    pub fn search_in(
+        &self,
+        alloc: Global,
+        text: &str,
+        input: &RunInput,
+        steps: &mut Steps,
+        memory: &mut SearchMemory,
+    ) -> Result<Option<Vec<usize>>, AllocError>
+        requires first { IsCharBoundary text.now input.now.first }
+        requires range { input.now.range.end ≤ length text.now }
+        ensures answer { IfOk result (λ found. (pattern : Pattern) → IsEasyOf self.now pattern
+            → option_map (λ v. v.items) found ≡ option_map (match_slots pattern)
+            (first_match (setting_for self.now.unicode text.now input.now) pattern (search_for self.now.longest input.now))) }
+        ensures at_most { (pattern : Pattern) → IsEasyOf self.now pattern
+            → steps.new ≤ steps.old + tree_weight pattern.groups pattern.tree * (input.now.range.end - input.now.first + 1) }
+        ensures at_least { IfOk result (λ _. (pattern : Pattern) → IsEasyOf self.now pattern
+            → min (steps.old + attempted (match_at (setting_for self.now.unicode text.now input.now) pattern (search_for self.now.longest input.now))
+            (starts (setting_for self.now.unicode text.now input.now) pattern (search_for self.now.longest input.now))) (2 ^ 64 - 1) ≤ steps.new) }
+        ensures counts { steps.old ≤ steps.new }
+    {
+        match self.span_in(text, input, steps, memory)? {
+            Some((start, end)) => {
+                let slots = Vec::from_slice(alloc, &memory.backtrack.slots)?;
+                Ok(Some(self.places(slots, start, end)))
+            }
+            None => Ok(None),
+        }
+    }
+
+    /// The start and the end of the match, as byte offsets, with its slots in the memory. The error is want of memory.
+    fn span_in(
+        &self,
+        text: &str,
+        input: &RunInput,
+        steps: &mut Steps,
+        memory: &mut SearchMemory,
+    ) -> Result<Option<(usize, usize)>, AllocError>
+        requires first { IsCharBoundary text.now input.now.first }
+        requires range { input.now.range.end ≤ length text.now }
+        ensures answer { IfOk result (λ found. (pattern : Pattern) → IsEasyOf self.now pattern
+            → option_map (hit_places self.now.whole) (hit_of_span found memory.new.backtrack.slots.items)
+            ≡ option_map (match_slots pattern)
+            (first_match (setting_for self.now.unicode text.now input.now) pattern (search_for self.now.longest input.now))) }
+        ensures at_most { (pattern : Pattern) → IsEasyOf self.now pattern
+            → steps.new ≤ steps.old + tree_weight pattern.groups pattern.tree * (input.now.range.end - input.now.first + 1) }
+        ensures at_least { IfOk result (λ _. (pattern : Pattern) → IsEasyOf self.now pattern
+            → min (steps.old + attempted (match_at (setting_for self.now.unicode text.now input.now) pattern (search_for self.now.longest input.now))
+            (starts (setting_for self.now.unicode text.now input.now) pattern (search_for self.now.longest input.now))) (2 ^ 64 - 1) ≤ steps.new) }
+        ensures counts { steps.old ≤ steps.new }
+    {
         // Read so that the proof knows that the counter is a `u64`, which no look lowers.
         let _before = steps.count();
         let stop = input.range.end;
         if input.first > stop {
             return Ok(None);
         }
+        memory.restart(self.states.len(), input.first, self.groups)?;
         let context = SearchContext {
             states: &self.states,
             matchers: &self.matchers,
@@ -129,27 +192,17 @@ impl Easy {
             first: &self.first,
             stop,
         };
-        let mut visited = Visited::new(alloc, self.states.len(), input.first);
-        let slots = unset_slots(alloc, self.groups)?;
-        let mut backtrack = BacktrackState {
-            stack: Vec::new(alloc),
-            slots,
-        };
-        let mut farthest = unset_slots(alloc, self.groups)?;
         let mut counted = Counted::new(text, steps);
         let span = earliest_way(
             &context,
             &mut counted,
             input.first,
             input.anchored,
-            &mut visited,
-            &mut backtrack,
-            &mut farthest,
+            &mut memory.visited,
+            &mut memory.backtrack,
+            &mut memory.farthest,
         )?;
-        match span {
-            Some((start, end)) => Ok(Some(self.places(backtrack.slots, start, end))),
-            None => Ok(None),
-        }
+        Ok(span)
     }
 
     /// The flags of a search of this pattern.
@@ -174,15 +227,6 @@ impl Easy {
         }
         slots
     }
-}
-
-/// Two unset slots for each group. The error is want of memory.
-fn unset_slots(alloc: Global, groups: usize) -> Result<Vec<usize>, AllocError>
-    ensures { IfOk result (λ v. v.items ≡ replicate (2 * groups) (2 ^ 64 - 1)) }
-{
-    let mut slots = Vec::new(alloc);
-    slots.resize(groups.saturating_mul(2), usize::MAX)?;
-    Ok(slots)
 }
 
 /// Writes to a slot, if it exists.

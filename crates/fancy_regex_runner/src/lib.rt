@@ -2,7 +2,8 @@
 //! pattern is compiled to states, and a search is a depth-first search over pairs of a state and a byte offset. A visited set
 //! that all starts of the search share lets it try each pair at most once, so the number of look-ups in the text is bounded
 //! by the pattern's weight times the length of the range plus one. The set's memory goes by the span of an attempt: where
-//! all of it lies before a start, it begins anew there. A search fails for want of memory alone.
+//! all of it lies before a start, it begins anew there. A search fails for want of memory alone. What a search allocates is
+//! kept in a `SearchMemory`, which later searches use again.
 #![tactic(auto)]
 
 mod backtrack;
@@ -11,9 +12,11 @@ mod easy;
 mod emit;
 mod emit_both;
 mod frame;
+mod memory;
 mod node;
 mod search;
 mod state;
 mod visited;
 
 pub use easy::Easy;
+pub use memory::SearchMemory;

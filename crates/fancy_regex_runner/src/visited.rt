@@ -25,19 +25,29 @@ pub struct Visited {
 impl Visited {
     ghost use Rattle.fancy_regex_runner.specs.Visited.{Has, members, spent, Adds, IsSame};
 
-    /// The empty set, for `count` states and byte offsets from `base` on.
-    pub fn new(alloc: Global, count: usize, base: usize) -> Visited
-        ensures count { result.count ≡ count }
-        ensures base { result.base ≡ base }
-        ensures rows { result.rows ≡ 0 }
-    {
+    /// The empty set, for no states. It allocates nothing.
+    pub fn new(alloc: Global) -> Visited {
         Visited {
-            count,
-            width: count / 64 + 1,
-            base,
+            count: 0,
+            width: 1,
+            base: 0,
             rows: 0,
             words: Vec::new(alloc),
         }
+    }
+
+    /// Begins anew with the empty set, for `count` states and byte offsets from `base` on. The memory of the rows is kept
+    /// for later ones.
+    pub fn restart(&mut self, count: usize, base: usize)
+        ensures count { self.new.count ≡ count }
+        ensures base { self.new.base ≡ base }
+        ensures rows { self.new.rows ≡ 0 }
+    {
+        self.words.clear();
+        self.rows = 0;
+        self.count = count;
+        self.width = count / 64 + 1;
+        self.base = base;
     }
 
     /// Adds an empty row.

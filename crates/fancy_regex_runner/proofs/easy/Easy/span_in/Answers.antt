@@ -1,4 +1,4 @@
-use Rattle.std.proofs.Common.{◌≡◌, ℕ, ◌+◌, ◌-◌, ◌*◌, ◌^◌, ◌≤◌, ◌∙◌, List, min, length, replicate, Option, Some, sym, ap, arith, rules}
+use Rattle.std.proofs.Common.{◌≡◌, ℕ, ◌+◌, ◌-◌, ◌*◌, ◌^◌, ◌≤◌, ◌∙◌, List, min, length, replicate, Option, sym, ap, arith, rules}
 use Rattle.std.specs.Prelude.{option_map}
 use Rattle.fancy_regex_meaning.specs.Groups.{Pattern}
 use Rattle.fancy_regex_meaning.specs.Sizes.{tree_weight}
@@ -15,8 +15,8 @@ use Rattle.fancy_regex_runner.specs.Runner.{IsEasyOf}
 use Rattle.fancy_regex_runner.proofs.PlainLemmas.{sound}
 use Rattle.fancy_regex_runner.proofs.CharTestLemmas.{shows_all}
 use Rattle.fancy_regex_runner.proofs.AnswerLemmas.{program_does, closed, entry_in, found_is_match, tried_is_same, none_past, none_tried, states_weigh, steps_bound}
-use Rattle.fancy_regex_runner.proofs.easy.Easy.search.Goals as goal
-use Rattle.fancy_regex_runner.proofs.easy.Easy.search.Goals.{After-earliest_way, In_ok-span}
+use Rattle.fancy_regex_runner.proofs.easy.Easy.span_in.Goals as goal
+use Rattle.fancy_regex_runner.proofs.easy.Easy.span_in.Goals.{After-earliest_way, In_ok-span}
 
 pub returns-then-input-stop-clause-answer : goal.returns-then-input-stop-clause-answer
 returns-then-input-stop-clause-answer c pattern is =
@@ -49,9 +49,6 @@ bound c pattern is =
 pub returns-in_err-span-clause-at_most : goal.returns-in_err-span-clause-at_most
 returns-in_err-span-clause-at_most c pattern is = let b = bound (goal.at.returns-in_err-span-clause-at_most c).After-earliest_way pattern is in search rules
 
-pub returns-in-Some-clause-at_most : goal.returns-in-Some-clause-at_most
-returns-in-Some-clause-at_most c pattern is = let b = bound (goal.at.returns-in-Some-clause-at_most c).After-earliest_way pattern is in search rules
-
 pub returns-clause-at_most : goal.returns-clause-at_most
 returns-clause-at_most c pattern is = let b = bound (goal.at.returns-clause-at_most c).After-earliest_way pattern is in search rules
 
@@ -61,9 +58,6 @@ risen c = omega (arith, c.earliest_way.ensures.more, c.new-counted.ensures.count
 
 pub returns-in_err-span-clause-counts : goal.returns-in_err-span-clause-counts
 returns-in_err-span-clause-counts c = let r = risen (goal.at.returns-in_err-span-clause-counts c).After-earliest_way in search rules
-
-pub returns-in-Some-clause-counts : goal.returns-in-Some-clause-counts
-returns-in-Some-clause-counts c = let r = risen (goal.at.returns-in-Some-clause-counts c).After-earliest_way in search rules
 
 pub returns-clause-counts : goal.returns-clause-counts
 returns-clause-counts c = let r = risen (goal.at.returns-clause-counts c).After-earliest_way in search rules
@@ -93,11 +87,11 @@ walked c pattern is =
       shows = rw (c.deref-2.ensures.value, c.rules.ensures, c.new-counted.ensures.text) shows;
       agree = rw c.deref.ensures.value d.agree;
     }) in
-    let unset : c.in_ok-slots.slots.items ≡ replicate (2 * length pattern.groups) 18446744073709551615 =
-    c.in_ok-slots.ensures ∙ ap (λ (n : ℕ). replicate {A = ℕ} (2 * n) 18446744073709551615) is.groups in
+    let unset : c.restart.new.self.backtrack.slots.items ≡ replicate (2 * length pattern.groups) 18446744073709551615 =
+    c.in_ok-restart.ensures.slots ∙ ap (λ (n : ℕ). replicate {A = ℕ} (2 * n) 18446744073709551615) is.groups in
     let at : List ℕ → ℕ → Option Spot = λ xs i. land xs (d.go self.entry i).answer in
     let free : List ℕ = replicate (2 * length pattern.groups) 18446744073709551615 in
-    let same_tries : attempted (at c.in_ok-slots.slots.items) (places (looked_text c.new-counted.result) input.anchored input.first input.range.end)
+    let same_tries : attempted (at c.restart.new.self.backtrack.slots.items) (places (looked_text c.new-counted.result) input.anchored input.first input.range.end)
     ≡ attempted (match_at (setting_for self.unicode text input) pattern (search_for self.longest input)) (starts (setting_for self.unicode text input) pattern (search_for self.longest input)) =
     ap (λ xs. attempted (at xs) (places (looked_text c.new-counted.result) input.anchored input.first input.range.end)) unset
     ∙ ap (λ t. attempted (at free) (places t input.anchored input.first input.range.end)) c.new-counted.ensures.text
@@ -111,20 +105,9 @@ walked c pattern is =
       omega (arith, least, same_tries, c.new-counted.ensures.count),
     )
 
-pub returns-in-Some-clause-answer : goal.returns-in-Some-clause-answer
-returns-in-Some-clause-answer c pattern is =
-    let w = walked (goal.at.returns-in-Some-clause-answer c).In_ok-span pattern is in
-    ap Some c.places.ensures ∙ (rw c.in-Some.is at w.0)
-
-pub returns-in-Some-clause-at_least : goal.returns-in-Some-clause-at_least
-returns-in-Some-clause-at_least c pattern is =
-    let w = walked (goal.at.returns-in-Some-clause-at_least c).In_ok-span pattern is in
-    let least = w.1 in search rules
-
 pub returns-clause-answer : goal.returns-clause-answer
 returns-clause-answer c pattern is =
-    let w = walked (goal.at.returns-clause-answer c).In_ok-span pattern is in
-    rw c.in-None.is at w.0
+    (walked (goal.at.returns-clause-answer c).In_ok-span pattern is).0
 
 pub returns-clause-at_least : goal.returns-clause-at_least
 returns-clause-at_least c pattern is =

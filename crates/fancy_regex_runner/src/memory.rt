@@ -1,0 +1,50 @@
+//! The memory that searches share.
+
+ghost use Rattle.std.specs.Prelude.{◌≡◌, ◌-◌, ◌*◌, ◌^◌, vec_len, replicate, OnOk};
+
+use crate::backtrack::{BacktrackState, unset};
+use crate::visited::Visited;
+use std::alloc::{AllocError, Global};
+
+/// The memory of earlier searches, used again by later ones. What it holds has no effect on any answer, also after a search
+/// that ran out of memory, and it is as good for any pattern and any text. It keeps the most memory that a search has needed
+/// until it is dropped.
+#[derive(Drop)]
+pub struct SearchMemory {
+    /// The pairs of a state and a byte offset that were tried.
+    pub(crate) visited: Visited,
+    /// The frames to go back to, and the slots of the way that is tried.
+    pub(crate) backtrack: BacktrackState,
+    /// The slots of the farthest way so far.
+    pub(crate) farthest: Vec<usize>,
+}
+
+impl SearchMemory {
+    /// The memory of no search so far. It allocates nothing.
+    pub fn new(alloc: Global) -> SearchMemory {
+        SearchMemory {
+            visited: Visited::new(alloc),
+            backtrack: BacktrackState::new(alloc),
+            farthest: Vec::new(alloc),
+        }
+    }
+
+    /// Begins a search over `count` states and the byte offsets from `base` on, of a pattern with so many groups: nothing is
+    /// visited, there are no frames, and all slots are unset. The error is want of memory.
+    pub(crate) fn restart(
+        &mut self,
+        count: usize,
+        base: usize,
+        groups: usize,
+    ) -> Result<(), AllocError>
+        ensures visited { OnOk result ((self.new.visited.count ≡ count) × (self.new.visited.base ≡ base) × (self.new.visited.rows ≡ 0)) }
+        ensures stack { OnOk result (vec_len self.new.backtrack.stack ≡ 0) }
+        ensures slots { OnOk result (self.new.backtrack.slots.items ≡ replicate (2 * groups) (2 ^ 64 - 1)) }
+        ensures farthest { OnOk result (self.new.farthest.items ≡ replicate (2 * groups) (2 ^ 64 - 1)) }
+    {
+        self.visited.restart(count, base);
+        self.backtrack.restart(groups)?;
+        unset(&mut self.farthest, groups)?;
+        Ok(())
+    }
+}
