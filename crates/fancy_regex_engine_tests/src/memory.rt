@@ -1,12 +1,13 @@
 //! Searches where memory may run out: the call that failed is repeated, and gives the right answer.
 
-use fancy_regex_class::{RunInput, Span};
+use fancy_regex_class::{RunInput, Span, Steps};
 use fancy_regex_info::{AnalyzeContext, CompileError, CompileOptions, Info};
 use fancy_regex_machine::{RunOptions, RuntimeError, run};
 use fancy_regex_program::{Prog, compile};
+use fancy_regex_runner::{Easy, SearchMemory};
 use fancy_regex_sizes::analyze;
 use fancy_regex_tree::{Error, Expr, ExprTree};
-use std::alloc::Global;
+use std::alloc::{AllocError, Global};
 
 /// Parses a pattern, a second time if memory ran out.
 fn read(alloc: Global, pattern: &str) -> Result<ExprTree, Error> {
@@ -89,4 +90,86 @@ fn finds_the_first_way_unless_memory_runs_out(rt: HostRuntime) {
     );
     assert!(rt; finds(alloc, "(?<=a|bc)d", "bcd", &[2, 3]));
     assert!(rt; finds(alloc, "(?~abc)", "xabcx", &[0, 3]));
+}
+
+/// Compiles a pattern for the runner, a second time if memory ran out; `None` for a pattern that it does not run.
+fn runner_of(alloc: Global, info: &Info<'_>) -> Option<Easy> {
+    if info.hard {
+        return None;
+    }
+    let options = CompileOptions::default();
+    let made = match Easy::new(alloc, info, &options) {
+        Err(CompileError::Memory) => Easy::new(alloc, info, &options),
+        made => made,
+    };
+    made.ok()
+}
+
+/// Searches a text in memory that other searches used, a second time if memory ran out.
+fn searched_in(
+    alloc: Global,
+    easy: &Easy,
+    text: &str,
+    memory: &mut SearchMemory,
+) -> Result<Option<Vec<usize>>, AllocError> {
+    let input = RunInput {
+        first: 0,
+        continue_at: None,
+        range: Span {
+            start: 0,
+            end: text.len(),
+        },
+        anchored: false,
+        no_start_text: false,
+        no_end_text: false,
+    };
+    let mut steps = Steps::new();
+    match easy.search_in(alloc, text, &input, &mut steps, memory) {
+        Err(_) => easy.search_in(alloc, text, &input, &mut steps, memory),
+        searched => searched,
+    }
+}
+
+/// Whether the runner answers these byte offsets of the pattern's groups, or none, in memory that other searches used.
+fn answers_in(
+    alloc: Global,
+    memory: &mut SearchMemory,
+    pattern: &str,
+    text: &str,
+    wanted: Option<&[usize]>,
+) -> bool {
+    let Ok(tree) = read(alloc, pattern) else {
+        return false;
+    };
+    let Ok(info) = analyzed(alloc, &tree) else {
+        return false;
+    };
+    let Some(easy) = runner_of(alloc, &info) else {
+        return false;
+    };
+    match (&searched_in(alloc, &easy, text, memory), wanted) {
+        (Ok(Some(places)), Some(wanted)) => places.as_slice() == wanted,
+        (Ok(None), None) => true,
+        _ => false,
+    }
+}
+
+#[test]
+fn one_memory_serves_many_searches(rt: HostRuntime) {
+    let alloc = rt.alloc();
+    let mut memory = SearchMemory::new(alloc);
+    let lone = [1, 2, 1, 2, usize::MAX, usize::MAX];
+    let pair = [0, 4, 0, 2, 2, 4];
+    assert!(rt;
+        answers_in(
+            alloc,
+            &mut memory,
+            "(a|ab)(bc)?b",
+            "xaabcb",
+            Some(&[2, 6, 2, 3, 3, 5])
+        )
+    );
+    assert!(rt; answers_in(alloc, &mut memory, "(?:(a)|(b)|ab)*c", "ababababab", None));
+    assert!(rt; answers_in(alloc, &mut memory, "(x)|(y)", "ax", Some(&lone)));
+    assert!(rt; answers_in(alloc, &mut memory, "(\\w+?)(\\d+)", "ab12", Some(&pair)));
 }
