@@ -268,6 +268,17 @@ progress_gap {S} Calls r text ms first config new state after left left' before 
     progress_next Calls r text ms first config new state after m (still_replaced left' others) s next w moved passes stays told
     (subst (λ (xs : List Match). Progress Calls r text ms first config state xs s) split so)
 
+-- before the first call of a replacement with this limit
+pub completes_init : {S : Type 0} (Calls : S → Shown → Result (List ℕ) Error → S → Type 0) (r : MetaRegex) (text : List ℕ) (limit : ℕ) (first : S) (p : ℕ)
+    (left : Option ℕ) (before all : List Match) (out : List ℕ) → left ≡ limit_of limit → before ≡ all → p ≡ 0 → out ≡ [] →
+    Completes Calls r text (counted limit all) first p (still_replaced left before) first out
+completes_init {S} Calls r text limit first p left before all out l b begins empty =
+    let e : still_replaced left before ≡ counted limit all = (λ i. still_replaced (l i) (b i)) ∙ still_all limit all in
+    subst (λ (xs : List Match). Completes Calls r text (counted limit all) first p xs first out) (sym e)
+    (subst (λ (o : List ℕ). Completes Calls r text (counted limit all) first p (counted limit all) first o) (sym empty)
+    (subst (λ (q : ℕ). Completes Calls r text (counted limit all) first q (counted limit all) first []) (sym begins)
+    (completes_first Calls r text (counted limit all) first)))
+
 -- before the first search of a replacement with this limit
 pub progress_init : {S : Type 0} (Calls : S → Shown → Result (List ℕ) Error → S → Type 0) (r : MetaRegex) (text : List ℕ) (limit : ℕ) (first : S) (config : SearchConfig) (state : IterState)
     (left : Option ℕ) (before all : List Match) → config ≡ whole text → state.last ≡ None → state.continue_disabled ≡ false → left ≡ limit_of limit → before ≡ all →

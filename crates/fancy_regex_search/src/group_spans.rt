@@ -15,9 +15,41 @@ use fancy_regex_meta::{MetaMemory, Result};
 use std::alloc::Global;
 
 /// The start and end byte offsets of each group of the first match, or `None` if there is no match. If the flag is set, `\G`
-/// never matches. The counter is raised as `find_input_counted` says. The memory is that of earlier searches, and changes no
-/// answer. Errors: `RuntimeError` at a limit, or `Memory`.
+/// never matches. The counter is raised as `find_input_counted` says. Errors: `RuntimeError` at a limit, or `Memory`.
 pub fn find_slots<S: Input>(
+    alloc: Global,
+    regex: &Regex,
+    haystack: S,
+    config: SearchConfig,
+    continue_disabled: bool,
+    steps: &mut Steps,
+) -> Result<Option<Vec<usize>>>
+    requires { FitsText (S.text haystack) config }
+    ensures answer { IfOk result (λ found. option_map (λ v. v.items) found
+        ≡ option_map (match_slots (meta_pattern regex.now.meta)) (meta_match_from regex.now.meta (S.text haystack) config (max config.start config.range_start) continue_disabled)) }
+    ensures within { IfOk result (λ found. IfSome found (λ v. IsMatchWithin (S.text haystack) config v.items)) }
+    ensures limits { IfErr result (λ e. IsMetaSearchError regex.now.meta (S.text haystack) config continue_disabled e) }
+    ensures stays { IfOk result (λ _. MetaStaysInLimits regex.now.meta (S.text haystack) config continue_disabled) }
+    ensures looks_most { meta_uses_easy regex.now.meta ≡ true → steps.new ≤ steps.old + max_looks regex.now.meta config }
+    ensures looks_least { IfOk result (λ _. meta_uses_easy regex.now.meta ≡ true
+        → min (steps.old + meta_starts_tried regex.now.meta (S.text haystack) config continue_disabled) (2 ^ 64 - 1) ≤ steps.new) }
+    ensures looks_none { meta_uses_easy regex.now.meta ≡ false → steps.new ≡ steps.old }
+    ensures counts { steps.old ≤ steps.new }
+{
+    let mut memory = MetaMemory::new(alloc);
+    find_slots_in(
+        alloc,
+        regex,
+        haystack,
+        config,
+        continue_disabled,
+        steps,
+        &mut memory,
+    )
+}
+
+/// `find_slots` in the memory of earlier searches, which changes no answer.
+pub fn find_slots_in<S: Input>(
     alloc: Global,
     regex: &Regex,
     haystack: S,

@@ -7,7 +7,7 @@ ghost use Rattle.fancy_regex_meta.specs.MetaMatches.{meta_pattern, meta_match_fr
 ghost use Rattle.fancy_regex_meta.specs.MatchOffsets.{IsMatchWithin};
 ghost use Rattle.fancy_regex_meta.specs.SearchLimits.{MetaStaysInLimits};
 
-use crate::group_spans::find_slots;
+use crate::group_spans::find_slots_in;
 use crate::regex::Regex;
 use fancy_regex_class::Steps;
 use fancy_regex_input::{Input, RegexInput};
@@ -102,7 +102,7 @@ impl<'r, S: Input> MatchIter<'r, S> {
             return Step::End;
         }
         let haystack = self.input.haystack();
-        let found = find_slots(
+        let found = find_slots_in(
             self.alloc,
             self.regex,
             haystack,

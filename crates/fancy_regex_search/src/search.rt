@@ -16,7 +16,7 @@ use crate::matches::Matches;
 use crate::regex::Regex;
 use fancy_regex_class::Steps;
 use fancy_regex_input::{Input, RegexInput};
-use fancy_regex_meta::{MetaMemory, Result};
+use fancy_regex_meta::Result;
 use fancy_regex_tree_laws::weight_bound;
 use std::alloc::Global;
 
@@ -43,7 +43,6 @@ impl Regex {
             input.config(),
             false,
             &mut Steps::new(),
-            &mut MetaMemory::new(alloc),
         )?;
         Ok(found.is_some())
     }
@@ -114,8 +113,7 @@ impl Regex {
         weight_bound();
         let haystack = input.haystack();
         let config = input.config();
-        let mut memory = MetaMemory::new(alloc);
-        match find_slots(alloc, self, haystack, config, false, steps, &mut memory)? {
+        match find_slots(alloc, self, haystack, config, false, steps)? {
             Some(slots) => Ok(Some(whole_match(haystack, config, &slots))),
             None => Ok(None),
         }
@@ -173,7 +171,6 @@ impl Regex {
             input.config(),
             false,
             &mut Steps::new(),
-            &mut MetaMemory::new(alloc),
         )?;
         match found {
             Some(slots) => Ok(Some(Captures::new(self, haystack, slots))),

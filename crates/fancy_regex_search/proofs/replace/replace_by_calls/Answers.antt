@@ -9,7 +9,7 @@ use Rattle.fancy_regex_search.specs.RemainingMatches.{all_matches, remaining_mat
 use Rattle.fancy_regex_search.specs.IterationLimits.{SkipsStayInLimits}
 use Rattle.fancy_regex_search.specs.Replacements.{Shown, shown, still_replaced, FailsInTurn, here, IsReplacedByCalls, of_call, of_memory}
 use Rattle.fancy_regex_search.proofs.ReplaceLemmas.{Completes, completes_gap, completes_last, still_spent, still_none, still_more, shown_same}
-use Rattle.fancy_regex_search.proofs.ReplaceLemmas.{progress_init, progress_gap, progress_fails, progress_stays}
+use Rattle.fancy_regex_search.proofs.ReplaceLemmas.{completes_init, progress_init, progress_gap, progress_fails, progress_stays}
 use Rattle.fancy_regex_search.proofs.replace.replace_by_calls.Goals.{in-Some+in_ok-gap+then-is_spent, in_default}
 use Rattle.fancy_regex_search.proofs.replace.replace_by_calls.Goals as goal
 
@@ -67,7 +67,8 @@ loop-found-init g c =
       progress_init g.R.Replacer.answers s text c.args.limit c.args.replacer.now iter.input.config iter.state c.limit_of-left.result
           (remaining_matches s text iter.input.config iter.state) (all_matches s text (whole text)) made.input.1 made.first made.begins.0 c.limit_of-left.ensures first,
       search rules,
-      search rules,
+      completes_init g.R.Replacer.answers s text c.args.limit c.args.replacer.now c.new-gaps.result.last_end c.limit_of-left.result
+          (remaining_matches s text iter.input.config iter.state) (all_matches s text (whole text)) (string_bytes c.new-out.result) c.limit_of-left.ensures first made.begins.1 (search rules),
       search rules,
       search rules,
       made.going,
