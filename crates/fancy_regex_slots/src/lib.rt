@@ -5,3 +5,4 @@
 
 pub mod branch;
 pub mod slots;
+mod undo_log;
