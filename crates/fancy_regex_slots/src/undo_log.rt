@@ -16,7 +16,7 @@ pub(crate) fn undo(values: &mut [usize], log: &[OldValue])
 }
 
 /// Makes the log shorter where too much was logged since the topmost branch was pushed. What the branches save stays, and one
-/// more entry may be logged. `room` has the length of the slots, and what it holds is lost.
+/// more entry may be logged. `room` is as long as the slots or longer, and what it holds is lost.
 #[inline(always)]
 pub(crate) fn bound_log(
     values: &[usize],
@@ -24,7 +24,7 @@ pub(crate) fn bound_log(
     log: &mut Vec<OldValue>,
     branches: &[Branch],
 )
-    requires room { length room.old ≡ length values.now }
+    requires room { length values.now ≤ length room.old }
     requires log { IsLogBelow values.now log.old.items branches.now }
     ensures memory { memory_of values.now log.new.items branches.now ≡ memory_of values.now log.old.items branches.now }
     ensures sound { IsSound values.now log.new.items branches.now }
@@ -58,14 +58,15 @@ fn is_too_long(entries: usize, slots: usize) -> bool
 /// Replaces the entries from `start` on by one for each slot that they change, which has its value before them.
 #[cold]
 fn shorten(values: &[usize], room: &mut [usize], log: &mut Vec<OldValue>, start: usize)
-    requires room { length room.old ≡ length values.now }
+    requires room { length values.now ≤ length room.old }
     requires long { start + length values.now ≤ length log.old.items }
     requires logged { AreLogged (length values.now) log.old.items }
     ensures { IsShortened values.now start log.old.items log.new.items }
 {
-    room.copy_from_slice(values);
-    undo(room, &log[start..]);
-    let kept = log_changes(values, room, &mut log[start..]);
+    let saved = &mut room[..values.len()];
+    saved.copy_from_slice(values);
+    undo(saved, &log[start..]);
+    let kept = log_changes(values, saved, &mut log[start..]);
     log.truncate(start + kept);
 }
 
