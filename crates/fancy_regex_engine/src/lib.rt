@@ -9,7 +9,9 @@ pub use fancy_regex_class::{
     CaseiLiteral, CharClassMatcher, ClassError, Counted, RunInput, Span, Steps, fold, is_word,
 };
 pub use fancy_regex_info::{AnalyzeContext, BytesMode, CompileError, CompileOptions, Info};
-pub use fancy_regex_machine::{RunOptions, RuntimeError, run, run_default, run_spans};
+pub use fancy_regex_machine::{
+    RunMemory, RunOptions, RuntimeError, run, run_default, run_in, run_spans, run_spans_in,
+};
 pub use fancy_regex_program::{
     AbsentRepeater, CaptureGroupRange, Insn, Prog, Repeat, RepeatEpsilon, compile,
 };

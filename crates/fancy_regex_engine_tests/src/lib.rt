@@ -13,4 +13,6 @@ mod memory;
 #[cfg(test)]
 mod program;
 #[cfg(test)]
+mod run_memory;
+#[cfg(test)]
 mod runner;

@@ -9,6 +9,7 @@ mod assertion;
 mod backref;
 mod error;
 mod haystack;
+mod memory;
 mod newline;
 mod run_config;
 mod run_loop;
@@ -19,4 +20,5 @@ mod start;
 mod step;
 
 pub use error::RuntimeError;
-pub use search::{RunOptions, run, run_default, run_spans};
+pub use memory::RunMemory;
+pub use search::{RunOptions, run, run_default, run_in, run_spans, run_spans_in};
