@@ -1,13 +1,45 @@
-use Rattle.std.proofs.Common.{◌≡◌, ◌∙◌, ap, rules, arith}
-use Rattle.std.specs.Prelude.{string_bytes}
+use Rattle.std.proofs.Common.{◌≡◌, ◌∙◌, ◌∷◌, ◌++◌, ap, rules, arith}
+use Rattle.std.specs.Prelude.{codes, string_bytes}
 use Rattle.std.proofs.lemmas.Result.{err_from_is_err_and}
 use Rattle.std.proofs.lemmas.Grind.{common_steps}
+use Rattle.fancy_regex.specs.SearchConfig.{SearchConfig}
 use Rattle.fancy_regex.specs.SearchInputs.{whole}
-use Rattle.fancy_regex.specs.RemainingMatches.{all_matches}
-use Rattle.fancy_search_text.specs.Lines.{span_lines}
+use Rattle.fancy_regex.specs.Searches.{Match}
+use Rattle.fancy_regex.specs.RemainingMatches.{remaining_matches, all_matches}
+use Rattle.fancy_search_text.specs.Lines.{span_lines, span_text}
+use Rattle.fancy_search_text.proofs.LineLemmas.{line_more}
 use Rattle.fancy_search_text.proofs.ErrorLemmas.{item_error_is, memory_is_error}
 use Rattle.fancy_search_text.proofs.MatchLemmas.{all_are}
 use Rattle.fancy_search_text.proofs.lines.span_lines.Goals as goal
+
+pub loop-found-preserved : goal.loop-found-preserved
+loop-found-preserved c =
+    let steps = c.in-Some.ensures.steps in
+    let old = c.loop-found.matches.match_iter in
+    let new = c.next.new.self.match_iter in
+    let text = old.input.haystack.now in
+    let found = c.in_ok-found.field-0 in
+    let seen : new.input.haystack.now ≡ text = λ i. (steps.3 i).now in
+    let searches : new.regex.now ≡ old.regex.now = λ i. (steps.4 i).now in
+    let before = remaining_matches old.regex.now.meta text old.input.config old.state in
+    let after = remaining_matches new.regex.now.meta new.input.haystack.now new.input.config new.state in
+    let gave : (m : Match) × (before ≡ m ∷ after) × ((found.start, found.end) ≡ (m.start, m.end)) = rw c.in_ok-found.was at steps.0 in
+    let passes = rw (c.in_ok-found.was, c.loop-found.invariant.regex, c.loop-found.invariant.text) at steps.7 in
+    let again : SearchConfig → SearchConfig = λ a. record a { start = new.input.config.start } in
+    record {
+      lines =
+          let out = string_bytes c.loop-found.lines in
+          ap (λ xs. xs ++ span_lines after) (
+          c.in_ok-push.ensures.bytes ∙ ap (λ xs. string_bytes c.write_span.new.line ++ xs) (c.in_ok-push.ensures.ascii (omega arith))
+          ∙ ap (λ xs. xs ++ codes "\n") c.in_ok-write_span.ensures
+          )
+          ∙ line_more (λ m. span_text (m.start, m.end)) out (span_text (found.start, found.end)) gave.0 before after gave.1 (ap span_text gave.2)
+          ∙ c.loop-found.invariant.lines;
+      text = seen ∙ c.loop-found.invariant.text;
+      config = steps.5 ∙ ap again c.loop-found.invariant.config;
+      regex = searches ∙ c.loop-found.invariant.regex;
+      passes = λ q o made. c.loop-found.invariant.passes q o (passes q o made);
+    }
 
 pub returns-in_err-found-clause-fails : goal.returns-in_err-found-clause-fails
 returns-in_err-found-clause-fails c =
