@@ -5,10 +5,10 @@ use Rattle.std.specs.List.{All}
 use Rattle.std.proofs.Math.Seq.{take-suc, take-append-add, drop-append_seam}
 use Rattle.std.proofs.lemmas.List.{set_comm, set-append_right, length-append, length-drop, length-take-le, take_all, drop_all, take_at, take_rest, take-append-le, append-nil}
 use Rattle.std.proofs.lemmas.List.Elements.{All-head, All-tail, All-push, All-weaker, All-append, All-take}
-use Rattle.fancy_regex_slots.specs.UndoLog.{undone, thread_of, memory_of, AreLogged, AreMarks, AreMarksBelow, IsLogBelow, IsShortened, segment_limit, top_mark}
+use Rattle.fancy_regex_slots.specs.UndoLog.{undone, thread_of, memory_of, AreLogged, AreMarks, AreMarksBelow, IsLogBelow, IsShortened, IsSound, segment_limit, top_mark}
 use Rattle.fancy_regex_slots.specs.declared.branch.Branch.{Branch}
 use Rattle.fancy_regex_slots.specs.declared.branch.OldValue.{OldValue}
-use Rattle.fancy_regex_slots.proofs.LogLemmas.{undone-popped, undone-last, threads_same, reverse-snoc}
+use Rattle.fancy_regex_slots.proofs.LogLemmas.{marks-closed, undone-popped, undone-last, threads_same, reverse-snoc}
 
 -- a slot that no entry writes to
 undone-set : (values : List ℕ) (log : List OldValue) (slot value : ℕ) → All (λ old. old.slot < slot) log → undone (set values slot value) log ≡ set (undone values log) slot value
@@ -118,8 +118,9 @@ written log part post rest len start kept fits inside there =
     ∙ take-append-add (take start log) (part ++ post) kept
     ∙ ap (λ l. take start log ++ l) (take-append-le kept part post there)
 
-shortened_by : (values : List ℕ) (log changes : List OldValue) (start : ℕ) → start ≤ length log → length changes ≤ length values → AreLogged (length values) log → AreLogged (length values) changes → undone values changes ≡ undone values (drop start log) → IsShortened values start log (take start log ++ changes)
-shortened_by values log changes start inside few logged there same =
+shortened_by : (values : List ℕ) (log changes : List OldValue) (start : ℕ) → start + length values ≤ length log → length changes ≤ length values → AreLogged (length values) log → AreLogged (length values) changes → undone values changes ≡ undone values (drop start log) → IsShortened values start log (take start log ++ changes)
+shortened_by values log changes start long few logged there same =
+    let inside : start ≤ length log = omega (arith, long) in
     let front : length (take start log) ≡ start = length-take-le start log inside in
     let rest : drop start (take start log ++ changes) ≡ changes = ap (λ n. drop n (take start log ++ changes)) (sym front) ∙ drop-append_seam (take start log) changes in
     record {
@@ -127,6 +128,7 @@ shortened_by values log changes start inside few logged there same =
       undone_same = ap (undone values) rest ∙ same;
       begins = omega (arith, front, length-append (take start log) changes);
       short = omega (arith, front, few, length-append (take start log) changes);
+      less = omega (arith, front, few, long, length-append (take start log) changes);
       logged = All-append (λ (old : OldValue). old.slot < length values) (take start log) changes (All-take (λ (old : OldValue). old.slot < length values) start log logged) there;
     }
 
@@ -148,4 +150,32 @@ shortened values copied saved log read lent part post new len start kept len_is 
     ∙ ap (λ v. undone v (drop start log)) copied_is
     in
     subst (λ l. IsShortened values start log l) (sym is)
-    (shortened_by values log (take kept part) start inside (omega (arith, few, length-take-le kept part room)) logged there same)
+    (shortened_by values log (take kept part) start long (omega (arith, few, length-take-le kept part room)) logged there same)
+
+-- entries that are few enough stay
+pub shortened-none : (values : List ℕ) (log : List OldValue) (start : ℕ) → start ≤ length log → length log < start + segment_limit (length values) → AreLogged (length values) log → IsShortened values start log log
+shortened-none values log start inside few logged = record {
+  front = refl;
+  undone_same = refl;
+  begins = inside;
+  short = few;
+  less = omega arith;
+  logged = logged;
+}
+
+pub sound-shortened : (values : List ℕ) (log shorter : List OldValue) (branches : List Branch) → IsLogBelow values log branches → IsShortened values (top_mark (reverse branches)) log shorter → IsSound values shorter branches
+sound-shortened values log shorter branches below is = record {
+  logged = is.logged;
+  marks =
+      marks-closed (segment_limit (length values)) (length log) (length shorter) (reverse branches) below.marks is.begins
+      (let short = is.short in omega (arith, short));
+}
+
+pub one-more : (values : List ℕ) (log shorter : List OldValue) (branches : List Branch) → IsLogBelow values log branches → IsShortened values (top_mark (reverse branches)) log shorter → AreMarks (segment_limit (length values)) (length shorter + 1) (reverse branches)
+one-more values log shorter branches below is =
+    let short = is.short in
+    let begins = is.begins in
+    marks-closed (segment_limit (length values)) (length log) (length shorter + 1) (reverse branches) below.marks (omega (arith, begins)) (omega (arith, short))
+
+pub from-mark : (values : List ℕ) (start mark : ℕ) (log shorter : List OldValue) → start ≡ mark → IsShortened values start log shorter → IsShortened values mark log shorter
+from-mark values start mark log shorter e is = subst (λ n. IsShortened values n log shorter) e is

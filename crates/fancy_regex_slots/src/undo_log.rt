@@ -1,9 +1,13 @@
 //! The log of the values that were written over: undoing a part of it, and keeping it short.
 
-ghost use Rattle.std.specs.Prelude.{◌≡◌, ◌+◌, ◌≤◌, length, nat_le, take, reverse};
+ghost use Rattle.std.specs.Prelude.{◌≡◌, ◌+◌, ◌≤◌, length, take, reverse, OnOk};
 ghost use Rattle.fancy_regex_slots.specs.UndoLog.{memory_of, AreLogged, IsLogBelow, IsSound, IsShortened, AreMarks, segment_limit, top_mark, undone};
 
 use crate::branch::{Branch, OldValue};
+use std::alloc::AllocError;
+
+/// The fewest entries above the topmost branch that may be too many.
+pub(crate) const MANY: usize = 64;
 
 /// Undoes logged writes, the newest first.
 pub(crate) fn undo(values: &mut [usize], log: &[OldValue])
@@ -15,8 +19,36 @@ pub(crate) fn undo(values: &mut [usize], log: &[OldValue])
     }
 }
 
+/// Makes `room` as long as `slots` where the log may become long enough to be shortened: it has `entries`, and one more is to
+/// be logged. If memory runs out, nothing changes.
+#[inline(always)]
+pub(crate) fn make_room(
+    room: &mut Vec<usize>,
+    slots: usize,
+    entries: usize,
+) -> Result<(), AllocError>
+    ensures longer { length room.old.items ≤ length room.new.items }
+    ensures ok { OnOk result (MANY ≤ entries + 1 → slots ≤ length room.new.items) }
+{
+    if entries < MANY - 1 || slots <= room.len() {
+        return Ok(());
+    }
+    lengthen(room, slots)
+}
+
+/// Makes `room` as long as `slots`, which is longer than it.
+#[cold]
+fn lengthen(room: &mut Vec<usize>, slots: usize) -> Result<(), AllocError>
+    requires { length room.old.items ≤ slots }
+    ensures longer { length room.old.items ≤ length room.new.items }
+    ensures ok { OnOk result (slots ≤ length room.new.items) }
+{
+    room.resize(slots, 0)?;
+    Ok(())
+}
+
 /// Makes the log shorter where too much was logged since the topmost branch was pushed. What the branches save stays, and one
-/// more entry may be logged. `room` is as long as the slots or longer, and what it holds is lost.
+/// more entry may be logged. `room` is as long as the slots where the log is long, and what it holds is lost.
 #[inline(always)]
 pub(crate) fn bound_log(
     values: &[usize],
@@ -24,15 +56,16 @@ pub(crate) fn bound_log(
     log: &mut Vec<OldValue>,
     branches: &[Branch],
 )
-    requires room { length values.now ≤ length room.old }
+    requires room { MANY ≤ length log.old.items → length values.now ≤ length room.old }
     requires log { IsLogBelow values.now log.old.items branches.now }
     ensures memory { memory_of values.now log.new.items branches.now ≡ memory_of values.now log.old.items branches.now }
     ensures sound { IsSound values.now log.new.items branches.now }
     ensures one_more { AreMarks (segment_limit (length values.now)) (length log.new.items + 1) (reverse branches.now) }
+    ensures less { length log.new.items ≤ length log.old.items }
 {
     let start = segment_start(branches);
-    if is_too_long(log.len() - start, values.len()) {
-        shorten(values, room, log, start);
+    if log.len() - start >= MANY {
+        bound_segment(values, room, log, start);
     }
 }
 
@@ -47,16 +80,20 @@ fn segment_start(branches: &[Branch]) -> usize
     }
 }
 
-/// Whether `entries` above the topmost branch are too many for `slots`.
-#[inline(always)]
-fn is_too_long(entries: usize, slots: usize) -> bool
-    ensures { result ≡ nat_le (segment_limit slots) entries }
+/// Replaces the entries from `start` on where they are too many.
+#[cold]
+fn bound_segment(values: &[usize], room: &mut [usize], log: &mut Vec<OldValue>, start: usize)
+    requires room { length values.now ≤ length room.old }
+    requires many { start + MANY ≤ length log.old.items }
+    requires logged { AreLogged (length values.now) log.old.items }
+    ensures { IsShortened values.now start log.old.items log.new.items }
 {
-    entries >= 64 && (entries - 64) / 2 >= slots
+    if (log.len() - start - MANY) / 2 >= values.len() {
+        shorten(values, room, log, start);
+    }
 }
 
 /// Replaces the entries from `start` on by one for each slot that they change, which has its value before them.
-#[cold]
 fn shorten(values: &[usize], room: &mut [usize], log: &mut Vec<OldValue>, start: usize)
     requires room { length values.now ≤ length room.old }
     requires long { start + length values.now ≤ length log.old.items }
