@@ -1,5 +1,5 @@
 -- How a pattern's program ends, told by the pattern: k is what follows a way, and r what follows where no way is left.
-use Rattle.std.proofs.Common.{ℕ, zero, suc, ◌+◌, ◌-◌, Bool, List, [], ◌∷◌, Option, Some, None, length, cond}
+use Rattle.std.proofs.Common.{ℕ, zero, suc, ◌+◌, ◌-◌, Bool, false, List, [], ◌∷◌, Option, Some, None, length, cond}
 use Rattle.std.specs.Prelude.{◌==◌, is_some, nat_le, nat_lt}
 use Rattle.std.specs.List.{filter}
 use Rattle.regex_hir.specs.Text.{is_some_and}
@@ -11,10 +11,11 @@ use Rattle.fancy_regex_desugar.specs.CoreWays.{passes}
 use Rattle.fancy_regex_program_laws.specs.ProgramLaws.{FoundMatch}
 use Rattle.fancy_regex_program.specs.Machine.{unset, lower, match_char, match_text, match_newline, match_backref}
 
--- what is told of a run: its answer, and how many branches it opens
+-- what is told of a run: its answer, and how many branches it opens, where either is claimed
 pub record Told : Type 0 where
   pub answer : Option FoundMatch
   pub branches : ℕ
+  pub claimed : Bool
 
 -- what is held while a run goes back
 pub record Known : Type 0 where
@@ -33,10 +34,10 @@ abbrev pub Run : Type 0
 Run = MatchState → Follow → Tale → Tale
 
 abbrev pub one_more : Told → Told
-one_more t = record { answer = t.answer; branches = suc t.branches }
+one_more t = record { answer = t.answer; branches = suc t.branches; claimed = t.claimed }
 
 abbrev pub one_less : Told → Told
-one_less t = record { answer = t.answer; branches = t.branches - 1 }
+one_less t = record { answer = t.answer; branches = t.branches - 1; claimed = t.claimed }
 
 -- one branch more
 abbrev pub opens : Tale → Tale
@@ -45,6 +46,10 @@ opens r known = one_more (r known)
 -- a branch of an absent repeater is taken up again, which is no backtrack
 abbrev pub closes : Tale → Tale
 closes r known = one_less (r known)
+
+-- nothing is claimed of what no run comes to
+abbrev pub untold : Tale
+untold known = record { answer = None; branches = 0; claimed = false }
 
 -- goes on at the place, if there is one
 abbrev pub end_to : Option ℕ → Run

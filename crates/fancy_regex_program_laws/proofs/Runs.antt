@@ -74,10 +74,10 @@ pub record Reaches (whole : Bool) (base height : ℕ) (o : Option Ending) (e : T
   pub few : ending.backtracks ≤ height + e.branches
   pub narrow : ending.peak ≤ height + e.branches
 
--- an end that comes with enough steps
+-- an end that comes with enough steps, where it is claimed
 pub record Within (whole : Bool) (base height : ℕ) (f : ℕ → Option Ending) (e : Told) : Type 0 where
   pub fuel : ℕ
-  pub by : (j : ℕ) → fuel ≤ j → Reaches whole base height (f j) e
+  pub by : e.claimed ≡ true → (j : ℕ) → fuel ≤ j → Reaches whole base height (f j) e
 
 -- the branches under the first thread
 abbrev pub under : List Thread → ℕ
@@ -173,8 +173,8 @@ module _ (code : List Op) (r : RunParameters) (whole : Bool) (count : ℕ) where
       let c = h held in
       record {
         fuel = c.fuel;
-        by = λ j le.
-            let e = c.by j le in
+        by = λ told j le.
+            let e = c.by told j le in
             record {
               ending = back e.ending;
               comes = popped (is_some held.kept) (is_start (slice_get code t.pc)) (is_scan (slice_get code t.pc)) (Some (ended held.kept)) (exec code r j held (t ∷ rest)) plain.start plain.scan
@@ -192,8 +192,8 @@ module _ (code : List Op) (r : RunParameters) (whole : Bool) (count : ℕ) where
       let c = h held in
       record {
         fuel = c.fuel;
-        by = λ j le.
-            let e = c.by j le in
+        by = λ told j le.
+            let e = c.by told j le in
             record {
               ending = e.ending;
               comes = looked_on (is_some held.kept) (is_start (slice_get code t.pc)) (is_scan (slice_get code t.pc)) (Some (ended held.kept)) (exec code r j held (t ∷ rest)) start scan ∙ e.comes;
@@ -209,8 +209,8 @@ module _ (code : List Op) (r : RunParameters) (whole : Bool) (count : ℕ) where
       let c = h held in
       record {
         fuel = c.fuel;
-        by = λ j le.
-            let e = c.by j le in
+        by = λ told j le.
+            let e = c.by told j le in
             record { ending = e.ending; comes = e.comes; answer = e.answer; few = omega (arith, e.few); narrow = omega (arith, e.narrow) };
       }
 
@@ -224,8 +224,8 @@ module _ (code : List Op) (r : RunParameters) (whole : Bool) (count : ℕ) where
       let le = shorter rest stack above in
       record {
         fuel = c.fuel;
-        by = λ j enough.
-            let e = c.by j enough in
+        by = λ told j enough.
+            let e = c.by told j enough in
             record {
               ending = e.ending;
               comes = ap (λ l. exec code r j held (t ∷ l)) is ∙ e.comes;
@@ -241,8 +241,8 @@ module _ (code : List Op) (r : RunParameters) (whole : Bool) (count : ℕ) where
       let le = shorter rest stack above in
       record {
         fuel = c.fuel;
-        by = λ j enough.
-            let e = c.by j enough in
+        by = λ told j enough.
+            let e = c.by told j enough in
             record {
               ending = e.ending;
               comes = ap (λ l. pop code (exec code r j) held l) is ∙ e.comes;
@@ -261,10 +261,10 @@ module _ (code : List Op) (r : RunParameters) (whole : Bool) (count : ℕ) where
       next : ℕ → Option Ending
       next j = follow code r.find.options.longest (exec code r j) held rest m
 
-      step : (j : ℕ) → suc (h held).fuel ≤ j → Reaches whole base (length rest) (exec code r j held (t ∷ rest)) (f (known held))
-      step zero le = absurd (omega arith)
-      step (suc j) le =
-          let e = (h held).by j (omega arith) in
+      step : (f (known held)).claimed ≡ true → (j : ℕ) → suc (h held).fuel ≤ j → Reaches whole base (length rest) (exec code r j held (t ∷ rest)) (f (known held))
+      step told zero le = absurd (omega arith)
+      step told (suc j) le =
+          let e = (h held).by told j (omega arith) in
           record {
             ending = tick (length rest) e.ending;
             comes = ap (λ x. cond (is_valid_offset r.setting.text t.position)

@@ -16,7 +16,7 @@ use Rattle.fancy_regex_program_laws.proofs.Trail.{Open, Close, At, Trail, folded
 use Rattle.fancy_regex_program_laws.proofs.WaysOf.{states_trail, opened_trail}
 
 abbrev pub told : Option FoundMatch → Told
-told answer = record { answer = answer; branches = 0 }
+told answer = record { answer = answer; branches = 0; claimed = true }
 
 abbrev pub better : Option FoundMatch → FoundMatch → Option FoundMatch
 better None h = Some h
@@ -41,6 +41,23 @@ module _ (find : Search) (whole : Bool) where
 
   abbrev wanted : Trail → List MatchState
   wanted es = filter (is_admitted find) (states es)
+
+  -- what is told of each way is claimed
+  claims_ways : (longest : Bool) (r : Tale) → ((known : Known) → (r known).claimed ≡ true) → (es : Trail) (known : Known) → (folded (at_end longest) r es known).claimed ≡ true
+  claims_ways longest r h [] known = h known
+  claims_ways longest r h (Open ∷ es) known = claims_ways longest r h es known
+  claims_ways longest r h (Close ∷ es) known = claims_ways longest r h es known
+  claims_ways longest r h (At w ∷ es) known =
+      at_way (is_admitted find w) longest (claims_ways longest r h es (holding known.limit (better known.kept (found_by_way w)))) (claims_ways longest r h es known)
+    where
+      rest : Tale
+      rest = folded (at_end longest) r es
+
+      at_way : (admitted last : Bool) → (rest (holding known.limit (better known.kept (found_by_way w)))).claimed ≡ true → (rest known).claimed ≡ true →
+          (cond admitted (cond last (rest (holding known.limit (better known.kept (found_by_way w)))) (told (Some (found_by_way w)))) (rest known)).claimed ≡ true
+      at_way true true kept passed = kept
+      at_way true false kept passed = refl
+      at_way false last kept passed = passed
 
   -- with longest, all ways are seen
   all_answer : (r : Tale) (es : Trail) (l : ℕ) (kept : Option FoundMatch) →
@@ -181,6 +198,26 @@ module _ (r : RunParameters) (p : CorePattern) (whole : Bool) (count : ℕ) (fir
 
   abbrev pub search_tale : ℕ → List ℕ → Tale
   search_tale q qs = with_next qs (folded end_follow (after qs) (trail_from q))
+
+  next_claims : (qs : List ℕ) (x : Tale) (known : Known) → (x known).claimed ≡ true → (with_next qs x known).claimed ≡ true
+  next_claims [] x known h = h
+  next_claims (q ∷ qs) x known h = h
+
+  after_claims : (qs : List ℕ) (known : Known) → (after qs known).claimed ≡ true
+  after_claims [] known = refl
+  after_claims (q ∷ qs) known =
+      kept_or known.kept
+      (next_claims qs (folded end_follow (after qs) (trail_from q)) known
+      (claims_ways r.find whole r.find.options.longest (after qs) (after_claims qs) (trail_from q) known))
+    where
+      kept_or : (o : Option FoundMatch) → (search_tale q qs known).claimed ≡ true → (else_told o (search_tale q qs known)).claimed ≡ true
+      kept_or None h = h
+      kept_or (Some found) h = refl
+
+  pub search_claims : (q : ℕ) (qs : List ℕ) (known : Known) → (search_tale q qs known).claimed ≡ true
+  search_claims q qs known =
+      next_claims qs (folded end_follow (after qs) (trail_from q)) known
+      (claims_ways r.find whole r.find.options.longest (after qs) (after_claims qs) (trail_from q) known)
 
   next_answer : (qs : List ℕ) (x : Tale) (known : Known) → (with_next qs x known).answer ≡ (x known).answer
   next_answer [] x known = refl

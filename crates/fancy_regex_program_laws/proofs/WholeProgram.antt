@@ -27,7 +27,7 @@ use Rattle.fancy_regex_program_laws.proofs.ProgramParts.{HasAt, has_front, has_b
 use Rattle.fancy_regex_program_laws.proofs.Emitted.{closed_code, runs_closed}
 use Rattle.fancy_regex_program_laws.proofs.PairsInSlots.{length_flat}
 use Rattle.fancy_regex_program_laws.proofs.Trail.{folded, ending_trail}
-use Rattle.fancy_regex_program_laws.proofs.StartByStart.{told, better, holding, found_by_way, end_follow, trail_from, after, search_tale, search_answer, search_opened}
+use Rattle.fancy_regex_program_laws.proofs.StartByStart.{told, better, holding, found_by_way, end_follow, trail_from, after, search_tale, search_claims, search_answer, search_opened}
 
 -- All operations of a program stand in it.
 has_all : (xs pre : List Op) → HasAt (pre ++ xs) (length pre) xs
@@ -224,7 +224,7 @@ module _ (r : RunParameters) (p : CorePattern) (whole anchored : Bool) (count : 
             (farther_is held.kept t (found_by_way r.find whole v) e) (pops (record { kept = farther held.kept t; limit = held.limit }))
         | false ↦ record {
           fuel = 0;
-          by = λ j le. record { ending = ended (Some t); comes = refl; answer = ap Some e; few = omega arith; narrow = omega arith };
+          by = λ told j le. record { ending = ended (Some t); comes = refl; answer = ap Some e; few = omega arith; narrow = omega arith };
         }
       ]
 
@@ -325,7 +325,7 @@ module _ (r : RunParameters) (p : CorePattern) (whole anchored : Bool) (count : 
   nothing_left : Pops code r whole count [] (others [])
   nothing_left held = record {
     fuel = 0;
-    by = λ j le. record { ending = ended held.kept; comes = refl; answer = refl; few = omega arith; narrow = omega arith };
+    by = λ told j le. record { ending = ended held.kept; comes = refl; answer = refl; few = omega arith; narrow = omega arith };
   }
 
   -- at a later start, where the one before has no way left
@@ -339,8 +339,8 @@ module _ (r : RunParameters) (p : CorePattern) (whole anchored : Bool) (count : 
           let c = comes (record { kept = None; limit = l }) in
           record {
             fuel = c.fuel;
-            by = λ j le.
-                let e = c.by j le in
+            by = λ told j le.
+                let e = c.by told j le in
                 record {
                   ending = back e.ending;
                   comes = ap (λ o. option_map (cond (is_scan o) (λ e. e) back) (exec code r j (record { kept = None; limit = l }) (thread 0 q slots ∷ []))) at ∙ ap (option_map back) e.comes;
@@ -351,7 +351,7 @@ module _ (r : RunParameters) (p : CorePattern) (whole anchored : Bool) (count : 
           }
       by_kept (Some kept) l = record {
         fuel = 0;
-        by = λ j le. record {
+        by = λ told j le. record {
           ending = ended (Some kept);
           comes = ap (λ o. cond (is_start o) (Some (ended (Some kept)))
               (option_map (cond (is_scan (slice_get code 0)) (λ e. e) back) (exec code r j (record { kept = Some kept; limit = l }) (thread 0 q slots ∷ [])))) at;
@@ -429,7 +429,7 @@ module _ (r : RunParameters) (p : CorePattern) (whole anchored : Bool) (count : 
       let c = comes initial_run_state in (
         c.fuel,
         λ j le.
-            let m = c.by j le in
+            let m = c.by (search_claims r p whole count (first_group_number whole) asked.writable asked.small q qs (known code r whole count initial_run_state)) j le in
             record {
               ending = m.ending;
               comes = ap (λ (l : List ℕ). elim (first_item l) as (λ o. Option Ending) [ None ↦ Some (ended None) | Some s ↦ exec code r j initial_run_state (first_thread (2 * count + slots_in p) s ∷ []) ]) e ∙ m.comes;
