@@ -10,5 +10,6 @@ mod Emitted
 mod Trail
 mod AbsentWays
 mod WaysOf
+mod TakesSome
 mod StartByStart
 mod WholeProgram
