@@ -11,5 +11,6 @@ mod Trail
 mod AbsentWays
 mod WaysOf
 mod TakesSome
+mod UncountedLoops
 mod StartByStart
 mod WholeProgram

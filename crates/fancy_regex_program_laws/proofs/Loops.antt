@@ -68,7 +68,7 @@ leave_stop greedy lo next slot check n last t lt same =
 
 module _ (code : List Op) (r : RunParameters) (whole : Bool) (count : ℕ) where
   -- both sides of a loop's choice: another turn, and the stop
-  fork_comes : (greedy : Bool) (more stop : Thread) (rest : List Thread) (g : Run) (w : MatchState) (next k : Follow) (x : Tale) →
+  pub fork_comes : (greedy : Bool) (more stop : Thread) (rest : List Thread) (g : Run) (w : MatchState) (next k : Follow) (x : Tale) →
       IsPlain code more.pc → IsPlain code stop.pc → Pops code r whole count rest x →
       ((stack : List Thread) (y : Tale) → Above rest stack → Pops code r whole count stack y → Comes code r whole count (more ∷ stack) (g w next y)) →
       ((stack : List Thread) (y : Tale) → Above rest stack → Pops code r whole count stack y → Comes code r whole count (stop ∷ stack) (k w y)) →
