@@ -1,12 +1,12 @@
 -- What is written for each kind of pattern.
-use Rattle.std.proofs.Common.{◌≡◌, ℕ, ◌+◌, ◌*◌, ◌-◌, ◌<◌, Bool, true, false, cond, List, [], ◌∷◌, ◌++◌, length, set, Option, Some, None, refl, sym, ap, ap₂, ◌∙◌, arith, append_assoc, append-nil, length-append}
-use Rattle.std.proofs.Math.Seq.{set-append_seam}
+use Rattle.std.proofs.Common.{◌≡◌, ℕ, ◌+◌, ◌*◌, ◌-◌, ◌<◌, Bool, true, false, cond, List, [], ◌∷◌, ◌++◌, length, drop, set, Option, Some, None, refl, sym, ap, ap₂, ◌∙◌, arith, append_assoc, append-nil, length-append}
+use Rattle.std.proofs.Math.Seq.{set-append_seam, drop-append_seam}
 use Rattle.fancy_regex_tree.specs.Tree.{Text}
 use Rattle.fancy_regex_class.specs.Classes.{in_class, folded}
 use Rattle.fancy_regex_desugar.specs.CorePatterns.{CorePattern, literal, nothing, read, keep_out, fail, cat, alt, group, ahead, never, back, atomic, repeat, conditional, absent}
 use Rattle.fancy_regex_program.specs.Ops as op
 use Rattle.fancy_regex_program.specs.Ops.{Op}
-use Rattle.fancy_regex_program.specs.Code.{waits, flushed, slots_in, code_of}
+use Rattle.fancy_regex_program.specs.Code.{waits, flushed, slots_in, is_uncounted, loop_entry, loop_head, code_of}
 use Rattle.fancy_regex_program.specs.Writing.{Draft, with_op, with_char, closed_draft, added, patched, with_pat, with_choice}
 
 pub same_draft : {a b : List Op} {s t : Text} → a ≡ b → s ≡ t → ◌≡◌ {A = Draft} (record { ops = a; text = s }) (record { ops = b; text = t })
@@ -19,6 +19,12 @@ flat_one xs f o c g rest = simp append_assoc
 
 flat_hole : (p : List Op) (x : Op) (c g rest : List Op) → (((p ++ x ∷ []) ++ c) ++ g) ++ rest ≡ p ++ x ∷ ((c ++ g) ++ rest)
 flat_hole p x c g rest = simp append_assoc
+
+flat_holes : (q : List Op) (o x : Op) (c g rest : List Op) → ((((q ++ o ∷ []) ++ x ∷ []) ++ c) ++ g) ++ rest ≡ q ++ (o ∷ x ∷ ((c ++ g) ++ rest))
+flat_holes q o x c g rest = simp append_assoc
+
+flat_pair : (q : List Op) (o x : Op) (rest : List Op) → ((q ++ o ∷ []) ++ x ∷ []) ++ rest ≡ q ++ (o ∷ x ∷ rest)
+flat_pair q o x rest = simp append_assoc
 
 flat_two : (xs f : List Op) (o1 o2 : Op) (rest : List Op) → ((xs ++ f) ++ o1 ∷ []) ++ o2 ∷ rest ≡ xs ++ (f ++ (o1 ∷ o2 ∷ rest))
 flat_two xs f o1 o2 rest = simp append_assoc
@@ -154,6 +160,34 @@ module _ (u w : Bool) where
         ∙ sym (flat_two d.ops (flushed d.text) o y ((C a [] (length l) s ++ g) ++ rest))
         ∙ sym (fill before.ops x y (C a [] (length l) s) g rest)
 
+    -- the part with its own rest
+    pub spread : (rest : List Op) → inside.ops ++ rest ≡ (d.ops ++ flushed d.text) ++ (o ∷ x ∷ (body ++ rest))
+    unfolding with_pat with_op closed_draft
+    spread rest =
+        let q = d.ops ++ flushed d.text in
+        let g = flushed (waits a []) in
+        let l = (before.ops ++ x ∷ []) in
+        flat_holes q o x (C a [] (length l) s) g rest
+        ∙ ap (λ k. q ++ (o ∷ x ∷ ((C a [] k s ++ g) ++ rest))) past_hole
+
+    pub behind_holes : drop (length before.ops + 1) inside.ops ≡ body
+    unfolding with_pat with_op closed_draft
+    behind_holes =
+        let q = d.ops ++ flushed d.text in
+        let far : length before.ops + 1 ≡ length ((q ++ o ∷ []) ++ x ∷ []) = sym (length-append (q ++ o ∷ []) (x ∷ [])) in
+        ap₂ (λ n l. drop n l) far (sym (append-nil inside.ops) ∙ spread [] ∙ sym (flat_pair q o x (body ++ [])))
+        ∙ drop-append_seam ((q ++ o ∷ []) ++ x ∷ []) (body ++ [])
+        ∙ append-nil body
+
+  -- another operation is written over the first
+  entered : (d : Draft) (o x : Op) (a : CorePattern) (s : ℕ) (y : Op) (rest : List Op) → (inside d y x a s).ops ++ rest ≡ set ((inside d o x a s).ops ++ rest) (pc d o x a s) y
+  entered d o x a s y rest =
+      let q = d.ops ++ flushed d.text in
+      let tail = x ∷ (body d o x a s ++ rest) in
+      let at : length q ≡ pc d o x a s = length-append d.ops (flushed d.text) in
+      spread d y x a s rest
+      ∙ sym (ap₂ (λ l n. set l n y) (spread d o x a s rest) (sym at) ∙ set-append_seam q o tail y)
+
   pub pat_never : (a : CorePattern) (slot : ℕ) (d : Draft) → P (never a) slot d
       ≡ (let b = added (op.begin_atomic slot) d in
       let e = with_op (op.fail_negative slot) (closed_draft (P a (slot + 1) (with_op (op.split 0 0) b))) in
@@ -193,23 +227,39 @@ module _ (u w : Bool) where
       ∙ ap₂ (λ j k. patched at (op.repeat greedy lo hi j slot) (with_op (op.jump k) i)) past (sym (at_hole d o x a (slot + 1)))
 
   pub pat_loop : (a : CorePattern) (lo : ℕ) (greedy : Bool) (slot : ℕ) (d : Draft) → P (repeat a lo None greedy) slot d
-      ≡ (let b = added (op.begin_repeat slot) d in
-      let e = with_op (op.jump (length b.ops)) (closed_draft (P a (slot + 2) (with_op op.fail b))) in
-      patched (length b.ops) (op.repeat_epsilon greedy lo (length e.ops) slot (slot + 1)) e)
+      ≡ (let b = added op.fail d in
+      let i = closed_draft (P a (slot + 2) (with_op op.fail b)) in
+      let e = with_op (op.jump (length b.ops)) i in
+      let uncounted = is_uncounted lo (length b.ops + 1) (drop (length b.ops + 1) i.ops) in
+      patched (length b.ops) (loop_head uncounted lo greedy (length b.ops + 1) (length e.ops) slot (slot + 1))
+      (patched (length b.ops - 1) (loop_entry uncounted lo (length b.ops) slot) e))
   unfolding with_pat code_of patched with_op closed_draft
   pat_loop a lo greedy slot d =
-      let o = op.begin_repeat slot in
       let x = op.fail in
-      let n = pc d o x a (slot + 2) in
-      let long = length (body d o x a (slot + 2)) in
-      let i = inside d o x a (slot + 2) in
-      let at = length (before d o x a (slot + 2)).ops in
+      let n = pc d x x a (slot + 2) in
+      let xs = body d x x a (slot + 2) in
+      let i = inside d x x a (slot + 2) in
+      let at = length (before d x x a (slot + 2)).ops in
+      let here = at_hole d x x a (slot + 2) in
+      let free = is_uncounted lo (n + 2) xs in
+      let entry = loop_entry free lo (n + 1) slot in
+      let head = loop_head free lo greedy (n + 2) (n + 3 + length xs) slot (slot + 1) in
+      let rest = op.jump (n + 1) ∷ [] in
       let e = with_op (op.jump at) i in
-      let past : n + 3 + long ≡ length e.ops = omega (arith, length_with_op (op.jump at) i, past_body d o x a (slot + 2)) in
-      let step : P (repeat a lo None greedy) slot d ≡ patched at (op.repeat_epsilon greedy lo (n + 3 + long) slot (slot + 1)) (with_op (op.jump (n + 1)) i) =
-      same_draft (filled d o x a (slot + 2) (op.repeat_epsilon greedy lo (n + 3 + long) slot (slot + 1)) (op.jump (n + 1) ∷ [])) refl in
+      let past : n + 3 + length xs ≡ length e.ops = omega (arith, length_with_op (op.jump at) i, past_body d x x a (slot + 2)) in
+      let second : at + 1 ≡ n + 2 = omega (arith, here) in
+      let first : at - 1 ≡ n = omega (arith, here) in
+      let seen : is_uncounted lo (at + 1) (drop (at + 1) i.ops) ≡ free =
+      ap (λ k. is_uncounted lo k (drop (at + 1) i.ops)) second ∙ ap (is_uncounted lo (n + 2)) (behind_holes d x x a (slot + 2)) in
+      let step : P (repeat a lo None greedy) slot d ≡ patched at head (patched n entry (with_op (op.jump (n + 1)) i)) =
+      same_draft
+      (filled d entry x a (slot + 2) head rest
+      ∙ ap₂ (λ j l. set l j head) (at_hole d entry x a (slot + 2) ∙ sym here) (entered d x x a (slot + 2) entry rest))
+      refl in
       step
-      ∙ ap₂ (λ j k. patched at (op.repeat_epsilon greedy lo j slot (slot + 1)) (with_op (op.jump k) i)) past (sym (at_hole d o x a (slot + 2)))
+      ∙ ap₂ (λ j k. patched at (loop_head free lo greedy (n + 2) j slot (slot + 1)) (patched n (loop_entry free lo k slot) (with_op (op.jump k) i))) past (sym here)
+      ∙ ap₂ (λ j k. patched at (loop_head free lo greedy j (length e.ops) slot (slot + 1)) (patched k (loop_entry free lo at slot) e)) (sym second) (sym first)
+      ∙ ap (λ b. patched at (loop_head b lo greedy (at + 1) (length e.ops) slot (slot + 1)) (patched (at - 1) (loop_entry b lo at slot) e)) (sym seen)
 
   pub pat_absent : (a : CorePattern) (slot : ℕ) (d : Draft) → P (absent a) slot d
       ≡ (let b = added (op.absent_begin slot (slot + 1)) d in

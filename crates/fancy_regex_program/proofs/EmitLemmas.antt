@@ -1,10 +1,10 @@
 -- What the functions of the emitter have written.
-use Rattle.std.proofs.Common.{◌≡◌, ℕ, ◌+◌, ◌*◌, ◌<◌, Bool, true, false, cond, List, [], ◌∷◌, ◌++◌, length, Option, Some, None, refl, sym, ap, ap₂, ◌∙◌, arith}
+use Rattle.std.proofs.Common.{◌≡◌, ℕ, ◌+◌, ◌-◌, ◌*◌, ◌<◌, Bool, true, false, cond, List, [], ◌∷◌, ◌++◌, length, drop, Option, Some, None, refl, sym, ap, ap₂, ◌∙◌, arith}
 use Rattle.fancy_regex_desugar.specs.CorePatterns.{CorePattern, literal, nothing, read, keep_out, fail, cat, group, ahead, never, back, atomic, repeat, conditional, absent}
 use Rattle.fancy_regex_desugar.specs.Unfolded.{Written, cat_all, alt_all}
 use Rattle.fancy_regex_program.specs.Ops as op
 use Rattle.fancy_regex_program.specs.Ops.{Op}
-use Rattle.fancy_regex_program.specs.Code.{slots_in}
+use Rattle.fancy_regex_program.specs.Code.{slots_in, is_uncounted, loop_entry, loop_head}
 use Rattle.fancy_regex_program.specs.Writing.{Draft, draft_of, with_op, with_char, closed_draft, added, patched, with_pat, with_choice, Wrote, WroteClosed, WroteChoice}
 use Rattle.fancy_regex_program.specs.declared.emitter.Emitter.{Emitter}
 use Rattle.fancy_regex_program.proofs.Drafts.{same_draft, pat_nothing, pat_cat, pat_fail, pat_back, pat_group, pat_ahead, pat_atomic, pat_never, pat_counted, pat_loop, pat_absent}
@@ -44,9 +44,10 @@ module _ (u w : Bool) where
       rw (e5, es, e4, e3, e2, ea, e1, ei) (sym (pat_counted u w a lo hi greedy slot d0))
 
   pub drew_loop : (a : CorePattern) (lo : ℕ) (greedy : Bool) (slot inside last at next : ℕ) (d0 d1 d2 d3 d4 d5 : Draft) → last ≡ slot + 1 → inside ≡ slot + 2 →
-      d1 ≡ added (op.begin_repeat slot) d0 → at ≡ length d1.ops → d2 ≡ with_op op.fail d1 →
+      d1 ≡ added op.fail d0 → at ≡ length d1.ops → d2 ≡ with_op op.fail d1 →
       d3 ≡ closed_draft (P a inside d2) → d4 ≡ with_op (op.jump at) d3 → next ≡ length d4.ops →
-      d5 ≡ patched at (op.repeat_epsilon greedy lo next slot last) d4 → d5 ≡ P (repeat a lo None greedy) slot d0
+      d5 ≡ (let uncounted = is_uncounted lo (at + 1) (drop (at + 1) d3.ops) in
+      patched at (loop_head uncounted lo greedy (at + 1) next slot last) (patched (at - 1) (loop_entry uncounted lo at slot) d4)) → d5 ≡ P (repeat a lo None greedy) slot d0
   drew_loop a lo greedy slot inside last at next d0 d1 d2 d3 d4 d5 el ei e1 ea e2 e3 e4 es e5 =
       rw (e5, es, e4, e3, e2, ea, e1, ei, el) (sym (pat_loop u w a lo greedy slot d0))
 

@@ -1,3 +1,4 @@
+mod ReadingLemmas
 mod Drafts
 mod Branches
 mod KindLemmas

@@ -1,5 +1,5 @@
 -- Steps over a stack of tasks.
-use Rattle.std.proofs.Common.{◌≡◌, ℕ, zero, suc, ◌+◌, ◌-◌, ◌*◌, ◌<◌, ◌≤◌, Bool, true, false, List, [], ◌∷◌, ◌++◌, length, map, take, set, Option, Some, None, Result, Ok, Err, IfOk, IfErr, refl, sym, ap, ap₂, ◌∙◌, subst, arith, append_assoc, length-append}
+use Rattle.std.proofs.Common.{◌≡◌, ℕ, zero, suc, ◌+◌, ◌-◌, ◌*◌, ◌<◌, ◌≤◌, Bool, true, false, List, [], ◌∷◌, ◌++◌, length, map, take, drop, set, Option, Some, None, Result, Ok, Err, IfOk, IfErr, refl, sym, ap, ap₂, ◌∙◌, subst, arith, append_assoc, length-append}
 use Rattle.std.proofs.Math.Seq.{set-append_left, take-append_seam}
 use Rattle.std.proofs.lemmas.List.{length-set}
 use Rattle.std.proofs.lemmas.Result.{IfOk-weaker, IfErr-weaker}
@@ -14,7 +14,7 @@ use Rattle.fancy_regex_info.specs.declared.error.CompileError.TheVariants.{Patte
 use Rattle.fancy_regex_info.specs.declared.info.Info.{Info}
 use Rattle.fancy_regex_program.specs.Ops as op
 use Rattle.fancy_regex_program.specs.Ops.{Op}
-use Rattle.fancy_regex_program.specs.Code.{waits, flushed, slots_in, code_of}
+use Rattle.fancy_regex_program.specs.Code.{waits, flushed, slots_in, is_uncounted, loop_entry, loop_head, code_of}
 use Rattle.fancy_regex_program.specs.Extents.{extent, IsFull}
 use Rattle.fancy_regex_program.specs.Refusals.{TreeContext, IsAnalyzed, IsExpandedPart, IsReasonWhere, IsMemoryOrTooComplex}
 use Rattle.fancy_regex_program.specs.Shapes.{IsAllowed}
@@ -55,8 +55,17 @@ closing_fits (ends.BoundedRepeat head bounds greedy slot) d =
     let e = with_op (op.jump head) (closed_draft d) in
     omega (arith, extent_patched head (op.repeat greedy bounds.0 bounds.1 (length e.ops) slot) e, extent_op (op.jump head) (closed_draft d), extent_closed d)
 closing_fits (ends.UnboundedRepeat head lo greedy slot check) d =
-    let e = with_op (op.jump head) (closed_draft d) in
-    omega (arith, extent_patched head (op.repeat_epsilon greedy lo (length e.ops) slot check) e, extent_op (op.jump head) (closed_draft d), extent_closed d)
+    let inside = closed_draft d in
+    let e = with_op (op.jump head) inside in
+    let uncounted = is_uncounted lo (head + 1) (drop (head + 1) inside.ops) in
+    let entered = patched (head - 1) (loop_entry uncounted lo head slot) e in
+    omega (
+      arith,
+      extent_patched head (loop_head uncounted lo greedy (head + 1) (length e.ops) slot check) entered,
+      extent_patched (head - 1) (loop_entry uncounted lo head slot) e,
+      extent_op (op.jump head) inside,
+      extent_closed d,
+    )
 closing_fits (ends.AbsentRepeater scan start limit) d =
     let e = with_op (op.absent_limit limit) (closed_draft d) in
     let f = with_op (op.absent_end start limit) e in

@@ -1,9 +1,10 @@
 -- The program of a pattern.
-use Rattle.std.specs.Prelude.{ℕ, ◌+◌, ◌*◌, Bool, true, false, not, ◌&&◌, List, [], ◌∷◌, ◌++◌, length, Some, None, ◌==◌, if◌then◌else◌}
+use Rattle.std.specs.Prelude.{ℕ, ◌+◌, ◌*◌, nat_le, Bool, true, false, not, ◌&&◌, List, [], ◌∷◌, ◌++◌, length, Some, None, ◌==◌, if◌then◌else◌}
 use Rattle.fancy_regex_tree.specs.Tree.{Text}
 use Rattle.fancy_regex_desugar.specs.CorePatterns.{CharacterTest, any, literal, class, CorePattern, nothing, read, general_newline, check, continue, keep_out, fail, cat, alt, group, ahead, never, back, atomic, repeat, backref, exists, conditional, absent}
 use Rattle.fancy_regex_program.specs.Ops as op
 use Rattle.fancy_regex_program.specs.Ops.{Op, among_scalars}
+use Rattle.fancy_regex_program.specs.Reading.{always_reads}
 
 -- how many slots of its own a pattern has
 abbrev pub slots_in : CorePattern → ℕ
@@ -81,10 +82,30 @@ repeat_code lo hi greedy body pc slot =
     let inside = body (pc + 2) (slot + 1) in
     op.begin_repeat slot ∷ op.repeat greedy lo hi (pc + 3 + length inside) slot ∷ (inside ++ op.jump (pc + 1) ∷ [])
 
+-- A repeat without a greatest count needs no counter where at most one round is due and each run through its body, which begins
+-- at the operation `first`, reads a character.
+abbrev pub is_uncounted : ℕ → ℕ → List Op → Bool
+is_uncounted lo first inside = nat_le lo 1 && always_reads first inside
+
+-- tries to go on first and then to stop, or the other way round
+abbrev pub split_by : Bool → ℕ → ℕ → Op
+split_by greedy on stop = if greedy then op.split on stop else op.split stop on
+
+-- The two operations in front of the body. Without a counter they are a jump to the second, or past it where a round is due, and
+-- the choice of another round.
+abbrev pub loop_entry : Bool → ℕ → ℕ → ℕ → Op
+loop_entry uncounted lo head slot = if uncounted then op.jump (head + lo) else op.begin_repeat slot
+
+abbrev pub loop_head : Bool → ℕ → Bool → ℕ → ℕ → ℕ → ℕ → Op
+loop_head uncounted lo greedy first next slot last =
+    if uncounted then split_by greedy first next else op.repeat_epsilon greedy lo next slot last
+
 abbrev pub loop_code : ℕ → Bool → Code → Code
 loop_code lo greedy body pc slot =
     let inside = body (pc + 2) (slot + 2) in
-    op.begin_repeat slot ∷ op.repeat_epsilon greedy lo (pc + 3 + length inside) slot (slot + 1) ∷ (inside ++ op.jump (pc + 1) ∷ [])
+    let uncounted = is_uncounted lo (pc + 2) inside in
+    loop_entry uncounted lo (pc + 1) slot ∷ loop_head uncounted lo greedy (pc + 2) (pc + 3 + length inside) slot (slot + 1)
+    ∷ (inside ++ op.jump (pc + 1) ∷ [])
 
 abbrev pub conditional_code : Code → Code → Code → ℕ → ℕ → Code
 conditional_code c a b slots_of_c slots_of_a pc slot =

@@ -1,5 +1,6 @@
 pub mod Ops
 pub mod Machine
+pub mod Reading
 pub mod Code
 pub mod SlotLayout
 pub mod Shapes

@@ -1,5 +1,5 @@
 -- What is left to emit: tasks on a stack, the next one at the end.
-use Rattle.std.specs.Prelude.{◌≡◌, ℕ, zero, suc, ◌+◌, ◌-◌, ◌≤◌, Bool, true, false, List, [], ◌∷◌, length, map, take, slice_get, Option, Some, None}
+use Rattle.std.specs.Prelude.{◌≡◌, ℕ, zero, suc, ◌+◌, ◌-◌, ◌≤◌, Bool, true, false, List, [], ◌∷◌, length, map, take, drop, slice_get, Option, Some, None}
 use Rattle.std.specs.Borrow.{Bor}
 use Rattle.fancy_regex_tree.specs.Tree as tree
 use Rattle.fancy_regex_tree.specs.Tree.{Tree}
@@ -9,7 +9,7 @@ use Rattle.fancy_regex_desugar.specs.Unfolded.{cat_all, alt_all}
 use Rattle.fancy_regex_info.specs.Infos.{InfoTree, InfoTrees, known, no_infos, more_infos, infos, info_of}
 use Rattle.fancy_regex_info.specs.declared.info.Info.{Info}
 use Rattle.fancy_regex_program.specs.Ops as op
-use Rattle.fancy_regex_program.specs.Code.{slots_in}
+use Rattle.fancy_regex_program.specs.Code.{slots_in, is_uncounted, loop_entry, loop_head}
 use Rattle.fancy_regex_program.specs.Extents.{extent}
 use Rattle.fancy_regex_program.specs.Refusals.{TreeContext, IsAnalyzed, IsExpandedPart, AreExpandedParts}
 use Rattle.fancy_regex_program.specs.Shapes.{IsAllowed}
@@ -46,8 +46,10 @@ closed_by (closing.BoundedRepeat head bounds greedy slot) d =
     let e = with_op (op.jump head) (closed_draft d) in
     patched head (op.repeat greedy bounds.0 bounds.1 (length e.ops) slot) e
 closed_by (closing.UnboundedRepeat head lo greedy slot check) d =
-    let e = with_op (op.jump head) (closed_draft d) in
-    patched head (op.repeat_epsilon greedy lo (length e.ops) slot check) e
+    let inside = closed_draft d in
+    let e = with_op (op.jump head) inside in
+    let uncounted = is_uncounted lo (head + 1) (drop (head + 1) inside.ops) in
+    patched head (loop_head uncounted lo greedy (head + 1) (length e.ops) slot check) (patched (head - 1) (loop_entry uncounted lo head slot) e)
 closed_by (closing.AbsentRepeater scan start limit) d =
     let e = with_op (op.absent_limit limit) (closed_draft d) in
     patched scan (op.absent_scan (length e.ops) limit) (with_op (op.absent_end start limit) e)

@@ -1,7 +1,9 @@
 //! The ends of constructs: what is written behind their parts, and what is patched in front of them then.
 
-ghost use Rattle.std.specs.Prelude.{◌≡◌, OnOk, IfErr};
+ghost use Rattle.std.specs.Prelude.{◌≡◌, ◌≤◌, ◌<◌, ◌+◌, true, OnOk, IfErr};
+ghost use Rattle.fancy_regex_program.specs.Code.{split_by, loop_entry, loop_head};
 ghost use Rattle.fancy_regex_program.specs.Extents.{IsFull};
+ghost use Rattle.fancy_regex_program.specs.Machine.{unset};
 ghost use Rattle.fancy_regex_program.specs.Ops as op;
 ghost use Rattle.fancy_regex_program.specs.Ops.{op_of};
 ghost use Rattle.fancy_regex_program.specs.Refusals.{IsMemoryOrTooComplex};
@@ -11,6 +13,7 @@ ghost use Rattle.fancy_regex_program.specs.declared.closing.Closing.TheVariants 
 
 use crate::insn::{AbsentRepeater, Insn, Repeat, RepeatEpsilon};
 use crate::program_builder::ProgramBuilder;
+use crate::reading::is_uncounted;
 use fancy_regex_info::CompileError;
 
 /// A construct that ends behind the part that was emitted last.
@@ -57,7 +60,7 @@ pub(crate) enum Closing {
     },
     /// An unbounded repeat.
     UnboundedRepeat {
-        /// The index of its head.
+        /// The index of its head, behind its entry.
         head: usize,
         /// The least count of iterations.
         lo: usize,
@@ -187,7 +190,8 @@ fn bounded_repeat_head(repeat: Repeat, greedy: bool) -> Insn
     }
 }
 
-/// Leads back to the head of an unbounded repeat, which is written now.
+/// Leads back to the head of an unbounded repeat. The head and the entry in front of it are written now, since the body shows
+/// whether they need a counter.
 fn close_unbounded_repeat(
     body: &mut ProgramBuilder,
     head: usize,
@@ -200,7 +204,9 @@ fn close_unbounded_repeat(
     ensures full { IfErr result (IsFull body.old 2) }
     ensures refused { IfErr result IsMemoryOrTooComplex }
 {
-    body.flush_and_push(Insn::Jmp(head))?;
+    body.flush()?;
+    let uncounted = is_uncounted(&body.insns, lo, head);
+    body.push_insn(Insn::Jmp(head))?;
     let (repeat, check) = slots;
     let endless = RepeatEpsilon {
         lo,
@@ -208,19 +214,53 @@ fn close_unbounded_repeat(
         repeat,
         check,
     };
-    body.patch(head, unbounded_repeat_head(endless, greedy));
+    let (entry_insn, head_insn) = opening(uncounted, endless, head, greedy);
+    body.patch(head.saturating_sub(1), entry_insn);
+    body.patch(head, head_insn);
     Ok(())
 }
 
-/// The head of an unbounded repeat.
-fn unbounded_repeat_head(repeat: RepeatEpsilon, greedy: bool) -> Insn
-    ensures { op_of result ≡ op.repeat_epsilon greedy repeat.lo repeat.next repeat.repeat repeat.check }
+/// The entry and the head of an unbounded repeat. Without a counter at most one iteration is due.
+fn opening(uncounted: bool, repeat: RepeatEpsilon, head: usize, greedy: bool) -> (Insn, Insn)
+    requires few { uncounted ≡ true → repeat.lo ≤ 1 }
+    requires inside { uncounted ≡ true → head < unset }
+    ensures entry { op_of result.0 ≡ loop_entry uncounted repeat.lo head repeat.repeat }
+    ensures head { op_of result.1 ≡ loop_head uncounted repeat.lo greedy (head + 1) repeat.next repeat.repeat repeat.check }
 {
-    if greedy {
+    if uncounted {
+        uncounted_opening(repeat, head, greedy)
+    } else {
+        counted_opening(repeat, greedy)
+    }
+}
+
+/// The entry and the head of an unbounded repeat that counts its iterations.
+fn counted_opening(repeat: RepeatEpsilon, greedy: bool) -> (Insn, Insn)
+    ensures entry { op_of result.0 ≡ op.begin_repeat repeat.repeat }
+    ensures head { op_of result.1 ≡ op.repeat_epsilon greedy repeat.lo repeat.next repeat.repeat repeat.check }
+{
+    let head = if greedy {
         Insn::RepeatEpsilonGr(repeat)
     } else {
         Insn::RepeatEpsilonNg(repeat)
-    }
+    };
+    (Insn::BeginRepeat(repeat.repeat), head)
+}
+
+/// The entry and the head of an unbounded repeat that does not count its iterations, of which at most one is due.
+fn uncounted_opening(repeat: RepeatEpsilon, head: usize, greedy: bool) -> (Insn, Insn)
+    requires few { repeat.lo ≤ 1 }
+    requires inside { head < unset }
+    ensures entry { op_of result.0 ≡ op.jump (head + repeat.lo) }
+    ensures head { op_of result.1 ≡ split_by greedy (head + 1) repeat.next }
+{
+    let first = head + 1;
+    let choice = if greedy {
+        Insn::Split(first, repeat.next)
+    } else {
+        Insn::Split(repeat.next, first)
+    };
+    (Insn::Jmp(head + repeat.lo), choice)
 }
 
 /// Writes the end of an absent repeater, and its scan.

@@ -677,7 +677,7 @@ fn emit_unbounded_repeat<'i, 'e>(
 {
     let check = past_slots(slot, 1)?;
     let inside = past_slots(slot, 2)?;
-    emitter.body.flush_and_push(Insn::BeginRepeat(slot))?;
+    emitter.body.flush_and_push(Insn::Fail)?;
     let head = emitter.body.len();
     emitter.body.push_insn(Insn::Fail)?;
     let closing = Closing::UnboundedRepeat {

@@ -13,6 +13,7 @@ mod leaf;
 mod prog;
 mod program_builder;
 mod range;
+mod reading;
 mod task;
 mod writing;
 

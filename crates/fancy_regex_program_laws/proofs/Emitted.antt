@@ -16,14 +16,17 @@ use Rattle.fancy_regex_slots.specs.Memory.{Thread}
 use Rattle.fancy_regex_program.specs.Ops as op
 use Rattle.fancy_regex_program.specs.Ops.{Op, among_scalars}
 use Rattle.fancy_regex_program.specs.Machine.{unset, RunParameters, goes, goes_to, wrote, match_char, match_text, match_newline, is_start, is_scan}
-use Rattle.fancy_regex_program.specs.Code.{Code, waits, flushed, slots_in, closed, code_of}
+use Rattle.fancy_regex_program.specs.Code.{Code, waits, flushed, slots_in, closed, is_uncounted, loop_entry, code_of}
 use Rattle.fancy_regex_program.specs.SlotLayout.{slots_of_way}
 use Rattle.fancy_regex_program.specs.Shapes.{IsWritable}
 use Rattle.fancy_regex_program_laws.proofs.Denote.{Tale, Follow, Run, end_to, end_text, ending}
 use Rattle.fancy_regex_program_laws.proofs.PairsInSlots.{take_kept}
 use Rattle.fancy_regex_program_laws.proofs.Runs.{above_refl, same_refl, same_set_below, thread, Sound, Comes, Pops, by_move, Exits, exits_at, exits_later, comes_at, Does}
 use Rattle.fancy_regex_program_laws.proofs.ProgramParts.{HasAt, has_front, has_back, StartsPlain, starts_both, plain_from, plain_at, with_slot_is, does_to, does_move, does_test, does_fail, does_alt, does_group, does_ahead, does_atomic, does_never}
-use Rattle.fancy_regex_program_laws.proofs.Loops.{does_repeat, does_loop, does_conditional}
+use Rattle.fancy_regex_program_laws.proofs.Loops.{does_repeat, does_conditional}
+use Rattle.fancy_regex_program_laws.proofs.UncountedLoops.{GoesPast, does_endless}
+use Rattle.fancy_regex_program_laws.proofs.TakesSome.{ending_past}
+use Rattle.fancy_regex_program_laws.proofs.ReadingCode.{few, body_takes}
 use Rattle.fancy_regex_program_laws.proofs.Absents.{does_absent}
 use Rattle.fancy_regex_program_laws.proofs.ReadingOperations.{good_char, good_text, good_newline, good_before, does_exists, does_backref}
 
@@ -79,6 +82,10 @@ starts_flushed (c ∷ cs) = (refl, refl)
 starts_node : (l : Text) (x : Op) (xs : List Op) → is_start (Some x) ≡ false → is_scan (Some x) ≡ false → StartsPlain (flushed l ++ x ∷ xs)
 starts_node l x xs a b = starts_both (flushed l) (x ∷ xs) (starts_flushed l) (a, b)
 
+starts_loop : (uncounted : Bool) (lo head slot : ℕ) → (is_start (Some (loop_entry uncounted lo head slot)) ≡ false) × (is_scan (Some (loop_entry uncounted lo head slot)) ≡ false)
+starts_loop true lo head slot = (refl, refl)
+starts_loop false lo head slot = (refl, refl)
+
 -- What leads onward may be asked to.
 does_any : (code : List Op) (r : RunParameters) (whole : Bool) (count from to own much : ℕ) (free : Bool) (g : Run) →
     Does code r whole count from to own much false g → Does code r whole count from to own much free g
@@ -112,7 +119,11 @@ module _ (has_member : Text → Bool → ℕ → Bool) (fold : ℕ → ℕ) (who
   code_starts (never a) l pc slot = starts_node l _ _ refl refl
   code_starts (back n) l pc slot = starts_node l _ _ refl refl
   code_starts (atomic a) l pc slot = starts_node l _ _ refl refl
-  code_starts (repeat a lo None greedy) l pc slot = starts_node l _ _ refl refl
+  code_starts (repeat a lo None greedy) l pc slot =
+      let p = pc + length (flushed l) in
+      let uncounted = is_uncounted lo (p + 2) (closed (code_of has_member fold whole a []) (waits a []) (p + 2) (slot + 2)) in
+      let entry = starts_loop uncounted lo (p + 1) slot in
+      starts_node l _ _ entry.0 entry.1
   code_starts (repeat a lo (Some hi) greedy) l pc slot = starts_node l _ _ refl refl
   code_starts (backref k casei) l pc slot = starts_node l _ _ refl refl
   code_starts (exists k) l pc slot = starts_node l _ _ refl refl
@@ -359,11 +370,14 @@ module _ (code : List Op) (r : RunParameters) (whole : Bool) (count : ℕ) (utf8
     runs (repeat a lo None greedy) l pc slot free ok placed at =
         let p = pc + length (flushed l) in
         let xs = within a (p + 2) (slot + 2) in
-        leads_round pc slot (2 + slots_in a) free l _ (ending r.setting (repeat a lo None greedy)) (p + 3 + length xs) (refl, refl) at
+        let uncounted = is_uncounted lo (p + 2) xs in
+        let past : uncounted ≡ true → (lo ≤ 1) × GoesPast (ending r.setting a) = λ e. (few lo (p + 2) xs e,
+        ending_past r.setting small first count a ok.1 placed (body_takes r.setting.has_member r.setting.fold whole a lo (p + 2) (slot + 2) e)) in
+        leads_round pc slot (2 + slots_in a) free l _ (ending r.setting (repeat a lo None greedy)) (p + 3 + length xs) (starts_loop uncounted lo (p + 1) slot) at
         (omega (arith, length-append xs (op.jump (p + 1) ∷ [])))
         (λ h.
         let two : p + 1 + 1 ≡ p + 2 = omega arith in
-        does_loop code r whole count p slot (slots_in a) lo greedy free xs (ending r.setting a) ok.0
+        does_endless code r whole count uncounted p slot (slots_in a) lo greedy free xs (ending r.setting a) ok.0 past
         (closed_starts r.setting.has_member r.setting.fold whole a (p + 2) (slot + 2)) h
         (closed_by a (p + 2) (slot + 2) false (λ f. runs a [] (p + 2) (slot + 2) false ok.1 placed f)
         (has_front code (p + 2) xs _ (subst (λ q. HasAt code q (xs ++ op.jump (p + 1) ∷ [])) two h.1.1))))

@@ -12,5 +12,6 @@ mod AbsentWays
 mod WaysOf
 mod TakesSome
 mod UncountedLoops
+mod ReadingCode
 mod StartByStart
 mod WholeProgram

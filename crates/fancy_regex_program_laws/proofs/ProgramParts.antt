@@ -1,7 +1,9 @@
 -- Parts of programs, and what they do.
-use Rattle.std.proofs.Common.{◌≡◌, ℕ, ◌+◌, ◌*◌, ◌<◌, ◌≤◌, Bool, true, false, List, [], ◌∷◌, ◌++◌, length, take, get_or, set, Option, Some, None, refl, sym, ap, ◌∙◌, subst, arith, length-set, get_or-set_same, cond}
+use Rattle.std.proofs.Common.{◌≡◌, ℕ, ◌+◌, ◌*◌, ◌<◌, ◌≤◌, Bool, true, false, List, [], ◌∷◌, ◌++◌, length, take, get_or, set, Option, Some, None, refl, sym, ap, ◌∙◌, subst, arith, append_assoc, length-append, length-set, get_or-set_same, cond}
 use Rattle.std.specs.Prelude.{slice_get}
+use Rattle.std.proofs.Math.Seq.{get_or-append_seam}
 use Rattle.std.proofs.lemmas.List.{take-set-le}
+use Rattle.std.proofs.lemmas.Option.{slice_get-get_or}
 use Rattle.std.specs.Str.{IsUtf8}
 use Rattle.fancy_regex_meaning.specs.Ways.{MatchState, with_position, set_pair}
 use Rattle.fancy_regex_meaning.proofs.ForwardProofs.{keeps_cuts}
@@ -26,6 +28,17 @@ has_front code pc (x ∷ a) b h = (h.0, has_front code (pc + 1) a b h.1)
 pub has_back : (code : List Op) (pc n : ℕ) (a b : List Op) → n ≡ pc + length a → HasAt code pc (a ++ b) → HasAt code n b
 has_back code pc n [] b e h = let same : pc ≡ n = omega arith in subst (λ p. HasAt code p b) same h
 has_back code pc n (x ∷ a) b e h = has_back code (pc + 1) n a b (omega arith) h.1
+
+-- all of it stands in it
+pub has_all : (xs pre : List Op) → HasAt (pre ++ xs) (length pre) xs
+has_all [] pre = tt
+has_all (x ∷ xs) pre =
+    let within : length pre < length (pre ++ x ∷ xs) = omega (arith, length-append pre (x ∷ xs)) in
+    let here = slice_get-get_or (pre ++ x ∷ xs) (length pre) x within ∙ ap Some (get_or-append_seam pre x xs x) in
+    let n : length (pre ++ x ∷ []) ≡ length pre + 1 = omega (arith, length-append pre (x ∷ [])) in
+    let rest = has_all xs (pre ++ x ∷ []) in
+    let rest' = subst (λ l. HasAt l (length (pre ++ x ∷ [])) xs) (append_assoc pre (x ∷ []) xs) rest in
+    (here, subst (λ m. HasAt (pre ++ x ∷ xs) m xs) n rest')
 
 -- it begins with neither a start nor a scan
 abbrev pub StartsPlain : List Op → Type 0

@@ -5,15 +5,13 @@ use Rattle.fancy_regex_meaning.specs.Ways.{MatchState}
 use Rattle.fancy_regex_slots.specs.Memory.{Thread}
 use Rattle.fancy_regex_program.specs.Ops as op
 use Rattle.fancy_regex_program.specs.Ops.{Op}
-use Rattle.fancy_regex_program.specs.Machine.{RunParameters, goes, at_op, forks_by, act}
+use Rattle.fancy_regex_program.specs.Code.{split_by, loop_entry, loop_head}
+use Rattle.fancy_regex_program.specs.Machine.{unset, RunParameters, goes, at_op, forks_by, act}
 use Rattle.fancy_regex_program.specs.SlotLayout.{slots_of_way}
-use Rattle.fancy_regex_program_laws.proofs.Denote.{Tale, Follow, Run, untold, end_pick, end_loop, end_times}
+use Rattle.fancy_regex_program_laws.proofs.Denote.{Tale, Follow, Run, opens, untold, end_pick, end_loop, end_times}
 use Rattle.fancy_regex_program_laws.proofs.Runs.{above_refl, above_trans, same_refl, thread, lt_yes, lt_is, eq_other, IsPlain, Sound, Comes, Pops, by_move, Exits, exits_later, comes_at, Does}
 use Rattle.fancy_regex_program_laws.proofs.ProgramParts.{HasAt, has_front, has_back, StartsPlain, plain_from, plain_at}
-use Rattle.fancy_regex_program_laws.proofs.Loops.{fork_comes}
-
-abbrev split_by : Bool → ℕ → ℕ → Op
-split_by greedy on stop = cond greedy (op.split on stop) (op.split stop on)
+use Rattle.fancy_regex_program_laws.proofs.Loops.{fork_comes, does_loop}
 
 -- only what follows further on counts
 abbrev pub GoesPast : Run → Type 0
@@ -24,8 +22,8 @@ split_forks true r on stop height t = refl
 split_forks false r on stop height t = refl
 
 picks_as : (greedy : Bool) (g : Run) (w : MatchState) (again again' k : Follow) (x : Tale) → ((y : Tale) → g w again y ≡ g w again' y) → end_pick greedy g w again k x ≡ end_pick greedy g w again' k x
-picks_as true g w again again' k x same = ap (λ (y : Tale). Rattle.fancy_regex_program_laws.proofs.Denote.opens y) (same (k w x))
-picks_as false g w again again' k x same = ap (λ (y : Tale). Rattle.fancy_regex_program_laws.proofs.Denote.opens (k w y)) (same x)
+picks_as true g w again again' k x same = ap (λ (y : Tale). opens y) (same (k w x))
+picks_as false g w again again' k x same = ap (λ (y : Tale). opens (k w y)) (same x)
 
 module _ (code : List Op) (r : RunParameters) (whole : Bool) (count : ℕ) where
   untold_comes : (ts : List Thread) → Comes code r whole count ts untold
@@ -104,3 +102,11 @@ module _ (code : List Op) (r : RunParameters) (whole : Bool) (count : ℕ) where
         ] in
         by_move code r whole count t rest (op.jump (pc + 1 + lo)) (goes (thread (pc + 1 + lo) w.position m)) (end_times g lo loop w k x) at.0 sound.cuts.0 refl (enters lo refl);
   }
+
+  -- a repeat without a greatest count
+  pub does_endless : (uncounted : Bool) (pc slot much lo : ℕ) (greedy free : Bool) (b : List Op) (g : Run) → lo < unset → (uncounted ≡ true → (lo ≤ 1) × GoesPast g) → StartsPlain b →
+      HasAt code pc (loop_entry uncounted lo (pc + 1) slot ∷ loop_head uncounted lo greedy (pc + 2) (pc + 3 + length b) slot (slot + 1) ∷ (b ++ op.jump (pc + 1) ∷ [])) →
+      Does code r whole count (pc + 2) (pc + 2 + length b) (slot + 2) much false g →
+      Does code r whole count pc (pc + 3 + length b) slot (2 + much) free (end_times g lo (end_loop g greedy (length r.setting.text + 1)))
+  does_endless true pc slot much lo greedy free b g fit past starts at body = does_uncounted pc slot much lo greedy free b g (past refl).0 (past refl).1 starts at body
+  does_endless false pc slot much lo greedy free b g fit past starts at body = does_loop code r whole count pc slot much lo greedy free b g fit starts at body

@@ -23,23 +23,13 @@ use Rattle.fancy_regex_class.specs.RunInputs.{group_slots}
 use Rattle.fancy_regex_program_laws.specs.ProgramLaws.{FoundMatch, found_by_thread, entry_way, way_at, choices_up_to, first_group_number, RunRequirements, attempted_starts, Terminates, ProgramsAnswerSearches}
 use Rattle.fancy_regex_program_laws.proofs.Denote.{Tale, Follow, ending}
 use Rattle.fancy_regex_program_laws.proofs.Runs.{thread, Within, IsPlain, Sound, Comes, known, Pops, Follows, forked, by_move, Does}
-use Rattle.fancy_regex_program_laws.proofs.ProgramParts.{HasAt, has_front, has_back, plain_at, with_slot_is}
+use Rattle.fancy_regex_program_laws.proofs.ProgramParts.{HasAt, has_front, has_back, has_all, plain_at, with_slot_is}
 use Rattle.fancy_regex_program_laws.proofs.Emitted.{closed_code, runs_closed}
 use Rattle.fancy_regex_program_laws.proofs.PairsInSlots.{length_flat}
 use Rattle.fancy_regex_program_laws.proofs.Trail.{folded, ending_trail}
 use Rattle.fancy_regex_program_laws.proofs.StartByStart.{told, better, holding, found_by_way, end_follow, trail_from, after, search_tale, search_claims, search_answer, search_opened}
 
 -- All operations of a program stand in it.
-has_all : (xs pre : List Op) → HasAt (pre ++ xs) (length pre) xs
-has_all [] pre = tt
-has_all (x ∷ xs) pre =
-    let within : length pre < length (pre ++ x ∷ xs) = omega (arith, length-append pre (x ∷ xs)) in
-    let here = slice_get-get_or (pre ++ x ∷ xs) (length pre) x within ∙ ap Some (get_or-append_seam pre x xs x) in
-    let n : length (pre ++ x ∷ []) ≡ length pre + 1 = omega (arith, length-append pre (x ∷ [])) in
-    let rest = has_all xs (pre ++ x ∷ []) in
-    let rest' = subst (λ l. HasAt l (length (pre ++ x ∷ [])) xs) (append_assoc pre (x ∷ []) xs) rest in
-    (here, subst (λ m. HasAt (pre ++ x ∷ xs) m xs) n rest')
-
 flat_none : (count : ℕ) → group_slots (replicate count None) ≡ replicate (2 * count) unset
 flat_none zero = refl
 flat_none (suc count) =
