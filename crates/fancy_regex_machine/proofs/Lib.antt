@@ -8,3 +8,4 @@ pub mod AdvanceLemmas
 pub mod Exec
 pub mod AnswerLemmas
 pub mod LimitLemmas
+mod FailingStarts

@@ -3,6 +3,7 @@ pub mod RunConfigs
 pub mod Steps
 pub mod Advances
 pub mod Endings
+pub mod Runs
 pub mod RunArguments
 pub mod MachineLimits
 pub mod SearchAnswers

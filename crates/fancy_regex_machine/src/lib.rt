@@ -8,6 +8,7 @@ mod advance;
 mod assertion;
 mod backref;
 mod error;
+mod failing_starts;
 mod haystack;
 mod memory;
 mod newline;

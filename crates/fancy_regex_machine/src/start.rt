@@ -1,6 +1,6 @@
 //! The byte offsets at which a match may start.
 
-ghost use Rattle.std.specs.Prelude.{◌≡◌, ◌+◌, ◌^◌, ◌<◌, ◌≤◌, length};
+ghost use Rattle.std.specs.Prelude.{◌≡◌, ◌+◌, ◌^◌, ◌<◌, ◌≤◌, length, IfSome};
 ghost use Rattle.std.specs.List.{filter};
 ghost use Rattle.regex_hir.specs.Text.{is_boundary};
 ghost use Rattle.fancy_regex_meaning.specs.Positions.{boundaries};
@@ -26,7 +26,8 @@ pub(crate) fn is_sought(config: &RunConfig, cursor: usize) -> bool
 /// The first byte offset from `from` on at which a match may start, up to the end of the range.
 pub(crate) fn start_from(config: &RunConfig, from: usize) -> Option<usize>
     requires { config.now.stop ≤ length config.now.haystack.text.now }
-    ensures { result ≡ first_item (filter (may_start config.now.haystack.text.now config.now.seek) (boundaries config.now.haystack.text.now from config.now.stop)) }
+    ensures first { result ≡ first_item (filter (may_start config.now.haystack.text.now config.now.seek) (boundaries config.now.haystack.text.now from config.now.stop)) }
+    ensures later { IfSome result (λ start. (from ≤ start) × (start ≤ config.now.stop)) }
 {
     let mut cursor = from;
     while cursor <= config.stop {
@@ -41,7 +42,8 @@ pub(crate) fn start_from(config: &RunConfig, from: usize) -> Option<usize>
 /// The next start after this byte offset; none for an anchored search.
 pub(crate) fn next_start(config: &RunConfig, cursor: usize) -> Option<usize>
     requires { config.now.stop ≤ length config.now.haystack.text.now }
-    ensures { result ≡ machine.next_start (run_parameters_of config.now) cursor }
+    ensures next { result ≡ machine.next_start (run_parameters_of config.now) cursor }
+    ensures later { IfSome result (λ start. (cursor < start) × (start ≤ config.now.stop)) }
 {
     if config.anchored || cursor >= config.stop {
         None

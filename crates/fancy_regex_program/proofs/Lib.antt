@@ -23,4 +23,5 @@ mod LengthLemmas
 mod CapLemmas
 mod WorkLemmas
 mod StepLemmas
+mod StartLemmas
 mod BranchSteps

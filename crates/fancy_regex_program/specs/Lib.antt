@@ -12,3 +12,5 @@ pub mod Programs
 pub mod Extents
 pub mod Refusals
 pub mod Tasks
+pub mod Starts
+pub mod StartPaths

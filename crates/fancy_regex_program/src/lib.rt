@@ -14,6 +14,7 @@ mod prog;
 mod program_builder;
 mod range;
 mod reading;
+mod starts;
 mod task;
 mod writing;
 

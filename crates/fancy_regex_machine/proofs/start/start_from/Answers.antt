@@ -7,10 +7,10 @@ use Rattle.fancy_regex_machine.proofs.StartLemmas.{start_here, start_later}
 use Rattle.fancy_regex_machine.proofs.start.start_from.Goals as goal
 use Rattle.fancy_regex_machine.proofs.start.start_from.Goals.{else-is_char_boundary-via-then-is_char_boundary+else-is_sought, else-is_char_boundary-via-else-is_char_boundary}
 
-pub returns-then-is_sought : goal.returns-then-is_sought
-returns-then-is_sought c =
+pub returns-then-is_sought-clause-first : goal.returns-then-is_sought-clause-first
+returns-then-is_sought-clause-first c =
     let p = c.args.config.now in
-    sym (c.loop-cursor.invariant ∙ start_here p.haystack.text.now (may_start p.haystack.text.now p.seek) p.stop c.loop-cursor.cursor c.loop-cursor-test.true
+    sym (c.loop-cursor.invariant.same ∙ start_here p.haystack.text.now (may_start p.haystack.text.now p.seek) p.stop c.loop-cursor.cursor c.loop-cursor-test.true
     (c.if-is_char_boundary.ensures.test.0 refl) (sym c.if-is_sought.ensures))
 
 pub loop-cursor-preserved : goal.loop-cursor-preserved
@@ -23,4 +23,7 @@ loop-cursor-preserved c =
       | else-is_char_boundary-via-else-is_char_boundary w ↦ λ e.
           absurd (false≢true (sym w.if-is_char_boundary.false ∙ c.is_char_boundary.ensures.test.1 (IsCharBoundary-of_test text at (omega (arith, c.requires, c.loop-cursor-test.true)) e)))
     ] in
-    c.loop-cursor.invariant ∙ start_later text (may_start text p.seek) p.stop at c.loop-cursor-test.true never
+    record {
+      same = c.loop-cursor.invariant.same ∙ start_later text (may_start text p.seek) p.stop at c.loop-cursor-test.true never;
+      behind = omega (arith, c.loop-cursor.invariant.behind);
+    }
