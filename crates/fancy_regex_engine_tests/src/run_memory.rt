@@ -1,5 +1,7 @@
 //! Runs of several programs in one memory, in turn.
 
+ghost use Rattle.std.specs.Prelude.{◌≡◌, false, length};
+
 use fancy_regex_class::{RunInput, Span};
 use fancy_regex_info::{AnalyzeContext, CompileOptions};
 use fancy_regex_machine::{RunMemory, RunOptions, RuntimeError, run, run_in, run_spans_in};
@@ -16,7 +18,9 @@ fn program(alloc: Global, pattern: &str) -> Option<Prog> {
 }
 
 /// The input of a search of a whole text.
-fn whole(text: &str) -> RunInput {
+fn whole(text: &str) -> RunInput
+    ensures { result.range.end ≡ length text.now }
+{
     RunInput {
         first: 0,
         continue_at: None,
@@ -31,7 +35,9 @@ fn whole(text: &str) -> RunInput {
 }
 
 /// The options of a run that may backtrack so often.
-fn options(backtrack_limit: usize) -> RunOptions {
+fn options(backtrack_limit: usize) -> RunOptions
+    ensures { result.find_not_empty ≡ false }
+{
     RunOptions {
         backtrack_limit,
         find_not_empty: false,

@@ -1,5 +1,8 @@
 use Rattle.std.proofs.lemmas.Str.{IsCharBoundary-start}
 use Rattle.fancy_regex_engine_tests.proofs.memory.searched_in.Goals as goal
 
-pub search-requires-clause-first : goal.search-requires-clause-first
-search-requires-clause-first c = IsCharBoundary-start c.args.text.now c.utf8.text
+pub search_in-requires-clause-first : goal.search_in-requires-clause-first
+search_in-requires-clause-first c = IsCharBoundary-start c.args.text.now c.utf8.text
+
+pub search_in-requires-in-Err-clause-first : goal.search_in-requires-in-Err-clause-first
+search_in-requires-in-Err-clause-first c = IsCharBoundary-start c.args.text.now c.utf8.text
