@@ -371,8 +371,10 @@ module _ (code : List Op) (r : RunParameters) (whole : Bool) (count : ℕ) (utf8
         let p = pc + length (flushed l) in
         let xs = within a (p + 2) (slot + 2) in
         let uncounted = is_uncounted lo (p + 2) xs in
-        let past : uncounted ≡ true → (lo ≤ 1) × GoesPast (ending r.setting a) = λ e. (few lo (p + 2) xs e,
-        ending_past r.setting small first count a ok.1 placed (body_takes r.setting.has_member r.setting.fold whole a lo (p + 2) (slot + 2) e)) in
+        let past : uncounted ≡ true → (lo ≤ 1) × GoesPast (ending r.setting a) = λ e. (
+          few lo (p + 2) xs e,
+          ending_past r.setting small first count a ok.1 placed (body_takes r.setting.has_member r.setting.fold whole a lo (p + 2) (slot + 2) e),
+        ) in
         leads_round pc slot (2 + slots_in a) free l _ (ending r.setting (repeat a lo None greedy)) (p + 3 + length xs) (starts_loop uncounted lo (p + 1) slot) at
         (omega (arith, length-append xs (op.jump (p + 1) ∷ [])))
         (λ h.

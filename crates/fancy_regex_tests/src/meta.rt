@@ -20,14 +20,7 @@ fn plain_and_other_patterns_find(rt: HostRuntime) -> Result<(), Fail> {
             panic!(rt; "build");
         };
         let config = RegexInput::new(text).config();
-        let found = meta.search(
-            alloc,
-            text,
-            config,
-            false,
-            &mut Steps::new(),
-            &mut memory,
-        );
+        let found = meta.search(alloc, text, config, false, &mut Steps::new(), &mut memory);
         let Ok(Some(slots)) = found else {
             panic!(rt; "search");
         };
