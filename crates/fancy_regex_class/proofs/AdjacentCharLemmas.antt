@@ -1,15 +1,15 @@
 -- The characters before and after a place, as std's iterators give them.
-use Rattle.std.proofs.Common.{◌≡◌, ℕ, ◌+◌, ◌-◌, ◌<◌, ◌≤◌, Bool, true, false, cond, List, ◌++◌, length, drop, take, Option, Some, None, sym, ap, ◌∙◌, arith, length-append, length-drop, append_assoc, ⊎_elim, slice_index, encode_utf8, le-leb, eq-eqb, lt-ltb, le-ltb, ◌==◌, IfSome, IsCharBoundary, IsUtf8}
+use Rattle.std.proofs.Common.{◌≡◌, ℕ, ◌+◌, ◌-◌, ◌<◌, ◌≤◌, Bool, true, false, cond, List, ◌++◌, length, drop, take, Option, Some, None, sym, ap, subst, ◌∙◌, arith, length-append, length-drop, append_assoc, ⊎_elim, slice_index, slice_index_or, encode_utf8, le-leb, eq-eqb, lt-ltb, le-ltb, ◌==◌, IfSome, IsCharBoundary, IsUtf8}
 use Rattle.std.specs.Prelude.{MatchOption}
 use Rattle.std.proofs.Math.Seq.{drop-append_seam}
 use Rattle.std.proofs.lemmas.List.{take-append-drop}
 use Rattle.std.proofs.lemmas.Bool.{cond-true, cond-false, and_from}
-use Rattle.std.proofs.lemmas.Option.{none-some}
-use Rattle.std.proofs.lemmas.Str.{length-encode, IsCharBoundary-past_char}
+use Rattle.std.proofs.lemmas.Option.{none-some, slice_get-get_or}
+use Rattle.std.proofs.lemmas.Str.{length-encode, IsCharBoundary-past_char, IsUtf8-drop}
 use Rattle.std.specs.Char.{IsScalar, len_utf8}
 use Rattle.regex_hir.specs.Text.{is_some_and, char_at, char_of_len_before, char_before}
 use Rattle.regex_hir.proofs.OptionLemmas.{none_of_no_value, option_or_first, option_or_second}
-use Rattle.regex_hir.proofs.TextLemmas.{char_at_from, char_at_past, char_before-zero}
+use Rattle.regex_hir.proofs.TextLemmas.{char_at_from, char_at_parts, char_at_ascii, char_at_past, char_before-zero}
 use Rattle.regex_hir.proofs.Utf8Lemmas.{char_at_cases, IsOneByteAt, IsTwoBytesAt, IsThreeBytesAt, IsFourBytesAt}
 
 -- no character starts with a continuation byte
@@ -101,3 +101,26 @@ pub is_boundary_past : (A : Type 0) (bs rest : List ℕ) (i : ℕ) (r : Option �
     → MatchOption r A (λ c. drop i bs ≡ encode_utf8 c ++ rest) → IfSome r (λ c. IsCharBoundary bs (i + len_utf8 c))
 is_boundary_past A bs rest i None p u m = tt
 is_boundary_past A bs rest i (Some c) p u m = IsCharBoundary-past_char bs rest i c p u m
+
+-- a byte of ASCII is a character
+pub ascii_at : (bs : List ℕ) (i b d : ℕ) → i < length bs → b ≡ slice_index_or bs i d → b < 128 → char_at bs i ≡ Some b
+ascii_at bs i b d inside is small = char_at_ascii bs i b (slice_get-get_or bs i d inside ∙ ap Some (sym is)) small
+
+-- a byte of ASCII is the character before the place behind it
+pub ascii_before : (bs : List ℕ) (i b d : ℕ) → 0 < i → i ≤ length bs → b ≡ slice_index_or bs (i - 1) d → b < 128 → char_before bs i ≡ Some b
+ascii_before bs i b d some within is small =
+    let long : len_utf8 b ≡ 1 = cond-true _ _ _ (lt-ltb b 0x80 small) in
+    let place : i - 1 + len_utf8 b ≡ i = omega (arith, long) in
+    ap (char_before bs) (sym place) ∙ char_before_past bs (i - 1) b (ascii_at bs (i - 1) b d (omega arith) is small)
+
+-- the place behind the character at a boundary is a boundary
+pub boundary_past : (bs : List ℕ) (i : ℕ) → IsUtf8 bs → IsCharBoundary bs i → (r : Option ℕ) → char_at bs i ≡ r
+    → IfSome r (λ c. IsCharBoundary bs (i + len_utf8 c))
+boundary_past bs i u b None e = tt
+boundary_past bs i u b (Some c) e = IsCharBoundary-past_char bs _ i c b.0 (IsUtf8-drop bs i u b) (char_at_parts bs i c e).1
+
+-- behind a byte of ASCII comes a boundary
+pub boundary_past_ascii : (bs : List ℕ) (i b : ℕ) → IsUtf8 bs → IsCharBoundary bs i → b < 128 → char_at bs i ≡ Some b → IsCharBoundary bs (i + 1)
+boundary_past_ascii bs i b u here small is =
+    let long : len_utf8 b ≡ 1 = cond-true _ _ _ (lt-ltb b 0x80 small) in
+    subst (λ (n : ℕ). IsCharBoundary bs (i + n)) long (boundary_past bs i u here (Some b) is)

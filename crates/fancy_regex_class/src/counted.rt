@@ -1,6 +1,6 @@
 //! A haystack whose reads are counted, so that the work of a search can be bounded.
 
-ghost use Rattle.std.specs.Prelude.{◌≡◌, ℕ, ◌+◌, ◌-◌, ◌^◌, ◌≤◌, min, IfSome, IsCharBoundary};
+ghost use Rattle.std.specs.Prelude.{◌≡◌, ℕ, ◌+◌, ◌-◌, ◌^◌, ◌≤◌, min, max, IfSome, IsCharBoundary};
 ghost use Rattle.std.specs.Char.{len_utf8};
 ghost use Rattle.regex_hir.specs.Text.{char_at, char_before};
 
@@ -33,7 +33,15 @@ impl Steps {
         self.count
     }
 
+    /// Raises the counter to this number, if it is lower.
+    fn raise_to(&mut self, count: u64)
+        ensures { self.new ≡ max self.old count }
+    {
+        self.count = self.count.max(count);
+    }
+
     /// Counts one read.
+    #[inline(always)]
     fn tick(&mut self)
         ensures { self.new ≡ min (self.old + 1) (2 ^ 64 - 1) }
     {
@@ -62,8 +70,41 @@ impl<'t, 's> Counted<'t, 's> {
         Counted { text, steps }
     }
 
+    /// A counter of its own that stands where this haystack's stands.
+    pub fn steps(&self) -> Steps
+        ensures count { result ≡ look_count self.now }
+        ensures bound { result ≤ 2 ^ 64 - 1 }
+    {
+        Steps {
+            count: self.steps.count(),
+        }
+    }
+
+    /// The same haystack, whose reads are added to another counter. A loop that counts by a counter of its own keeps it in a
+    /// register, and `raise_to` hands the count on.
+    pub fn counted_by<'c>(&self, steps: &'c mut Steps) -> Counted<'t, 'c>
+        ensures text { looked_text result ≡ looked_text self.now }
+        ensures count { look_count result ≡ steps.old }
+        ensures same_counter { result.steps.ghost_name ≡ steps.entry.ghost_name }
+    {
+        Counted {
+            text: self.text,
+            steps,
+        }
+    }
+
+    /// Raises the counter to where another one stands, if it is lower.
+    pub fn raise_to(&mut self, steps: &Steps)
+        ensures count { look_count self.new ≡ max (look_count self.old) steps.now }
+        ensures text { looked_text self.new ≡ looked_text self.old }
+        ensures same_counter { SameCounter self.old self.new }
+    {
+        self.steps.raise_to(steps.count());
+    }
+
     /// The character that ends at `position`, a byte offset, and the one that starts there; `None` at the start and at
     /// the end of the haystack. Counts one read, and allocates nothing.
+    #[inline(always)]
     pub fn look(&mut self, position: usize) -> (Option<char>, Option<char>)
         requires { IsCharBoundary (looked_text self.old) position }
         ensures before { result.0 ≡ char_before (looked_text self.old) position }
@@ -79,12 +120,64 @@ impl<'t, 's> Counted<'t, 's> {
 }
 
 /// The characters before and after the byte offset `position`.
+#[inline(always)]
 fn chars_around(text: &str, position: usize) -> (Option<char>, Option<char>)
     requires { IsCharBoundary text.now position }
     ensures before { result.0 ≡ char_before text.now position }
     ensures after { result.1 ≡ char_at text.now position }
     ensures next { IfSome result.1 (λ c. IsCharBoundary text.now (position + len_utf8 c)) }
 {
-    let (front, back) = text.split_at(position);
-    (front.chars().next_back(), back.chars().next())
+    (
+        char_ending_at(text, position),
+        char_starting_at(text, position),
+    )
+}
+
+/// The character that ends at the byte offset `position`. An ASCII character is read as one byte.
+#[inline(always)]
+fn char_ending_at(text: &str, position: usize) -> Option<char>
+    requires { IsCharBoundary text.now position }
+    ensures { result ≡ char_before text.now position }
+{
+    if position == 0 {
+        return None;
+    }
+    let byte = text.as_bytes()[position - 1];
+    if byte < 128 {
+        return Some(byte as char);
+    }
+    decode_before(text, position)
+}
+
+/// The character that starts at the byte offset `position`. An ASCII character is read as one byte.
+#[inline(always)]
+fn char_starting_at(text: &str, position: usize) -> Option<char>
+    requires { IsCharBoundary text.now position }
+    ensures after { result ≡ char_at text.now position }
+    ensures next { IfSome result (λ c. IsCharBoundary text.now (position + len_utf8 c)) }
+{
+    match text.as_bytes().get(position) {
+        Some(byte) if *byte < 128 => Some(*byte as char),
+        Some(_) => decode_from(text, position),
+        None => None,
+    }
+}
+
+/// The character that ends at the byte offset `position`, of any length.
+fn decode_before(text: &str, position: usize) -> Option<char>
+    requires { IsCharBoundary text.now position }
+    ensures { result ≡ char_before text.now position }
+{
+    let (front, _) = text.split_at(position);
+    front.chars().next_back()
+}
+
+/// The character that starts at the byte offset `position`, of any length.
+fn decode_from(text: &str, position: usize) -> Option<char>
+    requires { IsCharBoundary text.now position }
+    ensures after { result ≡ char_at text.now position }
+    ensures next { IfSome result (λ c. IsCharBoundary text.now (position + len_utf8 c)) }
+{
+    let (_, back) = text.split_at(position);
+    back.chars().next()
 }

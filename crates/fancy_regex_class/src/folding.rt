@@ -3,8 +3,8 @@
 ghost use Rattle.std.specs.Prelude.{◌≡◌, ℕ, ◌==◌, codes, false};
 ghost use Rattle.fancy_regex_class.specs.Classes.{in_class, folded};
 
-use unicode::case::simple_fold;
-use unicode::perl::is_word_character;
+use ucd_case::simple_fold;
+use ucd_perl::is_word_character;
 
 /// The case folding of the character: Unicode's simple folding, or without `unicode` the lower case of ASCII letters. Two
 /// characters differ in case only if their foldings are equal.

@@ -9,6 +9,7 @@ use crate::rules::Rules;
 use fancy_regex_class::{CharClassMatcher, fold, is_word};
 
 /// Whether the leaf matches the character.
+#[inline(always)]
 pub fn leaf_matches(matchers: &[CharClassMatcher], unicode: bool, leaf: Leaf, c: char) -> bool
     ensures { result ≡ leaf_matches_char unicode matchers.now leaf c }
 {
@@ -23,6 +24,7 @@ pub fn leaf_matches(matchers: &[CharClassMatcher], unicode: bool, leaf: Leaf, c:
     }
 }
 
+#[inline(always)]
 fn is_char(wanted: char, c: Option<char>) -> bool
     ensures { result ≡ is_char_of wanted c }
 {
@@ -32,6 +34,7 @@ fn is_char(wanted: char, c: Option<char>) -> bool
     }
 }
 
+#[inline(always)]
 fn is_word_at(rules: Rules, c: Option<char>) -> bool
     ensures { result ≡ is_some_and c (is_word_char rules.unicode) }
 {
@@ -42,6 +45,7 @@ fn is_word_at(rules: Rules, c: Option<char>) -> bool
 }
 
 /// Whether the assertion holds between the characters `before` and `after`; `None` is the start or the end of the text.
+#[inline(always)]
 pub fn test_holds(rules: Rules, test: Test, before: Option<char>, after: Option<char>) -> bool
     ensures { result ≡ passes rules test before after }
 {
