@@ -7,7 +7,7 @@ use Rattle.fancy_regex_lex.specs.Classes.{quoted, escaped_text, class_escape_at,
 use Rattle.fancy_regex_lex.specs.FlagLetters.{next_letter, closed, flag_letter, flag_letters}
 use Rattle.fancy_regex_lex.specs.Quantifiers.{spaced_digits, bounds, no_upper_bound, exactly, range, after_comma, after_number, counted, leading_quantifier, quantifier_suffix}
 use Rattle.fancy_regex_lex.specs.Openings.{later_verb, control_verb, named, numbered, bracketed, reference_condition, tested, condition, after_angle, after_tilde, flags, python, after_question, opening}
-use Rattle.unicode.specs.Binary.{is_alphabetic}
+use Rattle.ucd_derived.specs.Binary.{is_alphabetic}
 use Rattle.ucd_table.specs.Rows.{in_ranges, value_in}
 use Rattle.ucd_derived.specs.AlphabeticRanges.{alphabetic_ranges}
 use Rattle.ucd_category.specs.GeneralCategory.{general_category}

@@ -1,6 +1,6 @@
 -- Group names, numbers and references.
 use Rattle.std.specs.Prelude.{◌≡◌, ◌↔◌, ◌-◌, ◌^◌, ℕ, ℤ, pos, neg_ℤ, min, Bool, true, [], ◌∷◌, ◌++◌, Option, Some, None}
-use Rattle.unicode.specs.Binary.{is_alphabetic}
+use Rattle.ucd_derived.specs.Binary.{is_alphabetic}
 use Rattle.ucd_category.specs.GeneralCategory.{general_category}
 use Rattle.ucd_category.specs.declared.GeneralCategory.TheVariants.{DecimalNumber, LetterNumber, OtherNumber}
 use Rattle.fancy_regex_text.specs.Text.{Text, is_decimal, value, unbounded}

@@ -1,6 +1,6 @@
 -- Group names, numbers, and the text of references.
 use Rattle.std.specs.Prelude.{ℕ, ◌+◌, ◌*◌, ◌-◌, ◌^◌, ℤ, pos, neg_ℤ, min, Bool, true, false, ◌&&◌, ◌||◌, not, [], ◌∷◌, Option, Some, None, option_map, if◌then◌else◌, chars}
-use Rattle.unicode.specs.Binary.{is_alphabetic}
+use Rattle.ucd_derived.specs.Binary.{is_alphabetic}
 use Rattle.ucd_category.specs.GeneralCategory.{general_category}
 use Rattle.ucd_category.specs.declared.GeneralCategory.{GeneralCategory}
 use Rattle.ucd_category.specs.declared.GeneralCategory.TheVariants.{DecimalNumber, LetterNumber, OtherNumber}

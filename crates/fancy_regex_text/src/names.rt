@@ -6,7 +6,8 @@ ghost use Rattle.fancy_regex_text.specs.Names.{is_number_category, is_name_char,
 
 use crate::text::{is_empty, prefix_before, split_first};
 use crate::token::{Reference, Target};
-use unicode::properties::{GeneralCategory, is_alphabetic};
+use ucd_category::GeneralCategory;
+use ucd_derived::is_alphabetic;
 
 /// Whether the general category is one of the three of numbers.
 fn is_number_category(category: GeneralCategory) -> bool

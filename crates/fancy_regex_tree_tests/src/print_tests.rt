@@ -12,6 +12,14 @@ fn literal(alloc: Global, val: &str) -> Result<Expr, AllocError> {
     })
 }
 
+/// A bracketed class or a property.
+fn class(alloc: Global, inner: &str, casei: bool) -> Result<Expr, AllocError> {
+    Ok(Expr::Delegate {
+        inner: String::from_str(alloc, inner)?,
+        casei,
+    })
+}
+
 /// The child, repeated lazily two or three times.
 fn repeated(alloc: Global, child: Expr) -> Result<Expr, AllocError> {
     Ok(Expr::Repeat {
@@ -22,59 +30,67 @@ fn repeated(alloc: Global, child: Expr) -> Result<Expr, AllocError> {
     })
 }
 
-#[test]
-fn prints_behind_what_the_buffer_holds(rt: HostRuntime) -> Result<(), Fail> {
-    let alloc = rt.alloc();
-    let repeat = repeated(alloc, literal(alloc, "é")?)?;
-    let mut text = String::from_str(alloc, "x")?;
-    assert!(rt; repeat.is_printable(alloc)?);
-    repeat.to_str(&mut text, 3)?;
-    assert_eq!(rt; text.as_str(), "x(?:é{2,3}?)");
-    Ok(())
-}
-
-#[test]
-fn prints_rows_and_branches(rt: HostRuntime) -> Result<(), Fail> {
-    let alloc = rt.alloc();
+/// A row of an alternation, the second branch of which is empty, and the end of a line.
+fn row(alloc: Global) -> Result<Expr, AllocError> {
     let mut branches = Vec::new(alloc);
     branches.push(literal(alloc, "a")?)?;
     branches.push(Expr::Empty)?;
     let mut row = Vec::new(alloc);
     row.push(Expr::Alt(branches))?;
     row.push(Expr::Assertion(Assertion::EndLine { crlf: true }))?;
-    let row = Expr::Concat(row);
+    Ok(Expr::Concat(row))
+}
+
+/// The text `before` with that of the tree behind it; empty where the tree is not printable.
+fn printed(alloc: Global, before: &str, expr: Expr, precedence: u8) -> Result<String, AllocError> {
     let mut text = String::new(alloc);
-    assert!(rt; row.is_printable(alloc)?);
-    row.to_str(&mut text, 0)?;
+    if expr.is_printable(alloc)? {
+        text.push_str(before)?;
+        expr.to_str(&mut text, precedence)?;
+    }
+    Ok(text)
+}
+
+#[test]
+fn prints_behind_what_the_buffer_holds(rt: HostRuntime) -> Result<(), Fail> {
+    let alloc = rt.alloc();
+    let repeat = repeated(alloc, literal(alloc, "é")?)?;
+    let text = printed(alloc, "x", repeat, 3)?;
+    assert_eq!(rt; text.as_str(), "x(?:é{2,3}?)");
+    Ok(())
+}
+
+#[test]
+fn prints_rows_and_branches(rt: HostRuntime) -> Result<(), Fail> {
+    let text = printed(rt.alloc(), "", row(rt.alloc())?, 0)?;
     assert_eq!(rt; text.as_str(), "(?:a|)(?Rm:$)");
     Ok(())
 }
 
 #[test]
 fn prints_classes(rt: HostRuntime) -> Result<(), Fail> {
-    let alloc = rt.alloc();
-    let class = Expr::Delegate {
-        inner: String::from_str(alloc, "[^a[b]\\d]")?,
-        casei: true,
-    };
-    assert!(rt; class.is_printable(alloc)?);
-    let mut text = String::new(alloc);
-    class.to_str(&mut text, 0)?;
+    let class = class(rt.alloc(), "[^a[b]\\d]", true)?;
+    let text = printed(rt.alloc(), "", class, 0)?;
     assert_eq!(rt; text.as_str(), "(?i:[^a[b]\\d])");
     Ok(())
+}
+
+fn has_text(alloc: Global, expr: Expr) -> Result<bool, AllocError> {
+    expr.is_printable(alloc)
+}
+
+fn repeated_place_has_text(alloc: Global) -> Result<bool, AllocError> {
+    let place = Expr::Assertion(Assertion::WordBoundary);
+    has_text(alloc, repeated(alloc, place)?)
 }
 
 #[test]
 fn tells_what_has_no_text(rt: HostRuntime) -> Result<(), Fail> {
     let alloc = rt.alloc();
-    let place = repeated(alloc, Expr::Assertion(Assertion::WordBoundary))?;
-    assert!(rt; !place.is_printable(alloc)?);
-    let class = Expr::Delegate {
-        inner: String::from_str(alloc, "\\p{L}a")?,
-        casei: false,
-    };
-    assert!(rt; !class.is_printable(alloc)?);
-    assert!(rt; !literal(alloc, "ab")?.is_printable(alloc)?);
-    assert!(rt; !Expr::KeepOut.is_printable(alloc)?);
+    let place = repeated_place_has_text(alloc)?;
+    let class = has_text(alloc, class(alloc, "\\p{L}a", false)?)?;
+    let literal = has_text(alloc, literal(alloc, "ab")?)?;
+    let keep_out = has_text(alloc, Expr::KeepOut)?;
+    assert!(rt; !place && !class && !literal && !keep_out);
     Ok(())
 }
