@@ -89,7 +89,7 @@ last_char text post (d ∷ ds) c i s e =
     (rest.0, rest.1, rest.2, omega (arith, rest.3, length-append (encode_utf8 c) (encode_utf8_all (d ∷ ds)), length-encode c))
 
 -- the character before an offset
-abbrev Before : List ℕ → ℕ → Type 0
+abbrev pub Before : List ℕ → ℕ → Type 0
 Before text p = (c : ℕ) × (char_before text p ≡ Some c) × ((b : ℕ) → b < 128 → is_after_byte text b p ≡ (c == b))
 
 before_from : (text post : List ℕ) (p : ℕ) (cs : List ℕ) → scalars cs ≡ true → text ≡ encode_utf8_all cs ++ post → length (encode_utf8_all cs) ≡ p → 0 < p → Before text p
@@ -102,7 +102,7 @@ before_from text post p (c ∷ cs) s e len some =
       λ b low. ap (is_after_byte text b) (sym place) ∙ byte_behind text b last.0 last.1 low last.2,
     )
 
-before_some : (text : List ℕ) (p : ℕ) → IsUtf8 text → IsCharBoundary text p → 0 < p → Before text p
+pub before_some : (text : List ℕ) (p : ℕ) → IsUtf8 text → IsCharBoundary text p → 0 < p → Before text p
 before_some text p u b some =
     let front = IsUtf8-take text p u b in
     before_from text (drop p text) p front.0 front.1.0 (sym (take-append-drop p text) ∙ ap (λ xs. xs ++ drop p text) (sym front.1.1))

@@ -8,6 +8,8 @@ pub mod BoundLemmas
 pub mod VisitedLemmas
 pub mod WaysLemmas
 pub mod DfsLemmas
+pub mod LeadLemmas
+pub mod LoopLemmas
 pub mod StackLemmas
 pub mod StepLemmas
 pub mod StartLemmas

@@ -1,10 +1,13 @@
 -- A start that the table of first characters refuses has no match.
-use Rattle.std.proofs.Common.{◌≡◌, ℕ, zero, suc, ◌+◌, ◌*◌, ◌<◌, ◌≤◌, ◌⊎◌, Bool, true, false, List, length, Option, Some, None, refl, sym, ap, ap₂, ◌∙◌, inl, inr, arith, true≢false}
+use Rattle.std.proofs.Common.{◌≡◌, ℕ, zero, suc, ◌+◌, ◌*◌, ◌<◌, ◌≤◌, ◌⊎◌, Bool, true, false, List, length, Option, Some, None, refl, sym, ap, ap₂, subst, ◌∙◌, inl, inr, arith, lt-ltb, IsUtf8, IsCharBoundary}
 use Rattle.std.proofs.lemmas.Bool.{and_left}
-use Rattle.std.specs.Prelude.{is_none, is_some, IfSome}
+use Rattle.std.proofs.lemmas.Bool.{cond-true}
+use Rattle.std.specs.Char.{len_utf8}
+use Rattle.std.specs.Prelude.{is_none, option_map, unwrap_or, IfSome, slice_index_or}
 use Rattle.std.proofs.Math.Bool.{Bool-set}
 use mathlib.Core.HLevel.{Π_prop, Unit-prop, ⊥_prop}
 use mathlib.Core.Logic.{∥∥₁_elim}
+use Rattle.regex_hir.specs.Text.{char_at, char_before}
 use Rattle.fancy_regex_class.specs.declared.class.CharClassMatcher.{CharClassMatcher}
 use Rattle.fancy_regex_states.specs.First.{state_at, MayHold, Leads, Reaches, here, onward, CannotRead, CannotBegin, IsTableOf}
 use Rattle.fancy_regex_states.specs.declared.atom.Test.{Test}
@@ -15,15 +18,18 @@ use Rattle.fancy_regex_states.specs.declared.state.State.{State}
 use Rattle.fancy_regex_states.specs.declared.state.State.TheVariants.{Split, Enter, Leave, Match}
 use Rattle.fancy_regex_states.specs.declared.state.State.TheVariants as S
 use Rattle.fancy_regex_runner.specs.Meaning.{View, reads}
-use Rattle.fancy_regex_runner.specs.Attempt.{Continuation, Trace, write, better_trace}
+use Rattle.fancy_regex_runner.specs.Attempt.{Continuation, Trace, write, score, better_trace}
 use Rattle.fancy_regex_runner.specs.CharTests.{Shows}
 use Rattle.fancy_regex_runner.specs.Program.{NamesBelow, visit}
-use Rattle.fancy_regex_runner.specs.Search.{AllAgree}
+use Rattle.fancy_regex_runner.specs.Search.{AllAgree, AllFail, Reaches as Attains, Explains, RefusesAscii}
+use Rattle.fancy_regex_runner.specs.Visited.{Has}
+use Rattle.fancy_regex_runner.specs.Starts.{LeadsToVisited, LeadsInto}
+use Rattle.fancy_regex_runner.specs.declared.starts.PairAhead.{PairAhead}
+use Rattle.fancy_regex_states.specs.declared.atom.Leaf.{Leaf}
+use Rattle.fancy_regex_runner.specs.declared.visited.Visited.{Visited}
+use Rattle.fancy_regex_runner.specs.declared.search.SearchContext.{SearchContext}
+use Rattle.fancy_regex_runner.proofs.CharTestLemmas.{before_some}
 use Rattle.fancy_regex_runner.proofs.DfsLemmas.{guard_yes, guard_no}
-
-pub not_none : (o : Option ℕ) → is_some o ≡ true → is_none o ≡ false
-not_none None e = absurd (true≢false (sym e))
-not_none (Some c) e = refl
 
 CannotRead-prop : (unicode : Bool) (matchers : List CharClassMatcher) (after : Option ℕ) (state : State) → IsProp (CannotRead unicode matchers after state)
 CannotRead-prop unicode matchers after (S.Read leaf next) = Bool-set _ _
@@ -100,3 +106,75 @@ module _ (view : View) (stop : ℕ) (states : List State) (go : ℕ → Continua
       → (go entry at).answer ≡ None
   refused_fails agree inside low cannot =
       reached_fails agree inside cannot ((go entry at).depth + 1) entry low here (omega arith)
+
+-- what the marks say of a character holds
+pub marks_say : (unicode : Bool) (matchers : List CharClassMatcher) (states : List State) (entry : ℕ) (marks : List Bool) → ∥ RefusesAscii unicode matchers states entry marks ∥₁
+    → (c : ℕ) → c < 128 → slice_index_or marks c false ≡ true → CannotBegin unicode matchers states entry (Some c)
+marks_say unicode matchers states entry marks is c low marked =
+    ∥∥₁_elim is (Π_prop λ q. Π_prop λ _. CannotRead-prop unicode matchers (Some c) (state_at states q)) (λ refuses. refuses c low marked)
+
+-- no match begins where this character is refused, behind another character of the text
+pub start_fails : (context : SearchContext) (text : List ℕ) (view : View) (go : ℕ → Continuation) → Explains context text view go → IsUtf8 text
+    → (at : ℕ) (after : Option ℕ) → IsCharBoundary text at → 0 < at → at ≤ context.stop → context.entry < length context.states.now → char_at text at ≡ after
+    → CannotBegin context.rules.unicode context.matchers.now context.states.now context.entry after → (go context.entry at).answer ≡ None
+start_fails context text view go explains u at after b some high low is cannot =
+    let before = before_some text at u b some in
+    refused_fails view context.stop context.states.now go context.matchers.now context.rules context.entry at (char_before text at) (char_at text at)
+    (ap is_none before.1) (explains.shows at b) explains.agree high low
+    (subst (CannotBegin context.rules.unicode context.matchers.now context.states.now context.entry) (sym is) cannot)
+
+none_attained : (longest : Bool) (a : Option Trace) → ((r : ℕ) → Attains longest r a → ⊥) → a ≡ None
+none_attained longest None h = refl
+none_attained longest (Some t) h = absurd (h (score longest t.end) (omega arith))
+
+-- a marked pair fails where all do
+all_failed : (longest : Bool) (go : ℕ → Continuation) (Seen : ℕ → ℕ → Type 0) (q i : ℕ) → AllFail longest go Seen → Seen q i → (go q i).answer ≡ None
+all_failed longest go Seen q i failed seen =
+    none_attained longest (go q i).answer (λ r ok. elim (failed q i r seen ok) [ inl good ↦ good | inr below ↦ below ])
+
+-- a state that reads fails where the next one does behind the character
+pub read_into : (context : SearchContext) (q : ℕ) (leaf : Leaf) (next : ℕ) → q < length context.states.now → next < length context.states.now
+    → state_at context.states.now q ≡ S.Read leaf next → LeadsInto context q (record { state = next; past = 1 })
+read_into context q leaf next low below is = record {
+  below = below;
+  past = omega arith;
+  fails = λ text view go explains i high b c small here none.
+      let long : len_utf8 c ≡ 1 = cond-true _ _ _ (lt-ltb c 0x80 small) in
+      let behind : view.next i ≡ i + 1 = (explains.shows i b).next ∙ ap (λ o. i + unwrap_or (option_map len_utf8 o) 1) here ∙ ap (λ n. i + n) long in
+      let does : go q i ≡ visit view context.stop go (S.Read leaf next) i =
+      (explains.agree q low).does i high ∙ ap (λ s. visit view context.stop go s i) is in
+      elim (true_or_false (reads view context.stop leaf i)) [
+        | inl passes ↦
+            (guard_yes (go q i) (go next (view.next i)) (reads view context.stop leaf i) does passes).0
+            ∙ ap (λ j. (go next j).answer) behind
+            ∙ none
+        | inr never ↦ guard_no (go q i) (go next (view.next i)) (reads view context.stop leaf i) does never
+      ];
+}
+
+-- a state leads to itself
+pub stays_into : (context : SearchContext) (q : ℕ) → q < length context.states.now → LeadsInto context q (record { state = q; past = 0 })
+stays_into context q low = record {
+  below = low;
+  past = omega arith;
+  fails = λ text view go explains i high b c small here none. let same : i + 0 ≡ i = omega arith in subst (λ (j : ℕ). (go q j).answer ≡ None) same none;
+}
+
+-- so does the start of a group before it
+pub enters_into : (context : SearchContext) (q g p : ℕ) (pair : PairAhead) → q < length context.states.now → state_at context.states.now q ≡ Enter g p
+    → LeadsInto context p pair → LeadsInto context q pair
+enters_into context q g p pair low is into = record {
+  below = into.below;
+  past = into.past;
+  fails = λ text view go explains i high b c small here none.
+      ap (λ r. r.answer) ((explains.agree q low).does i high ∙ ap (λ s. visit view context.stop go s i) is)
+      ∙ none_saved (2 * g) i (go p i).answer (into.fails text view go explains i high b c small here none);
+}
+
+-- no match begins where the character leads to a pair that was visited, and failed
+pub visited_fails : (context : SearchContext) (text : List ℕ) (view : View) (go : ℕ → Continuation) → Explains context text view go
+    → (visited : Visited) → AllFail view.longest go (Has visited) → (at : ℕ) → IsCharBoundary text at → at ≤ context.stop
+    → LeadsToVisited context text visited at → (go context.entry at).answer ≡ None
+visited_fails context text view go explains visited failed at b high to =
+    to.into.fails text view go explains at high b to.behind.0 to.behind.1 to.behind.2
+    (all_failed view.longest go (Has visited) to.pair.state (at + to.pair.past) failed to.behind.3)

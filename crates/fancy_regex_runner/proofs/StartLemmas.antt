@@ -1,8 +1,14 @@
 -- The starts that a search tries, one character after another.
-use Rattle.std.proofs.Common.{◌≡◌, ℕ, ◌+◌, ◌≤◌, Bool, true, false, List, [], ◌∷◌, Option, Some, None, refl, ap, ◌∙◌, arith, IsCharBoundary}
-use Rattle.fancy_regex_meaning.proofs.NextBoundaryLemmas.{from_here}
+use Rattle.std.proofs.Common.{◌≡◌, ℕ, zero, suc, ◌+◌, ◌-◌, ◌<◌, ◌≤◌, Bool, true, false, List, [], ◌∷◌, Option, Some, None, IfSome, unwrap_or, refl, sym, ap, ◌∙◌, arith, IsUtf8, IsCharBoundary, true≢false, lt-ltb}
+use Rattle.std.specs.Char.{len_utf8}
+use Rattle.std.proofs.lemmas.Bool.{cond-true}
+use Rattle.fancy_regex_class.proofs.AdjacentCharLemmas.{boundary_past_ascii}
+use Rattle.regex_hir.specs.Text.{char_at}
+use Rattle.fancy_regex_meaning.specs.Positions.{boundaries}
+use Rattle.fancy_regex_meaning.proofs.NextBoundaryLemmas.{from_here, next_place}
 use Rattle.fancy_regex_runner.specs.Meaning.{Spot}
 use Rattle.fancy_regex_runner.specs.Find.{earliest, attempted, places}
+use Rattle.fancy_regex_runner.specs.Starts.{IsBehind}
 
 pub earliest_next : (f : ℕ → Option Spot) (p : ℕ) (ps : List ℕ) → f p ≡ None → earliest f (p ∷ ps) ≡ earliest f ps
 unfolding earliest
@@ -47,3 +53,51 @@ failed_last f from ps split e =
     let next = failed_next f from ps [] split e in
     let none = tried_none f in
     (next.0 ∙ earliest_none f, omega (arith, next.1, none))
+
+-- a start is tried
+pub tried_some : {A : Type 0} (f : ℕ → Option A) (p : ℕ) (ps : List ℕ) → 1 ≤ attempted f (p ∷ ps)
+unfolding attempted
+tried_some f p ps = omega arith
+
+-- behind a character that ends in time comes the next place
+pub place_behind : (text : List ℕ) (anchored : Bool) (at stop c n : ℕ) → anchored ≡ false → IsCharBoundary text at → char_at text at ≡ Some c → n ≡ len_utf8 c → len_utf8 c ≤ stop - at
+    → at ≤ stop → places text anchored at stop ≡ at ∷ places text anchored (at + n) stop
+place_behind text true at stop c n many b is width fits le = absurd (true≢false many)
+place_behind text false at stop c n many b is width fits le =
+    next_place text at stop c b is fits le ∙ ap (λ (k : ℕ). at ∷ boundaries text (at + k) stop) (sym width)
+
+-- an anchored search has one place, and another where no more boundaries come
+pub last_of : (text : List ℕ) (anchored : Bool) (at stop : ℕ) → (anchored ≡ false → boundaries text at stop ≡ at ∷ []) → places text anchored at stop ≡ at ∷ []
+last_of text true at stop h = refl
+last_of text false at stop h = h refl
+
+-- the start behind one of a search is one of it
+pub behind_from : (text : List ℕ) (stop start at : ℕ) (next : Option ℕ) → start ≤ at → IfSome next (IsBehind text stop at)
+    → IfSome next (λ i. (start ≤ i) × (i ≤ stop) × IsCharBoundary text i)
+behind_from text stop start at None low h = tt
+behind_from text stop start at (Some i) low h = (omega (arith, h.0), h.1, h.2)
+
+pub above_base : (text : List ℕ) (stop base at : ℕ) (next : Option ℕ) → base ≤ at → IfSome next (IsBehind text stop at) → IfSome next (λ i. base ≤ i)
+above_base text stop base at None low h = tt
+above_base text stop base at (Some i) low h = omega (arith, h.0)
+
+pub next_after : (text : List ℕ) (stop at : ℕ) (next : Option ℕ) → at ≤ stop → IfSome next (IsBehind text stop at) → at + 1 ≤ unwrap_or next (stop + 1)
+next_after text stop at None high h = omega arith
+next_after text stop at (Some i) high h = omega (arith, h.0)
+
+-- places with an ASCII character and no way are passed over
+pub passed_over : (f : ℕ → Option Spot) (text : List ℕ) (anchored : Bool) (stop n at to : ℕ) → to ≡ at + n → IsUtf8 text → IsCharBoundary text at → to ≤ stop
+    → ((i : ℕ) → IsCharBoundary text i → at ≤ i → i < to → (anchored ≡ false) × (f i ≡ None) × ((b : ℕ) × (b < 128) × (char_at text i ≡ Some b)))
+    → (earliest f (places text anchored at stop) ≡ earliest f (places text anchored to stop)) × (attempted f (places text anchored at stop) ≡ n + attempted f (places text anchored to stop))
+passed_over f text anchored stop zero at to e u b le h =
+    let same : at ≡ to = omega arith in
+    let tried = ap (λ (i : ℕ). attempted f (places text anchored i stop)) same in
+    (ap (λ (i : ℕ). earliest f (places text anchored i stop)) same, omega (arith, tried))
+passed_over f text anchored stop (suc n) at to e u b le h =
+    let here = h at b (omega arith) (omega arith) in
+    let c : ℕ = here.2.0 in
+    let long : len_utf8 c ≡ 1 = cond-true _ _ _ (lt-ltb c 0x80 here.2.1) in
+    let split = place_behind text anchored at stop c 1 here.0 b here.2.2 (sym long) (omega (arith, long)) (omega arith) in
+    let both = failed_next f at (places text anchored at stop) (places text anchored (at + 1) stop) split here.1 in
+    let later = passed_over f text anchored stop n (at + 1) to (omega arith) u (boundary_past_ascii text at c u b here.2.1 here.2.2) le (λ i bound low high. h i bound (omega arith) high) in
+    (both.0 ∙ later.0, omega (arith, both.1, later.1))

@@ -230,6 +230,11 @@ adds_set old new q i q_in low c b e p j h =
           inr (same.1, omega (arith, same.0))
     ]
 
+-- a pair whose flag is set is in the set
+pub has_flag : (v : Visited) (q i : ℕ) → q < v.count → v.base ≤ i → get_or (flags_of v) ((i - v.base) * v.count + q) false ≡ true → Has v q i
+unfolding Has
+has_flag v q i below low flag = (below, low, flag)
+
 -- what an insert counts
 pub counted_set : (old new : Visited) (q i : ℕ) (fresh : Bool) → q < old.count → old.base ≤ i → new.count ≡ old.count → new.base ≡ old.base
     → (i - old.base) * old.count + q < length (flags_of old)

@@ -26,3 +26,8 @@ places text anchored first stop = if anchored then first ∷ [] else boundaries 
 abbrev pub hit_of_span : Option (ℕ × ℕ) → List ℕ → Option Hit
 hit_of_span None slots = None
 hit_of_span (Some s) slots = Some (record { start = s.0; way = record { at = s.1; slots = slots } })
+
+-- the same, where there is one to go on from
+abbrev pub places_from : List ℕ → Bool → Option ℕ → ℕ → List ℕ
+places_from text anchored None stop = []
+places_from text anchored (Some first) stop = places text anchored first stop

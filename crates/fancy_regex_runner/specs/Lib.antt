@@ -6,6 +6,7 @@ pub mod Visited
 pub mod Search
 pub mod CharTests
 pub mod Find
+pub mod Starts
 pub mod Plain
 pub mod SettingView
 pub mod PlainFact

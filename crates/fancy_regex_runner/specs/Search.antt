@@ -1,11 +1,20 @@
 -- A depth-first search over pairs of a state and a position, which looks at each pair once.
-use Rattle.std.specs.Prelude.{◌≡◌, ℕ, ◌+◌, ◌<◌, ◌≤◌, ◌⊎◌, Bool, List, [], ◌∷◌, ◌++◌, length, Option, Some, None, slice_set, IsCharBoundary, IfSome}
+use Rattle.std.specs.Prelude.{◌≡◌, ℕ, ◌+◌, ◌<◌, ◌≤◌, ◌⊎◌, Bool, true, false, List, [], ◌∷◌, ◌++◌, length, Option, Some, None, slice_set, slice_index_or, IsCharBoundary, IfSome}
 use Rattle.fancy_regex_runner.specs.Meaning.{Spot, View}
 use Rattle.fancy_regex_runner.specs.Attempt.{Trace, Continuation, score, better_spot, land}
-use Rattle.fancy_regex_states.specs.First.{state_at, IsTableOf}
+use Rattle.fancy_regex_states.specs.First.{state_at, CannotBegin, IsTableOf}
+use Rattle.fancy_regex_class.specs.declared.class.CharClassMatcher.{CharClassMatcher}
 use Rattle.fancy_regex_runner.specs.Program.{NamesBelow, Agrees}
 use Rattle.fancy_regex_runner.specs.CharTests.{ShowsAll}
 use Rattle.fancy_regex_states.specs.declared.state.State.{State}
+use Rattle.fancy_regex_states.specs.declared.state.State.TheVariants.{Read, Split}
+use Rattle.fancy_regex_states.specs.declared.state.State.TheVariants.{Match as End}
+use Rattle.fancy_regex_states.specs.declared.atom.Leaf.{Leaf}
+use Rattle.fancy_regex_states.specs.CharTests.{leaf_matches_char}
+use Rattle.regex_hir.specs.Text.{is_some_and, char_at}
+use Rattle.fancy_regex_runner.specs.declared.class_loop.ClassLoop.{ClassLoop}
+use Rattle.fancy_regex_runner.specs.declared.class_loop.Exit.{Exit}
+use Rattle.fancy_regex_runner.specs.declared.class_loop.Exit.TheVariants.{Match, Reads, Other}
 use Rattle.fancy_regex_runner.specs.declared.search.SearchContext.{SearchContext}
 use Rattle.fancy_regex_runner.specs.declared.frame.Frame.{Frame}
 use Rattle.fancy_regex_runner.specs.declared.frame.Frame.TheVariants.{Explore, Restore}
@@ -26,6 +35,12 @@ slots_at_bottom (Restore slot old ∷ rest) slots = slots_at_bottom rest (slice_
 -- each state names states
 abbrev pub Closed : List State → Type 0
 Closed states = (q : ℕ) → q < length states → NamesBelow (length states) (state_at states q)
+
+-- the state q is the head of a greedy loop over one class
+pub record IsLoop (states : List State) (q : ℕ) (found : ClassLoop) : Type 0 where
+  pub head : state_at states q ≡ Split found.body found.exit
+  pub body : state_at states found.body ≡ Read found.leaf q
+  pub below : (found.body < length states) × (found.exit < length states)
 
 -- q is a state, and i a place of the text between `base` and `stop`
 pub record IsPair (text : List ℕ) (count stop base q i : ℕ) : Type 0 where
@@ -49,9 +64,42 @@ pub record Explains (context : SearchContext) (text : List ℕ) (view : View) (g
   pub shows : ShowsAll context.matchers.now context.rules text view
   pub agree : AllAgree view context.stop context.states.now go
 
+-- The state reads by this leaf, if it is one that reads: it fails at a character that the leaf does not match.
+abbrev pub IsReader : SearchContext → ℕ → Exit → Type 0
+IsReader context q Match = ⊥
+IsReader context q (Reads leaf) = (text : List ℕ) (view : View) (go : ℕ → Continuation) → Explains context text view go
+    → (i : ℕ) → i ≤ context.stop → IsCharBoundary text i → is_some_and (char_at text i) (leaf_matches_char context.rules.unicode context.matchers.now leaf) ≡ false
+    → (go q i).answer ≡ None
+IsReader context q Other = Unit {0}
+
+-- what stands behind a loop: a match, where the first is wanted, or what reads
+abbrev pub IsExit : SearchContext → ℕ → Exit → Type 0
+IsExit context q Match = (state_at context.states.now q ≡ End) × (context.rules.longest ≡ false)
+IsExit context q (Reads leaf) = IsReader context q (Reads leaf)
+IsExit context q Other = Unit {0}
+
+-- a loop over this leaf reads the character, which is ASCII, and the exit is of no use before it
+abbrev pub IsUseless : SearchContext → Exit → ℕ → Type 0
+IsUseless context Match c = Unit {0}
+IsUseless context (Reads leaf) c = leaf_matches_char context.rules.unicode context.matchers.now leaf c ≡ false
+IsUseless context Other c = ⊥
+
+abbrev pub GoesOn : SearchContext → Leaf → Exit → Option ℕ → Type 0
+GoesOn context leaf exit None = ⊥
+GoesOn context leaf exit (Some c) = (c < 128) × (leaf_matches_char context.rules.unicode context.matchers.now leaf c ≡ true) × IsUseless context exit c
+
 -- the table of first characters, if there is one, is that of the states
 abbrev pub HasTable : SearchContext → Type 0
 HasTable context = ∥ IfSome context.first.now (IsTableOf context.rules.unicode context.matchers.now context.states.now context.entry) ∥₁
+
+-- the ASCII characters that are marked begin no match, behind another character
+abbrev pub RefusesAscii : Bool → List CharClassMatcher → List State → ℕ → List Bool → Type 0
+RefusesAscii unicode matchers states entry marks =
+    (c : ℕ) → c < 128 → slice_index_or marks c false ≡ true → CannotBegin unicode matchers states entry (Some c)
+
+-- those that are marked are refused by the states
+abbrev pub HasMarks : SearchContext → Type 0
+HasMarks context = ∥ RefusesAscii context.rules.unicode context.matchers.now context.states.now context.entry context.refused.now ∥₁
 
 -- there is an end that scores r at least
 abbrev pub Reaches : Bool → ℕ → Option Trace → Type 0
@@ -102,13 +150,13 @@ NextWithin text count stop base (Pair q j) = IsPair text count stop base q j
 NextWithin text count stop base Back = Unit {0}
 NextWithin text count stop base Matched = Unit {0}
 
--- how many frames a visit may leave: none unless it marks a pair
+-- how many frames a visit may leave: no more than it marks pairs, and where it leads on, it marks some
 abbrev pub Progresses : Next → ℕ → ℕ → ℕ → ℕ → Type 0
-Progresses (Pair q j) marked now_marked len now_len = (marked < now_marked) × (now_len ≤ len + 1)
-Progresses Back marked now_marked len now_len = (marked ≤ now_marked) × (now_len ≡ len)
-Progresses Matched marked now_marked len now_len = (marked ≤ now_marked) × (now_len ≡ len)
+Progresses (Pair q j) marked now_marked len now_len = (marked < now_marked) × (now_len + marked ≤ len + now_marked)
+Progresses Back marked now_marked len now_len = (marked ≤ now_marked) × (now_len + marked ≤ len + now_marked)
+Progresses Matched marked now_marked len now_len = (marked ≤ now_marked) × (now_len + marked ≤ len + now_marked)
 
--- the same of the stack alone
+-- how many frames a step over one state may leave
 abbrev pub Grows : Next → ℕ → ℕ → Type 0
 Grows (Pair q j) len now_len = now_len ≤ len + 1
 Grows Back len now_len = now_len ≡ len
@@ -129,3 +177,15 @@ resume_result (Restore slot old ∷ rest) slots = resume_result rest (slice_set 
 abbrev pub ended : Option ℕ → List ℕ → Option Spot
 ended None slots = None
 ended (Some end) slots = Some (record { at = end; slots = slots })
+
+-- The pair comes to the same as where it leads by the character there, which is no deeper.
+abbrev pub LeadsTo : (ℕ → Continuation) → ℕ → ℕ → Next → Type 0
+LeadsTo go q i (Pair p j) = ((go p j).answer ≡ (go q i).answer) × ((go p j).depth ≤ (go q i).depth)
+LeadsTo go q i Back = (go q i).answer ≡ None
+LeadsTo go q i Matched = ⊥
+
+-- the frames, and the next pair on top if there is one
+abbrev pub with_next : Next → List Frame → List Frame
+with_next (Pair q i) rest = Explore q i ∷ rest
+with_next Back rest = rest
+with_next Matched rest = rest

@@ -2,10 +2,10 @@
 
 ghost use Rattle.std.specs.Prelude.{◌≡◌, ℕ, List, ◌∷◌, ◌<◌, ◌≤◌, ◌+◌, ◌-◌, ◌*◌, ◌^◌, replicate, vec_len, IfSome, IfNone, IfOk, OnOk, slice_set, slice_index, length};
 ghost use Rattle.std.specs.Bool.{MatchBool};
-ghost use Rattle.fancy_regex_runner.specs.Search.{top_first, put_back, resume_result};
+ghost use Rattle.fancy_regex_runner.specs.Search.{top_first, with_next, put_back, resume_result};
 ghost use Rattle.fancy_regex_runner.specs.declared.frame.Frame.TheVariants.{Explore, Restore};
 
-use crate::frame::Frame;
+use crate::frame::{Frame, Next};
 use std::alloc::{AllocError, Global};
 
 /// The backtrack stack, and two slots for each capture group: the start of group k in slot 2k, its end in slot 2k + 1.
@@ -37,6 +37,7 @@ impl BacktrackState {
 
     /// Pops frames, undoing writes, up to the next pair to explore, and returns its state and byte offset; `None` if the
     /// stack is empty.
+    #[inline(always)]
     pub fn pop_explore(&mut self) -> Option<(usize, usize)>
         ensures popped { resume_result (top_first self.old.stack.items) self.old.slots.items
             ≡ (put_back result (top_first self.new.stack.items), self.new.slots.items) }
@@ -58,6 +59,7 @@ impl BacktrackState {
     }
 
     /// Pushes a pair to explore later. The error is want of memory.
+    #[inline(always)]
     pub fn leave(&mut self, state: usize, at: usize) -> Result<(), AllocError>
         ensures pushed { OnOk result (top_first self.new.stack.items ≡ Explore state at ∷ top_first self.old.stack.items) }
         ensures len { OnOk result (vec_len self.new.stack ≡ vec_len self.old.stack + 1) }
@@ -67,7 +69,21 @@ impl BacktrackState {
         Ok(())
     }
 
+    /// Pushes the pair to explore later, if this is one. The error is want of memory.
+    #[inline(always)]
+    pub fn leave_next(&mut self, next: Next) -> Result<(), AllocError>
+        ensures pushed { OnOk result (top_first self.new.stack.items ≡ with_next next (top_first self.old.stack.items)) }
+        ensures len { OnOk result (vec_len self.new.stack ≤ vec_len self.old.stack + 1) }
+        ensures slots { self.new.slots ≡ self.old.slots }
+    {
+        match next {
+            Next::Pair(state, at) => self.leave(state, at),
+            Next::Back | Next::Matched => Ok(()),
+        }
+    }
+
     /// Writes to a slot and pushes its old value; returns whether the slot exists. The error is want of memory.
+    #[inline(always)]
     pub fn write(&mut self, slot: usize, at: usize) -> Result<bool, AllocError>
         ensures pushed { IfOk result (λ kept. MatchBool kept
             (top_first self.new.stack.items ≡ Restore slot (slice_index self.old.slots.items slot) ∷ top_first self.old.stack.items)

@@ -9,11 +9,13 @@ ghost use Rattle.fancy_regex_class.specs.RunInputs.{setting_for, search_for, mat
 ghost use Rattle.fancy_regex_runner.specs.Find.{attempted, hit_of_span};
 ghost use Rattle.fancy_regex_tree.specs.Tree.{Tree};
 ghost use Rattle.fancy_regex_states.specs.First.{IsTableOf};
+ghost use Rattle.fancy_regex_runner.specs.Search.{RefusesAscii};
 
 use crate::build::Translator;
 use crate::emit::emit;
 use crate::memory::SearchMemory;
 use crate::search::{SearchContext, earliest_way};
+use crate::starts::refused_ascii;
 use crate::state::add;
 use fancy_regex_class::{CharClassMatcher, Counted, RunInput, Steps};
 use fancy_regex_info::{BytesMode, CompileError, CompileOptions, Info};
@@ -37,8 +39,11 @@ pub struct Easy {
     longest: bool,
     /// The characters that a match can begin with, if they are known.
     first: Option<FirstChars>,
+    /// For each ASCII character whether it is known that no match begins with it, behind another character.
+    refused: [bool; 128],
     ghost made: { IsMade states.items entry },
     ghost table: { ∥ IfSome first (IsTableOf unicode matchers.items states.items entry) ∥₁ },
+    ghost marks: { ∥ RefusesAscii unicode matchers.items states.items entry refused ∥₁ },
 }
 
 impl Easy {
@@ -80,6 +85,7 @@ impl Easy {
         add(&mut states, State::Match)?;
         let entry = emit(&translated.node, &mut states, 0)?;
         let first = FirstChars::new(alloc, &states, entry, &translator.matchers, options.unicode)?;
+        let refused = refused_ascii(&first, &translator.matchers, options.unicode);
         Ok(Easy {
             states,
             entry,
@@ -89,6 +95,7 @@ impl Easy {
             unicode: options.unicode,
             longest: options.leftmost_longest,
             first,
+            refused,
         })
     }
 
@@ -125,8 +132,8 @@ impl Easy {
     }
 
     /// Searches the text as `search` does, in memory that other searches may have used before: of this pattern or another,
-    /// also one that ran out of memory. The answer is the same for every memory. Only the answer is allocated where the
-    /// memory has the room, so nothing is where nothing is found. After an error the memory may be used again.
+    /// also one that ran out of memory. The answer is the same for every memory. Where the memory has the room, only the answer
+    /// is allocated, and not even that if an earlier one was given back, so nothing is where nothing is found. After an error the memory may be used again.
     pub fn search_in(
         &self,
         alloc: Global,
@@ -149,7 +156,7 @@ impl Easy {
     {
         match self.span_in(text, input, steps, memory)? {
             Some((start, end)) => {
-                let slots = Vec::from_slice(alloc, &memory.backtrack.slots)?;
+                let slots = memory.take_answer(alloc)?;
                 Ok(Some(self.places(slots, start, end)))
             }
             None => Ok(None),
@@ -191,6 +198,7 @@ impl Easy {
             entry: self.entry,
             first: &self.first,
             stop,
+            refused: &self.refused,
         };
         let mut counted = Counted::new(text, steps);
         let span = earliest_way(

@@ -8,6 +8,7 @@
 
 mod backtrack;
 mod build;
+mod class_loop;
 mod easy;
 mod emit;
 mod emit_both;
@@ -15,6 +16,7 @@ mod frame;
 mod memory;
 mod node;
 mod search;
+mod starts;
 mod state;
 mod visited;
 

@@ -1,10 +1,11 @@
 //! The memory that searches share.
 
-ghost use Rattle.std.specs.Prelude.{◌≡◌, ◌-◌, ◌*◌, ◌^◌, vec_len, replicate, OnOk};
+ghost use Rattle.std.specs.Prelude.{◌≡◌, ◌-◌, ◌*◌, ◌^◌, vec_len, replicate, IfOk, OnOk};
 
 use crate::backtrack::{BacktrackState, unset};
 use crate::visited::Visited;
 use std::alloc::{AllocError, Global};
+use std::mem;
 
 /// The memory of earlier searches, used again by later ones. What it holds has no effect on any answer, also after a search
 /// that ran out of memory, and it is as good for any pattern and any text. It keeps the most memory that a search has needed
@@ -17,6 +18,8 @@ pub struct SearchMemory {
     pub(crate) backtrack: BacktrackState,
     /// The slots of the farthest way so far.
     pub(crate) farthest: Vec<usize>,
+    /// The memory of an answer that was given back.
+    pub(crate) answer: Vec<usize>,
 }
 
 impl SearchMemory {
@@ -26,7 +29,24 @@ impl SearchMemory {
             visited: Visited::new(alloc),
             backtrack: BacktrackState::new(alloc),
             farthest: Vec::new(alloc),
+            answer: Vec::new(alloc),
         }
+    }
+
+    /// Takes an answer of an earlier search back: its memory serves the answer of a later one.
+    pub fn give_back(&mut self, answer: Vec<usize>) {
+        self.answer = answer;
+    }
+
+    /// A copy of the slots of the way that was found, in the memory of an answer that was given back. The error is want of
+    /// memory, and then that memory is gone.
+    pub(crate) fn take_answer(&mut self, alloc: Global) -> Result<Vec<usize>, AllocError>
+        ensures value { IfOk result (λ answer. answer.items ≡ self.old.backtrack.slots.items) }
+    {
+        let mut answer = mem::replace(&mut self.answer, Vec::new(alloc));
+        answer.clear();
+        answer.extend_from_slice(&self.backtrack.slots)?;
+        Ok(answer)
     }
 
     /// Begins a search over `count` states and the byte offsets from `base` on, of a pattern with so many groups: nothing is

@@ -1,6 +1,6 @@
 //! The set of visited pairs of a state and a byte offset.
 
-ghost use Rattle.std.specs.Prelude.{◌≡◌, ◌+◌, ◌-◌, ◌*◌, ◌/◌, ◌<◌, ◌≤◌, ℕ, max, ◌^◌, length, IfOk, OnOk, OnErr};
+ghost use Rattle.std.specs.Prelude.{◌++◌, replicate, true, ◌≡◌, ◌+◌, ◌-◌, ◌*◌, ◌/◌, ◌<◌, ◌≤◌, ℕ, max, ◌^◌, length, IfOk, OnOk, OnErr};
 ghost use Rattle.std.specs.Bool.{MatchBool};
 
 use std::alloc::{AllocError, Global};
@@ -58,13 +58,13 @@ impl Visited {
         ensures row { OnOk result (self.new.rows ≡ self.old.rows + 1) }
         ensures err { OnErr result (self.new.rows ≡ self.old.rows) }
     {
-        let words = self.words.len() + self.width;
-        self.words.resize(words, 0)?;
+        add_zeros(&mut self.words, self.width)?;
         self.rows += 1;
         Ok(())
     }
 
     /// Adds rows up to that of the byte offset `at`. The error is want of memory.
+    #[inline(always)]
     fn reach(&mut self, at: usize) -> Result<(), AllocError>
         requires { self.old.base ≤ at }
         ensures same { (self.new.count ≡ self.old.count) × (self.new.base ≡ self.old.base) }
@@ -95,6 +95,7 @@ impl Visited {
     }
 
     /// Sets the bit of a pair whose row exists; returns whether it was clear.
+    #[inline(always)]
     fn set(&mut self, state: usize, at: usize) -> bool
         requires state { state < self.old.count }
         requires base { self.old.base ≤ at }
@@ -111,7 +112,23 @@ impl Visited {
         word & bit == 0
     }
 
+    /// Whether the pair is in the set.
+    #[inline(always)]
+    pub fn has(&self, state: usize, at: usize) -> bool
+        requires state { state < self.now.count }
+        ensures { result ≡ true → Has self.now state at }
+    {
+        if at < self.base || at - self.base >= self.rows {
+            return false;
+        }
+        let place = (at - self.base) * self.width + state / 64;
+        let bit = 1u64 << (state % 64);
+        let clear = self.words[place] & bit == 0;
+        !clear
+    }
+
     /// Adds a pair; returns whether it is new. The error is want of memory, and then the set is unchanged.
+    #[inline(always)]
     pub fn insert_pair(&mut self, state: usize, at: usize) -> Result<bool, AllocError>
         requires state { state < self.old.count }
         requires base { self.old.base ≤ at }
@@ -125,4 +142,19 @@ impl Visited {
         self.reach(at)?;
         Ok(self.set(state, at))
     }
+}
+
+/// Adds `count` words without bits. The error is want of memory, and then nothing is added.
+fn add_zeros(words: &mut Vec<u64>, count: usize) -> Result<(), AllocError>
+    requires { count ≤ 2 ^ 60 }
+    ensures added { OnOk result (words.new.items ≡ words.old.items ++ replicate count 0) }
+    ensures err { OnErr result (words.new.items ≡ words.old.items) }
+{
+    if count == 1 {
+        words.push(0)?;
+        return Ok(());
+    }
+    let length = words.len() + count;
+    words.resize(length, 0)?;
+    Ok(())
 }

@@ -1,9 +1,9 @@
-use Rattle.std.proofs.Common.{◌≡◌, ℕ, ◌+◌, ◌-◌, ◌∙◌, ◌∷◌, [], List, Option, Some, None, Bool, true, refl, sym, ap, arith, length, true≢false}
+use Rattle.std.proofs.Common.{◌≡◌, ℕ, ◌+◌, ◌-◌, ◌≤◌, ◌∙◌, ◌∷◌, [], List, Option, Some, None, Bool, true, refl, sym, ap, arith, length, vec_len, true≢false}
 use Rattle.std.proofs.lemmas.List.{nil_from_length}
 use Rattle.fancy_regex_class.specs.Looks.{looked_text}
 use Rattle.fancy_regex_runner.specs.Meaning.{Spot, View}
 use Rattle.fancy_regex_runner.specs.Attempt.{Continuation, better_spot, land}
-use Rattle.fancy_regex_runner.specs.Visited.{Has}
+use Rattle.fancy_regex_runner.specs.Visited.{Has, members}
 use Rattle.fancy_regex_runner.specs.Search.{AllWithin, AllFail, Explains, Dfs, top_first, ended}
 use Rattle.fancy_regex_runner.specs.declared.frame.Frame.TheVariants.{Explore}
 use Rattle.fancy_regex_runner.proofs.VisitedLemmas.{members_cap}
@@ -78,6 +78,22 @@ joined c view go explains failed =
           sym (rw (w.best-is, w.farthest-is) (w.farther-best.ensures ∙ ap here w.deref.ensures.value)) in
           Dfs-best (ap (λ (l : Bool). better_spot l (ended c.pairs.best c.pairs.farthest) (Some (record { at = c.pairs.at; slots = c.visit.new.backtrack.slots.items }))) far ∙ e) matched
     ]
+
+-- it left no more frames than it marked pairs
+progressed : (c : After-pop_explore) → (members c.pairs.visited ≤ members c.visit.new.visited)
+    × (vec_len c.visit.new.backtrack.stack + members c.pairs.visited ≤ vec_len c.pairs.backtrack.stack + members c.visit.new.visited)
+progressed c =
+    elim c.match-branch-2.branch [
+      | in-Back w ↦ rw w.in-Back.is at c.in_ok-state.ensures.progress
+      | in-Matched+else-not-context w ↦ rw w.in-Matched.is at c.in_ok-state.ensures.progress
+    ]
+
+pub pairs-smaller : goal.pairs-smaller
+pairs-smaller c =
+    let progress = progressed (goal.at.pairs-smaller c).After-pop_explore in
+    let rows = rw c.pairs.invariant.base at c.visit.ensures.rows in
+    let cap = members_cap c.visit.new.visited (c.args.context.now.stop - c.args.visited.now.base + 1) (length c.args.context.now.states.now) (omega (arith, rows, c.pairs.invariant.rows)) (c.visit.ensures.same.0 ∙ c.pairs.invariant.count) in
+    omega (arith, cap, progress.0, progress.1, c.in-Some.ensures.shorter)
 
 pub returns-then-is_some-clause-value : goal.returns-then-is_some-clause-value
 returns-then-is_some-clause-value c view go explains failed =

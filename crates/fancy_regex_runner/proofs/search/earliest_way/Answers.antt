@@ -1,26 +1,23 @@
-use Rattle.std.proofs.Common.{◌≡◌, ℕ, ◌+◌, ◌-◌, ◌*◌, ◌^◌, ◌<◌, ◌≤◌, ◌∙◌, ◌∷◌, [], min, List, Option, Some, None, true, false, refl, sym, ap, ap₂, subst, arith, length}
-use Rattle.std.specs.Char.{len_utf8}
-use Rattle.std.proofs.lemmas.Str.{len_utf8_bounds}
-use Rattle.regex_hir.specs.Text.{char_at}
-use Rattle.fancy_regex_meaning.specs.Positions.{boundaries}
+use Rattle.std.proofs.Common.{◌≡◌, ℕ, ◌+◌, ◌-◌, ◌*◌, ◌^◌, ◌≤◌, ◌∙◌, min, List, Option, None, refl, sym, ap, ap₂, subst, arith, length}
 use Rattle.fancy_regex_class.specs.Looks.{looked_text, look_count}
 use Rattle.fancy_regex_runner.specs.Meaning.{Spot, View}
 use Rattle.fancy_regex_runner.specs.Attempt.{Continuation, land}
-use Rattle.fancy_regex_runner.specs.Find.{earliest, attempted, places}
+use Rattle.fancy_regex_runner.specs.Find.{earliest, attempted, places, places_from}
+use Rattle.fancy_regex_runner.specs.Starts.{places_left, spot_from}
 use Rattle.fancy_regex_runner.specs.Visited.{Has, spent}
-use Rattle.fancy_regex_runner.specs.Search.{AllFail, Explains}
+use Rattle.fancy_regex_runner.specs.Search.{AllFail, Explains, ended}
+use Rattle.fancy_regex_runner.specs.declared.visited.Visited.{Visited}
 use Rattle.fancy_regex_runner.proofs.VisitedLemmas.{spent_most, looks_within, none_has}
-use Rattle.fancy_regex_meaning.proofs.NextBoundaryLemmas.{next_place, last_place, end_place}
-use Rattle.fancy_regex_runner.proofs.StartLemmas.{found_here, failed_next, failed_last}
+use Rattle.fancy_regex_runner.proofs.StartLemmas.{earliest_next, earliest_here, earliest_none, tried_next, tried_here, tried_none, behind_from, above_base, next_after}
 use Rattle.fancy_regex_runner.proofs.search.earliest_way.Goals as goal
-use Rattle.fancy_regex_runner.proofs.search.earliest_way.Goals.{After-begin, In_ok-end}
+use Rattle.fancy_regex_runner.proofs.search.earliest_way.Goals.{After-next_start, After-begin, In_ok-end}
 
 pub starts-init : goal.starts-init
 starts-init c = record {
   found = λ view go explains. (λ q i r has reaches. absurd (none_has c.args.visited.now q i c.requires.fresh.1 has), refl, refl, omega arith);
   from = (omega arith, c.requires.range.0, c.requires.start);
   count = c.requires.count;
-  base = (omega (arith, c.requires.fresh.0), omega (arith, c.requires.fresh.0));
+  base = (omega (arith, c.requires.fresh.0), omega (arith, c.requires.fresh.0, c.requires.range.0), omega (arith, c.requires.fresh.0));
   rows = omega (arith, c.requires.fresh.1);
   empty = c.requires.empty;
   slots = refl;
@@ -34,191 +31,161 @@ starts-init c = record {
   same_counter = refl;
 }
 
+-- what an attempt at a place gives
+abbrev spot : (c : After-next_start) → (ℕ → Continuation) → ℕ → Option Spot
+spot c go = spot_from go c.args.context.now.entry c.args.backtrack.now.slots.items
+
+abbrev all_places : (c : After-next_start) → List ℕ
+all_places c = places (looked_text c.args.text.now) c.args.anchored c.args.start c.args.context.now.stop
+
+abbrev left : (c : After-next_start) → List ℕ
+left c = places_left (looked_text c.args.text.now) c.args.anchored c.args.context.now.stop c.next_start.result
+
+-- the starts that are left are those that count
+passed : (c : After-next_start) (view : View) (go : ℕ → Continuation) → Explains c.args.context.now (looked_text c.args.text.now) view go
+    → (earliest (spot c go) (all_places c) ≡ earliest (spot c go) (left c))
+    × (min (look_count c.args.text.now + attempted (spot c go) (all_places c)) (2 ^ 64 - 1) ≤ min (look_count c.next_start.new.text + (attempted (spot c go) (left c) - 1)) (2 ^ 64 - 1))
+passed c view go explains =
+    let inv = rw c.in-Some.is at (c.starts.invariant.found view go explains) in
+    let here : Explains c.args.context.now (looked_text c.starts.text) view go = rw c.starts.invariant.text explains in
+    let over = rw c.starts.invariant.text at (c.next_start.ensures.passed view go here inv.0 c.args.backtrack.now.slots.items) in
+    let least = rw c.starts.invariant.text at (c.next_start.ensures.at_least view go here inv.0 c.args.backtrack.now.slots.items) in
+    (inv.2 ∙ over, omega (arith, inv.3, least))
+
+-- no more pairs were spent than there are
+capped : (v : Visited) (stop count : ℕ) → v.count ≡ count → v.base ≤ stop → v.rows ≤ stop - v.base + 1 → spent v ≤ (stop + 1) * count
+capped v stop count same low rows = subst (λ (n : ℕ). spent v ≤ (stop + 1) * n) same (spent_most v stop low rows)
+
+pub returns-in_default-next_start-clause-answer : goal.returns-in_default-next_start-clause-answer
+returns-in_default-next_start-clause-answer c view go explains =
+    let d = (goal.at.returns-in_default-next_start-clause-answer c).After-next_start in
+    let over = rw c.in_default-next_start.is at (passed d view go explains) in
+    sym (over.0 ∙ earliest_none (spot d go))
+
+pub returns-in_default-next_start-clause-at_least : goal.returns-in_default-next_start-clause-at_least
+returns-in_default-next_start-clause-at_least c view go explains =
+    let d = (goal.at.returns-in_default-next_start-clause-at_least c).After-next_start in
+    let over = rw c.in_default-next_start.is at (passed d view go explains) in
+    let none = tried_none (spot d go) in
+    omega (arith, over.1, none)
+
+pub returns-in_default-next_start-clause-at_most : goal.returns-in_default-next_start-clause-at_most
+returns-in_default-next_start-clause-at_most c =
+    let count : ℕ = length c.args.context.now.states.now in
+    let stop : ℕ = c.args.context.now.stop in
+    let from = rw c.in-Some.is at c.starts.invariant.from in
+    let so_far = rw c.in-Some.is at c.starts.invariant.at_most in
+    let cap = capped c.starts.visited stop count c.starts.invariant.count c.starts.invariant.base.1 c.starts.invariant.rows in
+    looks_within (look_count c.next_start.new.text) (look_count c.args.text.now) (spent c.starts.visited) c.args.start stop count (stop + 1 - c.args.start) c.requires.range.0
+    (omega (arith, so_far, c.in_default-next_start.ensures.at_most, from.0, from.1)) cap (omega (arith, c.requires.range.0))
+
+pub returns-clause-answer : goal.returns-clause-answer
+returns-clause-answer c view go explains =
+    let inv = rw c.in_default.is at (c.starts.invariant.found view go explains) in
+    sym (inv.2 ∙ earliest_none (spot_from go c.args.context.now.entry c.args.backtrack.now.slots.items))
+
+pub returns-clause-at_least : goal.returns-clause-at_least
+returns-clause-at_least c view go explains =
+    let inv = rw c.in_default.is at (c.starts.invariant.found view go explains) in
+    let none = tried_none (spot_from go c.args.context.now.entry c.args.backtrack.now.slots.items) in
+    omega (arith, inv.3, none)
+
+pub returns-clause-at_most : goal.returns-clause-at_most
+returns-clause-at_most c =
+    let count : ℕ = length c.args.context.now.states.now in
+    let stop : ℕ = c.args.context.now.stop in
+    let so_far = rw c.in_default.is at c.starts.invariant.at_most in
+    let cap = capped c.starts.visited stop count c.starts.invariant.count c.starts.invariant.base.1 c.starts.invariant.rows in
+    looks_within (look_count c.starts.text) (look_count c.args.text.now) (spent c.starts.visited) c.args.start stop count (stop + 1 - c.args.start) c.requires.range.0
+    so_far cap (omega (arith, c.requires.range.0))
+
 -- the bound, after an attempt
 bound : (c : After-begin) → look_count c.begin.new.text ≤ look_count c.args.text.now + (c.args.context.now.stop - c.args.start + 1) * length c.args.context.now.states.now + (c.args.context.now.stop - c.args.start + 1)
 bound c =
     let count : ℕ = length c.args.context.now.states.now in
     let stop : ℕ = c.args.context.now.stop in
-    let cap = spent_most c.begin.new.visited stop (omega (arith, c.begin.ensures.base.1, c.starts.invariant.from.1)) c.begin.ensures.rows in
-    let most : spent c.begin.new.visited ≤ (stop + 1) * count = subst (λ (n : ℕ). spent c.begin.new.visited ≤ (stop + 1) * n) (c.begin.ensures.count ∙ c.starts.invariant.count) cap in
-    looks_within (look_count c.begin.new.text) (look_count c.args.text.now) (spent c.begin.new.visited) c.args.start stop count (c.starts.from - c.args.start + 1)
-    c.requires.range.0
-    (omega (arith, c.begin.ensures.counted, c.look-before.ensures.ticked, c.starts.invariant.at_most)) most (omega (arith, c.starts.invariant.from.0, c.starts.invariant.from.1))
+    let is = c.in-Some-next_start.ensures.start in
+    let from = rw c.in-Some.is at c.starts.invariant.from in
+    let so_far = rw c.in-Some.is at c.starts.invariant.at_most in
+    let cap = capped c.begin.new.visited stop count (c.begin.ensures.count ∙ c.starts.invariant.count) (omega (arith, c.begin.ensures.base.1, is.high)) c.begin.ensures.rows in
+    looks_within (look_count c.begin.new.text) (look_count c.args.text.now) (spent c.begin.new.visited) c.args.start stop count (c.in-Some-next_start.place.at + 1 - c.args.start) c.requires.range.0
+    (omega (arith, so_far, c.begin.ensures.counted, c.in-Some-next_start.ensures.at_most, from.0, is.low)) cap (omega (arith, is.high))
 
 pub returns-in_err-end-clause-at_most : goal.returns-in_err-end-clause-at_most
 returns-in_err-end-clause-at_most c = bound (goal.at.returns-in_err-end-clause-at_most c).After-begin
 
-pub returns-in-Some-clause-at_most : goal.returns-in-Some-clause-at_most
-returns-in-Some-clause-at_most c = bound (goal.at.returns-in-Some-clause-at_most c).After-begin
+pub returns-in-Some-2-clause-at_most : goal.returns-in-Some-2-clause-at_most
+returns-in-Some-2-clause-at_most c = bound (goal.at.returns-in-Some-2-clause-at_most c).After-begin
 
-pub returns-then-anchored-clause-at_most : goal.returns-then-anchored-clause-at_most
-returns-then-anchored-clause-at_most c = bound (goal.at.returns-then-anchored-clause-at_most c).After-begin
+-- what is known of the attempt
+record Attempted (c : In_ok-end) (view : View) (go : ℕ → Continuation) : Type 0 where
+  pub value : ended c.in_ok-end.field-0 c.begin.new.backtrack.slots.items ≡ spot_from go c.args.context.now.entry c.args.backtrack.now.slots.items c.in-Some-next_start.place.at
+  pub failed : c.in_ok-end.field-0 ≡ None → AllFail view.longest go (Has c.begin.new.visited) × (c.begin.new.backtrack.slots.items ≡ c.args.backtrack.now.slots.items)
 
-pub returns-in_default-after-clause-at_most : goal.returns-in_default-after-clause-at_most
-returns-in_default-after-clause-at_most c = bound (goal.at.returns-in_default-after-clause-at_most c).After-begin
-
-pub returns-in_default-after-2-clause-at_most : goal.returns-in_default-after-2-clause-at_most
-returns-in_default-after-2-clause-at_most c = bound (goal.at.returns-in_default-after-2-clause-at_most c).After-begin
-
--- the counter has not fallen, after an attempt
-risen : (c : After-begin) → min (look_count c.args.text.now) (2 ^ 64 - 1) ≤ look_count c.begin.new.text
-risen c = omega (arith, c.look-before.ensures.ticked, c.begin.ensures.more, c.starts.invariant.more)
-
-pub returns-in_err-end-clause-more : goal.returns-in_err-end-clause-more
-returns-in_err-end-clause-more c = risen (goal.at.returns-in_err-end-clause-more c).After-begin
-
-pub returns-in-Some-clause-more : goal.returns-in-Some-clause-more
-returns-in-Some-clause-more c = risen (goal.at.returns-in-Some-clause-more c).After-begin
-
-pub returns-then-anchored-clause-more : goal.returns-then-anchored-clause-more
-returns-then-anchored-clause-more c = risen (goal.at.returns-then-anchored-clause-more c).After-begin
-
-pub returns-in_default-after-clause-more : goal.returns-in_default-after-clause-more
-returns-in_default-after-clause-more c = risen (goal.at.returns-in_default-after-clause-more c).After-begin
-
-pub returns-in_default-after-2-clause-more : goal.returns-in_default-after-2-clause-more
-returns-in_default-after-2-clause-more c = risen (goal.at.returns-in_default-after-2-clause-more c).After-begin
-
--- what a place gives
-abbrev with_position : (c : In_ok-end) → (ℕ → Continuation) → ℕ → Option Spot
-with_position c go i = land c.args.backtrack.now.slots.items (go c.args.context.now.entry i).answer
-
-abbrev all_places : (c : In_ok-end) → List ℕ
-all_places c = places (looked_text c.args.text.now) c.args.anchored c.args.start c.args.context.now.stop
-
-abbrev these_places : (c : In_ok-end) → List ℕ
-these_places c = places (looked_text c.args.text.now) c.args.anchored c.starts.from c.args.context.now.stop
-
--- an attempt from the place that answered None
-record Failed (c : In_ok-end) (view : View) (go : ℕ → Continuation) : Type 0 where
-  pub all : AllFail view.longest go (Has c.begin.new.visited)
-  pub slots : c.begin.new.backtrack.slots.items ≡ c.args.backtrack.now.slots.items
-  pub none : with_position c go c.starts.from ≡ None
-
-failed : (c : In_ok-end) → c.in_ok-end.field-0 ≡ None → (view : View) (go : ℕ → Continuation) → Explains c.args.context.now (looked_text c.args.text.now) view go → Failed c view go
-failed c e view go explains =
+tried : (c : In_ok-end) (view : View) (go : ℕ → Continuation) → Explains c.args.context.now (looked_text c.args.text.now) view go → Attempted c view go
+tried c view go explains =
     let inv = c.starts.invariant.found view go explains in
-    let here : Explains c.args.context.now (looked_text c.look-before.new.self) view go = rw (c.look-before.ensures.text, c.starts.invariant.text) explains in
-    let value = rw e at (c.in_ok-end.ensures.value view go here inv.0) in
-    let after = rw e at c.in_ok-end.ensures.failed in
-    let both = after view go here inv.0 in
+    let here : Explains c.args.context.now (looked_text c.next_start.new.text) view go = rw (c.next_start.ensures.text, c.starts.invariant.text) explains in
+    let value = c.in_ok-end.ensures.value view go here inv.0 in
     record {
-      all = both.0;
-      slots = both.1 ∙ inv.1;
-      none = ap (λ s. land s (go c.args.context.now.entry c.starts.from).answer) (sym inv.1) ∙ sym value;
+      value = value ∙ ap (λ s. land s (go c.args.context.now.entry c.in-Some-next_start.place.at).answer) inv.1;
+      failed = λ none.
+          let after = rw none at c.in_ok-end.ensures.failed in
+          let both = after view go here inv.0 in
+          (both.0, both.1 ∙ inv.1);
     }
 
--- no place has a way, and this one is the last
-none_found : (c : In_ok-end) → c.in_ok-end.field-0 ≡ None → (view : View) (go : ℕ → Continuation) → Explains c.args.context.now (looked_text c.args.text.now) view go
-    → these_places c ≡ c.starts.from ∷ []
-    → (earliest (with_position c go) (all_places c) ≡ None)
-    × (min (look_count c.args.text.now + attempted (with_position c go) (all_places c)) (2 ^ 64 - 1) ≤ look_count c.begin.new.text)
-none_found c e view go explains last =
-    let inv = c.starts.invariant.found view go explains in
-    let f = failed c e view go explains in
-    let both = failed_last (with_position c go) c.starts.from (these_places c) last f.none in
-    (inv.2 ∙ both.0, omega (arith, inv.3, both.1, c.look-before.ensures.ticked, c.begin.ensures.more))
+pub returns-in-Some-2-clause-answer : goal.returns-in-Some-2-clause-answer
+returns-in-Some-2-clause-answer c view go explains =
+    let d = (goal.at.returns-in-Some-2-clause-answer c).After-next_start in
+    let try = tried (goal.at.returns-in-Some-2-clause-answer c).In_ok-end view go explains in
+    let over = rw c.in-Some-next_start.is at (passed d view go explains) in
+    let value = rw c.in-Some-2.is at try.value in
+    sym (over.0 ∙ earliest_here (spot d go) c.in-Some-next_start.place.at _ _ (sym value))
 
-one_place : (c : In_ok-end) → c.args.anchored ≡ true → these_places c ≡ c.starts.from ∷ []
-one_place c e = ap (λ a. places (looked_text c.args.text.now) a c.starts.from c.args.context.now.stop) e
-
-pub returns-then-anchored-clause-answer : goal.returns-then-anchored-clause-answer
-returns-then-anchored-clause-answer c view go explains =
-    let d = (goal.at.returns-then-anchored-clause-answer c).In_ok-end in
-    sym (none_found d c.in_default.is view go explains (one_place d c.if-anchored.true)).0
-
-pub returns-then-anchored-clause-at_least : goal.returns-then-anchored-clause-at_least
-returns-then-anchored-clause-at_least c view go explains =
-    let d = (goal.at.returns-then-anchored-clause-at_least c).In_ok-end in
-    (none_found d c.in_default.is view go explains (one_place d c.if-anchored.true)).1
-
--- the place has a way
-some_found : (c : In_ok-end) (end : ℕ) → c.in_ok-end.field-0 ≡ Some end → (view : View) (go : ℕ → Continuation) → Explains c.args.context.now (looked_text c.args.text.now) view go
-    → (earliest (with_position c go) (all_places c) ≡ Some (record { start = c.starts.from; way = record { at = end; slots = c.begin.new.backtrack.slots.items } }))
-    × (min (look_count c.args.text.now + attempted (with_position c go) (all_places c)) (2 ^ 64 - 1) ≤ look_count c.begin.new.text)
-some_found c end e view go explains =
-    let inv = c.starts.invariant.found view go explains in
-    let here : Explains c.args.context.now (looked_text c.look-before.new.self) view go = rw (c.look-before.ensures.text, c.starts.invariant.text) explains in
-    let value = rw e at (c.in_ok-end.ensures.value view go here inv.0) in
-    let both = found_here (with_position c go) (looked_text c.args.text.now) c.args.anchored c.starts.from c.args.context.now.stop _ c.starts.invariant.from.2 c.starts.invariant.from.1
-    (ap (λ s. land s (go c.args.context.now.entry c.starts.from).answer) (sym inv.1) ∙ sym value) in
-    (inv.2 ∙ both.0, omega (arith, inv.3, both.1, c.look-before.ensures.ticked, c.begin.ensures.more))
-
-pub returns-in-Some-clause-answer : goal.returns-in-Some-clause-answer
-returns-in-Some-clause-answer c view go explains =
-    sym (some_found (goal.at.returns-in-Some-clause-answer c).In_ok-end c.in-Some.end c.in-Some.is view go explains).0
-
-pub returns-in-Some-clause-at_least : goal.returns-in-Some-clause-at_least
-returns-in-Some-clause-at_least c view go explains =
-    (some_found (goal.at.returns-in-Some-clause-at_least c).In_ok-end c.in-Some.end c.in-Some.is view go explains).1
-
--- each pair that is visited is in the text
-seen : (c : In_ok-end) (o : Option ℕ) → c.look-before.result.1 ≡ o → char_at (looked_text c.args.text.now) c.starts.from ≡ o
-seen c o e = ap (λ t. char_at t c.starts.from) (sym c.starts.invariant.text) ∙ sym c.look-before.ensures.after ∙ e
-
-many_places : (c : In_ok-end) → c.args.anchored ≡ false → these_places c ≡ boundaries (looked_text c.args.text.now) c.starts.from c.args.context.now.stop
-many_places c e = ap (λ a. places (looked_text c.args.text.now) a c.starts.from c.args.context.now.stop) e
-
-too_late : (c : In_ok-end) (d : ℕ) → c.args.anchored ≡ false → c.look-before.result.1 ≡ Some d → c.args.context.now.stop - c.starts.from < len_utf8 d → these_places c ≡ c.starts.from ∷ []
-too_late c d a e late =
-    many_places c a ∙ last_place (looked_text c.args.text.now) c.starts.from c.args.context.now.stop d c.starts.invariant.from.2 (seen c (Some d) e) late c.starts.invariant.from.1
-
-at_end : (c : In_ok-end) → c.args.anchored ≡ false → c.look-before.result.1 ≡ None → these_places c ≡ c.starts.from ∷ []
-at_end c a e =
-    many_places c a
-    ∙ end_place (looked_text c.args.text.now) c.starts.from c.args.context.now.stop c.requires.text c.starts.invariant.from.2 (seen c None e) c.starts.invariant.from.1 c.requires.range.1
-
-pub returns-in_default-after-clause-answer : goal.returns-in_default-after-clause-answer
-returns-in_default-after-clause-answer c view go explains =
-    let d = (goal.at.returns-in_default-after-clause-answer c).In_ok-end in
-    sym (none_found d c.in_default.is view go explains (too_late d c.in-Some-after.c c.if-anchored.false c.in-Some-after.is (omega (arith, c.len_utf8.ensures.value, c.if-len_utf8-context.false)))).0
-
-pub returns-in_default-after-clause-at_least : goal.returns-in_default-after-clause-at_least
-returns-in_default-after-clause-at_least c view go explains =
-    let d = (goal.at.returns-in_default-after-clause-at_least c).In_ok-end in
-    (none_found d c.in_default.is view go explains (too_late d c.in-Some-after.c c.if-anchored.false c.in-Some-after.is (omega (arith, c.len_utf8.ensures.value, c.if-len_utf8-context.false)))).1
-
-pub returns-in_default-after-2-clause-answer : goal.returns-in_default-after-2-clause-answer
-returns-in_default-after-2-clause-answer c view go explains =
-    let d = (goal.at.returns-in_default-after-2-clause-answer c).In_ok-end in
-    sym (none_found d c.in_default.is view go explains (at_end d c.if-anchored.false c.in_default-after.is)).0
-
-pub returns-in_default-after-2-clause-at_least : goal.returns-in_default-after-2-clause-at_least
-returns-in_default-after-2-clause-at_least c view go explains =
-    let d = (goal.at.returns-in_default-after-2-clause-at_least c).In_ok-end in
-    (none_found d c.in_default.is view go explains (at_end d c.if-anchored.false c.in_default-after.is)).1
+pub returns-in-Some-2-clause-at_least : goal.returns-in-Some-2-clause-at_least
+returns-in-Some-2-clause-at_least c view go explains =
+    let d = (goal.at.returns-in-Some-2-clause-at_least c).After-next_start in
+    let try = tried (goal.at.returns-in-Some-2-clause-at_least c).In_ok-end view go explains in
+    let over = rw c.in-Some-next_start.is at (passed d view go explains) in
+    let value = rw c.in-Some-2.is at try.value in
+    let one = tried_here (spot d go) c.in-Some-next_start.place.at
+    (places_from (looked_text c.args.text.now) c.args.anchored c.in-Some-next_start.place.next c.args.context.now.stop) _ (sym value) in
+    omega (arith, over.1, one, c.begin.ensures.more)
 
 pub starts-preserved : goal.starts-preserved
 starts-preserved c =
-    let d = (goal.at.starts-preserved c).In_ok-end in
+    let d = (goal.at.starts-preserved c).After-next_start in
+    let place = c.in-Some-next_start.place in
     let text = looked_text c.args.text.now in
     let stop : ℕ = c.args.context.now.stop in
-    let width : c.len_utf8-from.result ≡ len_utf8 c.in-Some-after.c = c.len_utf8-from.ensures.value in
-    let fits : len_utf8 c.in-Some-after.c ≤ stop - c.starts.from = omega (arith, c.len_utf8.ensures.value, c.if-len_utf8-context.true) in
-    let split : these_places d ≡ c.starts.from ∷ boundaries text (c.starts.from + len_utf8 c.in-Some-after.c) stop =
-    many_places d c.if-anchored.false
-    ∙ next_place text c.starts.from stop c.in-Some-after.c c.starts.invariant.from.2 (seen d (Some c.in-Some-after.c) c.in-Some-after.is) fits c.starts.invariant.from.1 in
-    let later : boundaries text (c.starts.from + len_utf8 c.in-Some-after.c) stop ≡ places text c.args.anchored (c.starts.from + c.len_utf8-from.result) stop =
-    ap (λ n. boundaries text (c.starts.from + n) stop) (sym width) ∙ ap (λ a. places text a (c.starts.from + c.len_utf8-from.result) stop) (sym c.if-anchored.false) in
+    let is = rw c.starts.invariant.text at c.in-Some-next_start.ensures.start in
+    let from = rw c.in-Some.is at c.starts.invariant.from in
+    let so_far = rw c.in-Some.is at c.starts.invariant.at_most in
+    let after = next_after text stop place.at place.next is.high is.behind in
     record {
       found = λ view go explains.
-          let inv = c.starts.invariant.found view go explains in
-          let f = failed d c.in_default.is view go explains in
-          let both = failed_next (with_position d go) c.starts.from (these_places d) _ (split ∙ ap (λ ps. c.starts.from ∷ ps) later) f.none in (
-            f.all,
-            f.slots,
-            inv.2 ∙ both.0,
-            omega (arith, inv.3, both.1, c.look-before.ensures.ticked, c.begin.ensures.more),
+          let try = tried (goal.at.starts-preserved c).In_ok-end view go explains in
+          let over = rw c.in-Some-next_start.is at (passed d view go explains) in
+          let none = sym (rw c.in_default-2.is at try.value) in
+          let rest = places_from text c.args.anchored place.next stop in
+          let next = earliest_next (spot d go) place.at rest none in
+          let more = tried_next (spot d go) place.at rest none in
+          let failed = try.failed c.in_default-2.is in (
+            failed.0,
+            failed.1,
+            over.0 ∙ next,
+            omega (arith, over.1, more, c.begin.ensures.more),
           );
-      from = (omega (arith, c.starts.invariant.from.0), omega (arith, c.starts.invariant.from.1, fits, width), rw width (rw (c.in-Some-after.is, c.starts.invariant.text) at c.look-before.ensures.next));
+      from = behind_from text stop c.args.start place.at place.next (omega (arith, from.0, is.low)) is.behind;
       count = c.begin.ensures.count ∙ c.starts.invariant.count;
-      base = (omega (arith, c.starts.invariant.base.0, c.begin.ensures.base.0), omega (arith, c.begin.ensures.base.1));
+      base = (omega (arith, c.starts.invariant.base.0, c.begin.ensures.base.0), omega (arith, c.begin.ensures.base.1, is.high), above_base text stop c.begin.new.visited.base place.at place.next c.begin.ensures.base.1 is.behind);
       rows = c.begin.ensures.rows;
-      empty = rw c.in_default.is at c.in_ok-end.ensures.empty;
+      empty = rw c.in_default-2.is at c.in_ok-end.ensures.empty;
       slots = c.begin.ensures.slots ∙ c.starts.invariant.slots;
       farthest = c.begin.auto.farthest ∙ c.starts.invariant.farthest;
-      at_most = let some = len_utf8_bounds c.in-Some-after.c in omega (arith, width, some, c.begin.ensures.counted, c.look-before.ensures.ticked, c.starts.invariant.at_most, c.starts.invariant.from.0);
-      more = omega (arith, c.look-before.ensures.ticked, c.begin.ensures.more, c.starts.invariant.more);
-      text = c.begin.ensures.text ∙ c.look-before.ensures.text ∙ c.starts.invariant.text;
-      same_counter = c.begin.ensures.same_counter ∙ c.look-before.ensures.same_counter ∙ c.starts.invariant.same_counter;
+      at_most = omega (arith, so_far, c.begin.ensures.counted, c.in-Some-next_start.ensures.at_most, from.0, is.low, after);
+      more = omega (arith, c.next_start.ensures.more, c.begin.ensures.more, c.starts.invariant.more);
+      text = c.begin.ensures.text ∙ c.next_start.ensures.text ∙ c.starts.invariant.text;
+      same_counter = c.begin.ensures.same_counter ∙ c.next_start.ensures.same_counter ∙ c.starts.invariant.same_counter;
     }

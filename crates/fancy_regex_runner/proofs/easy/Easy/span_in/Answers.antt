@@ -36,6 +36,9 @@ earliest_way-requires-clause-closed c = rw c.deref.ensures.value (closed c.args.
 pub earliest_way-requires-clause-table : goal.earliest_way-requires-clause-table
 earliest_way-requires-clause-table c = rw (c.deref.ensures.value, c.deref-2.ensures.value, c.rules.ensures) c.args.self.now.table
 
+pub earliest_way-requires-clause-marks : goal.earliest_way-requires-clause-marks
+earliest_way-requires-clause-marks c = rw (c.deref.ensures.value, c.deref-2.ensures.value, c.rules.ensures) c.args.self.now.marks
+
 -- the bound, after the search
 bound : (c : After-earliest_way) (pattern : Pattern) → IsEasyOf c.args.self.now pattern
     → look_count c.earliest_way.new.text ≤ c.args.steps.now + tree_weight pattern.groups pattern.tree * (c.args.input.now.range.end - c.args.input.now.first + 1)

@@ -1,0 +1,191 @@
+-- Loops over one class.
+use Rattle.std.proofs.Common.{◌≡◌, ◌∙◌, ℕ, ◌+◌, ◌-◌, ◌<◌, ◌≤◌, ◌⊎◌, inl, inr, Bool, List, [], ◌∷◌, Option, Some, None, true, false, refl, sym, ap, ap₂, subst, arith, length, leb-true, le-leb, lt-ltb, ◌&&◌, nat_le, IsCharBoundary}
+use Rattle.std.proofs.lemmas.Bool.{and_parts, and_from, and_left, cond-true}
+use Rattle.std.proofs.lemmas.Str.{len_utf8_bounds}
+use Rattle.std.specs.Char.{len_utf8}
+use Rattle.std.specs.Prelude.{IfSome}
+use Rattle.regex_hir.specs.Text.{char_at, char_before, is_some_and}
+use Rattle.fancy_regex_class.specs.declared.class.CharClassMatcher.{CharClassMatcher}
+use Rattle.fancy_regex_states.specs.CharTests.{leaf_matches_char}
+use Rattle.fancy_regex_states.specs.First.{state_at}
+use Rattle.fancy_regex_states.specs.declared.atom.Leaf.{Leaf}
+use Rattle.fancy_regex_states.specs.declared.state.State.{State}
+use Rattle.fancy_regex_states.specs.declared.state.State.TheVariants.{Read}
+use Rattle.fancy_regex_runner.specs.CharTests.{read_next}
+use Rattle.fancy_regex_runner.specs.Meaning.{Spot, View, reads}
+use Rattle.fancy_regex_runner.specs.Attempt.{Trace, Continuation, either, save, accept, better_trace, better_spot, apply, land}
+use Rattle.fancy_regex_runner.specs.Program.{visit}
+use Rattle.fancy_regex_runner.specs.Visited.{Adds}
+use Rattle.fancy_regex_runner.specs.Search.{IsLoop, IsReader, IsExit, GoesOn, LeadsTo, Explains, Dfs, After, Progresses, Reaches, pending, slots_at_bottom, with_next}
+use Rattle.fancy_regex_runner.specs.declared.frame.Next.{Next}
+use Rattle.fancy_regex_runner.specs.declared.frame.Next.TheVariants.{Pair, Back, Matched}
+use Rattle.fancy_regex_runner.specs.declared.frame.Frame.{Frame}
+use Rattle.fancy_regex_runner.specs.declared.frame.Frame.TheVariants.{Explore}
+use Rattle.fancy_regex_runner.specs.declared.search.SearchContext.{SearchContext}
+use Rattle.fancy_regex_runner.specs.declared.class_loop.ClassLoop.{ClassLoop}
+use Rattle.fancy_regex_runner.specs.declared.class_loop.Exit.{Exit}
+use Rattle.fancy_regex_runner.specs.declared.class_loop.Exit.TheVariants.{Match, Reads, Other}
+use Rattle.fancy_regex_runner.proofs.DfsLemmas.{Dfs-split, first_is_best, guard_no}
+use Rattle.fancy_regex_runner.proofs.LeadLemmas.{ComesTo, led, under, Dfs-comes, after_led, saved_fails}
+use Rattle.fancy_regex_runner.proofs.StepLemmas.{next_if, read_leads}
+
+-- it leads on to this state, behind `at`, if it leads on
+abbrev pub LeadsOn : ℕ → ℕ → ℕ → Next → Type 0
+LeadsOn state at stop (Pair q j) = (q ≡ state) × (at < j) × (j ≤ stop)
+LeadsOn state at stop Back = Unit {0}
+LeadsOn state at stop Matched = Unit {0}
+
+-- what reads a character leads on behind it
+pub read_leads_on : (unicode : Bool) (matchers : List CharClassMatcher) (stop : ℕ) (leaf : Leaf) (next at : ℕ) (after : Option ℕ) → at ≤ stop
+    → LeadsOn next at stop (read_next unicode matchers stop leaf next at after)
+read_leads_on unicode matchers stop leaf next at None p = tt
+read_leads_on unicode matchers stop leaf next at (Some c) p =
+    next_if (LeadsOn next at stop) (leaf_matches_char unicode matchers leaf c && nat_le (len_utf8 c) (stop - at)) (Pair next (at + len_utf8 c))
+    (λ yes.
+    let fits : len_utf8 c ≤ stop - at = leb-true (len_utf8 c) (stop - at) (and_parts (leaf_matches_char unicode matchers leaf c) (nat_le (len_utf8 c) (stop - at)) yes).1 in
+    let some : 1 ≤ len_utf8 c = (len_utf8_bounds c).0 in
+    (refl, omega arith, omega arith))
+    (λ no. tt)
+
+none_above : (r : ℕ) (a : Option Trace) → Reaches false r a → r ≤ 0
+none_above r None h = absurd h
+none_above r (Some t) h = h
+
+-- what succeeds is all that counts of what is under it, where the first match is wanted
+pub under_success : (go : ℕ → Continuation) (q i p j : ℕ) (t : Trace) (rest : List Frame) → (go q i).answer ≡ Some t
+    → ComesTo false go (Explore q i ∷ Explore p j ∷ rest) (Explore q i ∷ rest)
+unfolding pending slots_at_bottom land
+under_success go q i p j t rest found = record {
+  value = λ slots.
+      let one : land slots (go q i).answer ≡ Some (record { at = t.end; slots = apply t.writes slots }) = ap (land slots) found in
+      let old : Option Spot = pending false go (Explore p j ∷ rest) slots in
+      let new : Option Spot = pending false go rest slots in
+      ap (λ o. better_spot false o old) one
+      ∙ first_is_best (record { at = t.end; slots = apply t.writes slots }) old
+      ∙ sym (first_is_best (record { at = t.end; slots = apply t.writes slots }) new)
+      ∙ sym (ap (λ o. better_spot false o new) one);
+  bottom = λ slots. refl;
+  reaches = λ d r b. (
+    b.0,
+    elim b.1 [
+      | inl here ↦ inl here
+      | inr h ↦ elim h.1 [
+        | inl there ↦ inl (subst (Reaches false r) (sym found) (none_above r (go p j).answer there))
+        | inr below ↦ inr below
+      ]
+    ],
+  );
+}
+
+-- the better of two succeeds where the second does
+some_better : (a : Option Trace) (t : Trace) → (best : Trace) × (better_trace false a (Some t) ≡ Some best)
+some_better None t = (t, refl)
+some_better (Some s) t = (s, refl)
+
+-- a state that leads to one that reads fails where that one does
+pub saved_reader : (context : SearchContext) (q p slot : ℕ) (exit : Exit) (state : State) → IsReader context p exit → q < length context.states.now → state_at context.states.now q ≡ state
+    → ((view : View) (go : ℕ → Continuation) (i : ℕ) → visit view context.stop go state i ≡ save slot i (go p i)) → IsExit context q exit
+saved_reader context q p slot Match state h low is saves = absurd h
+saved_reader context q p slot Other state h low is saves = tt
+saved_reader context q p slot (Reads leaf) state h low is saves =
+    λ text view go explains i high b e.
+    saved_fails go q p slot i ((explains.agree q low).does i high ∙ ap (λ s. visit view context.stop go s i) is ∙ saves view go i) (h text view go explains i high b e)
+
+-- a state that reads fails where its leaf does not match
+pub read_reader : (context : SearchContext) (q : ℕ) (leaf : Leaf) (next : ℕ) → q < length context.states.now → state_at context.states.now q ≡ Read leaf next → IsReader context q (Reads leaf)
+unfolding reads
+read_reader context q leaf next low is text view go explains i high b e =
+    guard_no _ _ _ ((explains.agree q low).does i high ∙ ap (λ s. visit view context.stop go s i) is) (and_left _ _ ((explains.shows i b).has leaf ∙ e))
+
+-- what a visit of a loop leaves, once it marked a pair
+pub progresses : (next : Next) (marked now_marked len now_len : ℕ) → marked < now_marked → now_len + marked ≤ len + now_marked → Progresses next marked now_marked len now_len
+progresses (Pair q j) marked now_marked len now_len more grown = (more, grown)
+progresses Back marked now_marked len now_len more grown = (omega arith, grown)
+progresses Matched marked now_marked len now_len more grown = (omega arith, grown)
+
+module _ (context : SearchContext) (text : List ℕ) (view : View) (go : ℕ → Continuation) (explains : Explains context text view go) (id at : ℕ) (found : ClassLoop)
+    (is : IsLoop context.states.now id found) (state : id < length context.states.now) (high : at ≤ context.stop) (boundary : IsCharBoundary text at) where
+  -- at its head a loop reads on, or is left
+  head_does : go id at ≡ either view.longest (go found.body at) (go found.exit at)
+  head_does = (explains.agree id state).does at high ∙ ap (λ s. visit view context.stop go s at) is.head
+
+  body_leads : LeadsTo go found.body at (read_next context.rules.unicode context.matchers.now context.stop found.leaf id at (char_at text at))
+  body_leads =
+      read_leads view context.matchers.now context.rules context.stop found.leaf id at found.body (char_before text at) (char_at text at) go high (explains.shows at boundary)
+      ((explains.agree found.body is.below.0).does at high ∙ ap (λ s. visit view context.stop go s at) is.body)
+
+  module _ {goal best : Option Spot} {bottom slots : List ℕ} {Seen Marked : ℕ → ℕ → Type 0} (rest : List Frame) (exit : Next) (adds : Adds Seen Marked id at) (leads : LeadsTo go found.exit at exit)
+      (d : Dfs view.longest go goal best bottom Seen (Explore id at ∷ rest) slots) where
+    -- the loop reads on, and the exit is left for later
+    pub goes_round : (q behind : ℕ) → read_next context.rules.unicode context.matchers.now context.stop found.leaf id at (char_at text at) ≡ Pair q behind
+        → Dfs view.longest go goal best bottom Marked (Explore q behind ∷ with_next exit rest) slots
+    goes_round q behind reads =
+        let one : LeadsTo go found.body at (Pair q behind) = subst (LeadsTo go found.body at) reads body_leads in
+        Dfs-comes view.longest go (led view.longest go found.body at (Pair q behind) (with_next exit rest) one)
+        (Dfs-comes view.longest go (under view.longest go found.body at _ _ (led view.longest go found.exit at exit rest leads))
+        (Dfs-split view.longest d adds found.body found.exit head_does))
+
+    -- the loop cannot read on, and is left
+    pub leaves_loop : (from : ℕ) → (read_next context.rules.unicode context.matchers.now context.stop found.leaf id at (char_at text at) ≡ Back)
+        ⊎ (read_next context.rules.unicode context.matchers.now context.stop found.leaf id at (char_at text at) ≡ Matched)
+        → After view.longest go exit from goal best bottom Marked rest slots
+    leaves_loop from (inr matched) = absurd (subst (LeadsTo go found.body at) matched body_leads)
+    leaves_loop from (inl reads) =
+        let one : LeadsTo go found.body at Back = subst (LeadsTo go found.body at) reads body_leads in
+        after_led view.longest go found.exit at from exit rest leads
+        (Dfs-comes view.longest go (led view.longest go found.exit at exit rest leads)
+        (Dfs-comes view.longest go (led view.longest go found.body at Back (Explore found.exit at ∷ rest) one)
+        (Dfs-split view.longest d adds found.body found.exit head_does)))
+
+  reads_one : (c : ℕ) → char_at text at ≡ Some c → at < context.stop → c < 128 → leaf_matches_char context.rules.unicode context.matchers.now found.leaf c ≡ true
+      → read_next context.rules.unicode context.matchers.now context.stop found.leaf id at (char_at text at) ≡ Pair id (at + 1)
+  reads_one c here inside low matches =
+      let long : len_utf8 c ≡ 1 = cond-true _ _ _ (lt-ltb c 0x80 low) in
+      let fits : len_utf8 c ≤ context.stop - at = omega (arith, long) in
+      ap (read_next context.rules.unicode context.matchers.now context.stop found.leaf id at) here
+      ∙ cond-true _ _ _ (and_from _ _ matches (le-leb (len_utf8 c) (context.stop - at) fits))
+      ∙ ap (λ n. Pair id (at + n)) long
+
+  -- the loop reads on, and the exit is of no use
+  pub passes_on : {goal best : Option Spot} {bottom slots : List ℕ} {Seen Marked : ℕ → ℕ → Type 0} (rest : List Frame) → Adds Seen Marked id at
+      → Dfs view.longest go goal best bottom Seen (Explore id at ∷ rest) slots
+      → (c : ℕ) (behind : Exit) → IsExit context found.exit behind → char_at text at ≡ Some c → at < context.stop → GoesOn context found.leaf behind (Some c)
+      → Dfs view.longest go goal best bottom Marked (Explore id (at + 1) ∷ rest) slots
+  passes_on rest adds d c Match kind here inside on =
+      let leads : LeadsTo go found.exit at (Pair found.exit at) = (refl, omega arith) in
+      let two = goes_round rest (Pair found.exit at) adds leads d id (at + 1) (reads_one c here inside on.0 on.1) in
+      let high_next : at + 1 ≤ context.stop = omega arith in
+      let does : go id (at + 1) ≡ either view.longest (go found.body (at + 1)) (go found.exit (at + 1)) =
+      (explains.agree id state).does (at + 1) high_next ∙ ap (λ s. visit view context.stop go s (at + 1)) is.head in
+      let ends : go found.exit (at + 1) ≡ accept (at + 1) =
+      (explains.agree found.exit is.below.1).does (at + 1) high_next ∙ ap (λ s. visit view context.stop go s (at + 1)) kind.0 in
+      let first : view.longest ≡ false = explains.longest ∙ kind.1 in
+      let some = some_better (go found.body (at + 1)).answer (record { end = at + 1; writes = [] }) in
+      let succeeds : (go id (at + 1)).answer ≡ Some some.0 =
+      ap (λ r. r.answer) does
+      ∙ ap₂ (λ (l : Bool) (x : Option Trace). better_trace l (go found.body (at + 1)).answer x) first (ap (λ r. r.answer) ends)
+      ∙ some.1 in
+      Dfs-comes view.longest go
+      (subst (λ (l : Bool). ComesTo l go (Explore id (at + 1) ∷ Explore found.exit at ∷ rest) (Explore id (at + 1) ∷ rest)) (sym first)
+      (under_success go id (at + 1) found.exit at some.0 rest succeeds))
+      two
+  passes_on rest adds d c (Reads leaf) kind here inside on =
+      let none : LeadsTo go found.exit at Back =
+      kind text view go explains at high boundary (ap (λ o. is_some_and o (leaf_matches_char context.rules.unicode context.matchers.now leaf)) here ∙ on.2) in
+      goes_round rest Back adds none d id (at + 1) (reads_one c here inside on.0 on.1)
+  passes_on rest adds d c Other kind here inside on = absurd on.2
+
+  pub passes_after : {goal best : Option Spot} {bottom slots : List ℕ} {Seen Marked : ℕ → ℕ → Type 0} (rest : List Frame) → Adds Seen Marked id at
+      → Dfs view.longest go goal best bottom Seen (Explore id at ∷ rest) slots
+      → (after : Option ℕ) (behind : Exit) → IsExit context found.exit behind → char_at text at ≡ after → at < context.stop → GoesOn context found.leaf behind after
+      → Dfs view.longest go goal best bottom Marked (Explore id (at + 1) ∷ rest) slots
+  passes_after rest adds d None behind kind here inside on = absurd on
+  passes_after rest adds d (Some c) behind kind here inside on = passes_on rest adds d c behind kind here inside on
+
+-- the place behind what a loop reads on over
+pub behind_is : (context : SearchContext) (text : List ℕ) (leaf : Leaf) (exit : Exit) (at : ℕ) (after : Option ℕ) → GoesOn context leaf exit after
+    → IfSome after (λ c. IsCharBoundary text (at + len_utf8 c)) → IsCharBoundary text (at + 1)
+behind_is context text leaf exit at None on b = absurd on
+behind_is context text leaf exit at (Some c) on b =
+    let long : len_utf8 c ≡ 1 = cond-true _ _ _ (lt-ltb c 0x80 on.0) in
+    subst (λ (n : ℕ). IsCharBoundary text (at + n)) long b
