@@ -1,2 +1,3 @@
 pub mod UndoLog
 pub mod Memory
+pub mod Places

@@ -4,5 +4,6 @@
 #![tactic(auto)]
 
 pub mod branch;
+mod branch_runs;
 pub mod slots;
 mod undo_log;
