@@ -8,4 +8,8 @@ pub mod AdvanceLemmas
 pub mod Exec
 pub mod AnswerLemmas
 pub mod LimitLemmas
+pub mod RunLemmas
 mod FailingStarts
+mod LookBehindStarts
+mod CharLoops
+mod FailingPlaces

@@ -4,6 +4,8 @@ pub mod Steps
 pub mod Advances
 pub mod Endings
 pub mod Runs
+pub mod LookBehindStarts
+pub mod CharLoops
 pub mod RunArguments
 pub mod MachineLimits
 pub mod SearchAnswers

@@ -1,7 +1,7 @@
 //! Matching of single characters and literals at a byte offset. Each function answers the offset after the match, or
 //! `None`.
 
-ghost use Rattle.std.specs.Prelude.{◌≡◌, ◌+◌, ◌^◌, ◌<◌, ◌≤◌, IfSome, chars, length};
+ghost use Rattle.std.specs.Prelude.{◌≡◌, ◌+◌, ◌^◌, ◌<◌, ◌≤◌, Some, IfSome, chars, length};
 ghost use Rattle.std.specs.Char.{len_utf8};
 ghost use Rattle.regex_hir.specs.Text as sight;
 ghost use Rattle.fancy_regex_meaning.specs.Positions as places;
@@ -21,6 +21,19 @@ pub(crate) fn char_at(text: &str, position: usize) -> Option<char>
 {
     let (_, rest) = text.split_at_checked(position)?;
     rest.chars().next()
+}
+
+/// The ASCII character at the byte offset `position`, if there is one.
+#[inline(always)]
+pub(crate) fn ascii_at(text: &str, position: usize) -> Option<char>
+    ensures char { IfSome result (λ c. sight.char_at text.now position ≡ Some c) }
+    ensures ascii { IfSome result (λ c. c < 128) }
+{
+    let byte = *text.as_bytes().get(position)?;
+    if byte >= 128 {
+        return None;
+    }
+    Some(byte as char)
 }
 
 /// The character that ends at the byte offset `position`, if there is one.
@@ -89,6 +102,7 @@ pub(crate) fn match_casei(text: &str, literal: CaseiLiteral, position: usize) ->
 }
 
 /// The byte offset after the character at `position`, if it is a member of the class.
+#[inline(always)]
 pub(crate) fn match_class(text: &str, matcher: &CharClassMatcher, position: usize) -> Option<usize>
     ensures { result ≡ machine.match_char text.now (among_scalars (has matcher.now)) position }
 {
