@@ -85,6 +85,13 @@ impl<'r, S: Input> MatchIter<'r, S> {
         }
     }
 
+    /// Takes the offsets of a match back: their memory serves a later match.
+    pub fn give_back(&mut self, slots: Vec<usize>)
+        ensures { (self.new.input ≡ self.old.input) × (self.new.regex ≡ self.old.regex) × (self.new.state ≡ self.old.state) }
+    {
+        self.memory.give_back(slots);
+    }
+
     /// Makes one search and moves the start of the next one.
     fn step(&mut self) -> Step
         ensures step { IsStep self.old.regex.now.meta (S.text self.old.input.haystack) self.old.input.config self.old.state result

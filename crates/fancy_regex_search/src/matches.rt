@@ -89,7 +89,11 @@ impl<'r, S: Input> Iterator for Matches<'r, S> {
         let haystack = self.match_iter.input.haystack();
         let config = self.match_iter.input.config();
         match self.match_iter.advance()? {
-            Ok(slots) => Some(Ok(whole_match(haystack, config, &slots))),
+            Ok(slots) => {
+                let found = whole_match(haystack, config, &slots);
+                self.match_iter.give_back(slots);
+                Some(Ok(found))
+            }
             Err(error) => Some(Err(error)),
         }
     }

@@ -44,15 +44,18 @@ with_short_options a =
     (short_rule (codes "dot_matches_new_line") 115))
     (short_rule (codes "ignore_whitespace") 120)
 
--- the command with the options that have a long name
-abbrev pub with_long_options : App → App
-with_long_options a =
-    with_rule (with_rule (with_rule (with_rule (with_rule a
+-- the command with the four flags that have a long name
+abbrev pub with_long_flags : App → App
+with_long_flags a =
+    with_rule (with_rule (with_rule (with_rule a
     (long_rule (codes "ascii") (codes "ascii")))
     (long_rule (codes "oniguruma") (codes "oniguruma")))
     (long_rule (codes "not_empty") (codes "not-empty")))
-    (long_rule (codes "longest") (codes "longest")))
-    limit_rule
+    (long_rule (codes "longest") (codes "longest"))
+
+-- the command with the options that have a long name
+abbrev pub with_long_options : App → App
+with_long_options a = with_rule (with_long_flags a) limit_rule
 
 -- the command with all options
 abbrev pub with_options : App → App

@@ -84,9 +84,25 @@ pub fn command<'a>(alloc: Global) -> Result<Command<'a>, AllocError>
     ensures { IfOk result (λ c. app_of c ≡ the_app) }
 {
     let search = with_searches(alloc, top(alloc)?)?;
-    let replace = joined(search, replace_subcommand(alloc)?)?;
+    let replace = with_replace(alloc, search)?;
     let print = with_pattern_subcommand(alloc, replace, "print", PRINT)?;
-    joined(print, set_subcommand(alloc)?)
+    with_set(alloc, print)
+}
+
+/// The command with the subcommand `replace`.
+fn with_replace<'a>(alloc: Global, command: Command<'a>) -> Result<Command<'a>, AllocError>
+    ensures { IfOk result (λ c. app_of c ≡ with_subcommand (app_of command.entry) rules.replace_subcommand.top) }
+{
+    let subcommand = replace_subcommand(alloc)?;
+    joined(command, subcommand)
+}
+
+/// The command with the subcommand `set`.
+fn with_set<'a>(alloc: Global, command: Command<'a>) -> Result<Command<'a>, AllocError>
+    ensures { IfOk result (λ c. app_of c ≡ with_subcommand (app_of command.entry) rules.set_subcommand.top) }
+{
+    let subcommand = set_subcommand(alloc)?;
+    joined(command, subcommand)
 }
 
 /// The command with the subcommands that search with a pattern: `find`, `captures`, `split`.
@@ -194,14 +210,16 @@ fn with_short_options<'a>(alloc: Global, command: Command<'a>) -> Result<Command
     ensures app { IfOk result (λ c. app_of c ≡ rules.with_short_options (app_of command.entry)) }
     ensures local { IfOk result (λ c. (out-Command c).has_globals ≡ false) }
 {
-    let case_insensitive = letter(alloc, "case_insensitive", 'i', CASE_INSENSITIVE);
-    let multi_line = letter(alloc, "multi_line", 'm', MULTI_LINE);
-    let dot_matches_new_line = letter(alloc, "dot_matches_new_line", 's', DOT_MATCHES_NEW_LINE);
-    let ignore_whitespace = letter(alloc, "ignore_whitespace", 'x', IGNORE_WHITESPACE);
-    let one = with(command, case_insensitive)?;
-    let two = with(one, multi_line)?;
-    let three = with(two, dot_matches_new_line)?;
-    with(three, ignore_whitespace)
+    let one = with_letter(alloc, command, "case_insensitive", 'i', CASE_INSENSITIVE)?;
+    let two = with_letter(alloc, one, "multi_line", 'm', MULTI_LINE)?;
+    let three = with_letter(
+        alloc,
+        two,
+        "dot_matches_new_line",
+        's',
+        DOT_MATCHES_NEW_LINE,
+    )?;
+    with_letter(alloc, three, "ignore_whitespace", 'x', IGNORE_WHITESPACE)
 }
 
 /// The command with the options that have a long name: `--ascii`, `--oniguruma`, `--not-empty`, `--longest`, `--limit`.
@@ -210,15 +228,50 @@ fn with_long_options<'a>(alloc: Global, command: Command<'a>) -> Result<Command<
     ensures app { IfOk result (λ c. app_of c ≡ rules.with_long_options (app_of command.entry)) }
     ensures local { IfOk result (λ c. (out-Command c).has_globals ≡ false) }
 {
-    let ascii = named(alloc, "ascii", "ascii", ASCII);
-    let oniguruma = named(alloc, "oniguruma", "oniguruma", ONIGURUMA);
-    let not_empty = named(alloc, "not_empty", "not-empty", NOT_EMPTY);
-    let longest = named(alloc, "longest", "longest", LONGEST);
-    let one = with(command, ascii)?;
-    let two = with(one, oniguruma)?;
-    let three = with(two, not_empty)?;
-    let four = with(three, longest)?;
-    with(four, limit(alloc))
+    let flagged = with_long_flags(alloc, command)?;
+    with(flagged, limit(alloc))
+}
+
+/// The command with the flags that have a long name: `--ascii`, `--oniguruma`, `--not-empty`, `--longest`.
+fn with_long_flags<'a>(alloc: Global, command: Command<'a>) -> Result<Command<'a>, AllocError>
+    requires { (out-Command command).has_globals ≡ false }
+    ensures app { IfOk result (λ c. app_of c ≡ rules.with_long_flags (app_of command.entry)) }
+    ensures local { IfOk result (λ c. (out-Command c).has_globals ≡ false) }
+{
+    let one = with_name(alloc, command, "ascii", "ascii", ASCII)?;
+    let two = with_name(alloc, one, "oniguruma", "oniguruma", ONIGURUMA)?;
+    let three = with_name(alloc, two, "not_empty", "not-empty", NOT_EMPTY)?;
+    with_name(alloc, three, "longest", "longest", LONGEST)
+}
+
+/// The command with one more flag, which has a short name of one letter.
+fn with_letter<'a>(
+    alloc: Global,
+    command: Command<'a>,
+    id: &'a str,
+    short: char,
+    help: &'a str,
+) -> Result<Command<'a>, AllocError>
+    requires { (out-Command command).has_globals ≡ false }
+    ensures app { IfOk result (λ c. app_of c ≡ with_rule (app_of command.entry) (short_rule id.entry.now short)) }
+    ensures local { IfOk result (λ c. (out-Command c).has_globals ≡ false) }
+{
+    with(command, letter(alloc, id, short, help))
+}
+
+/// The command with one more flag, which has a long name.
+fn with_name<'a>(
+    alloc: Global,
+    command: Command<'a>,
+    id: &'a str,
+    name: &'a str,
+    help: &'a str,
+) -> Result<Command<'a>, AllocError>
+    requires { (out-Command command).has_globals ≡ false }
+    ensures app { IfOk result (λ c. app_of c ≡ with_rule (app_of command.entry) (long_rule id.entry.now name.entry.now)) }
+    ensures local { IfOk result (λ c. (out-Command c).has_globals ≡ false) }
+{
+    with(command, named(alloc, id, name, help))
 }
 
 /// The positional argument: the pattern.
