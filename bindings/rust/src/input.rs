@@ -1,0 +1,28 @@
+/// A text, and where its search begins.
+#[derive(Clone, Copy, Debug)]
+pub struct RegexInput<'t> {
+    pub(crate) text: &'t str,
+    pub(crate) start: usize,
+    pub(crate) continues: bool,
+}
+
+impl<'t> RegexInput<'t> {
+    /// The whole text, from its start.
+    pub fn new(text: &'t str) -> RegexInput<'t> {
+        RegexInput {
+            text,
+            start: 0,
+            continues: true,
+        }
+    }
+
+    /// The same from a byte offset on, which must not lie inside a character; `\G` matches there.
+    pub fn from_pos(self, start: usize) -> RegexInput<'t> {
+        RegexInput { start, ..self }
+    }
+
+    /// Whether `\G` matches where the search begins; otherwise it never matches.
+    pub fn continue_from_previous_match_end(self, continues: bool) -> RegexInput<'t> {
+        RegexInput { continues, ..self }
+    }
+}

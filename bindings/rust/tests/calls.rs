@@ -1,0 +1,181 @@
+//! Each call of the wrapper, on the examples of the crate that was ported and on errors.
+
+use proved_fancy_regex::{
+    Captures, Error, Regex, RegexBuilder, RegexInput, RegexOptionsBuilder, RegexSet,
+};
+
+fn spans(pattern: &str, text: &str) -> Vec<(usize, usize)> {
+    let regex = Regex::new(pattern).unwrap();
+    let found = regex.find_iter(text).map(|m| m.unwrap());
+    found.map(|m| (m.start(), m.end())).collect()
+}
+
+#[test]
+fn finds_and_captures() {
+    let regex = Regex::new(r"(?<!\$)(\d+)(x)?").unwrap();
+    assert!(regex.is_match("$1 23").unwrap());
+    let groups = regex.captures("$1 23").unwrap().unwrap();
+    assert_eq!(groups.len(), 3);
+    assert_eq!(&groups[1], "23");
+    assert_eq!(groups.get(0).unwrap().range(), 3..5);
+    assert!(groups.get(2).is_none() && groups.get(3).is_none());
+    assert_eq!(groups.iter().filter(Option::is_some).count(), 2);
+    assert!(regex.find("a").unwrap().is_none());
+}
+
+#[test]
+fn iterates_as_the_crate_does() {
+    assert_eq!(
+        spans(r"\w+(?=!)", "so fancy! even with! iterators!"),
+        [(3, 8), (15, 19), (21, 30)]
+    );
+    assert_eq!(spans("a*", "baé"), [(0, 0), (1, 2), (4, 4)]);
+    assert_eq!(spans("", "é"), [(0, 0), (2, 2)]);
+    assert_eq!(spans(r"\Ga?", "aab"), [(0, 1), (1, 2)]);
+    assert_eq!(spans(r"\G[ab]\K", "aab"), [(1, 1), (3, 3)]);
+}
+
+#[test]
+fn splits_and_replaces() {
+    let comma = Regex::new(",(?=b)").unwrap();
+    let pieces: Result<Vec<_>, _> = comma.split("a,b,c").collect();
+    assert_eq!(pieces.unwrap(), ["a", "b,c"]);
+    let words = Regex::new(r"(\w+) (\w+)").unwrap();
+    let swapped = words.replace_all("hello world", |g: &Captures| format!("{} {}", &g[2], &g[1]));
+    assert_eq!(swapped, "world hello");
+}
+
+#[test]
+fn searches_from_a_place() {
+    let regex = Regex::new(r"\bb").unwrap();
+    assert!(regex.find_from_pos("ab", 1).unwrap().is_none());
+    assert!(regex.find_from_pos("b", 2).unwrap().is_none());
+    assert_eq!(regex.find_from_pos("b b", 1).unwrap().unwrap().start(), 2);
+}
+
+#[test]
+fn options_are_kept() {
+    let mut builder = RegexBuilder::new("a|ab");
+    assert_eq!(builder.build().unwrap().find("AB").unwrap(), None);
+    let found = builder
+        .case_insensitive(true)
+        .leftmost_longest(true)
+        .build()
+        .unwrap();
+    assert_eq!(found.find("AB").unwrap().unwrap().end(), 2);
+}
+
+#[test]
+fn errors_are_told() {
+    let error = Regex::new("a)").unwrap_err();
+    assert!(matches!(error, Error::ParseError(1, _)));
+    assert_eq!(
+        error.to_string(),
+        "Parsing error at position 1: General parsing error: end of string not reached"
+    );
+    let slow = RegexBuilder::new("(a|b|ab)*bc(?=x)")
+        .backtrack_limit(100)
+        .build()
+        .unwrap();
+    assert!(matches!(
+        slow.find("abababababababab"),
+        Err(Error::RuntimeError(_))
+    ));
+    assert_eq!(slow.find("c").unwrap(), None);
+}
+
+#[test]
+fn regexes_go_to_other_threads() {
+    let regex = Regex::new("b").unwrap();
+    let found = std::thread::spawn(move || regex.is_match("abc").unwrap()).join();
+    assert!(found.unwrap());
+}
+
+#[test]
+fn templates_are_expanded() {
+    let regex = Regex::new(r"(?<first>\w)(\w)?").unwrap();
+    assert_eq!(
+        regex.capture_names().collect::<Vec<_>>(),
+        [None, Some("first"), None]
+    );
+    for (template, wanted) in [
+        ("$first.$2", "a.b"),
+        ("${first}x$$", "ax$"),
+        ("$firstx", ""),
+        ("${1}$", "a$"),
+        ("${1", "${1"),
+        ("$0é", ""),
+        ("${0}é", "abé"),
+        ("$9$other", ""),
+    ] {
+        assert_eq!(regex.replace_all("ab", template), wanted, "{template}");
+    }
+    assert_eq!(regex.replacen("ab cd e", 2, "-"), "- - e");
+    assert_eq!(Regex::new("").unwrap().replace_all("é", "-"), "-é-");
+    assert_eq!(Regex::new("").unwrap().replace_all("é", ""), "é");
+}
+
+#[test]
+fn sets_are_searched() {
+    let mut options = RegexOptionsBuilder::new();
+    options.case_insensitive(true);
+    let set = RegexSet::new_with_options(["b", "(?=ab)", "AB?"], &options).unwrap();
+    assert_eq!(set.len(), 3);
+    let found = set.find_input(RegexInput::new("xab")).unwrap().unwrap();
+    let found: Vec<_> = found
+        .map(|m| m.unwrap())
+        .map(|m| (m.pattern(), m.start(), m.end()))
+        .collect();
+    assert_eq!(found, [(1, 1, 1), (2, 1, 3)]);
+    let found = set
+        .find_input(RegexInput::new("xab").from_pos(2))
+        .unwrap()
+        .unwrap();
+    assert_eq!(
+        found.map(|m| m.unwrap().get().range()).collect::<Vec<_>>(),
+        [2..3]
+    );
+    assert!(set.find_input(RegexInput::new("x")).unwrap().is_none());
+    assert!(set
+        .find_input(RegexInput::new("b").from_pos(2))
+        .unwrap()
+        .is_none());
+    let none: [&str; 0] = [];
+    assert!(RegexSet::new(none)
+        .unwrap()
+        .find_input(RegexInput::new("b"))
+        .unwrap()
+        .is_none());
+    assert!(matches!(
+        RegexSet::new(["a", "b)"]),
+        Err(Error::ParseError(1, _))
+    ));
+    let slow = RegexSet::new_with_options(
+        ["(a|b|ab)*bc(?=x)"],
+        RegexOptionsBuilder::new().backtrack_limit(100),
+    )
+    .unwrap();
+    assert!(matches!(
+        slow.find_input(RegexInput::new("abababababababab")),
+        Err(Error::RuntimeError(_))
+    ));
+}
+
+#[test]
+fn long_texts_are_replaced() {
+    let regex = Regex::new("é").unwrap();
+    let replaced = regex.replace_all(&"é".repeat(1000), "<$0$0>").into_owned();
+    assert_eq!(replaced, "<éé>".repeat(1000));
+    assert!(matches!(
+        regex.replace_all("abc", "x"),
+        std::borrow::Cow::Borrowed("abc")
+    ));
+    assert_eq!(
+        regex
+            .find_input(RegexInput::new("éé").from_pos(2))
+            .unwrap()
+            .unwrap()
+            .start(),
+        2
+    );
+}

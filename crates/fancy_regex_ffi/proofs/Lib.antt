@@ -1,0 +1,5 @@
+pub mod EndLemmas
+pub mod Handles
+pub mod ListLemmas
+pub mod SetLemmas
+pub mod Values

@@ -1,0 +1,37 @@
+-- What a call reports that writes a list.
+use Rattle.std.specs.Prelude.{◌≡◌, ℕ, ℤ, List, Option, Some, Result}
+use mathlib.Core.Path.{sym, subst}
+use Rattle.fancy_regex_ffi_lists.specs.declared.member.Member.{Member}
+use Rattle.fancy_regex_ffi_lists.specs.declared.spans.Span.{Span}
+use Rattle.fancy_regex_ffi.specs.Lists.{OfRegex, AreMatchSpans, ArePieceSpans, IsReplacedText, AreMembers, IsListWritten, FaultAfter, ListReports}
+use Rattle.fancy_regex_ffi.specs.declared.fault.Fault.{Fault}
+use Rattle.fancy_regex_ffi.specs.declared.held.Held.{Held}
+use Rattle.fancy_regex_ffi.specs.declared.held.Subject.{Subject}
+use Rattle.fancy_regex_ffi.specs.declared.query.Query.{Query}
+
+-- what a call reports on a handle that holds something
+list_reports : {X : Type 0} (Gives : Subject → Result (List X) Fault → Type 0) (old left : Option Held) (held after : Held) (answer : Result (List X) Fault) (code : ℤ) (out written : List X) (count : ℕ)
+    → old ≡ Some held → left ≡ Some after → Gives held.subject answer → IsListWritten answer code out written count → after.subject ≡ held.subject → FaultAfter answer held.fault after.fault
+    → ListReports Gives old left code out written count
+list_reports Gives old left held after answer code out written count before behind gives told same kept =
+    subst (λ (o : Option Held). ListReports Gives o left code out written count) (sym before) (after, answer, behind, same, gives, told, kept)
+
+pub spans_report : (text : List ℕ) (old left : Option Held) (held after : Held) (answer : Result (List Span) Fault) (code : ℤ) (out written : List Span) (count : ℕ)
+    → old ≡ Some held → left ≡ Some after → OfRegex (AreMatchSpans text) held.subject answer → IsListWritten answer code out written count → after.subject ≡ held.subject
+    → FaultAfter answer held.fault after.fault → ListReports (OfRegex (AreMatchSpans text)) old left code out written count
+spans_report text = list_reports (OfRegex (AreMatchSpans text))
+
+pub pieces_report : (text : List ℕ) (old left : Option Held) (held after : Held) (answer : Result (List Span) Fault) (code : ℤ) (out written : List Span) (count : ℕ)
+    → old ≡ Some held → left ≡ Some after → OfRegex (ArePieceSpans text) held.subject answer → IsListWritten answer code out written count → after.subject ≡ held.subject
+    → FaultAfter answer held.fault after.fault → ListReports (OfRegex (ArePieceSpans text)) old left code out written count
+pieces_report text = list_reports (OfRegex (ArePieceSpans text))
+
+pub replaced_report : (text template : List ℕ) (old left : Option Held) (held after : Held) (answer : Result (List ℕ) Fault) (code : ℤ) (out written : List ℕ) (count : ℕ)
+    → old ≡ Some held → left ≡ Some after → OfRegex (IsReplacedText text template) held.subject answer → IsListWritten answer code out written count → after.subject ≡ held.subject
+    → FaultAfter answer held.fault after.fault → ListReports (OfRegex (IsReplacedText text template)) old left code out written count
+replaced_report text template = list_reports (OfRegex (IsReplacedText text template))
+
+pub members_report : (text : List ℕ) (query : Query) (old left : Option Held) (held after : Held) (answer : Result (List Member) Fault) (code : ℤ) (out written : List Member) (count : ℕ)
+    → old ≡ Some held → left ≡ Some after → AreMembers text query held.subject answer → IsListWritten answer code out written count → after.subject ≡ held.subject
+    → FaultAfter answer held.fault after.fault → ListReports (AreMembers text query) old left code out written count
+members_report text query = list_reports (AreMembers text query)

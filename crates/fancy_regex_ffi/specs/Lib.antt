@@ -1,0 +1,9 @@
+pub mod Choices
+pub mod Codes
+pub mod Ends
+pub mod Handles
+pub mod Lists
+pub mod Places
+pub mod Searches
+pub mod Sets
+pub mod Texts

@@ -1,0 +1,111 @@
+-- What the searches over bytes answer.
+use Rattle.std.specs.Prelude.{◌≡◌, ℕ, ◌+◌, ◌<◌, ◌≤◌, Bool, true, false, List, length, Option, Some, None, Result, Ok, Err, option_map, IsUtf8, IsCharBoundary, EachIndex, HoldsAt}
+use Rattle.std.specs.Borrow.{Bor}
+use Rattle.fancy_regex_meta.specs.declared.meta_regex.MetaRegex.{MetaRegex}
+use Rattle.fancy_regex_input.specs.declared.config.SearchConfig.{SearchConfig}
+use Rattle.fancy_regex_meaning.specs.Searches.{Match}
+use Rattle.fancy_regex_class.specs.RunInputs.{match_slots}
+use Rattle.fancy_regex_meta.specs.MetaMatches.{meta_match, meta_pattern}
+use Rattle.fancy_regex_meta.specs.SearchLimits.{IsMetaSearchError, meta_uses_easy, max_looks}
+use Rattle.fancy_regex_input.specs.SearchInputs.{whole}
+use Rattle.fancy_regex_search.specs.CaptureSpans.{span_in, IsSpanAt}
+use Rattle.fancy_regex_ffi_lists.specs.Spans.{span_of}
+use Rattle.fancy_regex_ffi.specs.declared.fault.Fault.{Fault}
+use Rattle.fancy_regex_ffi.specs.declared.fault.Fault.TheVariants as faults
+use Rattle.fancy_regex_ffi.specs.declared.query.Query.{Query}
+use Rattle.fancy_regex_ffi_lists.specs.declared.spans.Span.{Span}
+use Rattle.fancy_regex_ffi.specs.declared.held.Subject.{Subject}
+use Rattle.fancy_regex_ffi.specs.declared.held.Subject.TheVariants as subjects
+
+-- the text itself if it is UTF-8, else the fault that says so
+abbrev pub IsTextOrFault : List ℕ → Result (Bor (List ℕ)) Fault → Type 0
+IsTextOrFault bytes (Ok text) = (text.now ≡ bytes) × IsUtf8 bytes
+IsTextOrFault bytes (Err fault) = (fault ≡ faults.NotUtf8) × (IsUtf8 bytes → ⊥)
+
+-- why a search cannot begin there
+abbrev pub IsPlaceFault : List ℕ → ℕ → Fault → Type 0
+IsPlaceFault text position faults.PastEnd = length text < position
+IsPlaceFault text position faults.OffBoundary = (position ≤ length text) × (IsCharBoundary text position → ⊥)
+IsPlaceFault text position _ = ⊥
+
+-- nothing if a search can begin there, else the fault that says why not
+abbrev pub IsPlaceOrFault : List ℕ → ℕ → Result (Unit {0}) Fault → Type 0
+IsPlaceOrFault text position (Ok _) = IsCharBoundary text position
+IsPlaceOrFault text position (Err fault) = IsPlaceFault text position fault
+
+-- the configuration of a search
+abbrev pub config_of : List ℕ → Query → SearchConfig
+config_of text query = record (whole text) { start = query.position; continues = query.continues }
+
+-- the span of the match that the definitions give
+abbrev pub found_by : MetaRegex → List ℕ → Query → Option (ℕ × ℕ)
+found_by meta text query = option_map span_in (meta_match meta text (config_of text query))
+
+-- why a search does not answer
+abbrev pub IsSearchFault : MetaRegex → List ℕ → Query → Fault → Type 0
+IsSearchFault meta text query (faults.Regex e) = IsMetaSearchError meta text (config_of text query) false e
+IsSearchFault meta text query faults.NotUtf8 = IsUtf8 text → ⊥
+IsSearchFault meta text query fault = IsPlaceFault text query.position fault
+
+-- the match that the definitions give, or why there is no answer
+abbrev pub IsFoundIn : MetaRegex → List ℕ → Query → Result (Option (ℕ × ℕ)) Fault → Type 0
+IsFoundIn meta text query (Ok found) = found ≡ found_by meta text query
+IsFoundIn meta text query (Err fault) = IsSearchFault meta text query fault
+
+-- no regex was built
+abbrev pub HoldsNoRegex : Subject → Type 0
+HoldsNoRegex (subjects.Regex regex) = ⊥
+HoldsNoRegex (subjects.Set set) = Unit {0}
+HoldsNoRegex subjects.Nothing = Unit {0}
+
+-- why a search of what was built does not answer
+abbrev pub IsFaultBy : Subject → List ℕ → Query → Fault → Type 0
+IsFaultBy (subjects.Regex regex) text query fault = IsSearchFault regex.meta text query fault
+IsFaultBy (subjects.Set set) text query fault = fault ≡ faults.NoRegex
+IsFaultBy subjects.Nothing text query fault = fault ≡ faults.NoRegex
+
+-- the match that the definitions give for what was built, or why there is no answer
+abbrev pub IsFoundBy : Subject → List ℕ → Query → Result (Option (ℕ × ℕ)) Fault → Type 0
+IsFoundBy (subjects.Regex regex) text query found = IsFoundIn regex.meta text query found
+IsFoundBy (subjects.Set set) text query (Ok _) = ⊥
+IsFoundBy (subjects.Set set) text query (Err fault) = fault ≡ faults.NoRegex
+IsFoundBy subjects.Nothing text query (Ok _) = ⊥
+IsFoundBy subjects.Nothing text query (Err fault) = fault ≡ faults.NoRegex
+
+-- How a search raises the counter of looks: at most as often as the linear-time matcher may look, and not at all where a program
+-- is run.
+abbrev pub CountsLooks : MetaRegex → List ℕ → Query → ℕ → ℕ → Type 0
+CountsLooks meta text query old new = (meta_uses_easy meta ≡ true → new ≤ old + max_looks meta (config_of text query)) × (meta_uses_easy meta ≡ false → new ≡ old) × (old ≤ new)
+
+-- the same for what was built
+abbrev pub CountsLooksBy : Subject → List ℕ → Query → ℕ → ℕ → Type 0
+CountsLooksBy (subjects.Regex regex) text query old new = CountsLooks regex.meta text query old new
+CountsLooksBy (subjects.Set set) text query old new = new ≡ old
+CountsLooksBy subjects.Nothing text query old new = new ≡ old
+
+-- the span of a group: that of the part of the text that it matched, and the largest number twice where it took no part
+abbrev pub IsGroupSpan : List ℕ → List ℕ → ℕ → Span → Type 0
+IsGroupSpan text slots k span = (found : Option (ℕ × ℕ)) × IsSpanAt text slots k found × (span ≡ span_of found)
+
+-- the spans of the groups, from group 0, as many as there are spans
+abbrev pub AreGroupSpans : List ℕ → List ℕ → List Span → Type 0
+AreGroupSpans text slots spans = EachIndex spans (λ k. HoldsAt (IsGroupSpan text slots k) spans k)
+
+-- the spans of the groups of the match that the definitions give
+abbrev pub AreGroupsFound : MetaRegex → List ℕ → Query → List Span → Type 0
+AreGroupsFound meta text query spans = (found : Match) × (meta_match meta text (config_of text query) ≡ Some found)
+    × AreGroupSpans text (match_slots (meta_pattern meta) found) spans
+
+-- whether the definitions give a match, with the spans of its groups; or why there is no answer, and the spans are as they were
+abbrev pub IsCapturedIn : MetaRegex → List ℕ → Query → Result Bool Fault → List Span → List Span → Type 0
+IsCapturedIn meta text query (Ok true) old new = AreGroupsFound meta text query new
+IsCapturedIn meta text query (Ok false) old new = (found_by meta text query ≡ None) × (new ≡ old)
+IsCapturedIn meta text query (Err fault) old new = IsSearchFault meta text query fault × (new ≡ old)
+
+-- the same for what was built
+abbrev pub IsCapturedBy : Subject → List ℕ → Query → Result Bool Fault → List Span → List Span → Type 0
+IsCapturedBy (subjects.Regex regex) text query captured old new = IsCapturedIn regex.meta text query captured old new
+IsCapturedBy (subjects.Set set) text query (Ok _) old new = ⊥
+IsCapturedBy (subjects.Set set) text query (Err fault) old new = (fault ≡ faults.NoRegex) × (new ≡ old)
+IsCapturedBy subjects.Nothing text query (Ok _) old new = ⊥
+IsCapturedBy subjects.Nothing text query (Err fault) old new = (fault ≡ faults.NoRegex) × (new ≡ old)

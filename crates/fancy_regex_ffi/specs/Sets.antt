@@ -1,0 +1,50 @@
+-- What a set is built of.
+use Rattle.std.specs.Prelude.{◌≡◌, ⊤, ℕ, ◌≤◌, ℤ, List, [], ◌∷◌, length, Option, Some, None, Result, Ok, Err, slice_range, IsUtf8}
+use Rattle.std.specs.Borrow.{Bor}
+use Rattle.fancy_regex_meaning.specs.WayLaws.{Each}
+use Rattle.fancy_regex_meta.specs.declared.options.RegexOptions.{RegexOptions}
+use Rattle.fancy_regex.specs.SetMembers.{AreBuiltOf, RefusesPatterns}
+use Rattle.fancy_regex_ffi.specs.Codes.{code_of, fault_status}
+use Rattle.fancy_regex_ffi.specs.declared.fault.Fault.{Fault}
+use Rattle.fancy_regex_ffi.specs.declared.fault.Fault.TheVariants as faults
+use Rattle.fancy_regex_ffi.specs.declared.held.Held.{Held}
+use Rattle.fancy_regex_ffi.specs.declared.held.Subject.{Subject}
+use Rattle.fancy_regex_ffi.specs.declared.held.Subject.TheVariants as subjects
+use Rattle.fancy_regex_ffi.specs.declared.status.Status.{Status}
+use Rattle.fancy_regex_ffi.specs.declared.status.Status.TheVariants as statuses
+
+-- the patterns that stand one behind another, from an offset on, by where each of them ends
+abbrev pub cut_at : List ℕ → ℕ → List ℕ → List (List ℕ)
+cut_at bytes from [] = []
+cut_at bytes from (end ∷ ends) = slice_range bytes from end ∷ cut_at bytes end ends
+
+-- the ends do not fall, and lie within the bytes
+abbrev pub Rise : List ℕ → ℕ → List ℕ → Type 0
+Rise bytes from [] = ⊤
+Rise bytes from (end ∷ ends) = (from ≤ end) × (end ≤ length bytes) × Rise bytes end ends
+
+-- the piece between two offsets, or the fault that says why it is none
+abbrev pub IsPieceOrFault : List ℕ → ℕ → ℕ → Result (Bor (List ℕ)) Fault → Type 0
+IsPieceOrFault bytes from end (Ok text) = (from ≤ end) × (end ≤ length bytes) × (text.now ≡ slice_range bytes from end) × IsUtf8 (slice_range bytes from end)
+IsPieceOrFault bytes from end (Err faults.WrongEnds) = (from ≤ end) × (end ≤ length bytes) → ⊥
+IsPieceOrFault bytes from end (Err faults.NotUtf8) = IsUtf8 (slice_range bytes from end) → ⊥
+IsPieceOrFault bytes from end (Err _) = ⊥
+
+-- why a set is not built of these patterns
+abbrev pub IsSetRefused : RegexOptions → List ℕ → List ℕ → Fault → Type 0
+IsSetRefused options bytes ends (faults.Regex e) = RefusesPatterns options (cut_at bytes 0 ends) e
+IsSetRefused options bytes ends faults.NotUtf8 = Each IsUtf8 (cut_at bytes 0 ends) → ⊥
+IsSetRefused options bytes ends faults.WrongEnds = Rise bytes 0 ends → ⊥
+IsSetRefused options bytes ends _ = ⊥
+
+-- what is built of these patterns, and how the call ends
+abbrev pub IsSetBuilt : RegexOptions → List ℕ → List ℕ → Subject → Option Fault → Status → Type 0
+IsSetBuilt options bytes ends (subjects.Set set) fault status = (status ≡ statuses.Done) × AreBuiltOf options (cut_at bytes 0 ends) set.regexes.items
+IsSetBuilt options bytes ends subjects.Nothing (Some fault) status = (status ≡ fault_status fault) × IsSetRefused options bytes ends fault
+IsSetBuilt options bytes ends subjects.Nothing None status = ⊥
+IsSetBuilt options bytes ends (subjects.Regex regex) fault status = ⊥
+
+-- what stands in the handle after a set is built, and the number
+abbrev pub SetBuildEnds : RegexOptions → List ℕ → List ℕ → Option Held → ℤ → Type 0
+SetBuildEnds options bytes ends (Some held) code = (status : Status) × (code ≡ code_of status) × IsSetBuilt options bytes ends held.subject held.fault status
+SetBuildEnds options bytes ends None code = code ≡ code_of statuses.Memory

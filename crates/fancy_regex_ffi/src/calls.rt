@@ -1,0 +1,278 @@
+//! What the exported calls do with what a handle holds.
+
+ghost use Rattle.std.specs.Prelude.{◌≡◌, Some, true, IfOk, IfErr, IfSome, option_map, chars, string_bytes, IsUtf8};
+ghost use Rattle.fancy_regex_meta.specs.Refusals.{Accepts};
+ghost use Rattle.fancy_regex_ffi.specs.Choices.{chosen};
+ghost use Rattle.fancy_regex_ffi.specs.Codes.{fault_status};
+ghost use Rattle.fancy_regex_ffi.specs.Ends.{IsBuildFault, IsBuilt, FindEnds, CapturesEnd, KeepsFault, groups_for, place_kept, IsGroupName, IsNameOf, IsNameWritten};
+ghost use Rattle.fancy_regex_ffi.specs.Searches.{IsFoundBy, CountsLooksBy, IsCapturedBy, IsCapturedIn, IsGroupSpan, AreGroupSpans};
+ghost use Rattle.fancy_regex_ffi.specs.Texts.{IsTextWritten, text_kept};
+ghost use Rattle.fancy_regex_ffi.specs.declared.held.Subject.TheVariants as subjects;
+
+use crate::fault::Fault;
+use crate::front::write_front;
+use crate::held::{Held, Subject};
+use crate::options::Options;
+use crate::query::{Query, check_place, find_in, text_of};
+use crate::status::Status;
+use fancy_regex::{Captures, Error, Regex, RegexInput, Steps};
+use fancy_regex_ffi_lists::Span;
+use std::alloc::Global;
+use std::{fmt, str};
+
+/// Builds a regex and what holds it; a refused pattern is held as its fault. `None` if memory runs out.
+pub fn build_held(
+    alloc: Global,
+    pattern: &[u8],
+    options: &Options,
+) -> Option<(Box<Held, Global>, Status)>
+    ensures { IfSome result (λ built. IsBuilt (chosen options.now) pattern.now built.0.value.subject built.0.value.fault built.1) }
+{
+    let (held, status) = built(alloc, pattern, options);
+    match Box::new(alloc, held) {
+        Ok(boxed) => Some((boxed, status)),
+        Err(_) => None,
+    }
+}
+
+/// Builds a regex, and tells how that ends.
+#[tactic(auto, using(crate::proofs::EndLemmas::built_ends, crate::proofs::EndLemmas::refused_ends))]
+fn built(alloc: Global, pattern: &[u8], options: &Options) -> (Held, Status)
+    ensures { IsBuilt (chosen options.now) pattern.now result.0.subject result.0.fault result.1 }
+{
+    match build(alloc, pattern, options) {
+        Ok(regex) => (Held::of_regex(regex), Status::Done),
+        Err(fault) => {
+            let status = Status::of_fault(&fault);
+            (Held::of_fault(fault), status)
+        }
+    }
+}
+
+/// Builds a regex.
+fn build(alloc: Global, pattern: &[u8], options: &Options) -> Result<Regex, Fault>
+    ensures pattern { IfOk result (λ regex. string_bytes regex.meta.pattern ≡ pattern.now) }
+    ensures options { IfOk result (λ regex. regex.meta.options ≡ chosen options.now) }
+    ensures accepted { IfOk result (λ _. Accepts (chosen options.now) pattern.now) }
+    ensures refused { IfErr result (IsBuildFault (chosen options.now) pattern.now) }
+{
+    match str::from_utf8(pattern) {
+        Ok(text) => match String::from_str(alloc, text) {
+            Ok(text) => Ok(options.builder().build(alloc, text)?),
+            Err(_) => Err(Fault::Regex(Error::Memory)),
+        },
+        Err(_) => Err(Fault::NotUtf8),
+    }
+}
+
+/// How a search ends, and the span of the first match; a fault is kept. The counter is raised by the looks of the linear-time
+/// matcher.
+#[tactic(auto, using(crate::proofs::EndLemmas::found_ends, crate::proofs::EndLemmas::missing_ends, crate::proofs::EndLemmas::fault_ends, crate::proofs::EndLemmas::fault_kept))]
+pub fn find_held(
+    alloc: Global,
+    held: &mut Held,
+    text: &[u8],
+    query: &Query,
+    steps: &mut Steps,
+) -> (Status, Span)
+    requires { query.now.is_utf8 ≡ true → IsUtf8 text.now }
+    ensures subject { held.new.subject ≡ held.old.subject }
+    ensures answer { FindEnds held.old.subject text.now query.now result.0 result.1 }
+    ensures fault { KeepsFault result.0 held.old.fault held.new.fault }
+    ensures looks { CountsLooksBy held.old.subject text.now query.now steps.old steps.new }
+{
+    match find(alloc, &held.subject, text, query, steps) {
+        Ok(Some(found)) => (Status::Done, Span::of(Some(found))),
+        Ok(None) => (Status::NoMatch, Span::of(None)),
+        Err(fault) => (keep(held, fault), Span::of(None)),
+    }
+}
+
+/// The start and end of the first match.
+fn find(
+    alloc: Global,
+    subject: &Subject,
+    text: &[u8],
+    query: &Query,
+    steps: &mut Steps,
+) -> Result<Option<(usize, usize)>, Fault>
+    requires { query.now.is_utf8 ≡ true → IsUtf8 text.now }
+    ensures answer { IsFoundBy subject.now text.now query.now result }
+    ensures looks { CountsLooksBy subject.now text.now query.now steps.old steps.new }
+{
+    match subject {
+        Subject::Regex(regex) => match text_of(text, query.is_utf8) {
+            Ok(text) => find_in(alloc, regex, text, query, steps),
+            Err(fault) => Err(fault),
+        },
+        Subject::Set(_) => Err(Fault::NoRegex),
+        Subject::Nothing => Err(Fault::NoRegex),
+    }
+}
+
+/// Writes the groups of the first match, as many as there is room for, and tells how the search ends; a fault is kept.
+#[tactic(auto, using(crate::proofs::EndLemmas::captured_ends, crate::proofs::EndLemmas::uncaptured_ends, crate::proofs::EndLemmas::captures_fault_ends, crate::proofs::EndLemmas::fault_kept))]
+pub fn captures_held(
+    alloc: Global,
+    held: &mut Held,
+    text: &[u8],
+    query: &Query,
+    spans: &mut [Span],
+) -> Status
+    requires { query.now.is_utf8 ≡ true → IsUtf8 text.now }
+    ensures subject { held.new.subject ≡ held.old.subject }
+    ensures answer { CapturesEnd held.old.subject text.now query.now result spans.old spans.new }
+    ensures fault { KeepsFault result held.old.fault held.new.fault }
+{
+    match captures(alloc, &held.subject, text, query, spans) {
+        Ok(true) => Status::Done,
+        Ok(false) => Status::NoMatch,
+        Err(fault) => keep(held, fault),
+    }
+}
+
+/// Writes the groups of the first match, and tells whether there is one.
+fn captures(
+    alloc: Global,
+    subject: &Subject,
+    text: &[u8],
+    query: &Query,
+    spans: &mut [Span],
+) -> Result<bool, Fault>
+    requires { query.now.is_utf8 ≡ true → IsUtf8 text.now }
+    ensures { IsCapturedBy subject.now text.now query.now result spans.old spans.new }
+{
+    match subject {
+        Subject::Regex(regex) => match text_of(text, query.is_utf8) {
+            Ok(text) => captures_in(alloc, regex, text, query, spans),
+            Err(fault) => Err(fault),
+        },
+        Subject::Set(_) => Err(Fault::NoRegex),
+        Subject::Nothing => Err(Fault::NoRegex),
+    }
+}
+
+/// Writes the groups of the first match of a search, and tells whether there is one.
+fn captures_in(
+    alloc: Global,
+    regex: &Regex,
+    text: &str,
+    query: &Query,
+    spans: &mut [Span],
+) -> Result<bool, Fault>
+    ensures { IsCapturedIn regex.now.meta text.now query.now result spans.old spans.new }
+{
+    check_place(text, query.position)?;
+    let input = RegexInput::new(text)
+        .from_pos(query.position)
+        .continue_from_previous_match_end(query.continues);
+    match regex.captures_input(alloc, input)? {
+        Some(found) => {
+            write_groups(&found, spans);
+            Ok(true)
+        }
+        None => Ok(false),
+    }
+}
+
+/// Writes the span of each group that there is room for.
+fn write_groups(captures: &Captures<'_, &str>, spans: &mut [Span])
+    ensures { AreGroupSpans captures.now.haystack.now captures.now.slots.items spans.new }
+{
+    for (group, span) in spans.iter_mut().enumerate() {
+        *span = group_span(captures, group);
+    }
+}
+
+/// The span of a group; unset if it took no part in the match, or if there is no such group.
+fn group_span(captures: &Captures<'_, &str>, group: usize) -> Span
+    ensures { IsGroupSpan captures.now.haystack.now captures.now.slots.items group result }
+{
+    match captures.get(group) {
+        Some(found) => Span::of(Some((found.start(), found.end()))),
+        None => Span::of(None),
+    }
+}
+
+/// Keeps the fault, and tells how the call ends that has it.
+pub fn keep(held: &mut Held, fault: Fault) -> Status
+    ensures status { result ≡ fault_status fault }
+    ensures fault { held.new.fault ≡ Some fault }
+    ensures subject { held.new.subject ≡ held.old.subject }
+{
+    let status = Status::of_fault(&fault);
+    held.fault = Some(fault);
+    status
+}
+
+/// The number of groups.
+pub fn groups_of(held: &Held) -> usize
+    ensures { result ≡ groups_for held.now.subject }
+{
+    match &held.subject {
+        Subject::Regex(regex) => regex.captures_len(),
+        Subject::Set(_) => 0,
+        Subject::Nothing => 0,
+    }
+}
+
+/// Writes the name of a group, as much as there is room for, and returns how long it is; 0 if it has none.
+pub fn write_name(held: &Held, group: usize, out: &mut [u8]) -> usize
+    ensures { IsNameWritten held.now.subject group out.old out.new result }
+{
+    write_front(out, name_of(&held.subject, group))
+}
+
+/// The name of a group in UTF-8; no bytes if it has none.
+fn name_of(subject: &Subject, group: usize) -> &[u8]
+    ensures { IsNameOf subject.now group result.now }
+{
+    match subject {
+        Subject::Regex(regex) => match group_name(regex, group) {
+            Some(name) => name.as_bytes(),
+            None => &[],
+        },
+        Subject::Set(_) => &[],
+        Subject::Nothing => &[],
+    }
+}
+
+/// The name of a group of a regex; `None` if it has none, or if there is no such group.
+fn group_name(regex: &Regex, group: usize) -> Option<&str>
+    ensures { IsGroupName (subjects.Regex regex.now) group (option_map (λ name. chars name.now) result) }
+{
+    let mut names = regex.capture_names();
+    let mut number = 0;
+    while let Some(name) = names.next() {
+        if number == group {
+            return name;
+        }
+        number += 1;
+    }
+    None
+}
+
+/// The byte of the pattern at which the last fault stands; `usize::MAX` if there is none.
+pub fn place_held(held: &Held) -> usize
+    ensures { result ≡ place_kept held.now.fault }
+{
+    match &held.fault {
+        Some(fault) => fault.place().unwrap_or(usize::MAX),
+        None => usize::MAX,
+    }
+}
+
+/// Writes the text of the last fault, as much as there is room for, and returns how long it is; 0 if there is none, or if memory
+/// runs out.
+#[tactic(auto, using(crate::proofs::EndLemmas::nothing_written, crate::proofs::EndLemmas::text_written))]
+pub fn write_fault(alloc: Global, held: &Held, out: &mut [u8]) -> usize
+    ensures { IsTextWritten (text_kept ⟦<Error as fmt::Display>⟧.output held.now.fault) out.old out.new result }
+{
+    match &held.fault {
+        Some(fault) => match fault.to_string(alloc) {
+            Ok(text) => write_front(out, text.as_bytes()),
+            Err(_) => 0,
+        },
+        None => 0,
+    }
+}

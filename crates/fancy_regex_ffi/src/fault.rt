@@ -1,0 +1,67 @@
+//! `Fault`: why a call does not answer, with its text and its place in the pattern.
+
+ghost use Rattle.std.specs.Prelude.{◌≡◌};
+ghost use Rattle.fancy_regex_ffi.specs.declared.fault.Fault.TheVariants.{Regex};
+ghost use Rattle.fancy_regex_ffi.specs.Places.{place_of};
+
+use fancy_regex::Error as RegexError;
+use std::fmt;
+
+/// Why a call does not answer. Its `Display` is the text that C reads.
+#[derive(Debug, Drop)]
+pub enum Fault {
+    /// The handle holds no regex.
+    NoRegex,
+    /// The handle holds no set.
+    NoSet,
+    /// The ends of a set's patterns fall, or lie past their bytes.
+    WrongEnds,
+    /// The pattern or the text is not UTF-8.
+    NotUtf8,
+    /// The search begins past the end of the text.
+    PastEnd,
+    /// The search begins inside a character.
+    OffBoundary,
+    /// An error of the library.
+    Regex(RegexError),
+}
+
+impl fmt::Display for Fault {
+    ghost use Rattle.fancy_regex_ffi.specs.Texts.{fault_text};
+
+    ghost output = { fault_text ⟦<RegexError as fmt::Display>⟧.output };
+
+    fn fmt<W: fmt::Write>(&self, f: &mut fmt::Formatter<W>) -> fmt::Result {
+        match self {
+            Fault::NoRegex => f.write_str("the handle holds no regex"),
+            Fault::NoSet => f.write_str("the handle holds no set"),
+            Fault::WrongEnds => f.write_str(
+                "the ends of the patterns fall, or lie past their bytes",
+            ),
+            Fault::NotUtf8 => f.write_str("the text is not UTF-8"),
+            Fault::PastEnd => f.write_str("the search begins past the end of the text"),
+            Fault::OffBoundary => f.write_str("the search begins inside a character"),
+            Fault::Regex(error) => write!(f, "{error}"),
+        }
+    }
+}
+
+impl From<RegexError> for Fault {
+    ghost from_gives = { λ cause fault. fault ≡ Regex cause };
+
+    fn from(cause: RegexError) -> Fault {
+        Fault::Regex(cause)
+    }
+}
+
+impl Fault {
+    /// The byte of the pattern at which its first error stands; `None` if the fault is another.
+    pub fn place(&self) -> Option<usize>
+        ensures { result ≡ place_of self.now }
+    {
+        match self {
+            Fault::Regex(RegexError::ParseError(position, _)) => Some(*position),
+            _ => None,
+        }
+    }
+}

@@ -1,0 +1,75 @@
+//! All matches of a text, the pieces between them, and the text with its matches replaced.
+
+ghost use Rattle.std.specs.Prelude.{◌≡◌, true, IsUtf8};
+ghost use Rattle.std.specs.Cow.{cow_str_bytes};
+ghost use Rattle.fancy_regex_ffi.specs.Lists.{AreMatchSpans, ArePieceSpans, IsReplacedText, OfRegex, listed};
+
+use crate::fault::Fault;
+use crate::held::Subject;
+use crate::query::text_of;
+use fancy_regex_ffi_lists::{Span, match_spans, piece_spans};
+use fancy_search_text::replaced_text;
+use std::alloc::Global;
+use std::borrow::CowStr;
+
+/// The spans of all matches, from left to right.
+pub fn spans_of(
+    alloc: Global,
+    subject: &Subject,
+    text: &[u8],
+    is_utf8: bool,
+) -> Result<Vec<Span>, Fault>
+    requires { is_utf8 ≡ true → IsUtf8 text.now }
+    ensures { OfRegex (AreMatchSpans text.now) subject.now (listed (λ spans. spans.items) result) }
+{
+    match subject {
+        Subject::Regex(regex) => match text_of(text, is_utf8) {
+            Ok(text) => Ok(match_spans(alloc, regex, text)?),
+            Err(fault) => Err(fault),
+        },
+        Subject::Set(_) => Err(Fault::NoRegex),
+        Subject::Nothing => Err(Fault::NoRegex),
+    }
+}
+
+/// The spans of all pieces between the matches, and of the rest behind the last one, from left to right.
+pub fn pieces_of(
+    alloc: Global,
+    subject: &Subject,
+    text: &[u8],
+    is_utf8: bool,
+) -> Result<Vec<Span>, Fault>
+    requires { is_utf8 ≡ true → IsUtf8 text.now }
+    ensures { OfRegex (ArePieceSpans text.now) subject.now (listed (λ spans. spans.items) result) }
+{
+    match subject {
+        Subject::Regex(regex) => match text_of(text, is_utf8) {
+            Ok(text) => Ok(piece_spans(alloc, regex, text)?),
+            Err(fault) => Err(fault),
+        },
+        Subject::Set(_) => Err(Fault::NoRegex),
+        Subject::Nothing => Err(Fault::NoRegex),
+    }
+}
+
+/// The text with each match replaced by what the template stands for there.
+pub fn replaced_of<'t>(
+    alloc: Global,
+    subject: &Subject,
+    text: &'t [u8],
+    is_utf8: bool,
+    template: &[u8],
+) -> Result<CowStr<'t>, Fault>
+    requires { is_utf8 ≡ true → IsUtf8 text.now }
+    ensures { OfRegex (IsReplacedText text.entry.now template.now) subject.now (listed (λ text. cow_str_bytes text) result) }
+{
+    match subject {
+        Subject::Regex(regex) => {
+            let text = text_of(text, is_utf8)?;
+            let template = text_of(template, false)?;
+            Ok(replaced_text(alloc, regex, text, template)?)
+        }
+        Subject::Set(_) => Err(Fault::NoRegex),
+        Subject::Nothing => Err(Fault::NoRegex),
+    }
+}

@@ -1,0 +1,336 @@
+//! `fancy_regex` for C and for whoever calls as C does. A handle holds a regex or a set, and each call on it takes it alone: no two
+//! calls on one handle overlap, and handles share nothing. A call that can fail ends with a number that says how, and none panics.
+#![tactic(auto)]
+
+ghost use Rattle.std.specs.Prelude.{◌≡◌, true, None, IsUtf8};
+ghost use Rattle.fancy_regex_ffi.specs.Choices.{chosen};
+ghost use Rattle.fancy_regex_ffi.specs.Ends.{BuildEnds, FindReports, CapturesReport, LooksCounted, NameReports, groups_in, place_in};
+ghost use Rattle.fancy_regex_ffi.specs.Lists.{ListReports, OfRegex, AreMatchSpans, ArePieceSpans, IsReplacedText, AreMembers};
+ghost use Rattle.fancy_regex_ffi.specs.Sets.{SetBuildEnds};
+ghost use Rattle.fancy_regex_ffi.specs.Texts.{TextReports};
+
+mod answers;
+mod calls;
+mod fault;
+mod front;
+mod handle;
+mod held;
+mod items;
+mod loose;
+mod options;
+mod query;
+mod sets;
+mod status;
+
+use answers::{answer_items, answer_text};
+use calls::{build_held, captures_held, find_held, groups_of, place_held, write_fault, write_name};
+use fancy_regex::{Error, Steps};
+use fancy_regex_ffi_lists::{Member, Span};
+use handle::Handle;
+use items::{pieces_of, replaced_of, spans_of};
+use options::Options;
+use query::Query;
+use sets::{members_of, set_held};
+use status::Status;
+use std::alloc::Global;
+use std::fmt;
+
+/// Builds a regex into the handle, which is emptied first.
+#[tactic(auto, using(crate::proofs::EndLemmas::build_reports))]
+#[unsafe(no_mangle)]
+pub extern "C" fn fancy_regex_raw_build(
+    alloc: Global,
+    handle: &mut Handle,
+    pattern: &[u8],
+    options: &Options,
+) -> i32
+    ensures { BuildEnds (chosen options.now) pattern.now handle.new.held result }
+{
+    fancy_regex_raw_free(alloc, handle);
+    match build_held(alloc, pattern, options) {
+        Some((held, status)) => {
+            handle.put(alloc, held);
+            status.code()
+        }
+        None => Status::Memory.code(),
+    }
+}
+
+/// Empties the handle.
+#[unsafe(no_mangle)]
+pub extern "C" fn fancy_regex_raw_free(alloc: Global, handle: &mut Handle)
+    ensures { handle.new.held ≡ None }
+{
+    drop(handle.take(alloc));
+}
+
+/// The first match of a search.
+#[unsafe(no_mangle)]
+pub extern "C" fn fancy_regex_raw_find(
+    alloc: Global,
+    handle: &mut Handle,
+    text: &[u8],
+    query: &Query,
+    span: &mut Span,
+) -> i32
+    requires { query.now.is_utf8 ≡ true → IsUtf8 text.now }
+    ensures { FindReports handle.old.held handle.new.held text.now query.now result span.new }
+{
+    find_counted(alloc, handle, text, query, span, &mut Steps::new())
+}
+
+/// The first match of a search, and how many looks at the text are counted: none where the handle holds no regex or a backtracking
+/// program runs, and else at most as many as the linear-time matcher may make.
+#[unsafe(no_mangle)]
+pub extern "C" fn fancy_regex_raw_find_counted(
+    alloc: Global,
+    handle: &mut Handle,
+    text: &[u8],
+    query: &Query,
+    span: &mut Span,
+    looks: &mut u64,
+) -> i32
+    requires { query.now.is_utf8 ≡ true → IsUtf8 text.now }
+    ensures answer { FindReports handle.old.held handle.new.held text.now query.now result span.new }
+    ensures looks { LooksCounted handle.old.held text.now query.now looks.new }
+{
+    let mut steps = Steps::new();
+    let code = find_counted(alloc, handle, text, query, span, &mut steps);
+    *looks = steps.count();
+    code
+}
+
+/// The first match of a search, with a counter.
+#[tactic(auto, using(crate::proofs::EndLemmas::find_reports, crate::proofs::EndLemmas::looks_reported))]
+fn find_counted(
+    alloc: Global,
+    handle: &mut Handle,
+    text: &[u8],
+    query: &Query,
+    span: &mut Span,
+    steps: &mut Steps,
+) -> i32
+    requires utf8 { query.now.is_utf8 ≡ true → IsUtf8 text.now }
+    requires fresh { steps.old ≡ 0 }
+    ensures answer { FindReports handle.old.held handle.new.held text.now query.now result span.new }
+    ensures looks { LooksCounted handle.old.held text.now query.now steps.new }
+{
+    let Some(mut held) = handle.take(alloc) else {
+        *span = Span::of(None);
+        return Status::EmptyHandle.code();
+    };
+    let (status, found) = find_held(alloc, &mut held, text, query, steps);
+    *span = found;
+    handle.put(alloc, held);
+    status.code()
+}
+
+/// The groups of the first match of a search, as many as there is room for. Without a match the spans stay as they were.
+#[tactic(auto, using(crate::proofs::EndLemmas::captures_report))]
+#[unsafe(no_mangle)]
+pub extern "C" fn fancy_regex_raw_captures(
+    alloc: Global,
+    handle: &mut Handle,
+    text: &[u8],
+    query: &Query,
+    spans: &mut [Span],
+) -> i32
+    requires { query.now.is_utf8 ≡ true → IsUtf8 text.now }
+    ensures { CapturesReport handle.old.held handle.new.held text.now query.now result spans.old spans.new }
+{
+    let Some(mut held) = handle.take(alloc) else {
+        return Status::EmptyHandle.code();
+    };
+    let status = captures_held(alloc, &mut held, text, query, spans);
+    handle.put(alloc, held);
+    status.code()
+}
+
+/// The number of groups, the whole match included; 0 where the handle holds no regex.
+#[unsafe(no_mangle)]
+pub extern "C" fn fancy_regex_raw_groups(alloc: Global, handle: &mut Handle) -> usize
+    ensures groups { result ≡ groups_in handle.old.held }
+    ensures kept { handle.new.held ≡ handle.old.held }
+{
+    let Some(held) = handle.take(alloc) else {
+        return 0;
+    };
+    let groups = groups_of(&held);
+    handle.put(alloc, held);
+    groups
+}
+
+/// Writes the name of a group in UTF-8, as much as there is room for, and returns how long it is; 0 if it has none.
+#[tactic(auto, using(crate::proofs::EndLemmas::name_reported))]
+#[unsafe(no_mangle)]
+pub extern "C" fn fancy_regex_raw_group_name(
+    alloc: Global,
+    handle: &mut Handle,
+    group: usize,
+    out: &mut [u8],
+) -> usize
+    ensures name { NameReports handle.old.held group out.old out.new result }
+    ensures kept { handle.new.held ≡ handle.old.held }
+{
+    let Some(held) = handle.take(alloc) else {
+        return 0;
+    };
+    let length = write_name(&held, group, out);
+    handle.put(alloc, held);
+    length
+}
+
+/// The byte of the pattern at which the last fault stands; `usize::MAX` if it has no place.
+#[unsafe(no_mangle)]
+pub extern "C" fn fancy_regex_raw_fault_place(alloc: Global, handle: &mut Handle) -> usize
+    ensures place { result ≡ place_in handle.old.held }
+    ensures kept { handle.new.held ≡ handle.old.held }
+{
+    let Some(held) = handle.take(alloc) else {
+        return usize::MAX;
+    };
+    let place = place_held(&held);
+    handle.put(alloc, held);
+    place
+}
+
+/// Writes the text of the last fault, as much as there is room for, and returns how long it is; 0 if there is none, or if memory
+/// runs out.
+#[unsafe(no_mangle)]
+pub extern "C" fn fancy_regex_raw_fault_text(
+    alloc: Global,
+    handle: &mut Handle,
+    out: &mut [u8],
+) -> usize
+    ensures text { TextReports ⟦<Error as fmt::Display>⟧.output handle.old.held out.old out.new result }
+    ensures kept { handle.new.held ≡ handle.old.held }
+{
+    let Some(held) = handle.take(alloc) else {
+        return 0;
+    };
+    let length = write_fault(alloc, &held, out);
+    handle.put(alloc, held);
+    length
+}
+
+/// The spans of all matches of a text, from left to right, as many as there is room for; and how many there are.
+#[tactic(auto, using(crate::proofs::ListLemmas::spans_report))]
+#[unsafe(no_mangle)]
+pub extern "C" fn fancy_regex_raw_find_all(
+    alloc: Global,
+    handle: &mut Handle,
+    text: &[u8],
+    is_utf8: bool,
+    spans: &mut [Span],
+    count: &mut usize,
+) -> i32
+    requires { is_utf8 ≡ true → IsUtf8 text.now }
+    ensures { ListReports (OfRegex (AreMatchSpans text.now)) handle.old.held handle.new.held result spans.old spans.new count.new }
+{
+    let Some(mut held) = handle.take(alloc) else {
+        *count = 0;
+        return Status::EmptyHandle.code();
+    };
+    let answer = spans_of(alloc, &held.subject, text, is_utf8);
+    let status = answer_items(&mut held, answer, spans, count);
+    handle.put(alloc, held);
+    status.code()
+}
+
+/// The spans of the pieces of a text between its matches, and of the rest behind the last one, as many as there is room for; and how
+/// many there are.
+#[tactic(auto, using(crate::proofs::ListLemmas::pieces_report))]
+#[unsafe(no_mangle)]
+pub extern "C" fn fancy_regex_raw_split(
+    alloc: Global,
+    handle: &mut Handle,
+    text: &[u8],
+    is_utf8: bool,
+    spans: &mut [Span],
+    count: &mut usize,
+) -> i32
+    requires { is_utf8 ≡ true → IsUtf8 text.now }
+    ensures { ListReports (OfRegex (ArePieceSpans text.now)) handle.old.held handle.new.held result spans.old spans.new count.new }
+{
+    let Some(mut held) = handle.take(alloc) else {
+        *count = 0;
+        return Status::EmptyHandle.code();
+    };
+    let answer = pieces_of(alloc, &held.subject, text, is_utf8);
+    let status = answer_items(&mut held, answer, spans, count);
+    handle.put(alloc, held);
+    status.code()
+}
+
+/// The text with each match replaced by what the template stands for there, as much of it as there is room for; and its length.
+#[tactic(auto, using(crate::proofs::ListLemmas::replaced_report))]
+#[unsafe(no_mangle)]
+pub extern "C" fn fancy_regex_raw_replace_all(
+    alloc: Global,
+    handle: &mut Handle,
+    text: &[u8],
+    is_utf8: bool,
+    template: &[u8],
+    out: &mut [u8],
+    length: &mut usize,
+) -> i32
+    requires { is_utf8 ≡ true → IsUtf8 text.now }
+    ensures { ListReports (OfRegex (IsReplacedText text.now template.now)) handle.old.held handle.new.held result out.old out.new length.new }
+{
+    let Some(mut held) = handle.take(alloc) else {
+        *length = 0;
+        return Status::EmptyHandle.code();
+    };
+    let answer = replaced_of(alloc, &held.subject, text, is_utf8, template);
+    let status = answer_text(&mut held, answer, out, length);
+    handle.put(alloc, held);
+    status.code()
+}
+
+/// Builds a set of patterns into the handle, which is emptied first. The patterns stand one behind another; `ends` are the offsets at
+/// which each of them ends.
+#[tactic(auto, using(crate::proofs::SetLemmas::set_build_reports))]
+#[unsafe(no_mangle)]
+pub extern "C" fn fancy_regex_raw_set_build(
+    alloc: Global,
+    handle: &mut Handle,
+    patterns: &[u8],
+    ends: &[usize],
+    options: &Options,
+) -> i32
+    ensures { SetBuildEnds (chosen options.now) patterns.now ends.now handle.new.held result }
+{
+    fancy_regex_raw_free(alloc, handle);
+    match set_held(alloc, patterns, ends, options) {
+        Some((held, status)) => {
+            handle.put(alloc, held);
+            status.code()
+        }
+        None => Status::Memory.code(),
+    }
+}
+
+/// The members of a set that match at the earliest place at which one of them does, in order of their numbers, as many as there is
+/// room for; and how many there are.
+#[tactic(auto, using(crate::proofs::ListLemmas::members_report))]
+#[unsafe(no_mangle)]
+pub extern "C" fn fancy_regex_raw_set_find(
+    alloc: Global,
+    handle: &mut Handle,
+    text: &[u8],
+    query: &Query,
+    members: &mut [Member],
+    count: &mut usize,
+) -> i32
+    requires { query.now.is_utf8 ≡ true → IsUtf8 text.now }
+    ensures { ListReports (AreMembers text.now query.now) handle.old.held handle.new.held result members.old members.new count.new }
+{
+    let Some(mut held) = handle.take(alloc) else {
+        *count = 0;
+        return Status::EmptyHandle.code();
+    };
+    let answer = members_of(alloc, &held.subject, text, query);
+    let status = answer_items(&mut held, answer, members, count);
+    handle.put(alloc, held);
+    status.code()
+}

@@ -1,0 +1,69 @@
+//! The searches over texts of bytes: each test that a Rust caller's types would make is made here.
+
+ghost use Rattle.std.specs.Prelude.{◌≡◌, true, IsUtf8};
+ghost use Rattle.fancy_regex_ffi.specs.Searches.{IsTextOrFault, IsPlaceOrFault, IsFoundIn, CountsLooks};
+
+use crate::fault::Fault;
+use fancy_regex::{Regex, RegexInput, Steps};
+use std::alloc::Global;
+use std::str;
+
+/// How a text is searched, as C gives it.
+#[repr(C)]
+#[derive(Clone, Copy)]
+pub struct Query {
+    /// The byte offset at which the search begins.
+    pub position: usize,
+    /// Whether the text is known to be UTF-8; else it is tested.
+    pub is_utf8: bool,
+    /// Whether `\G` matches at `position`; else it never matches.
+    pub continues: bool,
+}
+
+/// The text, which is tested unless it is known to be UTF-8.
+pub fn text_of(bytes: &[u8], is_utf8: bool) -> Result<&str, Fault>
+    requires { is_utf8 ≡ true → IsUtf8 bytes.now }
+    ensures { IsTextOrFault bytes.now result }
+{
+    if is_utf8 {
+        return Ok(unsafe { str::from_utf8_unchecked(bytes) });
+    }
+    match str::from_utf8(bytes) {
+        Ok(text) => Ok(text),
+        Err(_) => Err(Fault::NotUtf8),
+    }
+}
+
+/// A fault if a search of the text cannot begin at this byte offset.
+pub fn check_place(text: &str, position: usize) -> Result<(), Fault>
+    ensures { IsPlaceOrFault text.now position result }
+{
+    if position > text.len() {
+        Err(Fault::PastEnd)
+    } else if text.is_char_boundary(position) {
+        Ok(())
+    } else {
+        Err(Fault::OffBoundary)
+    }
+}
+
+/// The start and end of the first match of a search. The counter is raised by the looks of the linear-time matcher.
+pub fn find_in(
+    alloc: Global,
+    regex: &Regex,
+    text: &str,
+    query: &Query,
+    steps: &mut Steps,
+) -> Result<Option<(usize, usize)>, Fault>
+    ensures answer { IsFoundIn regex.now.meta text.now query.now result }
+    ensures looks { CountsLooks regex.now.meta text.now query.now steps.old steps.new }
+{
+    check_place(text, query.position)?;
+    let input = RegexInput::new(text)
+        .from_pos(query.position)
+        .continue_from_previous_match_end(query.continues);
+    match regex.find_input_counted(alloc, input, steps)? {
+        Some(found) => Ok(Some((found.start(), found.end()))),
+        None => Ok(None),
+    }
+}

@@ -1,0 +1,108 @@
+//! Sets of patterns: how they are built and searched.
+
+ghost use Rattle.std.specs.Prelude.{◌≡◌, true, IsUtf8, IfOk, IfErr, IfSome, map};
+ghost use Rattle.fancy_regex.specs.SetMembers.{AreBuiltOf};
+ghost use Rattle.fancy_regex_ffi.specs.Choices.{chosen};
+ghost use Rattle.fancy_regex_ffi.specs.Lists.{AreMembers, listed};
+ghost use Rattle.fancy_regex_ffi.specs.Sets.{cut_at, IsPieceOrFault, IsSetBuilt, IsSetRefused};
+
+use crate::fault::Fault;
+use crate::held::{Held, Subject};
+use crate::options::Options;
+use crate::query::{Query, check_place, text_of};
+use crate::status::Status;
+use fancy_regex::{Error, RegexSet};
+use fancy_regex_ffi_lists::{Member, set_members};
+use std::alloc::Global;
+
+/// Builds a set and what holds it; refused patterns are held as their fault. `None` if memory runs out.
+pub fn set_held(
+    alloc: Global,
+    patterns: &[u8],
+    ends: &[usize],
+    options: &Options,
+) -> Option<(Box<Held, Global>, Status)>
+    ensures { IfSome result (λ built. IsSetBuilt (chosen options.now) patterns.now ends.now built.0.value.subject built.0.value.fault built.1) }
+{
+    let (held, status) = set_built(alloc, patterns, ends, options);
+    match Box::new(alloc, held) {
+        Ok(boxed) => Some((boxed, status)),
+        Err(_) => None,
+    }
+}
+
+/// Builds a set, and tells how that ends.
+#[tactic(auto, using(crate::proofs::SetLemmas::set_built_ends, crate::proofs::SetLemmas::set_refused_ends))]
+fn set_built(alloc: Global, patterns: &[u8], ends: &[usize], options: &Options) -> (Held, Status)
+    ensures { IsSetBuilt (chosen options.now) patterns.now ends.now result.0.subject result.0.fault result.1 }
+{
+    match build_set(alloc, patterns, ends, options) {
+        Ok(set) => (Held::of_set(set), Status::Done),
+        Err(fault) => {
+            let status = Status::of_fault(&fault);
+            (Held::of_fault(fault), status)
+        }
+    }
+}
+
+/// Builds a set of the patterns that stand one behind another.
+fn build_set(
+    alloc: Global,
+    patterns: &[u8],
+    ends: &[usize],
+    options: &Options,
+) -> Result<RegexSet, Fault>
+    ensures members { IfOk result (λ set. AreBuiltOf (chosen options.now) (cut_at patterns.now 0 ends.now) set.regexes.items) }
+    ensures refused { IfErr result (IsSetRefused (chosen options.now) patterns.now ends.now) }
+{
+    let texts = patterns_of(alloc, patterns, ends)?;
+    Ok(RegexSet::new_with_options(alloc, &texts, &options.builder())?)
+}
+
+/// The texts of patterns that stand one behind another, by where each of them ends.
+fn patterns_of<'p>(alloc: Global, bytes: &'p [u8], ends: &[usize]) -> Result<Vec<&'p str>, Fault>
+    ensures texts { IfOk result (λ texts. map (λ text. text.now) texts.items ≡ cut_at bytes.entry.now 0 ends.now) }
+    ensures refused { IfErr result (λ fault. (o : _) → IsSetRefused o bytes.entry.now ends.now fault) }
+{
+    let mut texts = Vec::new(alloc);
+    let mut start = 0;
+    for end in ends {
+        let text = pattern_at(bytes, start, *end)?;
+        match texts.push(text) {
+            Ok(()) => start = *end,
+            Err(_) => return Err(Fault::Regex(Error::Memory)),
+        }
+    }
+    Ok(texts)
+}
+
+/// The text between two offsets.
+fn pattern_at(bytes: &[u8], start: usize, end: usize) -> Result<&str, Fault>
+    ensures { IsPieceOrFault bytes.now start end result }
+{
+    if start > end || end > bytes.len() {
+        return Err(Fault::WrongEnds);
+    }
+    text_of(&bytes[start..end], false)
+}
+
+/// The members that match at the earliest place at which one of them does.
+pub fn members_of(
+    alloc: Global,
+    subject: &Subject,
+    text: &[u8],
+    query: &Query,
+) -> Result<Vec<Member>, Fault>
+    requires { query.now.is_utf8 ≡ true → IsUtf8 text.now }
+    ensures { AreMembers text.now query.now subject.now (listed (λ members. members.items) result) }
+{
+    match subject {
+        Subject::Set(set) => {
+            let text = text_of(text, query.is_utf8)?;
+            check_place(text, query.position)?;
+            Ok(set_members(alloc, set, text, query.position, query.continues)?)
+        }
+        Subject::Regex(_) => Err(Fault::NoSet),
+        Subject::Nothing => Err(Fault::NoSet),
+    }
+}

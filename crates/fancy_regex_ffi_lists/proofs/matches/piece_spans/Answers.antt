@@ -1,0 +1,63 @@
+use Rattle.std.proofs.Common.{◌≡◌, ◌∙◌, ◌∷◌, ◌++◌, ap, length, refl}
+use Rattle.std.specs.Prelude.{string_bytes}
+use Rattle.std.proofs.lemmas.Result.{err_from_is_err_and}
+use Rattle.fancy_regex.specs.SearchConfig.{SearchConfig}
+use Rattle.fancy_regex.specs.Searches.{Match}
+use Rattle.fancy_regex.specs.RemainingMatches.{remaining_matches}
+use Rattle.fancy_search_text.proofs.ErrorLemmas.{item_error_is, memory_is_error}
+use Rattle.fancy_search_text.proofs.MatchLemmas.{all_are}
+use Rattle.fancy_regex_ffi_lists.specs.Lists.{gap_spans}
+use Rattle.fancy_regex_ffi_lists.proofs.ListLemmas.{gaps_more, gaps_all}
+use Rattle.fancy_regex_ffi_lists.proofs.matches.piece_spans.Goals as goal
+
+pub loop-found-preserved : goal.loop-found-preserved
+loop-found-preserved c =
+    let steps = c.in-Some.ensures.steps in
+    let old = c.loop-found.matches.match_iter in
+    let new = c.next.new.self.match_iter in
+    let text = old.input.haystack.now in
+    let found = c.in_ok-found.found in
+    let seen : new.input.haystack.now ≡ text = λ i. (steps.3 i).now in
+    let searches : new.regex.now ≡ old.regex.now = λ i. (steps.4 i).now in
+    let before = remaining_matches old.regex.now.meta text old.input.config old.state in
+    let after = remaining_matches new.regex.now.meta new.input.haystack.now new.input.config new.state in
+    let gave : (m : Match) × (before ≡ m ∷ after) × ((found.start, found.end) ≡ (m.start, m.end)) = rw c.in_ok-found.was at steps.0 in
+    let passes = rw (c.in_ok-found.was, c.loop-found.invariant.regex, c.loop-found.invariant.text) at steps.7 in
+    let again : SearchConfig → SearchConfig = λ a. record a { start = new.input.config.start } in
+    record {
+      spans =
+          ap (λ xs. xs ++ gap_spans c.end-start.result (length c.args.text.now) after) c.in_ok-push.ensures.items
+          ∙ gaps_more c.loop-found.spans.items _ c.loop-found.start c.end-start.result (length c.args.text.now) gave.0 before after _ gave.1
+          (λ i. record { start = c.loop-found.start; end = (c.start.ensures ∙ ap (λ s. s.0) gave.2) i }) (c.end-start.ensures ∙ ap (λ s. s.1) gave.2) c.loop-found.invariant.spans;
+      text = seen ∙ c.loop-found.invariant.text;
+      config = steps.5 ∙ ap again c.loop-found.invariant.config;
+      regex = searches ∙ c.loop-found.invariant.regex;
+      passes = λ q o made. c.loop-found.invariant.passes q o (passes q o made);
+    }
+
+pub returns-in_err-found-clause-fails : goal.returns-in_err-found-clause-fails
+returns-in_err-found-clause-fails c =
+    let p = err_from_is_err_and c.from_residual.result c.from_residual.ensures.1 in
+    let s = c.args.regex.now.meta in
+    let text = c.args.text.now in
+    let match_iter = c.loop-found.matches.match_iter in
+    let told = rw (c.in_err-found.was, c.loop-found.invariant.regex, c.loop-found.invariant.text) at c.in-Some.ensures.steps.6 in
+    rw (p.1, p.2) (item_error_is s text match_iter.input.config match_iter.input.config.start match_iter.state c.loop-found.invariant.config c.loop-found.invariant.passes _ told)
+
+pub returns-in_err-push-clause-fails : goal.returns-in_err-push-clause-fails
+returns-in_err-push-clause-fails c =
+    let p = err_from_is_err_and c.from_residual-in_err-push.result c.from_residual-in_err-push.ensures.1 in
+    rw (p.1, p.2) (memory_is_error c.args.regex.now.meta.options (string_bytes c.args.regex.now.meta.pattern) c.args.text.now)
+
+pub returns-in_err-push-2-clause-fails : goal.returns-in_err-push-2-clause-fails
+returns-in_err-push-2-clause-fails c =
+    let p = err_from_is_err_and c.from_residual-in_err-push-2.result c.from_residual-in_err-push-2.ensures.1 in
+    rw (p.1, p.2) (memory_is_error c.args.regex.now.meta.options (string_bytes c.args.regex.now.meta.pattern) c.args.text.now)
+
+pub returns-clause-spans : goal.returns-clause-spans
+returns-clause-spans c =
+    let s = c.args.regex.now.meta in
+    let text = c.args.text.now in
+    c.in_ok-push-2.ensures.items
+    ∙ gaps_all c.loop-found.spans.items _ c.loop-found.start (length text) _ _ c.in_default.ensures.steps.0.0 refl c.loop-found.invariant.spans
+    ∙ ap (λ ms. gap_spans 0 (length text) ms) (all_are s text)
