@@ -6,4 +6,8 @@
 #[cfg(test)]
 mod program;
 #[cfg(test)]
+mod refused_memory;
+#[cfg(test)]
+mod strangers;
+#[cfg(test)]
 mod words;

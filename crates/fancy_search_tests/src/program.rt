@@ -11,8 +11,8 @@ use std::test::Fail;
 
 /// A writer over memory that takes one byte a call, and fails where it has so many.
 #[derive(Drop)]
-struct Narrow {
-    taken: Vec<u8>,
+pub struct Narrow {
+    pub taken: Vec<u8>,
     room: usize,
 }
 
@@ -99,7 +99,8 @@ fn fault_of(alloc: Global, words: &[&str], input: &[u8]) -> Option<Fault> {
     }
 }
 
-fn room_for(alloc: Global, room: usize) -> Narrow {
+/// A writer with room for so many bytes.
+pub fn room_for(alloc: Global, room: usize) -> Narrow {
     Narrow {
         taken: Vec::new(alloc),
         room,

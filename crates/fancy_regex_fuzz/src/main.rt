@@ -1,0 +1,93 @@
+//! A fuzzer of `fancy_regex` and of the program over it: makes patterns, texts, templates, options and inputs at random, runs the
+//! public calls on them and checks what has to hold between their answers. The words are the seed and the number of cases, 1 and
+//! 5,000 if they are not given. It stops at the first contradiction and prints the smallest pattern and text that it finds for it.
+//! How the cases ended is counted on standard error. Exit status: 0 without a contradiction, 1 with one, 2 if it cannot run.
+#![tactic(auto)]
+
+mod fault;
+mod report;
+
+use fancy_regex_fuzz_cases::case::{Case, Ending, ending_of};
+use fancy_regex_fuzz_cases::inputs::Part;
+use fancy_regex_fuzz_cases::pattern::{Kind, make_pattern};
+use fancy_regex_fuzz_cases::random::Random;
+use fancy_regex_fuzz_cases::setting::Setting;
+use fancy_regex_fuzz_cases::shrink::shrunk;
+use fancy_regex_fuzz_cases::text::{make_template, make_text};
+use fault::Fault;
+use report::{Report, print_contradiction};
+use std::env;
+use std::process::ExitCode;
+
+/// The seed if none is given.
+const SEED: u64 = 1;
+
+/// The number of cases if none is given.
+const COUNT: u64 = 5000;
+
+fn main(rt: HostRuntime) -> ExitCode {
+    match fuzz_as_asked(&rt) {
+        Ok(true) => ExitCode::from(0),
+        Ok(false) => ExitCode::from(1),
+        Err(_) => ExitCode::from(2),
+    }
+}
+
+/// Runs as many cases from the seed as the words say; whether all agree.
+fn fuzz_as_asked(rt: &HostRuntime) -> Result<bool, Fault> {
+    let seed = asked(rt, 1, SEED)?;
+    let count = asked(rt, 2, COUNT)?;
+    fuzz(rt, seed, count)
+}
+
+/// The number that the word at this index gives; `Fault::Words` if it is no number.
+fn asked(rt: &HostRuntime, index: usize, otherwise: u64) -> Result<u64, Fault> {
+    match env::args(rt)?.nth(index) {
+        Some(word) => Ok(word.parse::<u64>()?),
+        None => Ok(otherwise),
+    }
+}
+
+/// Runs the cases and prints that they agree, and how they ended; whether all agree.
+fn fuzz(rt: &HostRuntime, seed: u64, count: u64) -> Result<bool, Fault> {
+    let mut random = Random::new(seed);
+    let mut report = Report::new();
+    for number in 0..count {
+        let kind = Kind::of(number);
+        if !runs_well(rt, &mut random, kind, &mut report)? {
+            return Ok(false);
+        }
+    }
+    report.print(rt)?;
+    println!(rt; "{count} cases without a contradiction")?;
+    Ok(true)
+}
+
+/// Makes a case and runs it; whether it agrees. A contradiction is printed.
+fn runs_well(
+    rt: &HostRuntime,
+    random: &mut Random,
+    kind: Kind,
+    report: &mut Report,
+) -> Result<bool, Fault> {
+    let pattern = make_pattern(rt.alloc(), random, kind)?;
+    let text = make_text(rt.alloc(), random)?;
+    let template = make_template(rt.alloc(), random)?;
+    let case = Case {
+        pattern: &pattern,
+        text: &text,
+        template: &template,
+        setting: Setting::random(random, kind),
+        part: Part::random(random),
+    };
+    let ending = ending_of(rt.alloc(), case);
+    report.count(kind, ending);
+    match ending {
+        Ending::Contradicts(check) => {
+            let least = shrunk(rt.alloc(), case, check)?;
+            print_contradiction(rt, least.borrowed(), check)?;
+            Ok(false)
+        }
+        _ => Ok(true),
+    }
+}

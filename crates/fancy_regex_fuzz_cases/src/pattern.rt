@@ -1,0 +1,190 @@
+//! Random patterns: by a grammar of plain patterns, by a grammar of all constructs, and by mutations of these.
+
+use crate::random::Random;
+use std::alloc::{AllocError, Global};
+
+/// How a pattern is made.
+#[derive(Clone, Copy)]
+pub enum Kind {
+    /// By the grammar of plain patterns without counts and without repeats of what may be empty.
+    Plain,
+    /// By the grammar of all constructs.
+    Grammar,
+    /// By that grammar, with a few characters changed.
+    Mutated,
+}
+
+impl Kind {
+    /// The kind of the case with this number.
+    pub fn of(number: u64) -> Kind {
+        match number % 3 {
+            0 => Kind::Plain,
+            1 => Kind::Grammar,
+            _ => Kind::Mutated,
+        }
+    }
+}
+
+/// What a hole may become in a plain pattern. `%` is a hole.
+static PLAIN: [&str; 12] = [
+    "%%", "%%", "%|%", "(%)", "(?:%)", "(?:%)?", "(%)??", "a%", "b*%", "[ab]+?%", ".*%", "^%$",
+];
+
+/// What a hole may become in any pattern.
+static ANY: [&str; 40] = [
+    "%%",
+    "%%",
+    "%%",
+    "%|%",
+    "(%)",
+    "(?:%)",
+    "(?:%)*",
+    "(%)+?",
+    "(?:%){1,2}",
+    "(?:%){2}?",
+    "(?:%)++",
+    "(?=%)",
+    "(?!%)",
+    "(?<=a|bc)%",
+    "(?<!b)%",
+    "(?>%)",
+    "(?<n>%)\\k<n>",
+    "(%)\\1",
+    "(%)?(?(1)%|%)",
+    "(?(%)%|%)",
+    "(?~%)",
+    "(?i:%)",
+    "(?i)%",
+    "(?m)^%$",
+    "(?s).%",
+    "(?x)% #",
+    "\\K%",
+    "\\G%",
+    "(a%\\g<1>?b)",
+    "(?(DEFINE)(?<d>%))\\g<d>",
+    "\\b%\\B",
+    "\\A%",
+    "%\\z",
+    "%\\Z",
+    "%\\R",
+    "\\<%\\>",
+    "a*%",
+    "%|",
+    "(?:%|%){0,3}",
+    "(*FAIL)|%",
+];
+
+/// What a hole becomes at the end.
+static ATOMS: [&str; 16] = [
+    "a", "b", "ab", "c", ".", "[ab]", "[^a]", "\\w", "\\d", "\\s", "é", "k", "", "[b-d&&c]",
+    "\\x41", "\\n",
+];
+
+/// What a hole becomes at the end of a plain pattern, where each takes a character.
+static PLAIN_ATOMS: [&str; 8] = ["a", "b", "ab", "c", ".", "[ab]", "\\w", "k"];
+
+/// What mutations put into a pattern.
+static SIGNS: [&str; 24] = [
+    "(", ")", "[", "]", "{", "}", "|", "*", "+", "?", "\\", "^", "$", ".", ",", "1", "2", "a", "<",
+    ">", "-", ":", "=", "é",
+];
+
+/// How often all holes are filled.
+const ROUNDS: usize = 4;
+
+/// A pattern longer than this in bytes gets no new holes.
+const LONG: usize = 50;
+
+/// A random pattern of the kind.
+pub fn make_pattern(alloc: Global, random: &mut Random, kind: Kind) -> Result<String, AllocError> {
+    let made = grown(alloc, random, kind)?;
+    match kind {
+        Kind::Mutated => mutated(alloc, random, &made),
+        _ => Ok(made),
+    }
+}
+
+/// What a hole may become in a pattern of the kind.
+fn rules_of(kind: Kind) -> &'static [&'static str] {
+    match kind {
+        Kind::Plain => &PLAIN,
+        Kind::Grammar | Kind::Mutated => &ANY,
+    }
+}
+
+/// What a hole becomes at the end in a pattern of the kind.
+fn atoms_of(kind: Kind) -> &'static [&'static str] {
+    match kind {
+        Kind::Plain => &PLAIN_ATOMS,
+        Kind::Grammar | Kind::Mutated => &ATOMS,
+    }
+}
+
+/// A pattern by the grammar of the kind.
+fn grown(alloc: Global, random: &mut Random, kind: Kind) -> Result<String, AllocError> {
+    let mut pattern = String::from_str(alloc, "%")?;
+    for _ in 0..ROUNDS {
+        if pattern.len() < LONG {
+            let grown = filled(alloc, random, &pattern, rules_of(kind))?;
+            pattern = grown;
+        }
+    }
+    filled(alloc, random, &pattern, atoms_of(kind))
+}
+
+/// The pattern with one of the words in each hole.
+fn filled(
+    alloc: Global,
+    random: &mut Random,
+    pattern: &str,
+    words: &[&str],
+) -> Result<String, AllocError> {
+    let mut text = String::new(alloc);
+    for sign in pattern.chars() {
+        match sign {
+            '%' => text.push_str(random.pick(words))?,
+            other => text.push(other)?,
+        }
+    }
+    Ok(text)
+}
+
+/// The pattern with one or two characters removed, doubled, or with a sign before them. Numbers of two digits and more are left
+/// out, since counts multiply.
+fn mutated(alloc: Global, random: &mut Random, pattern: &str) -> Result<String, AllocError> {
+    let mut text = String::new(alloc);
+    let length = pattern.chars().count();
+    let places = [random.below(length), random.below(length)];
+    let mut after_digit = false;
+    for (index, sign) in pattern.chars().enumerate() {
+        if places.contains(&index) {
+            push_mutated(&mut text, random, sign)?;
+        } else if !(after_digit && sign.is_ascii_digit()) {
+            text.push(sign)?;
+        }
+        after_digit = ends_in_digit(&text);
+    }
+    Ok(text)
+}
+
+/// Appends a character, or what it mutates to. A digit never mutates to more digits.
+fn push_mutated(text: &mut String, random: &mut Random, sign: char) -> Result<(), AllocError> {
+    let after_digit = ends_in_digit(text);
+    match random.below(3) {
+        0 => Ok(()),
+        _ if after_digit || sign.is_ascii_digit() => text.push('b'),
+        1 => {
+            text.push(sign)?;
+            text.push(sign)
+        }
+        _ => text.push_str(random.pick(&SIGNS)),
+    }
+}
+
+/// Whether the last character is a digit.
+fn ends_in_digit(text: &str) -> bool {
+    match text.chars().last() {
+        Some(sign) => sign.is_ascii_digit(),
+        None => false,
+    }
+}

@@ -1,0 +1,25 @@
+//! Tests of the library under hostile use: allocations that are refused, and patterns that are deep or explode. They are a crate
+//! of their own so that the tested crates are proved once. There is no other code here.
+//!
+//! The tests in the modules `refused_*` hold with and without a refusal: each makes its calls twice, and at most one of the two may
+//! want memory. `tests/refused_memory/sweep` refuses each request for memory of each of them in turn.
+#![tactic(auto)]
+
+#[cfg(test)]
+mod engines;
+#[cfg(test)]
+mod exploding;
+#[cfg(test)]
+mod odd_inputs;
+#[cfg(test)]
+mod outcome;
+#[cfg(test)]
+mod refused_buffers;
+#[cfg(test)]
+mod refused_building;
+#[cfg(test)]
+mod refused_items;
+#[cfg(test)]
+mod refused_runs;
+#[cfg(test)]
+mod refused_searches;
