@@ -1,5 +1,6 @@
 -- A haystack whose reads are counted.
-use Rattle.std.specs.Prelude.{◌≡◌, ℕ, List}
+use Rattle.std.specs.Prelude.{◌≡◌, ◌<◌, ℕ, Bool, true, false, List, Some, slice_index_or}
+use Rattle.regex_hir.specs.Text.{char_at}
 use Rattle.fancy_regex_class.specs.declared.counted.Counted.{Counted}
 
 -- the bytes of the haystack
@@ -13,3 +14,7 @@ look_count c = c.steps.now
 -- both add to the same counter
 abbrev pub SameCounter : Counted → Counted → Type 0
 SameCounter a b = b.steps.ghost_name ≡ a.steps.ghost_name
+
+-- an ASCII character stands at i that is marked
+abbrev pub HasMarkedAscii : List ℕ → List Bool → ℕ → Type 0
+HasMarkedAscii text marks i = (c : ℕ) × (c < 128) × (char_at text i ≡ Some c) × (slice_index_or marks c false ≡ true)

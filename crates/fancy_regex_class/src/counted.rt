@@ -51,7 +51,7 @@ impl Steps {
     }
 }
 
-/// A haystack that is read through `look` only, and the counter that each read adds to.
+/// A haystack that is read through `look` and `skip_ascii` only, and the counter that each read adds to.
 #[derive(Drop)]
 pub struct Counted<'t, 's> {
     text: &'t str,
@@ -71,7 +71,7 @@ impl<'t, 's> Counted<'t, 's> {
     }
 
     /// A counter of its own that stands where this haystack's stands.
-    pub fn steps(&self) -> Steps
+    pub(crate) fn steps(&self) -> Steps
         ensures count { result ≡ look_count self.now }
         ensures bound { result ≤ 2 ^ 64 - 1 }
     {
@@ -82,7 +82,7 @@ impl<'t, 's> Counted<'t, 's> {
 
     /// The same haystack, whose reads are added to another counter. A loop that counts by a counter of its own keeps it in a
     /// register, and `raise_to` hands the count on.
-    pub fn counted_by<'c>(&self, steps: &'c mut Steps) -> Counted<'t, 'c>
+    pub(crate) fn counted_by<'c>(&self, steps: &'c mut Steps) -> Counted<'t, 'c>
         ensures text { looked_text result ≡ looked_text self.now }
         ensures count { look_count result ≡ steps.old }
         ensures same_counter { result.steps.ghost_name ≡ steps.entry.ghost_name }
@@ -94,7 +94,7 @@ impl<'t, 's> Counted<'t, 's> {
     }
 
     /// Raises the counter to where another one stands, if it is lower.
-    pub fn raise_to(&mut self, steps: &Steps)
+    pub(crate) fn raise_to(&mut self, steps: &Steps)
         ensures count { look_count self.new ≡ max (look_count self.old) steps.now }
         ensures text { looked_text self.new ≡ looked_text self.old }
         ensures same_counter { SameCounter self.old self.new }

@@ -10,11 +10,13 @@ mod counted;
 mod folding;
 mod input;
 mod matcher;
+mod skip;
 
 pub use class::{CharClassMatcher, ClassError};
 pub use counted::{Counted, Steps};
 pub use folding::{CaseiLiteral, fold, is_word};
 pub use input::{RunInput, Span};
+pub use skip::skip_ascii;
 
 /// Law: a `regex::Regex` that is parsed from a class's text matches the text of a single character exactly if the class
 /// contains that character.

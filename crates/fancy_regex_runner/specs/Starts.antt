@@ -1,6 +1,7 @@
 -- The starts of a search that are to be attempted.
-use Rattle.std.specs.Prelude.{◌≡◌, ◌⊎◌, ◌+◌, ◌<◌, ◌≤◌, ℕ, Bool, true, false, List, [], ◌∷◌, Option, Some, None, IfSome, IsCharBoundary, slice_index_or, length}
+use Rattle.std.specs.Prelude.{◌≡◌, ◌⊎◌, ◌+◌, ◌<◌, ◌≤◌, ℕ, Bool, true, false, List, [], ◌∷◌, Option, Some, None, IfSome, IsCharBoundary, length}
 use Rattle.regex_hir.specs.Text.{char_at}
+use Rattle.fancy_regex_class.specs.Looks.{HasMarkedAscii}
 use Rattle.fancy_regex_runner.specs.Meaning.{Spot, View}
 use Rattle.fancy_regex_runner.specs.Attempt.{Continuation, land}
 use Rattle.fancy_regex_runner.specs.Find.{places_from}
@@ -35,10 +36,6 @@ pub record IsStart (text : List ℕ) (stop from : ℕ) (start : Start) : Type 0 
 abbrev pub passed_to : ℕ → Option Start → ℕ
 passed_to stop None = stop
 passed_to stop (Some start) = start.at
-
--- an ASCII character stands at i that is marked
-abbrev pub HasMarkedAscii : List ℕ → List Bool → ℕ → Type 0
-HasMarkedAscii text marks i = (c : ℕ) × (c < 128) × (char_at text i ≡ Some c) × (slice_index_or marks c false ≡ true)
 
 -- an ASCII character stands at i, and the pair was visited to which a start at i leads
 abbrev pub HasVisitedFrom : List ℕ → Visited → PairAhead → ℕ → Type 0

@@ -1,0 +1,16 @@
+use Rattle.std.proofs.Common.{◌≡◌, ℕ, ◌+◌, ◌-◌, ◌^◌, ◌<◌, ◌≤◌, min, IsCharBoundary}
+use Rattle.fancy_regex_class.specs.Looks.{looked_text, look_count, SameCounter, HasMarkedAscii}
+use Rattle.fancy_regex_class.proofs.skip.skip_by_look.Given as goal
+
+abbrev pub invariant-chars : goal.invariant-chars
+invariant-chars l = record {
+  range : (l.from ≤ l.at) × (l.at ≤ l.stop);
+  boundary : IsCharBoundary (looked_text l.fn.text) l.at;
+  passed : (i : ℕ) → l.from ≤ i → i < l.at → HasMarkedAscii (looked_text l.fn.text) l.marked i;
+  ticked : min (look_count l.text + 1) (2 ^ 64 - 1) ≡ min (look_count l.fn.text + (l.at - l.from + 1)) (2 ^ 64 - 1);
+  text : looked_text l.text ≡ looked_text l.fn.text;
+  same_counter : SameCounter l.fn.text l.text;
+}
+
+abbrev pub decreases-chars : goal.decreases-chars
+decreases-chars l = l.stop - l.at
