@@ -144,7 +144,9 @@ static int options(void) {
 
 static int wrong_calls(void) {
     fancy_regex regex = FANCY_REGEX_EMPTY;
+    fancy_regex_query begin = {0, false, true};
     fancy_regex_span span;
+    uint64_t looks;
     char text[16];
     WANT(fancy_regex_build(NULL, "a", 1, NULL) == FANCY_REGEX_NULL_POINTER);
     WANT(fancy_regex_build(&regex, NULL, 1, NULL) == FANCY_REGEX_NULL_POINTER);
@@ -159,15 +161,18 @@ static int wrong_calls(void) {
     fancy_regex_free(&regex);
     WANT(fancy_regex_find(&regex, "a", 1, 0, &span) == FANCY_REGEX_EMPTY_HANDLE);
     WANT(fancy_regex_build(&regex, "a", 1, NULL) == FANCY_REGEX_DONE);
+    WANT(fancy_regex_build(&regex, NULL, 1, NULL) == FANCY_REGEX_NULL_POINTER && fancy_regex_groups(&regex) == 1);
     WANT(fancy_regex_find(NULL, "a", 1, 0, &span) == FANCY_REGEX_NULL_POINTER);
     WANT(fancy_regex_find(&regex, NULL, 1, 0, &span) == FANCY_REGEX_NULL_POINTER);
     WANT(fancy_regex_find(&regex, "a", SIZE_MAX, 0, &span) == FANCY_REGEX_TOO_LONG);
-    WANT(fancy_regex_find_by(&regex, "a", 1, NULL, &span) == FANCY_REGEX_NULL_POINTER);
+    span.start = looks = 7;
+    WANT(fancy_regex_find_by(&regex, "a", 1, NULL, &span) == FANCY_REGEX_NULL_POINTER && span.start == FANCY_REGEX_UNSET);
+    WANT(fancy_regex_find_counted(&regex, "a", SIZE_MAX, &begin, &span, &looks) == FANCY_REGEX_TOO_LONG && looks == 0);
     WANT(fancy_regex_find(&regex, "a\xff", 2, 0, &span) == FANCY_REGEX_NOT_UTF8);
     WANT(fancy_regex_find(&regex, "a", 1, 2, &span) == FANCY_REGEX_PAST_END);
     WANT(fancy_regex_find(&regex, "\xc3\xa9", 2, 1, &span) == FANCY_REGEX_OFF_BOUNDARY);
     WANT(fancy_regex_captures(&regex, "a", 1, 0, NULL, 1) == FANCY_REGEX_NULL_POINTER);
-    WANT(fancy_regex_find_counted(&regex, "a", 1, &(fancy_regex_query){0, false, true}, &span, NULL) == FANCY_REGEX_NULL_POINTER);
+    WANT(fancy_regex_find_counted(&regex, "a", 1, &begin, &span, NULL) == FANCY_REGEX_NULL_POINTER);
     WANT(fancy_regex_captures(&regex, "a", 1, 0, &span, SIZE_MAX / 2) == FANCY_REGEX_TOO_LONG);
     WANT(fancy_regex_find(&regex, "a", 1, 0, &span) == FANCY_REGEX_DONE);
     fancy_regex_free(&regex);

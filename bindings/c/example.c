@@ -8,11 +8,12 @@
 #include <stdlib.h>
 #include <string.h>
 
-static int tell_fault(fancy_regex *regex) {
+static int tell_fault(fancy_regex *regex, int32_t answer) {
     char text[256];
     size_t length = fancy_regex_fault_text(regex, text, sizeof text);
     size_t place = fancy_regex_fault_place(regex);
-    fprintf(stderr, "example: %.*s\n", (int)(length < sizeof text ? length : sizeof text), text);
+    if (length == 0) fprintf(stderr, "example: the call ended with %d\n", (int)answer);
+    else fprintf(stderr, "example: %.*s\n", (int)(length < sizeof text ? length : sizeof text), text);
     if (place != FANCY_REGEX_UNSET) fprintf(stderr, "example: the fault is at byte %zu of the pattern\n", place);
     fancy_regex_free(regex);
     return 2;
@@ -37,17 +38,18 @@ int main(int count, char **arguments) {
     const char *pattern = arguments[1], *text = arguments[2];
     fancy_regex regex = FANCY_REGEX_EMPTY;
     fancy_regex_walk walk = FANCY_REGEX_WALK;
-    if (fancy_regex_build(&regex, pattern, strlen(pattern), NULL) != FANCY_REGEX_DONE) return tell_fault(&regex);
+    int32_t answer = fancy_regex_build(&regex, pattern, strlen(pattern), NULL);
+    if (answer != FANCY_REGEX_DONE) return tell_fault(&regex, answer);
 
     size_t groups = fancy_regex_groups(&regex);
     fancy_regex_span *spans = malloc(groups * sizeof *spans);
-    int32_t answer = spans != NULL ? FANCY_REGEX_DONE : FANCY_REGEX_MEMORY;
+    if (spans == NULL) answer = FANCY_REGEX_MEMORY;
     while (answer == FANCY_REGEX_DONE) {
         answer = fancy_regex_next(&regex, text, strlen(text), &walk, spans, groups);
         if (answer == FANCY_REGEX_DONE) print_groups(spans, groups);
     }
     free(spans);
-    if (answer < 0) return tell_fault(&regex);
+    if (answer < 0) return tell_fault(&regex, answer);
     fancy_regex_free(&regex);
     return 0;
 }

@@ -12,13 +12,19 @@
  *   text and its length name bytes that are all there. What a call writes into overlaps nothing else that it is given.
  * - A handle is FANCY_REGEX_EMPTY or what these functions made of it. Its two fields are never written by hand, and a handle is
  *   not copied and then used twice, as a `FILE` is not.
- * - No two calls on one handle overlap, not even two searches. A handle may move to another thread between calls. Calls on
- *   different handles share nothing and may overlap.
- * - The fields of type bool are true or false.
- * - The program's malloc, realloc and free are one allocator, and none of these functions is called in a signal handler.
+ * - No two calls on one handle overlap, not even two searches. A handle may move to another thread between calls, if a lock or
+ *   the start or end of a thread puts the calls in order. Calls on different handles share nothing and may overlap.
+ * - The fields of type bool are true or false. A text is UTF-8 where the field `is_utf8` of a query says so, and the text of a
+ *   walk stays as it is from the first call to the last.
+ * - The program's malloc, realloc and free are one allocator, which aligns a block to each power of two up to 16 that divides its
+ *   size. None of these functions is called in a signal handler, or in the forked child of a process with threads.
+ * - A thread that builds has room on its stack: reading the deepest pattern took less than 224 KB. That is measured, not proved.
+ * - The functions fancy_regex_raw_* are called through the others alone: they test neither pointers nor lengths.
  *
  * All else is tested, and answered by an error code: a null pointer, an empty handle, a handle with no regex or no set, a length
- * that no object can have, a text that is not UTF-8, and a place past the end of the text or inside a character.
+ * that no object can have, a text that is not UTF-8, and a place past the end of the text or inside a character. Where more than one
+ * thing is wrong, the code is that of one of them. After each error but those of building, the handle holds the regex or the set
+ * that it held before. FANCY_REGEX_MEMORY may be the answer of each call that returns a code.
  */
 #ifndef FANCY_REGEX_H
 #define FANCY_REGEX_H
@@ -37,15 +43,15 @@ enum {
     FANCY_REGEX_DONE = 1,          /* there is a match, or the call did what was asked */
     FANCY_REGEX_EMPTY_HANDLE = -1, /* the handle is empty */
     FANCY_REGEX_NO_REGEX = -2,     /* the handle holds no regex: a set, or a fault of building */
-    FANCY_REGEX_NOT_UTF8 = -3,     /* the pattern or the text is not UTF-8 */
+    FANCY_REGEX_NOT_UTF8 = -3,     /* the pattern, the text or what replaces a match is not UTF-8 */
     FANCY_REGEX_PAST_END = -4,     /* the place is past the end of the text */
     FANCY_REGEX_OFF_BOUNDARY = -5, /* the place is inside a character */
     FANCY_REGEX_NO_PATTERN = -6,   /* the text is no pattern: see fancy_regex_fault_place */
     FANCY_REGEX_REFUSED = -7,      /* the pattern cannot be compiled: see fancy_regex_fault_text */
-    FANCY_REGEX_LIMIT = -8,        /* the search passed a limit */
+    FANCY_REGEX_LIMIT = -8,        /* a search went back more often than backtrack_limit, or held more than 1,000,000 branches open */
     FANCY_REGEX_MEMORY = -9,       /* memory ran out */
-    FANCY_REGEX_NULL_POINTER = -10, /* a pointer is null where a value is needed */
-    FANCY_REGEX_TOO_LONG = -11,    /* a length that no object can have */
+    FANCY_REGEX_NULL_POINTER = -10, /* a pointer is null where a value is needed, or a walk has no room for a span */
+    FANCY_REGEX_TOO_LONG = -11,    /* a length of more than PTRDIFF_MAX bytes, which no object can have */
     FANCY_REGEX_NO_SET = -12,      /* the handle holds no set: a regex, or a fault of building */
     FANCY_REGEX_WRONG_ENDS = -13   /* the ends of the patterns of a set fall */
 };
@@ -77,8 +83,8 @@ typedef struct fancy_regex_member {
 
 /* How a pattern is built. Begin with FANCY_REGEX_OPTIONS, and change what differs. */
 typedef struct fancy_regex_options {
-    size_t backtrack_limit;      /* how often one search may go back: 1,000,000 */
-    size_t max_prog_size;        /* the most instructions of a program, if has_max_prog_size */
+    size_t backtrack_limit;      /* how often one search by a backtracking program may go back: 1,000,000 */
+    size_t max_prog_size;        /* the most instructions of a backtracking program, if has_max_prog_size */
     bool has_max_prog_size;      /* whether max_prog_size is a cap: false */
     bool case_insensitive;       /* upper and lower case are the same, as after (?i) */
     bool multi_line;             /* ^ and $ match at each line, as after (?m) */
@@ -137,8 +143,8 @@ static inline const fancy_regex_options *fancy_regex_options_or_default(const fa
 }
 
 /* Builds a regex from the `length` bytes of `pattern` into the handle, which is emptied first. `options` may be null: the
- * default ones. Where the answer is FANCY_REGEX_NOT_UTF8, NO_PATTERN, REFUSED or MEMORY, the handle may hold the fault, for
- * fancy_regex_fault_text; it has to be freed all the same. */
+ * default ones. With FANCY_REGEX_NOT_UTF8, NO_PATTERN and REFUSED the handle holds the fault, for fancy_regex_fault_text, with MEMORY
+ * it may; it has to be freed all the same. With NULL_POINTER and TOO_LONG the handle stays as it was. */
 static inline int32_t fancy_regex_build(fancy_regex *regex, const char *pattern, size_t length, const fancy_regex_options *options) {
     int32_t tested = fancy_regex_test(pattern, length, 1);
     if (regex == NULL) return FANCY_REGEX_NULL_POINTER;
@@ -155,18 +161,21 @@ static inline void fancy_regex_free(fancy_regex *regex) {
 static inline int32_t fancy_regex_find_by(fancy_regex *regex, const char *text, size_t length, const fancy_regex_query *query, fancy_regex_span *span) {
     fancy_regex_span ignored = {FANCY_REGEX_UNSET, FANCY_REGEX_UNSET};
     int32_t tested = fancy_regex_test(text, length, 1);
+    if (span != NULL) *span = ignored;
     if (regex == NULL || query == NULL) return FANCY_REGEX_NULL_POINTER;
     if (tested != FANCY_REGEX_DONE) return tested;
     return fancy_regex_raw_find(regex, fancy_regex_bytes(text), length, query, span != NULL ? span : &ignored);
 }
 
 /* As fancy_regex_find_by, and writes into `looks`, which must not be null, a count of the looks at the text that the linear-time matcher
- * makes: 0 where the handle holds no regex and for a pattern that needs a backtracking program; for another pattern at most W * (N + 1),
+ * makes: 0 where nothing is searched and for a pattern that needs a backtracking program; for another pattern at most W * (N + 1),
  * where N is the number of bytes from the place of the search to the end of the text, 0 past the end, and W is a number that the pattern
  * and its options give. */
 static inline int32_t fancy_regex_find_counted(fancy_regex *regex, const char *text, size_t length, const fancy_regex_query *query, fancy_regex_span *span, uint64_t *looks) {
     fancy_regex_span ignored = {FANCY_REGEX_UNSET, FANCY_REGEX_UNSET};
     int32_t tested = fancy_regex_test(text, length, 1);
+    if (span != NULL) *span = ignored;
+    if (looks != NULL) *looks = 0;
     if (regex == NULL || query == NULL || looks == NULL) return FANCY_REGEX_NULL_POINTER;
     if (tested != FANCY_REGEX_DONE) return tested;
     return fancy_regex_raw_find_counted(regex, fancy_regex_bytes(text), length, query, span != NULL ? span : &ignored, looks);
@@ -185,14 +194,16 @@ static inline int32_t fancy_regex_captures_by(fancy_regex *regex, const char *te
 
 /* Searches the `length` bytes of `text` for the first match that starts at the byte offset `position` or later; \G matches at
  * `position`. Answers FANCY_REGEX_DONE and its span, or FANCY_REGEX_NO_MATCH, or a fault; the span is unset then. `span` may be
- * null where only the answer is of interest. */
+ * null where only the answer is of interest. The faults are NULL_POINTER, TOO_LONG, EMPTY_HANDLE, NO_REGEX, NOT_UTF8, PAST_END,
+ * OFF_BOUNDARY, LIMIT and MEMORY. */
 static inline int32_t fancy_regex_find(fancy_regex *regex, const char *text, size_t length, size_t position, fancy_regex_span *span) {
     fancy_regex_query query = {position, false, true};
     return fancy_regex_find_by(regex, text, length, &query, span);
 }
 
 /* As fancy_regex_find, and writes the spans of the groups into `spans`, which has `room` of them: group 0, the whole match,
- * first. Where there are more spans than groups, the others are unset. Without a match `spans` stays as it is. */
+ * first. Where there are more spans than groups, the others are unset. Without a match `spans` stays as it is. With no room `spans`
+ * may be null. */
 static inline int32_t fancy_regex_captures(fancy_regex *regex, const char *text, size_t length, size_t position, fancy_regex_span *spans, size_t room) {
     fancy_regex_query query = {position, false, true};
     return fancy_regex_captures_by(regex, text, length, &query, spans, room);
@@ -217,10 +228,11 @@ static inline size_t fancy_regex_step(const char *text, size_t length, size_t pl
 
 /* The next match of a walk from left to right, none overlapping another, with the answers of fancy_regex_captures; `room` is 1 or
  * more. Each call of a walk has the same text, which stays as it is from the first to the last. Whether the text is UTF-8 is tested
- * by the first call only. After FANCY_REGEX_NO_MATCH or a fault the walk is at its end. */
+ * by the first call only. After FANCY_REGEX_NO_MATCH or a fault the walk is at its end, and what follows is NO_MATCH. A null `walk`,
+ * null `spans` and no room are FANCY_REGEX_NULL_POINTER, and the walk stays where it is. */
 static inline int32_t fancy_regex_next(fancy_regex *regex, const char *text, size_t length, fancy_regex_walk *walk, fancy_regex_span *spans, size_t room) {
     if (walk == NULL || spans == NULL || room == 0) return FANCY_REGEX_NULL_POINTER;
-    while (walk->next <= length) {
+    while (walk->next <= length && walk->next != FANCY_REGEX_UNSET) {
         fancy_regex_query query = {walk->next, walk->known, !walk->stepped};
         int32_t answer = fancy_regex_captures_by(regex, text, length, &query, spans, room);
         if (answer != FANCY_REGEX_DONE) {
@@ -240,7 +252,8 @@ static inline int32_t fancy_regex_next(fancy_regex *regex, const char *text, siz
 
 /* Writes the spans of all matches of the text, from left to right and none overlapping another, into the `room` spans of `spans`, as
  * many as there is room for, and how many there are into `count`. The answer is FANCY_REGEX_DONE, also where there is no match, or a
- * fault; the count is 0 then and nothing is written. With no room `spans` may be null: the matches are counted. */
+ * fault; the count is 0 then and no span is written. With no room `spans` may be null: the matches are counted. The faults are those
+ * of fancy_regex_find but PAST_END and OFF_BOUNDARY. */
 static inline int32_t fancy_regex_find_all(fancy_regex *regex, const char *text, size_t length, fancy_regex_span *spans, size_t room, size_t *count) {
     fancy_regex_span none = {FANCY_REGEX_UNSET, FANCY_REGEX_UNSET};
     int32_t tested = fancy_regex_test(text, length, 1);
@@ -267,8 +280,10 @@ static inline int32_t fancy_regex_split(fancy_regex *regex, const char *text, si
 
 /* Writes the text with each match replaced by what the `with_length` bytes of `with` stand for there into the `room` bytes of `out`,
  * cut off where there is too little room, and with no zero byte behind it; and its whole length into `out_length`. In `with`, $1,
- * ${1}, $name and ${name} stand for the text of a group, and $$ for a $. The answers are those of fancy_regex_find_all, and
- * FANCY_REGEX_NOT_UTF8 is of the text or of `with`. */
+ * ${1}, $name and ${name} stand for the text of a group, and $$ for a $; a name is as long as it can be, a group that is not there or
+ * took no part has no text, and another $ stands for itself. The answers are those of fancy_regex_find_all, and FANCY_REGEX_NOT_UTF8
+ * is of the text or of `with`. With no room `out` may be null: the length is told. A text that is cut off may end inside a
+ * character. */
 static inline int32_t fancy_regex_replace_all(fancy_regex *regex, const char *text, size_t length, const char *with, size_t with_length, char *out, size_t room, size_t *out_length) {
     uint8_t none = 0;
     int32_t tested = fancy_regex_test(text, length, 1);
@@ -286,7 +301,8 @@ static inline int32_t fancy_regex_replace_all(fancy_regex *regex, const char *te
  * `ends` are the byte offsets at which each of them ends: for "ab" and "c" they are "abc", 2 and 3. All have the same options; null
  * are the default ones. An end that is less than the one before it is FANCY_REGEX_WRONG_ENDS, and a pattern that is not UTF-8
  * FANCY_REGEX_NOT_UTF8; else the answers are those of fancy_regex_build, and the fault is that of the first pattern that is refused,
- * its place within that pattern. After a fault the handle may hold it, for fancy_regex_fault_text; it has to be freed all the same. */
+ * its place within that pattern. With WRONG_ENDS, NOT_UTF8, NO_PATTERN and REFUSED the handle holds the fault, for
+ * fancy_regex_fault_text, with MEMORY it may; it has to be freed all the same. With NULL_POINTER and TOO_LONG it stays as it was. */
 static inline int32_t fancy_regex_set_build(fancy_regex *set, const char *patterns, const size_t *ends, size_t count, const fancy_regex_options *options) {
     size_t none = 0;
     int32_t counted = fancy_regex_test(ends, count, sizeof(size_t));
@@ -300,8 +316,9 @@ static inline int32_t fancy_regex_set_build(fancy_regex *set, const char *patter
 
 /* Writes the members of a set that match at the earliest place from `position` on at which one of them does, in order of their
  * numbers, into the `room` members of `members`, as many as there is room for, and how many there are into `count`; \G matches at
- * `position`. The answer is FANCY_REGEX_DONE, with a count of 0 where no member matches, or a fault; the count is 0 then and nothing
- * is written. With no room `members` may be null. */
+ * `position`. A match may start behind that place, after \K. The answer is FANCY_REGEX_DONE, with a count of 0 where no member
+ * matches, or a fault; the count is 0 then and no member is written. With no room `members` may be null. The faults are those of
+ * fancy_regex_find, with NO_SET in the place of NO_REGEX; the search of each member that is asked may pass its limit. */
 static inline int32_t fancy_regex_set_find(fancy_regex *set, const char *text, size_t length, size_t position, fancy_regex_member *members, size_t room, size_t *count) {
     fancy_regex_query query = {position, false, true};
     fancy_regex_member none = {0, 0, 0};
@@ -320,20 +337,24 @@ static inline size_t fancy_regex_groups(fancy_regex *regex) {
 }
 
 /* Writes the name of the group with this number, in UTF-8, into the `room` bytes of `out`, cut off where there is too little room, and
- * with no zero byte behind it. Returns the length of the whole name, 0 where the group has none or there is no such group. */
+ * with no zero byte behind it. Returns the length of the whole name, 0 where the group has none or there is no such group or regex,
+ * and where `out` is null but has room. */
 static inline size_t fancy_regex_group_name(fancy_regex *regex, size_t group, char *out, size_t room) {
     uint8_t none = 0;
     if (regex == NULL || fancy_regex_test(out, room, 1) != FANCY_REGEX_DONE) return 0;
     return fancy_regex_raw_group_name(regex, group, out != NULL ? (uint8_t *)out : &none, room);
 }
 
-/* The byte offset in the pattern at which its first error stands, after FANCY_REGEX_NO_PATTERN; else FANCY_REGEX_UNSET. */
+/* The byte offset in the pattern at which its first error stands, if the fault that the handle keeps is FANCY_REGEX_NO_PATTERN; else
+ * FANCY_REGEX_UNSET. */
 static inline size_t fancy_regex_fault_place(fancy_regex *regex) {
     return regex != NULL ? fancy_regex_raw_fault_place(regex) : FANCY_REGEX_UNSET;
 }
 
-/* Writes the text of the last fault of this handle into the `room` bytes of `out`, cut off where there is too little room, and
- * with no zero byte behind it. Returns the length of the whole text, 0 where there was no fault. */
+/* Writes the text of the fault that the handle keeps into the `room` bytes of `out`, cut off where there is too little room, and
+ * with no zero byte behind it. A handle keeps its last fault, of building or of a later call, until it is built again or freed;
+ * EMPTY_HANDLE, NULL_POINTER and TOO_LONG are not kept. Returns the length of the whole text, 0 where no fault is kept or memory ran
+ * out for its text, and where `out` is null but has room. */
 static inline size_t fancy_regex_fault_text(fancy_regex *regex, char *out, size_t room) {
     uint8_t none = 0;
     if (regex == NULL || fancy_regex_test(out, room, 1) != FANCY_REGEX_DONE) return 0;

@@ -6,14 +6,17 @@ use std::io::{self, Read};
 
 extern "C" {
     /// The processor time of this process so far, in millionths of a second.
-    fn clock() -> std::ffi::c_long;
+    fn clock() -> std::os::raw::c_long;
 }
 
 fn main() {
     let words: Vec<String> = env::args().skip(1).collect();
-    let [pattern, count] = words.as_slice() else {
-        eprintln!("usage: time PATTERN COUNT");
-        std::process::exit(2);
+    let (pattern, count) = match words.as_slice() {
+        [pattern, count] => (pattern, count),
+        _ => {
+            eprintln!("usage: time PATTERN COUNT");
+            std::process::exit(2);
+        }
     };
     let count: u32 = count.parse().unwrap();
     let mut text = String::new();

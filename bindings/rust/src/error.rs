@@ -1,10 +1,11 @@
 use std::fmt;
 
-/// Why a call failed. What it was called on is unchanged.
+/// Why a call failed. What it was called on is unchanged. The texts are those that `Display` shows; they are empty if there was no
+/// memory for them.
 #[derive(Clone, Debug, PartialEq, Eq)]
 #[non_exhaustive]
 pub enum Error {
-    /// The text is no pattern: the byte offset of its first error, and what it is.
+    /// The text is no pattern: the byte offset of its first error, and the text of the error.
     ParseError(usize, String),
     /// The pattern cannot be compiled.
     CompileError(String),

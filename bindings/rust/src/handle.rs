@@ -5,8 +5,8 @@ use std::cell::UnsafeCell;
 /// A handle of the library, which it frees.
 pub(crate) struct Owned(UnsafeCell<Handle>);
 
-// The library shares nothing between handles, and keeps no thread's own state. A handle is not `Sync`: calls on one must not
-// overlap.
+// The library shares nothing between handles, and keeps no thread's own state. That is not proved. A handle is not `Sync`: calls
+// on one must not overlap.
 unsafe impl Send for Owned {}
 
 impl Drop for Owned {
@@ -57,10 +57,10 @@ impl Owned {
 /// The text that a call writes into as much room as there is, and whose length it returns.
 pub(crate) fn text_of(write: impl Fn(&mut [u8]) -> usize) -> String {
     let mut text = vec![0; 64];
-    let length = write(&mut text);
+    let mut length = write(&mut text);
     if length > text.len() {
         text.resize(length, 0);
-        write(&mut text);
+        length = write(&mut text);
     }
     text.truncate(length);
     String::from_utf8_lossy(&text).into_owned()

@@ -16,7 +16,8 @@ impl<'t> RegexInput<'t> {
         }
     }
 
-    /// The same from a byte offset on, which must not lie inside a character; `\G` matches there.
+    /// The same from a byte offset on; `\G` matches there. A search panics where the offset lies inside a character, and finds
+    /// nothing where it lies past the end of the text.
     pub fn from_pos(self, start: usize) -> RegexInput<'t> {
         RegexInput { start, ..self }
     }

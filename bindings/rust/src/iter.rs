@@ -118,7 +118,7 @@ impl<'t> Iterator for CaptureMatches<'_, 't> {
     }
 }
 
-/// The pieces of a text between the matches. An error is the last item.
+/// The pieces of a text between the matches, and last the rest of the text. Behind an error the rest still comes.
 pub struct Split<'r, 't> {
     matches: Matches<'r, 't>,
     next: Option<usize>,
@@ -151,16 +151,13 @@ impl<'t> Iterator for Split<'_, 't> {
                 self.next = Some(found.end());
                 Some(Ok(&text[start..found.start()]))
             }
-            Some(Err(error)) => {
-                self.next = None;
-                Some(Err(error))
-            }
+            Some(Err(error)) => Some(Err(error)),
             None => self.rest().map(Ok),
         }
     }
 }
 
-/// At most so many pieces of a text between the matches; the last one is the rest. An error is the last item.
+/// At most so many items of a split; the last one is the rest of the text. An error is one of them.
 pub struct SplitN<'r, 't> {
     pieces: Split<'r, 't>,
     left: usize,

@@ -23,8 +23,8 @@ impl RegexOptionsBuilder {
     }
 
     /// Compiles a pattern.
-    pub fn build(&self, pattern: &str) -> Result<Regex> {
-        Regex::with_options(pattern, &self.options)
+    pub fn build<P: AsRef<str>>(&self, pattern: P) -> Result<Regex> {
+        Regex::with_options(pattern.as_ref(), &self.options)
     }
 }
 

@@ -9,7 +9,7 @@ use crate::replacer::Replacer;
 use std::borrow::Cow;
 use std::fmt;
 
-/// A compiled pattern.
+/// A compiled pattern. It can move to another thread, but no two threads can search with the same one: it is `Send` and not `Sync`.
 ///
 /// ```
 /// use proved_fancy_regex::Regex;
@@ -34,7 +34,7 @@ impl Regex {
         let mut regex = Regex {
             handle: Owned::empty(),
             pattern: pattern.to_string(),
-            names: Names::from([]),
+            names: Names::from(Vec::new()),
         };
         // The handle is empty, and the pattern and the options are borrowed for the call.
         let status = unsafe {
@@ -71,18 +71,29 @@ impl Regex {
         self.find_from_pos(text, 0)
     }
 
-    /// The first match that starts at the byte offset `position` or later; past the end of the text there is none. It must not
-    /// lie inside a character.
+    /// The first match that starts at the byte offset `position` or later; past the end of the text there is none.
+    ///
+    /// # Panics
+    ///
+    /// If `position` lies inside a character.
     pub fn find_from_pos<'t>(&self, text: &'t str, position: usize) -> Result<Option<Match<'t>>> {
         self.find_at(text, position, true)
     }
 
     /// The first match of an input.
+    ///
+    /// # Panics
+    ///
+    /// If the search begins inside a character.
     pub fn find_input<'t>(&self, input: RegexInput<'t>) -> Result<Option<Match<'t>>> {
         self.find_at(input.text, input.start, input.continues)
     }
 
     /// The groups of the first match of an input.
+    ///
+    /// # Panics
+    ///
+    /// If the search begins inside a character.
     pub fn captures_input<'t>(&self, input: RegexInput<'t>) -> Result<Option<Captures<'t>>> {
         self.captures_at(input.text, input.start, input.continues)
     }
@@ -93,8 +104,9 @@ impl Regex {
         position: usize,
         continues: bool,
     ) -> Result<Option<Match<'t>>> {
-        let Some(query) = query(text, position, continues) else {
-            return Ok(None);
+        let query = match query(text, position, continues) {
+            Some(query) => query,
+            None => return Ok(None),
         };
         let mut span = Span::UNSET;
         // The text is UTF-8, as the query says, and borrowed for the call, as the query and the span are.
@@ -124,7 +136,11 @@ impl Regex {
         self.captures_from_pos(text, 0)
     }
 
-    /// The groups of the first match that starts at the byte offset `position` or later. It must not lie inside a character.
+    /// The groups of the first match that starts at the byte offset `position` or later; past the end of the text there is none.
+    ///
+    /// # Panics
+    ///
+    /// If `position` lies inside a character.
     pub fn captures_from_pos<'t>(
         &self,
         text: &'t str,
@@ -139,8 +155,9 @@ impl Regex {
         position: usize,
         continues: bool,
     ) -> Result<Option<Captures<'t>>> {
-        let Some(query) = query(text, position, continues) else {
-            return Ok(None);
+        let query = match query(text, position, continues) {
+            Some(query) => query,
+            None => return Ok(None),
         };
         let mut spans = vec![Span::UNSET; self.names.len()];
         // As in `find_at`; the spans are as many as the call is told.
@@ -177,7 +194,7 @@ impl Regex {
         CaptureMatches::new(self, text)
     }
 
-    /// The pieces of the text between the matches.
+    /// The pieces of the text between the matches, and last the rest of the text. Behind an error the rest still comes.
     pub fn split<'r, 't>(&'r self, text: &'t str) -> Split<'r, 't> {
         Split::new(self, text)
     }
@@ -242,7 +259,8 @@ impl Regex {
         self.try_replacen(text, limit, replacer).unwrap()
     }
 
-    /// The text with its first `limit` matches replaced, or with all of them for limit 0; the text itself if none matches.
+    /// The text with its first `limit` matches replaced, or with all of them for limit 0. It is borrowed if none matches, or if a
+    /// template changes nothing.
     pub fn try_replacen<'t, R: Replacer>(
         &self,
         text: &'t str,
@@ -252,26 +270,18 @@ impl Regex {
         if let (0, Some(template)) = (limit, replacer.template()) {
             return self.replaced(text, template);
         }
-        let mut replaced = None;
-        let mut last = 0;
-        for (count, groups) in self.captures_iter(text).enumerate() {
-            let groups = groups?;
-            if limit != 0 && count >= limit {
-                break;
-            }
-            let whole = groups.whole();
-            let to = replaced.get_or_insert_with(String::new);
-            to.push_str(&text[last..whole.start()]);
-            replacer.replace_append(&groups, to);
-            last = whole.end();
+        if let Some(same) = replacer.no_expansion() {
+            let append = |_: &Match<'t>, to: &mut String| to.push_str(&same);
+            return spliced(text, limit, self.find_iter(text), |found| *found, append);
         }
-        Ok(match replaced {
-            Some(mut to) => {
-                to.push_str(&text[last..]);
-                Cow::Owned(to)
-            }
-            None => Cow::Borrowed(text),
-        })
+        let append = |groups: &Captures<'t>, to: &mut String| replacer.replace_append(groups, to);
+        spliced(
+            text,
+            limit,
+            self.captures_iter(text),
+            Captures::whole,
+            append,
+        )
     }
 
     /// The text with each match replaced by a template, as the library does it.
@@ -320,6 +330,35 @@ impl Regex {
         });
         (!name.is_empty()).then_some(name)
     }
+}
+
+/// The text with what is appended for each of its first `limit` matches in the place of that match; all of them for limit 0.
+fn spliced<'t, T>(
+    text: &'t str,
+    limit: usize,
+    matches: impl Iterator<Item = Result<T>>,
+    whole: impl Fn(&T) -> Match<'t>,
+    mut append: impl FnMut(&T, &mut String),
+) -> Result<Cow<'t, str>> {
+    let mut spliced = None;
+    let mut last = 0;
+    for (count, found) in matches.enumerate() {
+        let found = found?;
+        if limit != 0 && count >= limit {
+            break;
+        }
+        let to = spliced.get_or_insert_with(String::new);
+        to.push_str(&text[last..whole(&found).start()]);
+        append(&found, to);
+        last = whole(&found).end();
+    }
+    Ok(match spliced {
+        Some(mut to) => {
+            to.push_str(&text[last..]);
+            Cow::Owned(to)
+        }
+        None => Cow::Borrowed(text),
+    })
 }
 
 /// The query of a search from a place; `None` past the end of the text, where nothing is found.

@@ -6,7 +6,13 @@ pub trait Replacer {
     /// Appends what stands in the place of the match.
     fn replace_append(&mut self, groups: &Captures<'_>, to: &mut String);
 
+    /// The text that stands in the place of each match, if it is the same for all of them.
+    fn no_expansion(&mut self) -> Option<Cow<'_, str>> {
+        None
+    }
+
     /// The template that says what is appended, if the replacer is one.
+    #[doc(hidden)]
     fn template(&self) -> Option<&str> {
         None
     }
@@ -26,6 +32,10 @@ impl<R: Replacer + ?Sized> Replacer for ReplacerRef<'_, R> {
         self.0.replace_append(groups, to);
     }
 
+    fn no_expansion(&mut self) -> Option<Cow<'_, str>> {
+        self.0.no_expansion()
+    }
+
     fn template(&self) -> Option<&str> {
         self.0.template()
     }
@@ -39,11 +49,19 @@ impl Replacer for NoExpand<'_> {
     fn replace_append(&mut self, _groups: &Captures<'_>, to: &mut String) {
         to.push_str(self.0);
     }
+
+    fn no_expansion(&mut self) -> Option<Cow<'_, str>> {
+        Some(Cow::Borrowed(self.0))
+    }
 }
 
 impl Replacer for &str {
     fn replace_append(&mut self, groups: &Captures<'_>, to: &mut String) {
         groups.expand(self, to);
+    }
+
+    fn no_expansion(&mut self) -> Option<Cow<'_, str>> {
+        without_references(self)
     }
 
     fn template(&self) -> Option<&str> {
@@ -56,6 +74,10 @@ impl Replacer for &String {
         groups.expand(self, to);
     }
 
+    fn no_expansion(&mut self) -> Option<Cow<'_, str>> {
+        without_references(self)
+    }
+
     fn template(&self) -> Option<&str> {
         Some(self)
     }
@@ -64,6 +86,10 @@ impl Replacer for &String {
 impl Replacer for String {
     fn replace_append(&mut self, groups: &Captures<'_>, to: &mut String) {
         groups.expand(self, to);
+    }
+
+    fn no_expansion(&mut self) -> Option<Cow<'_, str>> {
+        without_references(self)
     }
 
     fn template(&self) -> Option<&str> {
@@ -76,9 +102,32 @@ impl Replacer for Cow<'_, str> {
         groups.expand(self, to);
     }
 
+    fn no_expansion(&mut self) -> Option<Cow<'_, str>> {
+        without_references(self)
+    }
+
     fn template(&self) -> Option<&str> {
         Some(self)
     }
+}
+
+impl Replacer for &Cow<'_, str> {
+    fn replace_append(&mut self, groups: &Captures<'_>, to: &mut String) {
+        groups.expand(self, to);
+    }
+
+    fn no_expansion(&mut self) -> Option<Cow<'_, str>> {
+        without_references(self)
+    }
+
+    fn template(&self) -> Option<&str> {
+        Some(self)
+    }
+}
+
+/// The text, if no `$` is in it.
+fn without_references(text: &str) -> Option<Cow<'_, str>> {
+    (!text.contains('$')).then_some(Cow::Borrowed(text))
 }
 
 impl<F: FnMut(&Captures<'_>) -> T, T: AsRef<str>> Replacer for F {
@@ -103,9 +152,12 @@ fn reference<'t>(tail: &'t str, groups: &Captures<'_>, to: &mut String) -> &'t s
         to.push('$');
         return rest;
     }
-    let Some((name, rest)) = braced(tail).or_else(|| bare(tail)) else {
-        to.push('$');
-        return tail;
+    let (name, rest) = match braced(tail).or_else(|| bare(tail)) {
+        Some(parts) => parts,
+        None => {
+            to.push('$');
+            return tail;
+        }
     };
     let by_number = || groups.get(name.parse().ok()?);
     if let Some(found) = groups.name(name).or_else(by_number) {

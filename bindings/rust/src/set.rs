@@ -8,7 +8,7 @@ use crate::regex::query;
 use std::fmt;
 use std::vec;
 
-/// Several patterns, its members, that are searched for together. They are numbered from 0.
+/// Several patterns, its members, that are searched for together. They are numbered from 0. A set is `Send` and not `Sync`.
 ///
 /// ```
 /// use proved_fancy_regex::{RegexInput, RegexSet};
@@ -71,9 +71,14 @@ impl RegexSet {
 
     /// The members that match at the earliest place at which one of them matches, in the order of their numbers; `None` if no member
     /// matches anywhere. All of them are searched for at once: where one fails, its error is that of the call.
+    ///
+    /// # Panics
+    ///
+    /// If the search begins inside a character.
     pub fn find_input<'t>(&self, input: RegexInput<'t>) -> Result<Option<RegexSetMatchesAt<'t>>> {
-        let Some(query) = query(input.text, input.start, input.continues) else {
-            return Ok(None);
+        let query = match query(input.text, input.start, input.continues) {
+            Some(query) => query,
+            None => return Ok(None),
         };
         let mut members = vec![Member::NONE; self.length];
         let count = self.find_into(input.text, &query, &mut members)?;

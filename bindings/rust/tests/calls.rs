@@ -1,8 +1,9 @@
 //! Each call of the wrapper, on the examples of the crate that was ported and on errors.
 
 use proved_fancy_regex::{
-    Captures, Error, Regex, RegexBuilder, RegexInput, RegexOptionsBuilder, RegexSet,
+    Captures, Error, Regex, RegexBuilder, RegexInput, RegexOptionsBuilder, RegexSet, Replacer,
 };
+use std::borrow::Cow;
 
 fn spans(pattern: &str, text: &str) -> Vec<(usize, usize)> {
     let regex = Regex::new(pattern).unwrap();
@@ -43,6 +44,55 @@ fn splits_and_replaces() {
     let words = Regex::new(r"(\w+) (\w+)").unwrap();
     let swapped = words.replace_all("hello world", |g: &Captures| format!("{} {}", &g[2], &g[1]));
     assert_eq!(swapped, "world hello");
+}
+
+#[test]
+fn the_rest_comes_behind_an_error() {
+    let slow = RegexBuilder::new(",|(a|b|ab)*bc(?=x)")
+        .backtrack_limit(100)
+        .build()
+        .unwrap();
+    let text = "x,abababababababab";
+    let mut pieces = slow.split(text);
+    assert_eq!(pieces.next(), Some(Ok("x")));
+    assert!(matches!(pieces.next(), Some(Err(Error::RuntimeError(_)))));
+    assert_eq!(pieces.next(), Some(Ok("abababababababab")));
+    assert_eq!(pieces.next(), None);
+    let mut first = slow.splitn(text, 2);
+    assert_eq!(first.next(), Some(Ok("x")));
+    assert_eq!(first.next(), Some(Ok("abababababababab")));
+    assert_eq!(first.next(), None);
+    let mut matches = slow.find_iter(text);
+    assert!(matches.next().unwrap().is_ok() && matches.next().unwrap().is_err());
+    assert!(matches.next().is_none());
+}
+
+#[test]
+#[should_panic(expected = "inside a character")]
+fn a_place_inside_a_character_panics() {
+    let _ = Regex::new("a").unwrap().find_from_pos("é", 1);
+}
+
+/// A replacer that has the same text for all matches, and no other.
+struct Same;
+
+impl Replacer for Same {
+    fn replace_append(&mut self, _groups: &Captures<'_>, _to: &mut String) {
+        panic!("the same text is known");
+    }
+
+    fn no_expansion(&mut self) -> Option<Cow<'_, str>> {
+        Some(Cow::Borrowed("$1"))
+    }
+}
+
+#[test]
+fn the_same_text_is_put_for_all() {
+    let regex = RegexOptionsBuilder::new().build("b".to_string()).unwrap();
+    assert_eq!(regex.replace_all("abcb", Same), "a$1c$1");
+    assert_eq!(regex.replacen("abcb", 1, Same), "a$1cb");
+    assert_eq!(regex.replacen("abcb", 1, &Cow::Borrowed("<$0>")), "a<b>cb");
+    assert!(matches!(regex.replace_all("ac", Same), Cow::Borrowed("ac")));
 }
 
 #[test]
@@ -168,7 +218,7 @@ fn long_texts_are_replaced() {
     assert_eq!(replaced, "<éé>".repeat(1000));
     assert!(matches!(
         regex.replace_all("abc", "x"),
-        std::borrow::Cow::Borrowed("abc")
+        Cow::Borrowed("abc")
     ));
     assert_eq!(
         regex

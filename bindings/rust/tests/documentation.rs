@@ -1,4 +1,5 @@
-//! The examples in the documentation of the crate that was ported, each with what it prints there.
+//! The examples in the documentation of the crate that was ported, each with what it prints there. Left out are those of calls that
+//! the wrapper does not have; `Captures` and `RegexInput` have no parameter for the kind of text here.
 
 use proved_fancy_regex::{Captures, NoExpand, Regex, RegexBuilder, RegexInput, RegexSet, Replacer};
 
@@ -163,6 +164,17 @@ fn set() {
     assert_eq!(third.pattern(), 3);
     assert_eq!(third.as_str(), "29.99");
     assert!(matches.next().is_none());
+}
+
+#[test]
+fn set_match() {
+    let set = RegexSet::new(&[r"\w+"]).unwrap();
+    let mut matches = set.find_input(RegexInput::new("abc")).unwrap().unwrap();
+    let m = matches.next().unwrap().unwrap();
+    assert_eq!(m.pattern(), 0);
+    assert_eq!(m.get().as_str(), "abc");
+    assert_eq!(m.start(), 0);
+    assert_eq!(m.end(), 3);
 }
 
 #[test]
