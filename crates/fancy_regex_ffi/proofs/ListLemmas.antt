@@ -3,7 +3,8 @@ use Rattle.std.specs.Prelude.{◌≡◌, ℕ, ℤ, List, Option, Some, Result}
 use mathlib.Core.Path.{sym, subst}
 use Rattle.fancy_regex_ffi_lists.specs.declared.member.Member.{Member}
 use Rattle.fancy_regex_ffi_lists.specs.declared.spans.Span.{Span}
-use Rattle.fancy_regex_ffi.specs.Lists.{OfRegex, AreMatchSpans, ArePieceSpans, IsReplacedText, AreMembers, IsListWritten, FaultAfter, ListReports}
+use Rattle.fancy_regex_ffi.specs.Ends.{FaultAfter}
+use Rattle.fancy_regex_ffi.specs.Lists.{OfRegex, AreMatchSpans, ArePieceSpans, IsReplacedText, AreMembers, IsListWritten, ListReports}
 use Rattle.fancy_regex_ffi.specs.declared.fault.Fault.{Fault}
 use Rattle.fancy_regex_ffi.specs.declared.held.Held.{Held}
 use Rattle.fancy_regex_ffi.specs.declared.held.Subject.{Subject}

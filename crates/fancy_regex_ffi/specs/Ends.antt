@@ -1,18 +1,16 @@
 -- How the exported calls end.
-use Rattle.std.specs.Prelude.{◌≡◌, ℕ, ◌<◌, ◌≤◌, ℤ, false, List, [], length, Option, Some, None, chars, string_bytes, unwrap_or, ◌-◌, ◌^◌, IsUtf8, IsCharBoundary}
+use Rattle.std.specs.Prelude.{◌≡◌, ℕ, ◌<◌, ◌≤◌, ℤ, Bool, true, false, List, [], length, Option, Some, None, Result, Ok, Err, chars, string_bytes, unwrap_or, ◌-◌, ◌^◌, IsUtf8}
 use Rattle.fancy_regex_meta.specs.declared.options.RegexOptions.{RegexOptions}
 use Rattle.fancy_regex_meta.specs.MetaMatches.{meta_pattern}
 use Rattle.fancy_regex_meta.specs.GroupNames.{name_at}
 use Rattle.fancy_regex_search.specs.GroupLookup.{meta_group_names}
 use Rattle.fancy_regex_meta.specs.Refusals.{Accepts, Refuses}
-use Rattle.fancy_regex_meta.specs.SearchLimits.{IsMetaSearchError}
-use Rattle.fancy_regex_meta.specs.declared.error.Error.TheVariants.{RuntimeError as RegexRuntimeError}
-use Rattle.fancy_regex_machine.specs.declared.error.RuntimeError.{RuntimeError}
+use Rattle.fancy_regex_meta.specs.Caps.{MetaKeepsCap}
 use Rattle.fancy_regex_ffi.specs.Codes.{code_of, fault_status}
 use Rattle.fancy_regex_ffi_lists.specs.Spans.{span_of}
 use Rattle.fancy_regex_ffi.specs.Places.{place_of}
 use Rattle.fancy_regex_ffi.specs.Texts.{IsFrontOf}
-use Rattle.fancy_regex_ffi.specs.Searches.{config_of, found_by, AreGroupsFound, CountsLooksBy, HoldsNoRegex}
+use Rattle.fancy_regex_ffi.specs.Searches.{IsFoundBy, IsCapturedBy, CountsLooksBy}
 use Rattle.fancy_regex_ffi.specs.declared.fault.Fault.{Fault}
 use Rattle.fancy_regex_ffi.specs.declared.fault.Fault.TheVariants as faults
 use Rattle.fancy_regex_ffi.specs.declared.held.Held.{Held}
@@ -25,14 +23,15 @@ use Rattle.fancy_regex_ffi.specs.declared.status.Status.TheVariants as statuses
 
 -- why a pattern is not built
 abbrev pub IsBuildFault : RegexOptions → List ℕ → Fault → Type 0
-IsBuildFault options pattern (faults.Regex e) = Refuses options pattern e
+IsBuildFault options pattern (faults.Regex e) = IsUtf8 pattern × Refuses options pattern e
 IsBuildFault options pattern faults.NotUtf8 = IsUtf8 pattern → ⊥
 IsBuildFault options pattern _ = ⊥
 
 -- what is built of a pattern, and how the call ends
 abbrev pub IsBuilt : RegexOptions → List ℕ → Subject → Option Fault → Status → Type 0
 IsBuilt options pattern (subjects.Regex regex) fault status =
-    (status ≡ statuses.Done) × (string_bytes regex.meta.pattern ≡ pattern) × (regex.meta.options ≡ options) × Accepts options pattern
+    (status ≡ statuses.Done) × (fault ≡ None) × (string_bytes regex.meta.pattern ≡ pattern) × (regex.meta.options ≡ options) × MetaKeepsCap regex.meta
+    × Accepts options pattern
 IsBuilt options pattern subjects.Nothing (Some fault) status = (status ≡ fault_status fault) × IsBuildFault options pattern fault
 IsBuilt options pattern subjects.Nothing None status = ⊥
 IsBuilt options pattern (subjects.Set set) fault status = ⊥
@@ -53,18 +52,6 @@ abbrev pub place_kept : Option Fault → ℕ
 place_kept (Some fault) = unwrap_or (place_of fault) (2 ^ 64 - 1)
 place_kept None = 2 ^ 64 - 1
 
--- the span is that of the match that the definitions give
-abbrev pub IsSpanFound : Subject → List ℕ → Query → Span → Type 0
-IsSpanFound (subjects.Regex regex) text query span = (found : ℕ × ℕ) × (found_by regex.meta text query ≡ Some found) × (span ≡ span_of (Some found))
-IsSpanFound (subjects.Set set) text query span = ⊥
-IsSpanFound subjects.Nothing text query span = ⊥
-
--- the definitions give no match
-abbrev pub HasNoMatch : Subject → List ℕ → Query → Type 0
-HasNoMatch (subjects.Regex regex) text query = found_by regex.meta text query ≡ None
-HasNoMatch (subjects.Set set) text query = ⊥
-HasNoMatch subjects.Nothing text query = ⊥
-
 -- the number of groups of what a handle holds, the whole match included; 0 where it holds no regex
 abbrev pub groups_in : Option Held → ℕ
 groups_in (Some held) = groups_for held.subject
@@ -75,61 +62,50 @@ abbrev pub place_in : Option Held → ℕ
 place_in (Some held) = place_kept held.fault
 place_in None = 2 ^ 64 - 1
 
--- a limit that a search passes
-abbrev pub PassesLimit : Subject → List ℕ → Query → Type 0
-PassesLimit (subjects.Regex regex) text query = (limit : RuntimeError) × IsMetaSearchError regex.meta text (config_of text query) false (RegexRuntimeError limit)
-PassesLimit (subjects.Set set) text query = ⊥
-PassesLimit subjects.Nothing text query = ⊥
+-- the fault that is kept after a call: the earlier one after an answer, else that of the call
+abbrev pub FaultAfter : {X : Type 0} → Result X Fault → Option Fault → Option Fault → Type 0
+FaultAfter (Ok _) old new = new ≡ old
+FaultAfter (Err fault) old new = new ≡ Some fault
 
--- how a search of a text from a place ends without a match
-abbrev pub EndsWithout : Subject → List ℕ → Query → Status → Type 0
-EndsWithout subject text query statuses.NoMatch = HasNoMatch subject text query
-EndsWithout subject text query statuses.NoRegex = HoldsNoRegex subject
-EndsWithout subject text query statuses.NotUtf8 = IsUtf8 text → ⊥
-EndsWithout subject text query statuses.PastEnd = length text < query.position
-EndsWithout subject text query statuses.OffBoundary = IsCharBoundary text query.position → ⊥
-EndsWithout subject text query statuses.Limit = PassesLimit subject text query
-EndsWithout subject text query statuses.Memory = Unit {0}
-EndsWithout subject text query _ = ⊥
+-- how a search that answers this ends: its number, and the span that it gives, unset without a match
+abbrev pub IsSpanTold : Result (Option (ℕ × ℕ)) Fault → Status → Span → Type 0
+IsSpanTold (Ok (Some found)) status span = (status ≡ statuses.Done) × (span ≡ span_of (Some found))
+IsSpanTold (Ok None) status span = (status ≡ statuses.NoMatch) × (span ≡ span_of None)
+IsSpanTold (Err fault) status span = (status ≡ fault_status fault) × (span ≡ span_of None)
 
--- how a search ends, and the span that it gives: that of the match, and unset without one
-abbrev pub FindEnds : Subject → List ℕ → Query → Status → Span → Type 0
-FindEnds subject text query statuses.Done span = IsSpanFound subject text query span
-FindEnds subject text query status span = EndsWithout subject text query status × (span ≡ span_of None)
+-- How a search of what was built ends: with the match that the definitions give, or without one; or with a fault, which is kept.
+pub record FindEnds (subject : Subject) (text : List ℕ) (query : Query) (status : Status) (span : Span) (old new : Option Fault) : Type 0 where
+  pub answer : Result (Option (ℕ × ℕ)) Fault
+  pub is_found : IsFoundBy subject text query answer
+  pub is_told : IsSpanTold answer status span
+  pub kept : FaultAfter answer old new
 
--- the spans of the groups of the match that the definitions give
-abbrev pub AreSpansFound : Subject → List ℕ → Query → List Span → Type 0
-AreSpansFound (subjects.Regex regex) text query spans = AreGroupsFound regex.meta text query spans
-AreSpansFound (subjects.Set set) text query spans = ⊥
-AreSpansFound subjects.Nothing text query spans = ⊥
+-- how a search for groups that answers this ends
+abbrev pub captured_status : Result Bool Fault → Status
+captured_status (Ok true) = statuses.Done
+captured_status (Ok false) = statuses.NoMatch
+captured_status (Err fault) = fault_status fault
 
--- how a search for groups ends: their spans are written, or without a match all spans stay as they were
-abbrev pub CapturesEnd : Subject → List ℕ → Query → Status → List Span → List Span → Type 0
-CapturesEnd subject text query statuses.Done old new = AreSpansFound subject text query new
-CapturesEnd subject text query status old new = EndsWithout subject text query status × (new ≡ old)
+-- How a search of what was built for groups ends: their spans are written; or all spans stay as they were, without a match, or with a
+-- fault, which is kept.
+pub record CapturesEnd (subject : Subject) (text : List ℕ) (query : Query) (status : Status) (spans written : List Span) (old new : Option Fault) : Type 0 where
+  pub answer : Result Bool Fault
+  pub is_captured : IsCapturedBy subject text query answer spans written
+  pub is_told : status ≡ captured_status answer
+  pub kept : FaultAfter answer old new
 
--- the fault that is kept after a call: the earlier one after an answer, else one of this status
-abbrev pub KeepsFault : Status → Option Fault → Option Fault → Type 0
-KeepsFault statuses.Done old new = new ≡ old
-KeepsFault statuses.NoMatch old new = new ≡ old
-KeepsFault status old new = (fault : Fault) × (new ≡ Some fault) × (status ≡ fault_status fault)
-
--- what a search leaves in a handle: what was built, and the fault that is to be kept
-abbrev pub LeavesHeld : Status → Held → Option Held → Type 0
-LeavesHeld status old (Some new) = (new.subject ≡ old.subject) × KeepsFault status old.fault new.fault
-LeavesHeld status old None = ⊥
-
--- the number that a search of what a handle holds returns, the span, and what the handle holds afterwards
+-- The number that a search of what a handle holds returns, the span, and what the handle holds afterwards: what was built, and the fault
+-- that is to be kept.
 abbrev pub FindReports : Option Held → Option Held → List ℕ → Query → ℤ → Span → Type 0
-FindReports (Some held) left text query code span =
-    (status : Status) × (code ≡ code_of status) × FindEnds held.subject text query status span × LeavesHeld status held left
+FindReports (Some held) left text query code span = (after : Held) × (status : Status) × (left ≡ Some after) × (code ≡ code_of status)
+    × (after.subject ≡ held.subject) × FindEnds held.subject text query status span held.fault after.fault
 FindReports None left text query code span = (code ≡ code_of statuses.EmptyHandle) × (span ≡ span_of None) × (left ≡ None)
 
 -- the number that a search for groups of what a handle holds returns, the spans, and what the handle holds afterwards
 abbrev pub CapturesReport : Option Held → Option Held → List ℕ → Query → ℤ → List Span → List Span → Type 0
-CapturesReport (Some held) left text query code old new =
-    (status : Status) × (code ≡ code_of status) × CapturesEnd held.subject text query status old new × LeavesHeld status held left
-CapturesReport None left text query code old new = (code ≡ code_of statuses.EmptyHandle) × (new ≡ old) × (left ≡ None)
+CapturesReport (Some held) left text query code spans written = (after : Held) × (status : Status) × (left ≡ Some after) × (code ≡ code_of status)
+    × (after.subject ≡ held.subject) × CapturesEnd held.subject text query status spans written held.fault after.fault
+CapturesReport None left text query code spans written = (code ≡ code_of statuses.EmptyHandle) × (written ≡ spans) × (left ≡ None)
 
 -- the looks that a search of what a handle holds counts
 abbrev pub LooksCounted : Option Held → List ℕ → Query → ℕ → Type 0

@@ -7,7 +7,8 @@ use Rattle.fancy_regex_ffi_lists.specs.Lists.{gap_spans, match_spans, matches_of
 use Rattle.fancy_regex_ffi_lists.specs.declared.member.Member.{Member}
 use Rattle.fancy_regex_ffi_lists.specs.declared.spans.Span.{Span}
 use Rattle.fancy_regex_ffi.specs.Codes.{code_of, fault_status}
-use Rattle.fancy_regex_ffi.specs.Searches.{config_of, IsPlaceFault}
+use Rattle.fancy_regex_ffi.specs.Ends.{FaultAfter}
+use Rattle.fancy_regex_ffi.specs.Searches.{config_of, CanBegin, IsPlaceFault}
 use Rattle.fancy_regex_ffi.specs.Texts.{IsFrontOf}
 use Rattle.fancy_regex_ffi.specs.declared.fault.Fault.{Fault}
 use Rattle.fancy_regex_ffi.specs.declared.fault.Fault.TheVariants as faults
@@ -17,9 +18,9 @@ use Rattle.fancy_regex_ffi.specs.declared.held.Subject.TheVariants as subjects
 use Rattle.fancy_regex_ffi.specs.declared.query.Query.{Query}
 use Rattle.fancy_regex_ffi.specs.declared.status.Status.TheVariants as statuses
 
--- why the matches of a text are not all found; the bytes that are to be UTF-8 are those of the text, and of the template if there is one
+-- Why the matches of a text are not all found. The bytes that are to be UTF-8 are those of the text, and of the template if there is one.
 abbrev pub IsIterationFault : Regex → List ℕ → Type 0 → Fault → Type 0
-IsIterationFault regex text are_utf8 (faults.Regex e) = IsErrorOfSearch regex.meta.options (string_bytes regex.meta.pattern) text e
+IsIterationFault regex text are_utf8 (faults.Regex e) = are_utf8 × IsErrorOfSearch regex.meta.options (string_bytes regex.meta.pattern) text e
 IsIterationFault regex text are_utf8 faults.NotUtf8 = are_utf8 → ⊥
 IsIterationFault regex text are_utf8 _ = ⊥
 
@@ -33,29 +34,30 @@ OfRegex Gives subjects.Nothing (Err fault) = fault ≡ faults.NoRegex
 
 -- the spans of all matches of the text
 abbrev pub AreMatchSpans : List ℕ → Regex → Result (List Span) Fault → Type 0
-AreMatchSpans text regex (Ok spans) = spans ≡ match_spans (matches_of regex text)
+AreMatchSpans text regex (Ok spans) = IsUtf8 text × (spans ≡ match_spans (matches_of regex text))
 AreMatchSpans text regex (Err fault) = IsIterationFault regex text (IsUtf8 text) fault
 
 -- the spans of all pieces of the text between its matches
 abbrev pub ArePieceSpans : List ℕ → Regex → Result (List Span) Fault → Type 0
-ArePieceSpans text regex (Ok spans) = spans ≡ gap_spans 0 (length text) (matches_of regex text)
+ArePieceSpans text regex (Ok spans) = IsUtf8 text × (spans ≡ gap_spans 0 (length text) (matches_of regex text))
 ArePieceSpans text regex (Err fault) = IsIterationFault regex text (IsUtf8 text) fault
 
 -- the text with each match replaced by what the template stands for there
 abbrev pub IsReplacedText : List ℕ → List ℕ → Regex → Result (List ℕ) Fault → Type 0
-IsReplacedText text template regex (Ok out) = out ≡ replaced_in regex.meta.options (string_bytes regex.meta.pattern) template text
+IsReplacedText text template regex (Ok out) =
+    (IsUtf8 text × IsUtf8 template) × (out ≡ replaced_in regex.meta.options (string_bytes regex.meta.pattern) template text)
 IsReplacedText text template regex (Err fault) = IsIterationFault regex text (IsUtf8 text × IsUtf8 template) fault
 
 -- why a set does not answer
 abbrev pub IsSetFault : List Regex → List ℕ → Query → Fault → Type 0
-IsSetFault regexes text query (faults.Regex e) = IsMemberError regexes text (config_of text query) e
+IsSetFault regexes text query (faults.Regex e) = CanBegin text query.position × IsMemberError regexes text (config_of text query) e
 IsSetFault regexes text query faults.NotUtf8 = IsUtf8 text → ⊥
 IsSetFault regexes text query fault = IsPlaceFault text query.position fault
 
 -- The members of a set that match at the earliest position at which one of them does, as the definitions give them, or why there is
 -- no answer.
 abbrev pub AreMembersIn : List Regex → List ℕ → Query → Result (List Member) Fault → Type 0
-AreMembersIn regexes text query (Ok members) = members ≡ matching_members regexes text (config_of text query)
+AreMembersIn regexes text query (Ok members) = CanBegin text query.position × (members ≡ matching_members regexes text (config_of text query))
 AreMembersIn regexes text query (Err fault) = IsSetFault regexes text query fault
 
 -- the same for what was built; without a set it is the fault that says so
@@ -75,11 +77,6 @@ listed items_of (Err fault) = Err fault
 abbrev pub IsListWritten : {X : Type 0} → Result (List X) Fault → ℤ → List X → List X → ℕ → Type 0
 IsListWritten (Ok xs) code old new count = (code ≡ code_of statuses.Done) × IsFrontOf xs old new × (count ≡ length xs)
 IsListWritten (Err fault) code old new count = (code ≡ code_of (fault_status fault)) × (new ≡ old) × (count ≡ 0)
-
--- the fault that is kept: the earlier one after an answer, else that of the call
-abbrev pub FaultAfter : {X : Type 0} → Result X Fault → Option Fault → Option Fault → Type 0
-FaultAfter (Ok _) old new = new ≡ old
-FaultAfter (Err fault) old new = new ≡ Some fault
 
 -- How a call ends that writes the list that `Gives` says of what a handle holds: what stands in the handle afterwards, the number, and
 -- what is written and counted. An empty handle has no list.

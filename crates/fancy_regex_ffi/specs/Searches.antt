@@ -22,15 +22,20 @@ abbrev pub IsTextOrFault : List ℕ → Result (Bor (List ℕ)) Fault → Type 0
 IsTextOrFault bytes (Ok text) = (text.now ≡ bytes) × IsUtf8 bytes
 IsTextOrFault bytes (Err fault) = (fault ≡ faults.NotUtf8) × (IsUtf8 bytes → ⊥)
 
--- why a search cannot begin there
+-- A search can begin there: the text is UTF-8, and the place is one of its boundaries, and so not past its end.
+pub record CanBegin (text : List ℕ) (position : ℕ) : Type 0 where
+  pub utf8 : IsUtf8 text
+  pub boundary : IsCharBoundary text position
+
+-- why a search of a text that is UTF-8 cannot begin there
 abbrev pub IsPlaceFault : List ℕ → ℕ → Fault → Type 0
-IsPlaceFault text position faults.PastEnd = length text < position
-IsPlaceFault text position faults.OffBoundary = (position ≤ length text) × (IsCharBoundary text position → ⊥)
+IsPlaceFault text position faults.PastEnd = IsUtf8 text × (length text < position)
+IsPlaceFault text position faults.OffBoundary = IsUtf8 text × (position ≤ length text) × (IsCharBoundary text position → ⊥)
 IsPlaceFault text position _ = ⊥
 
 -- nothing if a search can begin there, else the fault that says why not
 abbrev pub IsPlaceOrFault : List ℕ → ℕ → Result (Unit {0}) Fault → Type 0
-IsPlaceOrFault text position (Ok _) = IsCharBoundary text position
+IsPlaceOrFault text position (Ok _) = CanBegin text position
 IsPlaceOrFault text position (Err fault) = IsPlaceFault text position fault
 
 -- the configuration of a search
@@ -43,26 +48,14 @@ found_by meta text query = option_map span_in (meta_match meta text (config_of t
 
 -- why a search does not answer
 abbrev pub IsSearchFault : MetaRegex → List ℕ → Query → Fault → Type 0
-IsSearchFault meta text query (faults.Regex e) = IsMetaSearchError meta text (config_of text query) false e
+IsSearchFault meta text query (faults.Regex e) = CanBegin text query.position × IsMetaSearchError meta text (config_of text query) false e
 IsSearchFault meta text query faults.NotUtf8 = IsUtf8 text → ⊥
 IsSearchFault meta text query fault = IsPlaceFault text query.position fault
 
 -- the match that the definitions give, or why there is no answer
 abbrev pub IsFoundIn : MetaRegex → List ℕ → Query → Result (Option (ℕ × ℕ)) Fault → Type 0
-IsFoundIn meta text query (Ok found) = found ≡ found_by meta text query
+IsFoundIn meta text query (Ok found) = CanBegin text query.position × (found ≡ found_by meta text query)
 IsFoundIn meta text query (Err fault) = IsSearchFault meta text query fault
-
--- no regex was built
-abbrev pub HoldsNoRegex : Subject → Type 0
-HoldsNoRegex (subjects.Regex regex) = ⊥
-HoldsNoRegex (subjects.Set set) = Unit {0}
-HoldsNoRegex subjects.Nothing = Unit {0}
-
--- why a search of what was built does not answer
-abbrev pub IsFaultBy : Subject → List ℕ → Query → Fault → Type 0
-IsFaultBy (subjects.Regex regex) text query fault = IsSearchFault regex.meta text query fault
-IsFaultBy (subjects.Set set) text query fault = fault ≡ faults.NoRegex
-IsFaultBy subjects.Nothing text query fault = fault ≡ faults.NoRegex
 
 -- the match that the definitions give for what was built, or why there is no answer
 abbrev pub IsFoundBy : Subject → List ℕ → Query → Result (Option (ℕ × ℕ)) Fault → Type 0
@@ -98,8 +91,8 @@ AreGroupsFound meta text query spans = (found : Match) × (meta_match meta text 
 
 -- whether the definitions give a match, with the spans of its groups; or why there is no answer, and the spans are as they were
 abbrev pub IsCapturedIn : MetaRegex → List ℕ → Query → Result Bool Fault → List Span → List Span → Type 0
-IsCapturedIn meta text query (Ok true) old new = AreGroupsFound meta text query new
-IsCapturedIn meta text query (Ok false) old new = (found_by meta text query ≡ None) × (new ≡ old)
+IsCapturedIn meta text query (Ok true) old new = CanBegin text query.position × AreGroupsFound meta text query new
+IsCapturedIn meta text query (Ok false) old new = CanBegin text query.position × (found_by meta text query ≡ None) × (new ≡ old)
 IsCapturedIn meta text query (Err fault) old new = IsSearchFault meta text query fault × (new ≡ old)
 
 -- the same for what was built

@@ -1,8 +1,9 @@
 -- What a set is built of.
-use Rattle.std.specs.Prelude.{◌≡◌, ⊤, ℕ, ◌≤◌, ℤ, List, [], ◌∷◌, length, Option, Some, None, Result, Ok, Err, slice_range, IsUtf8}
+use Rattle.std.specs.Prelude.{◌≡◌, ◌≢◌, ⊤, ℕ, ◌≤◌, ℤ, List, [], ◌∷◌, length, Option, Some, None, Result, Ok, Err, slice_range, IsUtf8}
 use Rattle.std.specs.Borrow.{Bor}
 use Rattle.fancy_regex_meaning.specs.WayLaws.{Each}
 use Rattle.fancy_regex_meta.specs.declared.options.RegexOptions.{RegexOptions}
+use Rattle.fancy_regex_meta.specs.declared.error.Error.TheVariants.{Memory}
 use Rattle.fancy_regex.specs.SetMembers.{AreBuiltOf, RefusesPatterns}
 use Rattle.fancy_regex_ffi.specs.Codes.{code_of, fault_status}
 use Rattle.fancy_regex_ffi.specs.declared.fault.Fault.{Fault}
@@ -23,6 +24,11 @@ abbrev pub Rise : List ℕ → ℕ → List ℕ → Type 0
 Rise bytes from [] = ⊤
 Rise bytes from (end ∷ ends) = (from ≤ end) × (end ≤ length bytes) × Rise bytes end ends
 
+-- From an offset on, texts in UTF-8 stand one behind another, and end there.
+pub record AreTexts (bytes : List ℕ) (from : ℕ) (ends : List ℕ) : Type 0 where
+  pub rise : Rise bytes from ends
+  pub utf8 : Each IsUtf8 (cut_at bytes from ends)
+
 -- the piece between two offsets, or the fault that says why it is none
 abbrev pub IsPieceOrFault : List ℕ → ℕ → ℕ → Result (Bor (List ℕ)) Fault → Type 0
 IsPieceOrFault bytes from end (Ok text) = (from ≤ end) × (end ≤ length bytes) × (text.now ≡ slice_range bytes from end) × IsUtf8 (slice_range bytes from end)
@@ -32,14 +38,15 @@ IsPieceOrFault bytes from end (Err _) = ⊥
 
 -- why a set is not built of these patterns
 abbrev pub IsSetRefused : RegexOptions → List ℕ → List ℕ → Fault → Type 0
-IsSetRefused options bytes ends (faults.Regex e) = RefusesPatterns options (cut_at bytes 0 ends) e
+IsSetRefused options bytes ends (faults.Regex e) = (e ≢ Memory → AreTexts bytes 0 ends) × RefusesPatterns options (cut_at bytes 0 ends) e
 IsSetRefused options bytes ends faults.NotUtf8 = Each IsUtf8 (cut_at bytes 0 ends) → ⊥
 IsSetRefused options bytes ends faults.WrongEnds = Rise bytes 0 ends → ⊥
 IsSetRefused options bytes ends _ = ⊥
 
 -- what is built of these patterns, and how the call ends
 abbrev pub IsSetBuilt : RegexOptions → List ℕ → List ℕ → Subject → Option Fault → Status → Type 0
-IsSetBuilt options bytes ends (subjects.Set set) fault status = (status ≡ statuses.Done) × AreBuiltOf options (cut_at bytes 0 ends) set.regexes.items
+IsSetBuilt options bytes ends (subjects.Set set) fault status =
+    (status ≡ statuses.Done) × (fault ≡ None) × AreTexts bytes 0 ends × AreBuiltOf options (cut_at bytes 0 ends) set.regexes.items
 IsSetBuilt options bytes ends subjects.Nothing (Some fault) status = (status ≡ fault_status fault) × IsSetRefused options bytes ends fault
 IsSetBuilt options bytes ends subjects.Nothing None status = ⊥
 IsSetBuilt options bytes ends (subjects.Regex regex) fault status = ⊥

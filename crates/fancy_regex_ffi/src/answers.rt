@@ -3,7 +3,8 @@
 ghost use Rattle.std.specs.Prelude.{◌≡◌};
 ghost use Rattle.std.specs.Cow.{cow_str_bytes};
 ghost use Rattle.fancy_regex_ffi.specs.Codes.{code_of};
-ghost use Rattle.fancy_regex_ffi.specs.Lists.{FaultAfter, IsListWritten, listed};
+ghost use Rattle.fancy_regex_ffi.specs.Ends.{FaultAfter};
+ghost use Rattle.fancy_regex_ffi.specs.Lists.{IsListWritten, listed};
 
 use crate::calls::keep;
 use crate::fault::Fault;

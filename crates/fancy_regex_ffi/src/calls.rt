@@ -1,10 +1,11 @@
 //! What the exported calls do with what a handle holds.
 
 ghost use Rattle.std.specs.Prelude.{◌≡◌, Some, true, IfOk, IfErr, IfSome, option_map, chars, string_bytes, IsUtf8};
+ghost use Rattle.fancy_regex_meta.specs.Caps.{MetaKeepsCap};
 ghost use Rattle.fancy_regex_meta.specs.Refusals.{Accepts};
 ghost use Rattle.fancy_regex_ffi.specs.Choices.{chosen};
 ghost use Rattle.fancy_regex_ffi.specs.Codes.{fault_status};
-ghost use Rattle.fancy_regex_ffi.specs.Ends.{IsBuildFault, IsBuilt, FindEnds, CapturesEnd, KeepsFault, groups_for, place_kept, IsGroupName, IsNameOf, IsNameWritten};
+ghost use Rattle.fancy_regex_ffi.specs.Ends.{IsBuildFault, IsBuilt, FindEnds, CapturesEnd, groups_for, place_kept, IsGroupName, IsNameOf, IsNameWritten};
 ghost use Rattle.fancy_regex_ffi.specs.Searches.{IsFoundBy, CountsLooksBy, IsCapturedBy, IsCapturedIn, IsGroupSpan, AreGroupSpans};
 ghost use Rattle.fancy_regex_ffi.specs.Texts.{IsTextWritten, text_kept};
 ghost use Rattle.fancy_regex_ffi.specs.declared.held.Subject.TheVariants as subjects;
@@ -53,6 +54,7 @@ fn built(alloc: Global, pattern: &[u8], options: &Options) -> (Held, Status)
 fn build(alloc: Global, pattern: &[u8], options: &Options) -> Result<Regex, Fault>
     ensures pattern { IfOk result (λ regex. string_bytes regex.meta.pattern ≡ pattern.now) }
     ensures options { IfOk result (λ regex. regex.meta.options ≡ chosen options.now) }
+    ensures cap { IfOk result (λ regex. MetaKeepsCap regex.meta) }
     ensures accepted { IfOk result (λ _. Accepts (chosen options.now) pattern.now) }
     ensures refused { IfErr result (IsBuildFault (chosen options.now) pattern.now) }
 {
@@ -67,7 +69,7 @@ fn build(alloc: Global, pattern: &[u8], options: &Options) -> Result<Regex, Faul
 
 /// How a search ends, and the span of the first match; a fault is kept. The counter is raised by the looks of the linear-time
 /// matcher.
-#[tactic(auto, using(crate::proofs::EndLemmas::found_ends, crate::proofs::EndLemmas::missing_ends, crate::proofs::EndLemmas::fault_ends, crate::proofs::EndLemmas::fault_kept))]
+#[tactic(auto, using(crate::proofs::EndLemmas::found_ends, crate::proofs::EndLemmas::missing_ends, crate::proofs::EndLemmas::fault_ends))]
 pub fn find_held(
     alloc: Global,
     held: &mut Held,
@@ -77,8 +79,7 @@ pub fn find_held(
 ) -> (Status, Span)
     requires { query.now.is_utf8 ≡ true → IsUtf8 text.now }
     ensures subject { held.new.subject ≡ held.old.subject }
-    ensures answer { FindEnds held.old.subject text.now query.now result.0 result.1 }
-    ensures fault { KeepsFault result.0 held.old.fault held.new.fault }
+    ensures answer { FindEnds held.old.subject text.now query.now result.0 result.1 held.old.fault held.new.fault }
     ensures looks { CountsLooksBy held.old.subject text.now query.now steps.old steps.new }
 {
     match find(alloc, &held.subject, text, query, steps) {
@@ -111,7 +112,7 @@ fn find(
 }
 
 /// Writes the groups of the first match, as many as there is room for, and tells how the search ends; a fault is kept.
-#[tactic(auto, using(crate::proofs::EndLemmas::captured_ends, crate::proofs::EndLemmas::uncaptured_ends, crate::proofs::EndLemmas::captures_fault_ends, crate::proofs::EndLemmas::fault_kept))]
+#[tactic(auto, using(crate::proofs::EndLemmas::captured_ends, crate::proofs::EndLemmas::uncaptured_ends, crate::proofs::EndLemmas::captures_fault_ends))]
 pub fn captures_held(
     alloc: Global,
     held: &mut Held,
@@ -121,8 +122,7 @@ pub fn captures_held(
 ) -> Status
     requires { query.now.is_utf8 ≡ true → IsUtf8 text.now }
     ensures subject { held.new.subject ≡ held.old.subject }
-    ensures answer { CapturesEnd held.old.subject text.now query.now result spans.old spans.new }
-    ensures fault { KeepsFault result held.old.fault held.new.fault }
+    ensures answer { CapturesEnd held.old.subject text.now query.now result spans.old spans.new held.old.fault held.new.fault }
 {
     match captures(alloc, &held.subject, text, query, spans) {
         Ok(true) => Status::Done,

@@ -1,6 +1,6 @@
 //! What a handle holds: what was built, and the fault of the last call.
 
-ghost use Rattle.std.specs.Prelude.{◌≡◌, Some};
+ghost use Rattle.std.specs.Prelude.{◌≡◌, Some, None};
 ghost use Rattle.fancy_regex_ffi.specs.declared.held.Subject.TheVariants as subjects;
 
 use crate::fault::Fault;
@@ -29,7 +29,8 @@ pub struct Held {
 impl Held {
     /// What holds a regex.
     pub fn of_regex(regex: Regex) -> Held
-        ensures { result.subject ≡ subjects.Regex regex }
+        ensures subject { result.subject ≡ subjects.Regex regex }
+        ensures fault { result.fault ≡ None }
     {
         Held {
             subject: Subject::Regex(regex),
@@ -39,7 +40,8 @@ impl Held {
 
     /// What holds a set.
     pub fn of_set(set: RegexSet) -> Held
-        ensures { result.subject ≡ subjects.Set set }
+        ensures subject { result.subject ≡ subjects.Set set }
+        ensures fault { result.fault ≡ None }
     {
         Held {
             subject: Subject::Set(set),

@@ -4,7 +4,7 @@ ghost use Rattle.std.specs.Prelude.{◌≡◌, true, IsUtf8, IfOk, IfErr, IfSome
 ghost use Rattle.fancy_regex.specs.SetMembers.{AreBuiltOf};
 ghost use Rattle.fancy_regex_ffi.specs.Choices.{chosen};
 ghost use Rattle.fancy_regex_ffi.specs.Lists.{AreMembers, listed};
-ghost use Rattle.fancy_regex_ffi.specs.Sets.{cut_at, IsPieceOrFault, IsSetBuilt, IsSetRefused};
+ghost use Rattle.fancy_regex_ffi.specs.Sets.{cut_at, AreTexts, IsPieceOrFault, IsSetBuilt, IsSetRefused};
 
 use crate::fault::Fault;
 use crate::held::{Held, Subject};
@@ -52,6 +52,7 @@ fn build_set(
     ends: &[usize],
     options: &Options,
 ) -> Result<RegexSet, Fault>
+    ensures texts { IfOk result (λ _. AreTexts patterns.now 0 ends.now) }
     ensures members { IfOk result (λ set. AreBuiltOf (chosen options.now) (cut_at patterns.now 0 ends.now) set.regexes.items) }
     ensures refused { IfErr result (IsSetRefused (chosen options.now) patterns.now ends.now) }
 {
@@ -60,8 +61,10 @@ fn build_set(
 }
 
 /// The texts of patterns that stand one behind another, by where each of them ends.
+#[tactic(auto, using(crate::proofs::SetLemmas::texts_next, crate::proofs::SetLemmas::texts_none, crate::proofs::SetLemmas::memory_refuses))]
 fn patterns_of<'p>(alloc: Global, bytes: &'p [u8], ends: &[usize]) -> Result<Vec<&'p str>, Fault>
-    ensures texts { IfOk result (λ texts. map (λ text. text.now) texts.items ≡ cut_at bytes.entry.now 0 ends.now) }
+    ensures texts { IfOk result (λ _. AreTexts bytes.entry.now 0 ends.now) }
+    ensures same { IfOk result (λ texts. map (λ text. text.now) texts.items ≡ cut_at bytes.entry.now 0 ends.now) }
     ensures refused { IfErr result (λ fault. (o : _) → IsSetRefused o bytes.entry.now ends.now fault) }
 {
     let mut texts = Vec::new(alloc);

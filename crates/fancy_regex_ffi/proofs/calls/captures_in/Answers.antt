@@ -23,6 +23,8 @@ returns-in-Some c =
     subst (λ (a : SearchConfig). (m : Match) × (meta_match meta text a ≡ Some m) × AreGroupsOf (meta_pattern meta) captures.slots.items m) config
     (subst (λ (t : List ℕ). (m : Match) × (meta_match meta t input.config ≡ Some m) × AreGroupsOf (meta_pattern meta) captures.slots.items m) shown gave) in
     let of = rw c.in-Some.is at c.in_ok-found.ensures.of in
-    let seen : captures.haystack.now ≡ text = λ i. ((of.0 ∙ c.continue_from_previous_match_end-input.ensures.haystack ∙ c.from_pos.ensures.haystack ∙ c.new.ensures.haystack) i).now in
-    groups_found meta text query captures.slots.items c.write_groups.new.spans answer.0 answer.1 answer.2
-    (subst (λ (t : List ℕ). AreGroupSpans t captures.slots.items c.write_groups.new.spans) seen c.write_groups.ensures)
+    let seen : captures.haystack.now ≡ text = λ i. ((of.0 ∙ c.continue_from_previous_match_end-input.ensures.haystack ∙ c.from_pos.ensures.haystack ∙ c.new.ensures.haystack) i).now in (
+      rw c.in_ok-check_place.was at c.check_place.ensures,
+      groups_found meta text query captures.slots.items c.write_groups.new.spans answer.0 answer.1 answer.2
+          (subst (λ (t : List ℕ). AreGroupSpans t captures.slots.items c.write_groups.new.spans) seen c.write_groups.ensures),
+    )
