@@ -4,3 +4,4 @@ pub mod ClassLemmas
 pub mod HirClassLemmas
 pub mod WordLemmas
 pub mod OneCharLemmas
+pub mod SkipLemmas

@@ -77,6 +77,7 @@ impl CharClassMatcher {
     }
 
     /// Whether the class contains the character.
+    #[inline(always)]
     pub fn contains(&self, c: char) -> bool
         ensures { result ≡ has self.now c }
     {

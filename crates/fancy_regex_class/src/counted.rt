@@ -1,6 +1,6 @@
 //! A haystack whose reads are counted, so that the work of a search can be bounded.
 
-ghost use Rattle.std.specs.Prelude.{◌≡◌, ℕ, ◌+◌, ◌-◌, ◌^◌, ◌≤◌, min, max, IfSome, IsCharBoundary};
+ghost use Rattle.std.specs.Prelude.{◌≡◌, ℕ, ◌+◌, ◌-◌, ◌^◌, ◌≤◌, min, IfSome, IsCharBoundary};
 ghost use Rattle.std.specs.Char.{len_utf8};
 ghost use Rattle.regex_hir.specs.Text.{char_at, char_before};
 
@@ -33,11 +33,12 @@ impl Steps {
         self.count
     }
 
-    /// Raises the counter to this number, if it is lower.
-    fn raise_to(&mut self, count: u64)
-        ensures { self.new ≡ max self.old count }
+    /// Counts so many reads.
+    #[inline(always)]
+    fn add(&mut self, reads: usize)
+        ensures { self.new ≡ min (self.old + reads) (2 ^ 64 - 1) }
     {
-        self.count = self.count.max(count);
+        self.count = self.count.saturating_add(reads as u64);
     }
 
     /// Counts one read.
@@ -51,7 +52,7 @@ impl Steps {
     }
 }
 
-/// A haystack that is read through `look` and `skip_ascii` only, and the counter that each read adds to.
+/// A haystack that is read through `look`, `skip_ascii` and `skip_ascii_pairs` only, and the counter that each read adds to.
 #[derive(Drop)]
 pub struct Counted<'t, 's> {
     text: &'t str,
@@ -70,36 +71,22 @@ impl<'t, 's> Counted<'t, 's> {
         Counted { text, steps }
     }
 
-    /// A counter of its own that stands where this haystack's stands.
-    pub(crate) fn steps(&self) -> Steps
-        ensures count { result ≡ look_count self.now }
-        ensures bound { result ≤ 2 ^ 64 - 1 }
+    /// The haystack, for a loop that counts its reads when it ends.
+    #[inline(always)]
+    pub(crate) fn text(&self) -> &'t str
+        ensures { result.now ≡ looked_text self.now }
     {
-        Steps {
-            count: self.steps.count(),
-        }
+        self.text
     }
 
-    /// The same haystack, whose reads are added to another counter. A loop that counts by a counter of its own keeps it in a
-    /// register, and `raise_to` hands the count on.
-    pub(crate) fn counted_by<'c>(&self, steps: &'c mut Steps) -> Counted<'t, 'c>
-        ensures text { looked_text result ≡ looked_text self.now }
-        ensures count { look_count result ≡ steps.old }
-        ensures same_counter { result.steps.ghost_name ≡ steps.entry.ghost_name }
-    {
-        Counted {
-            text: self.text,
-            steps,
-        }
-    }
-
-    /// Raises the counter to where another one stands, if it is lower.
-    pub(crate) fn raise_to(&mut self, steps: &Steps)
-        ensures count { look_count self.new ≡ max (look_count self.old) steps.now }
+    /// Counts so many reads: of places that were read in a loop, or that need not be read since what stands there is of no use.
+    #[inline(always)]
+    pub fn count_reads(&mut self, reads: usize)
+        ensures ticked { look_count self.new ≡ min (look_count self.old + reads) (2 ^ 64 - 1) }
         ensures text { looked_text self.new ≡ looked_text self.old }
         ensures same_counter { SameCounter self.old self.new }
     {
-        self.steps.raise_to(steps.count());
+        self.steps.add(reads);
     }
 
     /// The character that ends at `position`, a byte offset, and the one that starts there; `None` at the start and at

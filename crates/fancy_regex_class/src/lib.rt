@@ -16,7 +16,7 @@ pub use class::{CharClassMatcher, ClassError};
 pub use counted::{Counted, Steps};
 pub use folding::{CaseiLiteral, fold, is_word};
 pub use input::{RunInput, Span};
-pub use skip::skip_ascii;
+pub use skip::{skip_ascii, skip_ascii_pairs};
 
 /// Law: a `regex::Regex` that is parsed from a class's text matches the text of a single character exactly if the class
 /// contains that character.
