@@ -1,7 +1,6 @@
 -- Bytes of ASCII characters that are marked.
 use Rattle.std.proofs.Common.{◌≡◌, ◌⊎◌, inl, inr, ℕ, zero, suc, ◌+◌, ◌<◌, ◌≤◌, Bool, List, length, refl, subst, arith, slice_index_or, IsCharBoundary, IsUtf8, ⊎_elim}
 use Rattle.std.proofs.lemmas.Bool.{cases_lt}
-use Rattle.regex_hir.specs.Text.{char_at}
 use Rattle.fancy_regex_class.specs.Looks.{HasMarkedAscii, HasMarkedPair, HasMarkedByte}
 use Rattle.fancy_regex_class.proofs.AdjacentCharLemmas.{ascii_at, boundary_past_ascii}
 

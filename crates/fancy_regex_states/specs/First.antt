@@ -1,5 +1,5 @@
 -- The characters that a match can begin with.
-use Rattle.std.specs.Prelude.{◌≡◌, ◌⊎◌, ◌<◌, ℕ, Bool, false, List, Option, Contains, slice_index_or, length, ◌≤◌}
+use Rattle.std.specs.Prelude.{◌≡◌, ◌⊎◌, ◌<◌, ℕ, Bool, true, false, List, Option, Some, IfSome, Contains, slice_index_or, length, ◌≤◌}
 use Rattle.std.specs.List.{list_any}
 use Rattle.regex_hir.specs.Text.{is_some_and}
 use Rattle.fancy_regex_class.specs.declared.class.CharClassMatcher.{CharClassMatcher}
@@ -45,6 +45,24 @@ CannotRead unicode matchers after _ = Unit {0}
 abbrev pub CannotBegin : Bool → List CharClassMatcher → List State → ℕ → Option ℕ → Type 0
 CannotBegin unicode matchers states entry after = (q : ℕ) → Reaches states entry q → CannotRead unicode matchers after (state_at states q)
 
+-- the state is not final, and if it reads, then no way goes on with this character behind what it reads
+abbrev pub CannotGoOn : Bool → List CharClassMatcher → List State → Option ℕ → State → Type 0
+CannotGoOn unicode matchers states after (S.Read leaf next) = CannotBegin unicode matchers states next after
+CannotGoOn unicode matchers states after Match = ⊥
+CannotGoOn unicode matchers states after _ = Unit {0}
+
+-- no match that begins at the entry reads this character second, nor ends before it, where a character stands before
+abbrev pub CannotFollow : Bool → List CharClassMatcher → List State → ℕ → Option ℕ → Type 0
+CannotFollow unicode matchers states entry after = (q : ℕ) → Reaches states entry q → CannotGoOn unicode matchers states after (state_at states q)
+
+-- the ASCII characters that are marked are second in no match, behind another character
+abbrev pub RefusesSecond : Bool → List CharClassMatcher → List State → ℕ → List Bool → Type 0
+RefusesSecond unicode matchers states entry marks = (c : ℕ) → c < 128 → slice_index_or marks c false ≡ true → CannotFollow unicode matchers states entry (Some c)
+
+-- what is marked was marked before
+abbrev pub KeepsMarks : List Bool → List Bool → Type 0
+KeepsMarks before after = (c : ℕ) → slice_index_or after c false ≡ true → slice_index_or before c false ≡ true
+
 -- the state is not final, and if it reads, then by one of these leaves
 abbrev pub IsAmong : List Leaf → State → Type 0
 IsAmong leaves (S.Read leaf next) = Contains leaves leaf
@@ -55,10 +73,11 @@ IsAmong leaves _ = Unit {0}
 abbrev pub one_matches : Bool → List CharClassMatcher → List Leaf → ℕ → Bool
 one_matches unicode matchers leaves c = list_any (λ leaf. leaf_matches_char unicode matchers leaf c) leaves
 
--- the table has the leaves of all states that are reached without reading, and their answers for ASCII
+-- the table has the leaves of all states that are reached without reading, their answers for ASCII, and perhaps marks for second characters
 pub record IsTableOf (unicode : Bool) (matchers : List CharClassMatcher) (states : List State) (entry : ℕ) (table : FirstChars) : Type 0 where
   pub leaves : (q : ℕ) → Reaches states entry q → IsAmong table.leaves.items (state_at states q)
   pub ascii : (c : ℕ) → c < 128 → slice_index_or table.ascii c false ≡ one_matches unicode matchers table.leaves.items c
+  pub second : IfSome table.second (RefusesSecond unicode matchers states entry)
 
 -- what the states of these numbers lead to has its number here
 abbrev pub IsClosed : List State → List ℕ → Type 0

@@ -5,6 +5,7 @@ ghost use Rattle.fancy_regex_states.specs.First.{state_at, Leads, IsClosed, Exte
 
 use crate::atom::{Leaf, Test};
 use crate::char_tests::leaf_matches;
+use crate::second::refused_second;
 use crate::state::State;
 use fancy_regex_class::CharClassMatcher;
 use std::alloc::{AllocError, Global};
@@ -20,16 +21,40 @@ pub struct FirstChars {
     ascii: [bool; 128],
     /// What reads the first character of a match.
     leaves: Vec<Leaf>,
+    /// For each ASCII character whether no match has it second, and none ends before it, if that is known.
+    second: Option<[bool; 128]>,
 }
 
 impl FirstChars {
-    ghost use Rattle.std.specs.Prelude.{List};
+    ghost use Rattle.std.specs.Prelude.{Bool, List, Option};
     ghost use Rattle.fancy_regex_states.specs.First.{IsTableOf, CannotBegin};
     ghost use Rattle.fancy_regex_states.specs.declared.state.State.{State as StateValue};
 
     /// The table of these states, from the number of the entry; `None` where a match can be empty, or where more than 256
     /// states can be reached without reading. The error is want of memory.
     pub fn new(
+        alloc: Global,
+        states: &[State],
+        entry: usize,
+        matchers: &[CharClassMatcher],
+        unicode: bool,
+    ) -> Result<Option<FirstChars>, AllocError>
+        ensures { IfOk result (λ made. IfSome made (λ table. IsTableOf unicode matchers.now states.now entry table)) }
+    {
+        let Some(first) = FirstChars::of_one(alloc, states, entry, matchers, unicode)? else {
+            return Ok(None);
+        };
+        let FirstChars { ascii, leaves, .. } = first;
+        let second = refused_second(alloc, states, entry, matchers, unicode)?;
+        Ok(Some(FirstChars {
+            ascii,
+            leaves,
+            second,
+        }))
+    }
+
+    /// The table as `new` makes it, where nothing is known of second characters.
+    pub(crate) fn of_one(
         alloc: Global,
         states: &[State],
         entry: usize,
@@ -45,7 +70,11 @@ impl FirstChars {
             return Ok(None);
         };
         let ascii = ascii_of(&leaves, matchers, unicode);
-        Ok(Some(FirstChars { ascii, leaves }))
+        Ok(Some(FirstChars {
+            ascii,
+            leaves,
+            second: None,
+        }))
     }
 
     /// Whether no match begins before this character, `None` at the end of the text, with another character behind it.
@@ -65,11 +94,32 @@ impl FirstChars {
             }
         }
     }
+
+    /// For each ASCII character whether no match that begins behind another character has it second, if that is known.
+    #[inline(always)]
+    pub fn refused_second(&self) -> &Option<[bool; 128]>
+        ensures { result.now ≡ self.now.second }
+    {
+        &self.second
+    }
+
+    /// Whether no match begins anywhere with a character behind it, as where the start of the text is demanded.
+    #[inline(always)]
+    pub fn refuses_all(&self) -> bool
+        ensures { result ≡ true → (unicode : Bool) (matchers : List CharClassMatcher) (states : List State) (entry : ℕ) (after : Option ℕ)
+            → IsTableOf unicode matchers states entry self.now → CannotBegin unicode matchers states entry after }
+    {
+        self.leaves.is_empty()
+    }
 }
 
 /// The states that are reached from the entry without reading, where a character stands before; `None` if there are more
 /// than 256. The error is want of memory.
-fn reached(alloc: Global, states: &[State], entry: usize) -> Result<Option<Vec<usize>>, AllocError>
+pub fn reached(
+    alloc: Global,
+    states: &[State],
+    entry: usize,
+) -> Result<Option<Vec<usize>>, AllocError>
     ensures { IfOk result (λ found. IfSome found (λ numbers. Contains numbers.items entry × IsClosed states.now numbers.items)) }
 {
     let mut found = Vec::new(alloc);

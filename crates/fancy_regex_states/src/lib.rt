@@ -5,6 +5,7 @@ mod atom;
 mod char_tests;
 mod first;
 mod rules;
+mod second;
 mod state;
 
 pub use atom::{Leaf, Test};

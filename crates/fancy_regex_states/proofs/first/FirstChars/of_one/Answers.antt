@@ -1,5 +1,5 @@
 use Rattle.fancy_regex_states.proofs.FirstLemmas.{reached_in}
-use Rattle.fancy_regex_states.proofs.first.FirstChars.new.Goals as goal
+use Rattle.fancy_regex_states.proofs.first.FirstChars.of_one.Goals as goal
 
 pub returns : goal.returns
 returns c =
@@ -8,4 +8,5 @@ returns c =
     record {
       leaves = λ q from. all q (reached_in c.args.states.now c.args.entry c.in-Some.reached.items closed.0 closed.1 from);
       ascii = rw c.deref-2.ensures.value at c.ascii_of-ascii.ensures;
+      second = tt;
     }
