@@ -9,7 +9,7 @@ use mathlib.Core.HLevel.{Π_prop, Unit-prop, ⊥_prop}
 use mathlib.Core.Logic.{∥∥₁_elim}
 use Rattle.regex_hir.specs.Text.{char_at, char_before}
 use Rattle.fancy_regex_class.specs.declared.class.CharClassMatcher.{CharClassMatcher}
-use Rattle.fancy_regex_states.specs.First.{state_at, MayHold, Leads, Reaches, here, onward, CannotRead, CannotBegin, IsTableOf}
+use Rattle.fancy_regex_states.specs.First.{state_at, MayHold, Leads, Reaches, here, onward, CannotRead, CannotBegin, CannotGoOn, CannotFollow, IsTableOf}
 use Rattle.fancy_regex_states.specs.declared.atom.Test.{Test}
 use Rattle.fancy_regex_states.specs.declared.atom.Test.TheVariants.{StartText}
 use Rattle.fancy_regex_states.specs.declared.first.FirstChars.{FirstChars}
@@ -23,7 +23,8 @@ use Rattle.fancy_regex_runner.specs.CharTests.{Shows}
 use Rattle.fancy_regex_runner.specs.Program.{NamesBelow, visit}
 use Rattle.fancy_regex_runner.specs.Search.{AllAgree, AllFail, Reaches as Attains, Explains, RefusesAscii}
 use Rattle.fancy_regex_runner.specs.Visited.{Has}
-use Rattle.fancy_regex_runner.specs.Starts.{LeadsToVisited, LeadsInto}
+use Rattle.fancy_regex_class.proofs.AdjacentCharLemmas.{boundary_past_ascii}
+use Rattle.fancy_regex_runner.specs.Starts.{LeadsToVisited, LeadsInto, HasRefusedPair}
 use Rattle.fancy_regex_runner.specs.declared.starts.PairAhead.{PairAhead}
 use Rattle.fancy_regex_states.specs.declared.atom.Leaf.{Leaf}
 use Rattle.fancy_regex_runner.specs.declared.visited.Visited.{Visited}
@@ -63,14 +64,19 @@ module _ (view : View) (stop : ℕ) (states : List State) (go : ℕ → Continua
   holds_not StartText = inl (shows.holds StartText ∙ and_left _ _ behind)
   holds_not check = inr tt
 
-  -- a state fails that does not read the character, where those fail that it leads to
+  -- what a state that reads comes to, or one that is final
+  abbrev pub ReadFails : ℕ → State → Type 0
+  ReadFails q (S.Read leaf next) = (go q at).answer ≡ None
+  ReadFails q Match = ⊥
+  ReadFails q _ = Unit {0}
+
+  -- a state fails that does not read, where those fail that it leads to
   one_fails : (n q : ℕ) (state : State) → NamesBelow (length states) state → go q at ≡ visit view stop go state at → (go q at).depth < suc n
-      → CannotRead rules.unicode matchers after state
+      → ReadFails q state
       → ((p : ℕ) → Leads state p → p < length states → (go p at).depth < n → (go p at).answer ≡ None)
       → (go q at).answer ≡ None
-  unfolding reads
-  one_fails n q (S.Read leaf next) names e d cannot later = guard_no (go q at) (go next (view.next at)) (reads view stop leaf at) e (and_left _ _ (shows.has leaf ∙ cannot))
-  one_fails n q (S.Look check next) names e d cannot later =
+  one_fails n q (S.Read leaf next) names e d fails later = fails
+  one_fails n q (S.Look check next) names e d fails later =
       elim (true_or_false (view.holds check at)) [
         | inl is ↦
             let on = guard_yes (go q at) (go next at) (view.holds check at) e is in
@@ -80,32 +86,85 @@ module _ (view : View) (stop : ℕ) (states : List State) (go : ℕ → Continua
             ]
         | inr never ↦ guard_no (go q at) (go next at) (view.holds check at) e never
       ]
-  one_fails n q (Split first second) names e d cannot later =
+  one_fails n q (Split first second) names e d fails later =
       let deep : (go q at).depth ≡ (go first at).depth + (go second at).depth + 1 = ap (λ r. r.depth) e in
       let found : (go q at).answer ≡ better_trace view.longest (go first at).answer (go second at).answer = ap (λ r. r.answer) e in
       found ∙ none_better view.longest (go first at).answer (go second at).answer (later first (inl refl) names.0 (omega arith)) (later second (inr refl) names.1 (omega arith))
-  one_fails n q (Enter g next) names e d cannot later =
+  one_fails n q (Enter g next) names e d fails later =
       let deep : (go q at).depth ≡ (go next at).depth + 1 = ap (λ r. r.depth) e in
       let found : (go q at).answer ≡ write (2 * g) at (go next at).answer = ap (λ r. r.answer) e in
       found ∙ none_saved (2 * g) at (go next at).answer (later next refl names (omega arith))
-  one_fails n q (Leave g next) names e d cannot later =
+  one_fails n q (Leave g next) names e d fails later =
       let deep : (go q at).depth ≡ (go next at).depth + 1 = ap (λ r. r.depth) e in
       let found : (go q at).answer ≡ write (2 * g + 1) at (go next at).answer = ap (λ r. r.answer) e in
       found ∙ none_saved (2 * g + 1) at (go next at).answer (later next refl names (omega arith))
-  one_fails n q Match names e d cannot later = absurd cannot
+  one_fails n q Match names e d fails later = absurd fails
 
-  reached_fails : AllAgree view stop states go → at ≤ stop → CannotBegin rules.unicode matchers states entry after
+  reached_fails : AllAgree view stop states go → at ≤ stop → ((q : ℕ) → q < length states → Reaches states entry q → ReadFails q (state_at states q))
       → (n q : ℕ) → q < length states → Reaches states entry q → (go q at).depth < n → (go q at).answer ≡ None
-  reached_fails agree inside cannot zero q lt from d = absurd (omega arith)
-  reached_fails agree inside cannot (suc n) q lt from d =
-      one_fails n q (state_at states q) (agree q lt).names ((agree q lt).does at inside) d (cannot q from)
-      (λ p leads low less. reached_fails agree inside cannot n p low (onward q p from leads) less)
+  reached_fails agree inside fails zero q lt from d = absurd (omega arith)
+  reached_fails agree inside fails (suc n) q lt from d =
+      one_fails n q (state_at states q) (agree q lt).names ((agree q lt).does at inside) d (fails q lt from)
+      (λ p leads low less. reached_fails agree inside fails n p low (onward q p from leads) less)
+
+  -- no match begins at a place where all fail that read
+  pub readers_fail : AllAgree view stop states go → at ≤ stop → entry < length states → ((q : ℕ) → q < length states → Reaches states entry q → ReadFails q (state_at states q))
+      → (go entry at).answer ≡ None
+  readers_fail agree inside low fails =
+      reached_fails agree inside fails ((go entry at).depth + 1) entry low here (omega arith)
+
+  -- what does not read the character fails
+  refused_reader : (q : ℕ) (state : State) → go q at ≡ visit view stop go state at → CannotRead rules.unicode matchers after state → ReadFails q state
+  unfolding reads
+  refused_reader q (S.Read leaf next) e cannot = guard_no (go q at) (go next (view.next at)) (reads view stop leaf at) e (and_left _ _ (shows.has leaf ∙ cannot))
+  refused_reader q (S.Look check next) e cannot = tt
+  refused_reader q (Split first second) e cannot = tt
+  refused_reader q (Enter g next) e cannot = tt
+  refused_reader q (Leave g next) e cannot = tt
+  refused_reader q Match e cannot = cannot
 
   -- no match begins at a place that is refused
   pub refused_fails : AllAgree view stop states go → at ≤ stop → entry < length states → CannotBegin rules.unicode matchers states entry after
       → (go entry at).answer ≡ None
   refused_fails agree inside low cannot =
-      reached_fails agree inside cannot ((go entry at).depth + 1) entry low here (omega arith)
+      readers_fail agree inside low (λ q lt from. refused_reader q (state_at states q) ((agree q lt).does at inside) (cannot q from))
+
+-- a state that reads fails where no way goes on behind what it reads
+followed_reader : (view : View) (stop : ℕ) (states : List State) (go : ℕ → Continuation) (matchers : List CharClassMatcher) (rules : Rules) (entry at : ℕ) (before after : Option ℕ)
+    (behind : is_none before ≡ false) (shows : Shows matchers rules view at before after) (two second : Option ℕ) (last : is_none two ≡ false)
+    (further : Shows matchers rules view (view.next at) two second) → AllAgree view stop states go → view.next at ≤ stop → (q : ℕ) (state : State)
+    → NamesBelow (length states) state → go q at ≡ visit view stop go state at → CannotGoOn rules.unicode matchers states second state
+    → ReadFails view stop states go matchers rules entry at before after behind shows q state
+followed_reader view stop states go matchers rules entry at before after behind shows two second last further agree inside q (S.Read leaf next) names e cannot =
+    elim (true_or_false (reads view stop leaf at)) [
+      | inl passes ↦
+          (guard_yes (go q at) (go next (view.next at)) (reads view stop leaf at) e passes).0
+          ∙ refused_fails view stop states go matchers rules next (view.next at) two second last further agree inside names cannot
+      | inr never ↦ guard_no (go q at) (go next (view.next at)) (reads view stop leaf at) e never
+    ]
+followed_reader view stop states go matchers rules entry at before after behind shows two second last further agree inside q (S.Look check next) names e cannot = tt
+followed_reader view stop states go matchers rules entry at before after behind shows two second last further agree inside q (Split one other) names e cannot = tt
+followed_reader view stop states go matchers rules entry at before after behind shows two second last further agree inside q (Enter g next) names e cannot = tt
+followed_reader view stop states go matchers rules entry at before after behind shows two second last further agree inside q (Leave g next) names e cannot = tt
+followed_reader view stop states go matchers rules entry at before after behind shows two second last further agree inside q Match names e cannot = cannot
+
+CannotBegin-prop : (unicode : Bool) (matchers : List CharClassMatcher) (states : List State) (entry : ℕ) (after : Option ℕ) → IsProp (CannotBegin unicode matchers states entry after)
+CannotBegin-prop unicode matchers states entry after = Π_prop λ q. Π_prop λ _. CannotRead-prop unicode matchers after (state_at states q)
+
+CannotGoOn-prop : (unicode : Bool) (matchers : List CharClassMatcher) (states : List State) (after : Option ℕ) (state : State) → IsProp (CannotGoOn unicode matchers states after state)
+CannotGoOn-prop unicode matchers states after (S.Read leaf next) = CannotBegin-prop unicode matchers states next after
+CannotGoOn-prop unicode matchers states after (S.Look check next) = Unit-prop
+CannotGoOn-prop unicode matchers states after (Split first second) = Unit-prop
+CannotGoOn-prop unicode matchers states after (Enter g next) = Unit-prop
+CannotGoOn-prop unicode matchers states after (Leave g next) = Unit-prop
+CannotGoOn-prop unicode matchers states after Match = ⊥_prop
+
+-- what the states' table says of a second character holds
+pub second_says : (unicode : Bool) (matchers : List CharClassMatcher) (states : List State) (entry : ℕ) (after : Option ℕ) (table : FirstChars)
+    → ∥ IfSome (Some table) (IsTableOf unicode matchers states entry) ∥₁ → (IsTableOf unicode matchers states entry table → CannotFollow unicode matchers states entry after)
+    → CannotFollow unicode matchers states entry after
+second_says unicode matchers states entry after table is says =
+    ∥∥₁_elim is (Π_prop λ q. Π_prop λ _. CannotGoOn-prop unicode matchers states after (state_at states q)) says
 
 -- what the marks say of a character holds
 pub marks_say : (unicode : Bool) (matchers : List CharClassMatcher) (states : List State) (entry : ℕ) (marks : List Bool) → ∥ RefusesAscii unicode matchers states entry marks ∥₁
@@ -122,6 +181,29 @@ start_fails context text view go explains u at after b some high low is cannot =
     refused_fails view context.stop context.states.now go context.matchers.now context.rules context.entry at (char_before text at) (char_at text at)
     (ap is_none before.1) (explains.shows at b) explains.agree high low
     (subst (CannotBegin context.rules.unicode context.matchers.now context.states.now context.entry) (sym is) cannot)
+
+-- no match begins where the character behind is second in none, behind another character of the text
+pub pair_fails : (context : SearchContext) (text : List ℕ) (view : View) (go : ℕ → Continuation) → Explains context text view go → IsUtf8 text
+    → (at : ℕ) → IsCharBoundary text at → 0 < at → context.entry < length context.states.now → HasRefusedPair context text at → (go context.entry at).answer ≡ None
+pair_fails context text view go explains u at b some low pair =
+    let c : ℕ = pair.first.0 in
+    let long : len_utf8 c ≡ 1 = cond-true _ _ _ (lt-ltb c 0x80 pair.first.1) in
+    let behind : view.next at ≡ at + 1 = (explains.shows at b).next ∙ ap (λ o. at + unwrap_or (option_map len_utf8 o) 1) pair.first.2 ∙ ap (λ n. at + n) long in
+    let bound : IsCharBoundary text (at + 1) = boundary_past_ascii text at c u b pair.first.1 pair.first.2 in
+    let before = before_some text at u b some in
+    let two = before_some text (at + 1) u bound (omega arith) in
+    let high : at ≤ context.stop = omega (arith, pair.inside) in
+    let further : Shows context.matchers.now context.rules view (view.next at) (char_before text (at + 1)) (char_at text (at + 1)) =
+    subst (λ (j : ℕ). Shows context.matchers.now context.rules view j (char_before text (at + 1)) (char_at text (at + 1))) (sym behind) (explains.shows (at + 1) bound) in
+    let cannot : CannotFollow context.rules.unicode context.matchers.now context.states.now context.entry (char_at text (at + 1)) =
+    subst (CannotFollow context.rules.unicode context.matchers.now context.states.now context.entry) (sym pair.second.2) pair.second.3 in
+    readers_fail view context.stop context.states.now go context.matchers.now context.rules context.entry at (char_before text at) (char_at text at)
+    (ap is_none before.1) (explains.shows at b) explains.agree high low
+    (λ q lt from.
+    followed_reader view context.stop context.states.now go context.matchers.now context.rules context.entry at (char_before text at) (char_at text at)
+    (ap is_none before.1) (explains.shows at b) (char_before text (at + 1)) (char_at text (at + 1)) (ap is_none two.1) further explains.agree
+    (subst (λ (j : ℕ). j ≤ context.stop) (sym behind) (omega (arith, pair.inside))) q (state_at context.states.now q) (explains.agree q lt).names
+    ((explains.agree q lt).does at high) (cannot q from))
 
 none_attained : (longest : Bool) (a : Option Trace) → ((r : ℕ) → Attains longest r a → ⊥) → a ≡ None
 none_attained longest None h = refl

@@ -1,10 +1,12 @@
 -- The starts that a search tries, one character after another.
-use Rattle.std.proofs.Common.{◌≡◌, ℕ, zero, suc, ◌+◌, ◌-◌, ◌<◌, ◌≤◌, Bool, true, false, List, [], ◌∷◌, Option, Some, None, IfSome, unwrap_or, refl, sym, ap, ◌∙◌, arith, IsUtf8, IsCharBoundary, true≢false, lt-ltb}
+use Rattle.std.proofs.Common.{◌≡◌, ℕ, zero, suc, ◌+◌, ◌-◌, ◌<◌, ◌≤◌, ◌⊎◌, Bool, true, false, List, [], ◌∷◌, Option, Some, None, IfSome, unwrap_or, length, inl, inr, refl, sym, ap, ◌∙◌, arith, IsUtf8, IsCharBoundary, true≢false, lt-ltb}
 use Rattle.std.specs.Char.{len_utf8}
-use Rattle.std.proofs.lemmas.Bool.{cond-true}
+use Rattle.std.proofs.lemmas.Bool.{cond-true, cond-false}
+use Rattle.std.specs.List.{filter}
 use Rattle.fancy_regex_class.proofs.AdjacentCharLemmas.{boundary_past_ascii}
-use Rattle.regex_hir.specs.Text.{char_at}
-use Rattle.fancy_regex_meaning.specs.Positions.{boundaries}
+use Rattle.regex_hir.specs.Text.{char_at, is_boundary}
+use Rattle.fancy_regex_meaning.specs.Positions.{numbers_from, boundaries}
+use Rattle.fancy_regex_meaning.proofs.BoundaryLemmas.{IsCharBoundary-of_test}
 use Rattle.fancy_regex_meaning.proofs.NextBoundaryLemmas.{from_here, next_place}
 use Rattle.fancy_regex_runner.specs.Meaning.{Spot}
 use Rattle.fancy_regex_runner.specs.Find.{earliest, attempted, places}
@@ -101,3 +103,36 @@ passed_over f text anchored stop (suc n) at to e u b le h =
     let both = failed_next f at (places text anchored at stop) (places text anchored (at + 1) stop) split here.1 in
     let later = passed_over f text anchored stop n (at + 1) to (omega arith) u (boundary_past_ascii text at c u b here.2.1 here.2.2) le (λ i bound low high. h i bound (omega arith) high) in
     (both.0 ∙ later.0, omega (arith, both.1, later.1))
+
+-- where no way begins at any place, none is found, and no more places are tried than there are offsets
+none_among : (f : ℕ → Option Spot) (text : List ℕ) (n i : ℕ) → ((j : ℕ) → i ≤ j → j < i + n → is_boundary text j ≡ true → f j ≡ None)
+    → (earliest f (filter (is_boundary text) (numbers_from n i)) ≡ None) × (attempted f (filter (is_boundary text) (numbers_from n i)) ≤ n)
+none_among f text zero i none = let tried = tried_none f in (earliest_none f, omega (arith, tried))
+none_among f text (suc n) i none =
+    let rest = none_among f text n (i + 1) (λ j low high is. none j (omega arith) (omega arith) is) in
+    let all : List ℕ = filter (is_boundary text) (numbers_from (suc n) i) in
+    let others : List ℕ = filter (is_boundary text) (numbers_from n (i + 1)) in
+    elim (true_or_not (is_boundary text i)) [
+      | inl is ↦
+          let split : all ≡ i ∷ others = cond-true (is_boundary text i) _ _ is in
+          let both = failed_next f i all others split (none i (omega arith) (omega arith) is) in
+          (both.0 ∙ rest.0, omega (arith, both.1, rest.1))
+      | inr other ↦
+          let same : all ≡ others = cond-false (is_boundary text i) _ _ other in
+          let tried = ap (attempted f) same in
+          (ap (earliest f) same ∙ rest.0, omega (arith, tried, rest.1))
+    ]
+  where
+    true_or_not : (b : Bool) → (b ≡ true) ⊎ (b ≡ false)
+    true_or_not true = inl refl
+    true_or_not false = inr refl
+
+pub none_from : (f : ℕ → Option Spot) (text : List ℕ) (anchored : Bool) (from stop : ℕ) → IsCharBoundary text from → from ≤ stop → stop ≤ length text
+    → ((i : ℕ) → IsCharBoundary text i → from ≤ i → i ≤ stop → f i ≡ None)
+    → (earliest f (places text anchored from stop) ≡ None) × (attempted f (places text anchored from stop) ≤ stop - from + 1)
+none_from f text true from stop b le inside none =
+    let one = failed_last f from (from ∷ []) refl (none from b (omega arith) le) in (one.0, omega (arith, one.1))
+none_from f text false from stop b le inside none =
+    let all = none_among f text (stop + 1 - from) from
+    (λ j low high is. none j (IsCharBoundary-of_test text j (omega arith) is) low (omega arith)) in
+    (all.0, omega (arith, all.1))

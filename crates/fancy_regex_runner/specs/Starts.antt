@@ -2,6 +2,7 @@
 use Rattle.std.specs.Prelude.{◌≡◌, ◌⊎◌, ◌+◌, ◌<◌, ◌≤◌, ℕ, Bool, true, false, List, [], ◌∷◌, Option, Some, None, IfSome, IsCharBoundary, length}
 use Rattle.regex_hir.specs.Text.{char_at}
 use Rattle.fancy_regex_class.specs.Looks.{HasMarkedAscii}
+use Rattle.fancy_regex_states.specs.First.{CannotFollow}
 use Rattle.fancy_regex_runner.specs.Meaning.{Spot, View}
 use Rattle.fancy_regex_runner.specs.Attempt.{Continuation, land}
 use Rattle.fancy_regex_runner.specs.Find.{places_from}
@@ -55,8 +56,19 @@ pub record LeadsToVisited (context : SearchContext) (text : List ℕ) (visited :
   pub into : LeadsInto context context.entry pair
   pub behind : HasVisitedFrom text visited pair i
 
--- the start at i is passed over for an ASCII character: one that is marked, or any where it leads to a pair that was visited
+-- an ASCII character stands at i, and behind it one that is second in no match
+pub record HasRefusedPair (context : SearchContext) (text : List ℕ) (i : ℕ) : Type 0 where
+  pub inside : i < context.stop
+  pub first : (c : ℕ) × (c < 128) × (char_at text i ≡ Some c)
+  pub second : (d : ℕ) × (d < 128) × (char_at text (i + 1) ≡ Some d)
+      × CannotFollow context.rules.unicode context.matchers.now context.states.now context.entry (Some d)
+
+-- the ASCII character at i is refused, or the one behind it
+abbrev pub IsRefusedAt : SearchContext → List ℕ → ℕ → Type 0
+IsRefusedAt context text i = HasMarkedAscii text context.refused.now i ⊎ HasRefusedPair context text i
+
+-- the start at i is passed over for an ASCII character: one that is refused, or any where it leads to a pair that was visited
 pub record IsPassed (context : SearchContext) (text : List ℕ) (anchored : Bool) (visited : Visited) (i : ℕ) : Type 0 where
   pub many : anchored ≡ false
   pub behind : 0 < i
-  pub ascii : HasMarkedAscii text context.refused.now i ⊎ LeadsToVisited context text visited i
+  pub ascii : IsRefusedAt context text i ⊎ LeadsToVisited context text visited i

@@ -12,5 +12,5 @@ pub returns-in_default-clause-passed : goal.returns-in_default-clause-passed
 returns-in_default-clause-passed c i low high = record {
   many = c.if-anchored.false;
   behind = omega (arith, c.if-at-eq0.false, low);
-  ascii = inl (c.skip_ascii.ensures.passed i low high);
+  ascii = inl (c.pass_refused.ensures.passed i low high);
 }

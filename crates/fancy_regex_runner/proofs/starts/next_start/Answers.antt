@@ -1,4 +1,4 @@
-use Rattle.std.proofs.Common.{◌≡◌, ℕ, ◌+◌, ◌-◌, ◌^◌, ◌<◌, ◌≤◌, ◌∙◌, ◌∷◌, min, List, Option, Some, None, true, sym, ap, arith, inl, inr, IfSome, IsCharBoundary}
+use Rattle.std.proofs.Common.{◌≡◌, ℕ, ◌+◌, ◌-◌, ◌^◌, ◌<◌, ◌≤◌, ◌∙◌, ◌∷◌, min, List, Option, Some, None, true, refl, sym, ap, arith, inl, inr, IfSome, IsCharBoundary}
 use Rattle.std.specs.Char.{len_utf8}
 use Rattle.regex_hir.specs.Text.{char_at}
 use Rattle.fancy_regex_class.specs.Looks.{looked_text, look_count}
@@ -10,10 +10,37 @@ use Rattle.fancy_regex_runner.specs.Search.{AllFail, Explains}
 use Rattle.fancy_regex_runner.specs.Visited.{Has}
 use Rattle.fancy_regex_runner.specs.Starts.{spot_from}
 use Rattle.fancy_regex_runner.proofs.DfsLemmas.{land_none}
-use Rattle.fancy_regex_runner.proofs.RefusalLemmas.{start_fails, marks_say, visited_fails}
-use Rattle.fancy_regex_runner.proofs.StartLemmas.{passed_over, earliest_none, tried_none, tried_some, failed_next, failed_last}
+use Rattle.fancy_regex_runner.proofs.RefusalLemmas.{start_fails, marks_say, visited_fails, pair_fails}
+use Rattle.fancy_regex_runner.proofs.StartLemmas.{passed_over, earliest_none, tried_none, tried_some, failed_next, failed_last, none_from}
 use Rattle.fancy_regex_runner.proofs.starts.next_start.Goals as goal
-use Rattle.fancy_regex_runner.proofs.starts.next_start.Goals.{After-is_refused}
+use Rattle.fancy_regex_runner.proofs.starts.next_start.Goals.{After-is_refused, After-refuses_all}
+
+-- where all starts behind the first place of the text are refused, none of these has a match
+none_left : (c : After-refuses_all) → c.refuses_all.result ≡ true → 0 < c.args.from → (view : View) (go : ℕ → Continuation)
+    → Explains c.args.context.now (looked_text c.args.text.now) view go → (slots : List ℕ)
+    → (earliest (spot_from go c.args.context.now.entry slots) (places (looked_text c.args.text.now) c.args.anchored c.args.from c.args.context.now.stop) ≡ None)
+    × (attempted (spot_from go c.args.context.now.entry slots) (places (looked_text c.args.text.now) c.args.anchored c.args.from c.args.context.now.stop)
+    ≤ c.args.context.now.stop - c.args.from + 1)
+none_left c e some view go explains slots =
+    let context = c.args.context.now in
+    let text = looked_text c.args.text.now in
+    none_from (spot_from go context.entry slots) text c.args.anchored c.args.from context.stop c.requires.boundary c.requires.range.0 c.requires.range.1
+    (λ i b low high.
+    ap (land slots)
+    (start_fails context text view go explains c.requires.text i (char_at text i) b (omega (arith, some, low)) high c.requires.entry refl (c.refuses_all.ensures e (char_at text i)))
+    ∙ land_none slots)
+
+pub returns-then-refuses_all-clause-passed : goal.returns-then-refuses_all-clause-passed
+returns-then-refuses_all-clause-passed c view go explains failed slots =
+    let d = (goal.at.returns-then-refuses_all-clause-passed c).After-refuses_all in
+    (none_left d c.if-refuses_all.true c.if-from-gt0.true view go explains slots).0 ∙ sym (earliest_none (spot_from go c.args.context.now.entry slots))
+
+pub returns-then-refuses_all-clause-at_least : goal.returns-then-refuses_all-clause-at_least
+returns-then-refuses_all-clause-at_least c view go explains failed slots =
+    let d = (goal.at.returns-then-refuses_all-clause-at_least c).After-refuses_all in
+    let most = (none_left d c.if-refuses_all.true c.if-from-gt0.true view go explains slots).1 in
+    let none = tried_none (spot_from go c.args.context.now.entry slots) in
+    omega (arith, most, none, c.count_reads.ensures.ticked)
 
 abbrev text_of : After-is_refused → List ℕ
 text_of c = looked_text c.args.text.now
@@ -64,9 +91,14 @@ passed c view go explains failed slots =
     let is = rw c.starts.invariant.text at (c.ahead-place.ensures.passed i from to) in
     let high : i ≤ context.stop = omega (arith, to, c.ahead-place.ensures.range.1) in
     elim is.ascii [
-      | inl a ↦
-          let cannot = marks_say context.rules.unicode context.matchers.now context.states.now context.entry context.refused.now c.requires.marks a.0 a.1 a.3 in
-          (is.many, no_spot c i (Some a.0) b is.behind high a.2 cannot view go explains slots, (a.0, a.1, a.2))
+      | inl refused ↦ elim refused [
+        | inl a ↦
+            let cannot = marks_say context.rules.unicode context.matchers.now context.states.now context.entry context.refused.now c.requires.marks a.0 a.1 a.3 in
+            (is.many, no_spot c i (Some a.0) b is.behind high a.2 cannot view go explains slots, (a.0, a.1, a.2))
+        | inr pair ↦
+            let none = pair_fails context (text_of c) view go explains c.requires.text i b is.behind c.requires.entry pair in
+            (is.many, ap (land slots) none ∙ land_none slots, (pair.first.0, pair.first.1, pair.first.2))
+      ]
       | inr led ↦
           let none = visited_fails context (text_of c) view go explains c.args.visited.now failed i b high led in
           (is.many, ap (land slots) none ∙ land_none slots, (led.behind.0, led.behind.1, led.behind.2))
