@@ -13,3 +13,4 @@ mod FailingStarts
 mod LookBehindStarts
 mod CharLoops
 mod FailingPlaces
+mod WalkLemmas

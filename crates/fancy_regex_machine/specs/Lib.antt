@@ -6,6 +6,7 @@ pub mod Endings
 pub mod Runs
 pub mod LookBehindStarts
 pub mod CharLoops
+pub mod Walks
 pub mod RunArguments
 pub mod MachineLimits
 pub mod SearchAnswers

@@ -11,7 +11,13 @@ use crate::haystack::Haystack;
 use fancy_regex_class::fold;
 
 /// Whether the bytes in `start..end` equal those in `position..next`, which has the same length.
-fn same_bytes(haystack: &Haystack, start: usize, end: usize, position: usize, next: usize) -> bool
+pub(crate) fn same_bytes(
+    haystack: &Haystack,
+    start: usize,
+    end: usize,
+    position: usize,
+    next: usize,
+) -> bool
     requires { next ≡ position + (end - start) }
     ensures { result ≡ ways.same_bytes (setting_of_haystack haystack.now) start end position next }
 {

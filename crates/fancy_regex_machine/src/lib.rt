@@ -22,6 +22,7 @@ mod sight;
 mod slot_check;
 mod start;
 mod step;
+mod walks;
 
 pub use error::RuntimeError;
 pub use memory::RunMemory;

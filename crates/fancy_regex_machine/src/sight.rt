@@ -36,8 +36,32 @@ pub(crate) fn ascii_at(text: &str, position: usize) -> Option<char>
     Some(byte as char)
 }
 
+/// The ASCII character that ends at the byte offset `position`, if there is one.
+#[inline(always)]
+fn ascii_before(text: &str, position: usize) -> Option<char>
+    ensures char { IfSome result (λ c. sight.char_before text.now position ≡ Some c) }
+    ensures ascii { IfSome result (λ c. c < 128) }
+    ensures room { IfSome result (λ _. 0 < position) }
+{
+    let before = position.checked_sub(1)?;
+    let c = ascii_at(text, before)?;
+    Some(c)
+}
+
 /// The character that ends at the byte offset `position`, if there is one.
+#[inline(always)]
 pub(crate) fn char_before(text: &str, position: usize) -> Option<char>
+    ensures char { result ≡ sight.char_before text.now position }
+    ensures room { IfSome result (λ c. len_utf8 c ≤ position) }
+{
+    match ascii_before(text, position) {
+        Some(c) => Some(c),
+        None => wide_before(text, position),
+    }
+}
+
+/// The character that ends at the byte offset `position`, if there is one.
+fn wide_before(text: &str, position: usize) -> Option<char>
     ensures char { result ≡ sight.char_before text.now position }
     ensures room { IfSome result (λ c. len_utf8 c ≤ position) }
 {
@@ -46,6 +70,7 @@ pub(crate) fn char_before(text: &str, position: usize) -> Option<char>
 }
 
 /// The byte offset `count` characters before `position`, or `None` if the text has fewer characters there.
+#[inline(always)]
 pub(crate) fn position_before(text: &str, count: usize, position: usize) -> Option<usize>
     ensures { result ≡ places.position_before text.now count position }
 {

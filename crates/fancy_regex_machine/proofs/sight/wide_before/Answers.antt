@@ -3,7 +3,7 @@ use Rattle.std.specs.Char.{IsScalar}
 use Rattle.std.proofs.lemmas.Bool.{false≢true}
 use Rattle.fancy_regex_class.proofs.AdjacentCharLemmas.{is_char_before}
 use Rattle.fancy_regex_machine.proofs.BoundaryLemmas.{none_before, room_before}
-use Rattle.fancy_regex_machine.proofs.sight.char_before.Goals as goal
+use Rattle.fancy_regex_machine.proofs.sight.wide_before.Goals as goal
 
 pub returns-in_err-front-clause-char : goal.returns-in_err-front-clause-char
 returns-in_err-front-clause-char c =
