@@ -18,7 +18,7 @@ use Rattle.fancy_regex_input.specs.SearchInputs.{whole}
 use Rattle.fancy_regex_search.proofs.IterationLemmas.{comes_from, comes_to, skips_from}
 use Rattle.fancy_regex_meta.specs.declared.error.Error.{Error}
 use Rattle.fancy_regex_meta.specs.declared.meta_regex.MetaRegex.{MetaRegex}
-use Rattle.fancy_regex_search.specs.Replacements.{Shown, shown, IsReplacedByCalls, FailsInTurn, here, later, AnswersInTurn, AnswersText, still_replaced, is_spent, limit_of, IsReplaceError, of_search, of_search_by_text, of_call, of_memory}
+use Rattle.fancy_regex_search.specs.Replacements.{Shown, shown, IsReplacedByCalls, FailsInTurn, here, later, AnswersInTurn, AnswersText, still_replaced, is_spent, limit_of, IsReplacedBy, by_calls, by_text, IsReplacedLeaving, left_by_calls, left_by_text, IsReplaceError, of_search, of_search_by_text, of_call, of_memory, IsReplaceErrorLeaving, search_failed, search_failed_by_text, call_failed, memory_ran_out}
 
 -- What is still to be replaced from an offset on, behind a text that is out, completes the replacement of all of these matches.
 pub record Completes {S : Type 0} (Calls : S → Shown → Result (List ℕ) Error → S → Type 0) (r : MetaRegex) (text : List ℕ) (ms : List Match) (first : S) (p : ℕ) (left : List Match) (s : S) (out : List ℕ) : Type 0 where
@@ -169,7 +169,7 @@ module _ {S : Type 0} (Calls : S → Shown → Result (List ℕ) Error → S →
 
   -- an error of the next search
   pub progress_fails : (config : SearchConfig) (state : IterState) (left : List Match) (s : S) (e : Error) → config ≡ record (whole text) { start = config.start } →
-      IsItemError r text config state e → Progress Calls r text ms first config state left s → IsReplaceError Calls r text ms first None e
+      IsItemError r text config state e → Progress Calls r text ms first config state left s → IsReplaceErrorLeaving Calls r text ms first e s None
   progress_fails config state left s e is h so =
       let behind : IsErrorBehind r text (whole text) (so.done ++ []) e = (
         h.0,
@@ -178,7 +178,11 @@ module _ {S : Type 0} (Calls : S → Shown → Result (List ℕ) Error → S →
         subst (λ (a : SearchConfig). max h.0 a.range_start ≤ a.range_end) is h.3,
         subst (λ (a : SearchConfig). IsMetaSearchError r text (record a { start = h.0 }) h.1 e) is h.4,
       ) in
-      of_search None so.done left so.answers s e so.is (subst (λ (xs : List Match). IsErrorBehind r text (whole text) xs e) (append-nil so.done) behind) so.turns
+      search_failed None so.done left so.answers so.is (subst (λ (xs : List Match). IsErrorBehind r text (whole text) xs e) (append-nil so.done) behind) so.turns
+
+  -- want of memory behind the calls that answered
+  pub progress_ran_out : (config : SearchConfig) (state : IterState) (left : List Match) (s : S) → Progress Calls r text ms first config state left s → IsReplaceErrorLeaving Calls r text ms first Memory s None
+  progress_ran_out config state left s so = memory_ran_out None so.done left so.answers refl so.is so.turns
 
 module _ {S : Type 0} (Calls : S → Shown → Result (List ℕ) Error → S → Type 0) (r : MetaRegex) (text t : List ℕ) (Holds : S → Type 0)
     (same : (s : S) (m : Shown) (w : List ℕ) (next : S) → Holds s → Calls s m (Ok w) next → (w ≡ t) × Holds next) where
@@ -205,20 +209,35 @@ fails_for_memory Calls only _ _ e _ (later s next last m ms w _ call h) = fails_
 
 -- an error of a replacement by calls that fail for want of memory alone is one of any replacement with one text for all matches
 text_fails : {S T : Type 0} (Calls : S → Shown → Result (List ℕ) Error → S → Type 0) (Others : T → Shown → Result (List ℕ) Error → T → Type 0)
-    (only : (s : S) (m : Shown) (e : Error) (next : S) → Calls s m (Err e) next → e ≡ Memory) (r : MetaRegex) (text : List ℕ) (ms : List Match) (s : S) (t : T) (fixed : Option (List ℕ)) (shown_text : List ℕ) (e : Error) →
-    IsReplaceError Calls r text ms s fixed e → IsReplaceError Others r text ms t (Some shown_text) e
-text_fails Calls Others only r text ms s t _ shown_text _ (of_search fixed done rest answers last e is behind turns) = of_search_by_text shown_text done rest e is behind
-text_fails Calls Others only r text ms s t _ shown_text _ (of_search_by_text fixed done rest e is behind) = of_search_by_text shown_text done rest e is behind
-text_fails Calls Others only r text ms s t _ shown_text _ (of_call fixed e last h) = rw (fails_for_memory Calls only s (map (shown r text) ms) e last h) (of_memory (Some shown_text))
-text_fails Calls Others only r text ms s t _ shown_text _ (of_memory fixed) = of_memory (Some shown_text)
+    (only : (s : S) (m : Shown) (e : Error) (next : S) → Calls s m (Err e) next → e ≡ Memory) (r : MetaRegex) (text : List ℕ) (ms : List Match) (s last : S) (t : T) (fixed : Option (List ℕ)) (shown_text : List ℕ) (e : Error) →
+    IsReplaceErrorLeaving Calls r text ms s e last fixed → IsReplaceErrorLeaving Others r text ms t e t (Some shown_text)
+text_fails Calls Others only r text ms s last t _ shown_text e (search_failed fixed done rest answers is behind turns) = search_failed_by_text shown_text done rest is behind refl
+text_fails Calls Others only r text ms s last t _ shown_text e (search_failed_by_text fixed done rest is behind same) = search_failed_by_text shown_text done rest is behind refl
+text_fails Calls Others only r text ms s last t _ shown_text e (call_failed fixed h) =
+    memory_ran_out (Some shown_text) [] ms [] (fails_for_memory Calls only s (map (shown r text) ms) e last h) refl refl
+text_fails Calls Others only r text ms s last t _ shown_text e (memory_ran_out fixed done rest answers is split turns) = memory_ran_out (Some shown_text) [] ms [] is refl refl
 
 -- an error of a replacement by calls, whatever the replacer says of its text
-pub calls_fail : {S : Type 0} (Calls : S → Shown → Result (List ℕ) Error → S → Type 0) (r : MetaRegex) (text : List ℕ) (ms : List Match) (s : S) (fixed told : Option (List ℕ)) (e : Error) →
-    fixed ≡ None → IsReplaceError Calls r text ms s fixed e → IsReplaceError Calls r text ms s told e
-calls_fail Calls r text ms s _ told _ none (of_search fixed done rest answers last e is behind turns) = of_search told done rest answers last e is behind turns
-calls_fail Calls r text ms s _ told _ none (of_search_by_text t done rest e is behind) = absurd (some_none t none)
-calls_fail Calls r text ms s _ told _ none (of_call fixed e last h) = of_call told e last h
-calls_fail Calls r text ms s _ told _ none (of_memory fixed) = of_memory told
+pub calls_fail : {S : Type 0} (Calls : S → Shown → Result (List ℕ) Error → S → Type 0) (r : MetaRegex) (text : List ℕ) (ms : List Match) (s last : S) (fixed told : Option (List ℕ)) (e : Error) →
+    fixed ≡ None → IsReplaceErrorLeaving Calls r text ms s e last fixed → IsReplaceErrorLeaving Calls r text ms s e last told
+calls_fail Calls r text ms s last _ told e none (search_failed fixed done rest answers is behind turns) = search_failed told done rest answers is behind turns
+calls_fail Calls r text ms s last _ told e none (search_failed_by_text t done rest is behind same) = absurd (some_none t none)
+calls_fail Calls r text ms s last _ told e none (call_failed fixed h) = call_failed told h
+calls_fail Calls r text ms s last _ told e none (memory_ran_out fixed done rest answers is split turns) = memory_ran_out told done rest answers is split turns
+
+-- what a replacement returns, whatever state it leaves
+pub replaced_whatever_is_left : {S : Type 0} (Calls : S → Shown → Result (List ℕ) Error → S → Type 0) (r : MetaRegex) (text : List ℕ) (ms : List Match) (s : S) (out : List ℕ) (last : S) (fixed : Option (List ℕ)) →
+    IsReplacedLeaving Calls r text ms s out last fixed → IsReplacedBy Calls r text ms s out fixed
+replaced_whatever_is_left Calls r text ms s out last _ (left_by_calls fixed h) = by_calls fixed last h
+replaced_whatever_is_left Calls r text ms s out last _ (left_by_text t is same) = by_text t is
+
+-- the error of a replacement, whatever state it leaves
+pub fails_whatever_is_left : {S : Type 0} (Calls : S → Shown → Result (List ℕ) Error → S → Type 0) (r : MetaRegex) (text : List ℕ) (ms : List Match) (s : S) (e : Error) (last : S) (fixed : Option (List ℕ)) →
+    IsReplaceErrorLeaving Calls r text ms s e last fixed → IsReplaceError Calls r text ms s fixed e
+fails_whatever_is_left Calls r text ms s e last _ (search_failed fixed done rest answers is behind turns) = of_search fixed done rest answers last e is behind turns
+fails_whatever_is_left Calls r text ms s e last _ (search_failed_by_text t done rest is behind same) = of_search_by_text t done rest e is behind
+fails_whatever_is_left Calls r text ms s e last _ (call_failed fixed h) = of_call fixed e last h
+fails_whatever_is_left Calls r text ms s e last _ (memory_ran_out fixed done rest answers is split turns) = rw is (of_memory fixed)
 
 -- A replacer that has the same text for each match replaces by it, and fails for want of memory alone.
 pub fixed_text_replaced : {S : Type 0} (text_of : S → List ℕ) (r : MetaRegex) (text t : List ℕ) (ms : List Match) (s : S) (out : List ℕ) (last : S) → text_of s ≡ t →
@@ -226,9 +245,9 @@ pub fixed_text_replaced : {S : Type 0} (text_of : S → List ℕ) (r : MetaRegex
 fixed_text_replaced text_of r text t ms s out last holds h =
     text_replaced (AnswersText text_of) r text t (λ x. text_of x ≡ t) (λ x m w next is call. (call.0 ∙ is, ap text_of call.1 ∙ is)) ms s out last holds h
 
-pub fixed_text_fails : {S T : Type 0} (text_of : S → List ℕ) (Others : T → Shown → Result (List ℕ) Error → T → Type 0) (r : MetaRegex) (text : List ℕ) (ms : List Match) (s : S) (t : T) (shown_text : List ℕ) (e : Error) →
-    IsReplaceError (AnswersText text_of) r text ms s None e → IsReplaceError Others r text ms t (Some shown_text) e
-fixed_text_fails text_of Others r text ms s t shown_text e h = text_fails (AnswersText text_of) Others (λ x m d next call. call.0) r text ms s t None shown_text e h
+pub fixed_text_fails : {S T : Type 0} (text_of : S → List ℕ) (Others : T → Shown → Result (List ℕ) Error → T → Type 0) (r : MetaRegex) (text : List ℕ) (ms : List Match) (s last : S) (t : T) (shown_text : List ℕ) (e : Error) →
+    IsReplaceErrorLeaving (AnswersText text_of) r text ms s e last None → IsReplaceErrorLeaving Others r text ms t e t (Some shown_text)
+fixed_text_fails text_of Others r text ms s last t shown_text e h = text_fails (AnswersText text_of) Others (λ x m d next call. call.0) r text ms s last t None shown_text e h
 
 -- what is shown of a match
 pub shown_same : (r r' : MetaRegex) (text text' slots : List ℕ) (m : Match) → r' ≡ r → text' ≡ text → slots ≡ match_slots (meta_pattern r) m →

@@ -81,6 +81,23 @@ pub data IsReplaceError {S : Type 0} (Calls : S → Shown → Result (List ℕ) 
   of_call : (fixed : Option (List ℕ)) (e : Error) (last : S) → FailsInTurn Calls s (map (shown r text) ms) e last → IsReplaceError Calls r text ms s fixed e
   of_memory : (fixed : Option (List ℕ)) → IsReplaceError Calls r text ms s fixed Memory
 
+-- What a replacement returns, and the state that it leaves the replacer in: that after one call for each match, or, for a replacer
+-- with one text for all matches, the one before.
+pub data IsReplacedLeaving {S : Type 0} (Calls : S → Shown → Result (List ℕ) Error → S → Type 0) (r : MetaRegex) (text : List ℕ) (ms : List Match) (s : S) (out : List ℕ) (last : S) : Option (List ℕ) → Type 0 where
+  left_by_calls : (fixed : Option (List ℕ)) → IsReplacedByCalls Calls r text 0 ms s out last → IsReplacedLeaving Calls r text ms s out last fixed
+  left_by_text : (t : List ℕ) → out ≡ replaced_from text (λ _. t) 0 ms → last ≡ s → IsReplacedLeaving Calls r text ms s out last (Some t)
+
+-- The error of a replacement, and the state that it leaves the replacer in: that of a search right behind some of the matches that
+-- are replaced, or want of memory, after one call for each of these, in order, each of which answered; or that of a call, after
+-- the calls before it. A replacer with one text for all matches is left as it was.
+pub data IsReplaceErrorLeaving {S : Type 0} (Calls : S → Shown → Result (List ℕ) Error → S → Type 0) (r : MetaRegex) (text : List ℕ) (ms : List Match) (s : S) (e : Error) (last : S) : Option (List ℕ) → Type 0 where
+  search_failed : (fixed : Option (List ℕ)) (done rest : List Match) (answers : List (List ℕ)) → ms ≡ done ++ rest → IsErrorBehind r text (whole text) done e →
+      AnswersInTurn Calls s (map (shown r text) done) answers last → IsReplaceErrorLeaving Calls r text ms s e last fixed
+  search_failed_by_text : (t : List ℕ) (done rest : List Match) → ms ≡ done ++ rest → IsErrorBehind r text (whole text) done e → last ≡ s → IsReplaceErrorLeaving Calls r text ms s e last (Some t)
+  call_failed : (fixed : Option (List ℕ)) → FailsInTurn Calls s (map (shown r text) ms) e last → IsReplaceErrorLeaving Calls r text ms s e last fixed
+  memory_ran_out : (fixed : Option (List ℕ)) (done rest : List Match) (answers : List (List ℕ)) → e ≡ Memory → ms ≡ done ++ rest →
+      AnswersInTurn Calls s (map (shown r text) done) answers last → IsReplaceErrorLeaving Calls r text ms s e last fixed
+
 -- How a replacer that has the same text for each match answers.
 abbrev pub AnswersText : {S : Type 0} → (S → List ℕ) → S → Shown → Result (List ℕ) Error → S → Type 0
 AnswersText text_of s m result next = IsAnswerOfText (text_of s) result × (next ≡ s)

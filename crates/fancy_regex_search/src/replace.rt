@@ -7,7 +7,7 @@ ghost use Rattle.fancy_regex_input.specs.SearchInputs.{whole};
 ghost use Rattle.fancy_regex_meaning.specs.Searches.{counted};
 ghost use Rattle.fancy_regex_search.specs.RemainingMatches.{all_matches};
 ghost use Rattle.fancy_regex_search.specs.IterationLimits.{ReplacementStays};
-ghost use Rattle.fancy_regex_search.specs.Replacements.{limit_of, is_spent, IsReplacedByCalls, IsReplacedBy, IsReplaceError};
+ghost use Rattle.fancy_regex_search.specs.Replacements.{limit_of, is_spent, IsReplacedByCalls, IsReplacedBy, IsReplacedLeaving, IsReplaceError, IsReplaceErrorLeaving};
 
 use crate::captures::Captures;
 use crate::gap_iter::GapIter;
@@ -61,8 +61,9 @@ fn replace_by_calls<'t, R: Replacer>(
         replacer.old (cow_str_bytes v) replacer.new) }
     ensures borrowed { IfOk result (λ v. counted limit (all_matches regex.now.meta text.entry.now (whole text.entry.now)) ≡ [] → v ≡ CowStr.Borrowed text.entry) }
     ensures stays { IfOk result (λ _. ReplacementStays regex.now.meta text.entry.now (counted limit (all_matches regex.now.meta text.entry.now (whole text.entry.now)))) }
-    ensures fails { IfErr result (λ e. IsReplaceError R.answers regex.now.meta text.entry.now (counted limit
-        (all_matches regex.now.meta text.entry.now (whole text.entry.now))) replacer.old None e) }
+    ensures fails { IfErr result (λ e. IsReplaceErrorLeaving R.answers regex.now.meta text.entry.now (counted limit
+        (all_matches regex.now.meta text.entry.now (whole text.entry.now))) replacer.old e replacer.new None) }
+    ensures ready { R.is_ready replacer.new }
 {
     let mut gaps = GapIter::new(alloc, regex, text);
     let mut out = String::new(alloc);
@@ -164,9 +165,30 @@ impl Regex {
         ensures fails { IfErr result (λ e. IsReplaceError R.answers self.now.meta text.entry.now (counted limit
             (all_matches self.now.meta text.entry.now (whole text.entry.now))) rep (R.fixed_text rep) e) }
     {
+        self.replacen_by(alloc, text, limit, &mut rep)
+    }
+
+    /// As `try_replacen`, by a replacer that is lent, and that can be used again afterwards. It keeps what its calls changed,
+    /// also where the replacement ends in an error: it has been called once for each match before that place, in order.
+    pub fn replacen_by<'t, R: Replacer>(
+        &self,
+        alloc: Global,
+        text: &'t str,
+        limit: usize,
+        rep: &mut R,
+    ) -> Result<CowStr<'t>>
+        requires { R.is_ready rep.old }
+        ensures replaced { IfOk result (λ v. IsReplacedLeaving R.answers self.now.meta text.entry.now (counted limit
+            (all_matches self.now.meta text.entry.now (whole text.entry.now))) rep.old (cow_str_bytes v) rep.new (R.fixed_text rep.old)) }
+        ensures borrowed { IfOk result (λ v. counted limit (all_matches self.now.meta text.entry.now (whole text.entry.now)) ≡ [] → v ≡ CowStr.Borrowed text.entry) }
+        ensures stays { IfOk result (λ _. ReplacementStays self.now.meta text.entry.now (counted limit (all_matches self.now.meta text.entry.now (whole text.entry.now)))) }
+        ensures fails { IfErr result (λ e. IsReplaceErrorLeaving R.answers self.now.meta text.entry.now (counted limit
+            (all_matches self.now.meta text.entry.now (whole text.entry.now))) rep.old e rep.new (R.fixed_text rep.old)) }
+        ensures ready { R.is_ready rep.new }
+    {
         if let Some(fixed) = rep.no_expansion() {
             return replace_by_calls(alloc, self, text, limit, &mut NoExpand(fixed.as_str()));
         }
-        replace_by_calls(alloc, self, text, limit, &mut rep)
+        replace_by_calls(alloc, self, text, limit, rep)
     }
 }

@@ -7,9 +7,9 @@ use Rattle.fancy_regex_input.specs.declared.config.SearchConfig.{SearchConfig}
 use Rattle.fancy_regex_meaning.specs.Searches.{Match, counted}
 use Rattle.fancy_regex_search.specs.RemainingMatches.{all_matches, remaining_matches}
 use Rattle.fancy_regex_search.specs.IterationLimits.{SkipsStayInLimits}
-use Rattle.fancy_regex_search.specs.Replacements.{Shown, shown, still_replaced, FailsInTurn, here, IsReplacedByCalls, of_call, of_memory}
+use Rattle.fancy_regex_search.specs.Replacements.{Shown, shown, still_replaced, FailsInTurn, here, IsReplacedByCalls, call_failed}
 use Rattle.fancy_regex_search.proofs.ReplaceLemmas.{Completes, completes_gap, completes_last, still_spent, still_none, still_more, shown_same}
-use Rattle.fancy_regex_search.proofs.ReplaceLemmas.{completes_init, progress_init, progress_gap, progress_fails, progress_stays}
+use Rattle.fancy_regex_search.proofs.ReplaceLemmas.{completes_init, progress_init, progress_gap, progress_fails, progress_ran_out, progress_stays}
 use Rattle.fancy_regex_search.proofs.replace.replace_by_calls.Goals.{in-Some+in_ok-gap+then-is_spent, in_default}
 use Rattle.fancy_regex_search.proofs.replace.replace_by_calls.Goals as goal
 
@@ -26,7 +26,12 @@ returns-in_err-gap-clause-fails g c =
 
 pub returns-in_err-push_str-clause-fails : goal.returns-in_err-push_str-clause-fails
 returns-in_err-push_str-clause-fails g c =
-    let p = err_from_is_err_and c.from_residual-in_err-push_str.result c.from_residual-in_err-push_str.ensures.1 in rw (p.1, p.2) (of_memory None)
+    let p = err_from_is_err_and c.from_residual-in_err-push_str.result c.from_residual-in_err-push_str.ensures.1 in
+    let inv = c.loop-found.invariant in
+    let iter = c.loop-found.gaps.match_iter in
+    let text = c.args.text.now in
+    rw (p.1, p.2) (progress_ran_out g.R.Replacer.answers c.args.regex.now.meta text (counted c.args.limit (all_matches c.args.regex.now.meta text (whole text))) c.args.replacer.now
+    iter.input.config iter.state _ c.loop-found.replacer inv.5)
 
 pub returns-in_err-replace_append-clause-fails : goal.returns-in_err-replace_append-clause-fails
 returns-in_err-replace_append-clause-fails g c =
@@ -49,7 +54,7 @@ returns-in_err-replace_append-clause-fails g c =
     let call : A c.loop-found.replacer (shown s text m) (Err e) last = subst (λ (x : Shown). A c.loop-found.replacer x (Err e) last) same c.in_err-replace_append.ensures.fails.0 in
     let failed : FailsInTurn A c.loop-found.replacer (map (shown s text) (still_replaced c.loop-found.left before)) e last =
     rw left (here c.loop-found.replacer last (shown s text m) _ e call) in
-    rw (p.1, p.2) (of_call None e last (inv.7.fails e last failed))
+    rw (p.1, p.2) (call_failed None (inv.7.fails e last failed))
 
 pub loop-found-init : goal.loop-found-init
 loop-found-init g c =
@@ -137,7 +142,12 @@ returns-then-not-is_changed-clause-replaced g c =
 
 pub returns-in_err-push_str-2-clause-fails : goal.returns-in_err-push_str-2-clause-fails
 returns-in_err-push_str-2-clause-fails g c =
-    let p = err_from_is_err_and c.from_residual-in_err-push_str-2.result c.from_residual-in_err-push_str-2.ensures.1 in rw (p.1, p.2) (of_memory None)
+    let p = err_from_is_err_and c.from_residual-in_err-push_str-2.result c.from_residual-in_err-push_str-2.ensures.1 in
+    let inv = c.loop-found.invariant in
+    let iter = c.loop-found.gaps.match_iter in
+    let text = c.args.text.now in
+    rw (p.1, p.2) (progress_ran_out g.R.Replacer.answers c.args.regex.now.meta text (counted c.args.limit (all_matches c.args.regex.now.meta text (whole text))) c.args.replacer.now
+    iter.input.config iter.state _ c.loop-found.replacer inv.5)
 
 pub returns-clause-replaced : goal.returns-clause-replaced
 returns-clause-replaced g c =
