@@ -1,5 +1,6 @@
-//! Tests of character classes, the analysis of patterns, the runner, the compiler and the machine, by their public calls.
-//! They are a crate of their own so that the crates that they test are proved once. There is no code here.
+//! Tests of character classes, the analysis of patterns, the runner, the compiler and the machine, of what the cases of
+//! `fancy_regex_vectors` cannot state. They are a crate of their own so that the crates that they test are proved once. There is no
+//! code here.
 #![tactic(auto)]
 
 #[cfg(test)]
@@ -8,8 +9,6 @@ mod analysis;
 mod class;
 #[cfg(test)]
 mod machine;
-#[cfg(test)]
-mod memory;
 #[cfg(test)]
 mod program;
 #[cfg(test)]

@@ -1,7 +1,9 @@
-//! Tests of `fancy_regex_input`, `fancy_regex_meta` and `fancy_regex` over their public calls. They are a crate of their own
-//! so that the tested crates are proved once. There is no other code here.
+//! Tests of `fancy_regex_input` and `fancy_regex`, of what the cases of `fancy_regex_vectors` cannot state. They are a crate of their
+//! own so that the tested crates are proved once. There is no other code here.
 #![tactic(auto)]
 
+#[cfg(test)]
+mod builders;
 #[cfg(test)]
 mod byte_sets;
 #[cfg(test)]
@@ -9,15 +11,9 @@ mod calls;
 #[cfg(test)]
 mod input;
 #[cfg(test)]
-mod meta;
-#[cfg(test)]
 mod pieces;
 #[cfg(test)]
-mod regex;
-#[cfg(test)]
 mod replacement;
-#[cfg(test)]
-mod reprint;
 #[cfg(test)]
 mod sets;
 #[cfg(test)]

@@ -1,4 +1,4 @@
-//! Worked splits, each with the items that have to come.
+//! Splits whose searches fail, each with the items that have to come.
 
 use fancy_regex::{Error, Regex, RegexBuilder, Result, RuntimeError};
 use std::alloc::{AllocError, Global};
@@ -43,66 +43,6 @@ fn splitn_items(
         push_item(&mut shown, item)?;
     }
     Ok(shown)
-}
-
-/// A pattern, a text, and the items of its split.
-static SPLITS: [(&str, &str, &str); 6] = [
-    ("", "123", "[][1][2][3][]"),
-    ("(1|2)\\1", "12112122", "[12][21][]"),
-    (",(?=b)", "a,b,c", "[a][b,c]"),
-    ("[ \\t]+", "a b \t  c\td    e", "[a][b][c][d][e]"),
-    ("x", "abc", "[abc]"),
-    ("a", "", "[]"),
-];
-
-/// A pattern, a text, a limit, and the items of its split with the limit.
-static SPLITNS: [(&str, &str, usize, &str); 5] = [
-    ("[ \\t]+", "a b c d", 3, "[a][b][c d]"),
-    ("[ \\t]+", "a b c d", 0, ""),
-    ("[ \\t]+", "a b c d", 1, "[a b c d]"),
-    ("[ \\t]+", "a b", 5, "[a][b]"),
-    ("", "ab", 2, "[][ab]"),
-];
-
-#[test]
-fn splits_texts(rt: HostRuntime) -> std::result::Result<(), Fail> {
-    let alloc = rt.alloc();
-    for (pattern, text, wanted) in SPLITS.iter() {
-        let Ok(regex) = Regex::new(alloc, pattern) else {
-            panic!(rt; "{pattern} is refused");
-        };
-        let shown = split_items(alloc, &regex, text)?;
-        assert_eq!(rt; shown.as_str(), *wanted);
-    }
-    Ok(())
-}
-
-#[test]
-fn splits_texts_up_to_a_limit(rt: HostRuntime) -> std::result::Result<(), Fail> {
-    let alloc = rt.alloc();
-    for (pattern, text, limit, wanted) in SPLITNS.iter() {
-        let Ok(regex) = Regex::new(alloc, pattern) else {
-            panic!(rt; "{pattern} is refused");
-        };
-        let shown = splitn_items(alloc, &regex, text, *limit)?;
-        assert_eq!(rt; shown.as_str(), *wanted);
-    }
-    Ok(())
-}
-
-#[test]
-fn splits_by_the_longest_match(rt: HostRuntime) -> std::result::Result<(), Fail> {
-    let alloc = rt.alloc();
-    let Ok(mut builder) = RegexBuilder::new(alloc, "a|ab|abc") else {
-        panic!(rt; "builder");
-    };
-    builder.leftmost_longest(true);
-    let Ok(regex) = builder.build(alloc) else {
-        panic!(rt; "build");
-    };
-    let shown = split_items(alloc, &regex, "xabcx")?;
-    assert_eq!(rt; shown.as_str(), "[x][x]");
-    Ok(())
 }
 
 #[test]

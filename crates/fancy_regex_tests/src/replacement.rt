@@ -1,38 +1,8 @@
-//! Worked replacements, by a text as it stands and by functions, each with the text that has to come out.
+//! Replacements by functions, and the text without a match.
 
-use fancy_regex::{
-    Captures, Error, FnReplacer, NoExpand, Regex, RegexBuilder, Replacer, Result, RuntimeError,
-};
+use fancy_regex::{Captures, Error, FnReplacer, NoExpand, Regex, Replacer, Result, RuntimeError};
 use std::borrow::CowStr;
 use std::test::Fail;
-
-/// A pattern, a text, a limit, a text that replaces matches as it stands, and the replaced text.
-static ROWS: [(&str, &str, usize, &str, &str); 9] = [
-    ("[^01]+", "1078910", 1, "", "1010"),
-    ("foo\\Kbar", "foobar", 0, "X", "fooX"),
-    ("", "ab", 0, "-", "-a-b-"),
-    ("a\\.b", "a.b axb a.b", 0, "$1", "$1 axb $1"),
-    ("a", "banana", 0, "o", "bonono"),
-    ("a", "banana", 2, "o", "bonona"),
-    ("a", "banana", 9, "o", "bonono"),
-    ("x", "banana", 0, "o", "banana"),
-    ("(?<=b)", "abcb", 0, "_", "ab_cb_"),
-];
-
-#[test]
-fn replaces_by_texts(rt: HostRuntime) -> std::result::Result<(), Fail> {
-    let alloc = rt.alloc();
-    for (pattern, text, limit, by, wanted) in ROWS.iter() {
-        let Ok(regex) = Regex::new(alloc, pattern) else {
-            panic!(rt; "{pattern} is refused");
-        };
-        let Ok(made) = regex.replacen(alloc, *text, *limit, NoExpand(*by)) else {
-            panic!(rt; "{pattern} fails");
-        };
-        assert_eq!(rt; made.as_str(), *wanted);
-    }
-    Ok(())
-}
 
 #[test]
 fn borrows_a_text_without_a_match(rt: HostRuntime) -> std::result::Result<(), Fail> {
@@ -44,23 +14,6 @@ fn borrows_a_text_without_a_match(rt: HostRuntime) -> std::result::Result<(), Fa
         panic!(rt; "replace");
     };
     assert!(rt; matches!(made, CowStr::Borrowed(_)));
-    Ok(())
-}
-
-#[test]
-fn replaces_by_the_longest_match(rt: HostRuntime) -> std::result::Result<(), Fail> {
-    let alloc = rt.alloc();
-    let Ok(mut builder) = RegexBuilder::new(alloc, "a|ab") else {
-        panic!(rt; "builder");
-    };
-    builder.leftmost_longest(true);
-    let Ok(regex) = builder.build(alloc) else {
-        panic!(rt; "build");
-    };
-    let Ok(made) = regex.replace_all(alloc, "abab", NoExpand("-")) else {
-        panic!(rt; "replace");
-    };
-    assert_eq!(rt; made.as_str(), "--");
     Ok(())
 }
 
@@ -130,25 +83,5 @@ fn stops_at_the_first_error(rt: HostRuntime) -> std::result::Result<(), Fail> {
     let made = regex.replace_all(alloc, "aaa", fails);
     assert!(rt; matches!(made, Err(Error::RuntimeError(RuntimeError::StackOverflow))));
     assert!(rt; calls == 2);
-    Ok(())
-}
-
-#[test]
-fn searches_for_one_match_more(rt: HostRuntime) -> std::result::Result<(), Fail> {
-    let alloc = rt.alloc();
-    let Ok(mut builder) = RegexBuilder::new(alloc, "x|(a)\\1") else {
-        panic!(rt; "builder");
-    };
-    builder.backtrack_limit(0);
-    let Ok(regex) = builder.build(alloc) else {
-        panic!(rt; "build");
-    };
-    let made = regex.try_replacen(alloc, "xb", 1, NoExpand("y"));
-    assert!(rt;
-        matches!(
-            made,
-            Err(Error::RuntimeError(RuntimeError::BacktrackLimitExceeded))
-        )
-    );
     Ok(())
 }

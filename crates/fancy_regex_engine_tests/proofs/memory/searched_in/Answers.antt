@@ -1,8 +1,0 @@
-use Rattle.std.proofs.lemmas.Str.{IsCharBoundary-start}
-use Rattle.fancy_regex_engine_tests.proofs.memory.searched_in.Goals as goal
-
-pub search_in-requires-clause-first : goal.search_in-requires-clause-first
-search_in-requires-clause-first c = IsCharBoundary-start c.args.text.now c.utf8.text
-
-pub search_in-requires-in-Err-clause-first : goal.search_in-requires-in-Err-clause-first
-search_in-requires-in-Err-clause-first c = IsCharBoundary-start c.args.text.now c.utf8.text

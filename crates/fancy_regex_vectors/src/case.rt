@@ -1,0 +1,187 @@
+//! The cases of the table: what is asked, and of what.
+
+use crate::fault::Fault;
+use fancy_regex::{
+    FLAG_CASEI, FLAG_CRLF, FLAG_DOTNL, FLAG_IGNORE_NUMBERED_GROUPS_WHEN_NAMED_GROUPS_EXIST,
+    FLAG_IGNORE_SPACE, FLAG_MULTI, FLAG_ONIGURUMA_MODE, FLAG_UNICODE, RegexInput,
+    RegexOptionsBuilder,
+};
+
+/// A line of the table, cut into its columns.
+#[derive(Clone, Copy)]
+pub struct Row<'t> {
+    /// The letters of the options, and limits behind blanks.
+    pub options: &'t str,
+    /// The pattern, percent-encoded; of a set its patterns, with a blank between.
+    pub patterns: &'t str,
+    /// The text, percent-encoded.
+    pub text: &'t str,
+    /// What the setters of the input set; empty for a whole text.
+    pub input: &'t str,
+    /// The template, percent-encoded.
+    pub template: &'t str,
+    /// The questions, separated by tabs.
+    pub questions: &'t str,
+}
+
+/// Cuts a line into its columns. Fails with `Fault::Table` if it has too few.
+pub fn row_of(line: &str) -> Result<Row<'_>, Fault> {
+    let (options, rest) = line.split_once('\t').ok_or(Fault::Table)?;
+    let (patterns, rest) = rest.split_once('\t').ok_or(Fault::Table)?;
+    let (text, rest) = rest.split_once('\t').ok_or(Fault::Table)?;
+    let (input, rest) = rest.split_once('\t').ok_or(Fault::Table)?;
+    let (template, questions) = rest.split_once('\t').ok_or(Fault::Table)?;
+    Ok(Row {
+        options,
+        patterns,
+        text,
+        input,
+        template,
+        questions,
+    })
+}
+
+/// A question of a case: a call, its argument if it has one, and the answers that are allowed, separated by ` | `.
+#[derive(Clone, Copy)]
+pub struct Question<'t> {
+    pub call: &'t str,
+    pub argument: &'t str,
+    pub allowed: &'t str,
+}
+
+/// Cuts a question into its parts. Fails with `Fault::Table` if it has no answer.
+pub fn question_of(field: &str) -> Result<Question<'_>, Fault> {
+    let (asked, allowed) = field.split_once('=').ok_or(Fault::Table)?;
+    let (call, argument) = asked.split_once(' ').unwrap_or((asked, ""));
+    Ok(Question {
+        call,
+        argument,
+        allowed,
+    })
+}
+
+/// A case: a row with its texts decoded.
+#[derive(Clone, Copy)]
+pub struct Case<'c> {
+    pub row: Row<'c>,
+    pub pattern: &'c str,
+    pub text: &'c str,
+    pub template: &'c str,
+}
+
+/// The number of these digits. Fails with `Fault::Table` if they are none.
+pub fn number_of(digits: &str) -> Result<usize, Fault> {
+    match digits.parse::<usize>() {
+        Ok(number) => Ok(number),
+        Err(_) => Err(Fault::Table),
+    }
+}
+
+/// Whether the options have this letter.
+pub fn has_option(row: Row<'_>, letter: char) -> bool {
+    letters_of(row).contains(letter)
+}
+
+/// The letters of a row's options.
+fn letters_of<'t>(row: Row<'t>) -> &'t str {
+    match row.options.split_once(' ') {
+        Some((letters, _limits)) => letters,
+        None => row.options,
+    }
+}
+
+/// The limit that begins with this letter, if the options have one: `b` the backtrack limit, `c` the cap on the program.
+pub fn limit_of(row: Row<'_>, letter: char) -> Result<Option<usize>, Fault> {
+    for word in row.options.split(' ') {
+        if let Some(digits) = word.strip_prefix(letter) {
+            return Ok(Some(number_of(digits)?));
+        }
+    }
+    Ok(None)
+}
+
+/// The options that a printed text keeps: `u` Unicode mode, `l` longest, `e` not empty.
+pub fn kept_options(row: Row<'_>) -> RegexOptionsBuilder {
+    let letters = letters_of(row);
+    let mut options = RegexOptionsBuilder::new();
+    options
+        .unicode_mode(letters.contains('u'))
+        .leftmost_longest(letters.contains('l'))
+        .find_not_empty(letters.contains('e'));
+    options
+}
+
+/// The options of a row, with the option `seek` or without: those that a printed text keeps, and `i` case-insensitive, `m`
+/// multi-line, `s` dot matches newlines, `x` blanks are skipped, `R` CRLF, `o` Oniguruma mode, `n` named groups alone.
+pub fn options_of(row: Row<'_>, seek: bool) -> Result<RegexOptionsBuilder, Fault> {
+    let letters = letters_of(row);
+    let mut options = kept_options(row);
+    options
+        .case_insensitive(letters.contains('i'))
+        .multi_line(letters.contains('m'))
+        .dot_matches_new_line(letters.contains('s'))
+        .ignore_whitespace(letters.contains('x'));
+    options
+        .crlf(letters.contains('R'))
+        .oniguruma_mode(letters.contains('o'))
+        .ignore_numbered_groups_when_named_groups_exist(letters.contains('n'))
+        .seek(seek);
+    if let Some(limit) = limit_of(row, 'b')? {
+        options.backtrack_limit(limit);
+    }
+    if let Some(limit) = limit_of(row, 'c')? {
+        options.max_prog_size(limit);
+    }
+    Ok(options)
+}
+
+/// The flags of `Expr::parse_tree_with_flags` that a row's options stand for.
+pub fn flags_of(row: Row<'_>) -> u32 {
+    let mut flags = 0;
+    for letter in letters_of(row).chars() {
+        flags |= flag_of(letter);
+    }
+    flags
+}
+
+/// The flag of an option's letter; 0 for an option that does not concern reading.
+fn flag_of(letter: char) -> u32 {
+    match letter {
+        'i' => FLAG_CASEI,
+        'm' => FLAG_MULTI,
+        's' => FLAG_DOTNL,
+        'x' => FLAG_IGNORE_SPACE,
+        'u' => FLAG_UNICODE,
+        'R' => FLAG_CRLF,
+        'o' => FLAG_ONIGURUMA_MODE,
+        'n' => FLAG_IGNORE_NUMBERED_GROUPS_WHEN_NAMED_GROUPS_EXIST,
+        _ => 0,
+    }
+}
+
+/// The input of a case. The column has the start, both ends of the range, and letters: `a` anchored, `s` no start of the text, `e`
+/// no end of it, `g` no `\G` at the start. Fails with `Fault::Table` if it has not, or an offset is no character boundary.
+pub fn input_of<'c>(case: &Case<'c>) -> Result<RegexInput<&'c str>, Fault> {
+    let text = case.text;
+    if case.row.input.is_empty() {
+        return Ok(RegexInput::new(text));
+    }
+    let (start, rest) = case.row.input.split_once(' ').ok_or(Fault::Table)?;
+    let (from, rest) = rest.split_once(' ').ok_or(Fault::Table)?;
+    let (to, letters) = rest.split_once(' ').ok_or(Fault::Table)?;
+    let (start, from, to) = (number_of(start)?, number_of(from)?, number_of(to)?);
+    if to < from || !text.is_char_boundary(from) || !text.is_char_boundary(to) {
+        return Err(Fault::Table);
+    }
+    if start <= text.len() && !text.is_char_boundary(start) {
+        return Err(Fault::Table);
+    }
+    let input = RegexInput::new(text).from_pos(start).range(from..to);
+    Ok(
+        input
+            .anchored(letters.contains('a'))
+            .start_text(!letters.contains('s'))
+            .end_text(!letters.contains('e'))
+            .continue_from_previous_match_end(!letters.contains('g')),
+    )
+}

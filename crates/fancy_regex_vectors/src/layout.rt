@@ -1,0 +1,50 @@
+//! Programs as text.
+
+use fancy_regex_program::{Insn, Prog};
+use std::alloc::AllocError;
+use std::fmt::Write;
+
+/// Appends each instruction of a program with its operands, in brackets.
+pub fn append_layout(out: &mut String, prog: &Prog) -> Result<(), AllocError> {
+    for insn in prog.body() {
+        append_insn(out, insn)?;
+    }
+    Ok(())
+}
+
+/// Appends an instruction; `[?]` for one that no worked layout has.
+fn append_insn(out: &mut String, insn: &Insn) -> Result<(), AllocError> {
+    match insn {
+        Insn::End => write!(out, "[End]"),
+        Insn::SplitUnanchored => write!(out, "[SplitUnanchored]"),
+        Insn::Lit(text) => write!(out, "[Lit({text})]"),
+        Insn::Split(first, second) => write!(out, "[Split({first},{second})]"),
+        Insn::Jmp(to) => write!(out, "[Jmp({to})]"),
+        Insn::Save(slot) => write!(out, "[Save({slot})]"),
+        Insn::Save0 => write!(out, "[Save0]"),
+        Insn::SaveCaptureGroupStart { kept, slot } => {
+            write!(out, "[SaveCaptureGroupStart({kept},{slot})]")
+        }
+        Insn::Restore(slot) => write!(out, "[Restore({slot})]"),
+        Insn::GoBack(count) => write!(out, "[GoBack({count})]"),
+        Insn::Fail => write!(out, "[Fail]"),
+        Insn::BeginRepeat(slot) => write!(out, "[BeginRepeat({slot})]"),
+        Insn::RepeatGr(head) => write!(out, "[RepeatGr({},{})]", head.next, head.repeat),
+        _ => write!(out, "[?]"),
+    }
+}
+
+/// Appends how many instructions begin a greedy repeat, and how many fail.
+pub fn append_repeats(out: &mut String, prog: &Prog) -> Result<(), AllocError> {
+    let repeats = prog
+        .body()
+        .iter()
+        .filter(|insn| matches!(insn, Insn::RepeatGr(_)))
+        .count();
+    let failing = prog
+        .body()
+        .iter()
+        .filter(|insn| matches!(insn, Insn::Fail))
+        .count();
+    write!(out, "{repeats} {failing}")
+}
