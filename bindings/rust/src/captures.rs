@@ -1,5 +1,5 @@
+use crate::expander::Expander;
 use crate::raw::Span;
-use crate::replacer::expand;
 use std::ops::{Index, Range};
 use std::sync::Arc;
 
@@ -33,6 +33,18 @@ impl<'t> Match<'t> {
     /// The text that matched.
     pub fn as_str(&self) -> &'t str {
         &self.text[self.range()]
+    }
+}
+
+impl<'t> From<Match<'t>> for &'t str {
+    fn from(found: Match<'t>) -> &'t str {
+        found.as_str()
+    }
+}
+
+impl From<Match<'_>> for Range<usize> {
+    fn from(found: Match<'_>) -> Range<usize> {
+        found.range()
     }
 }
 
@@ -82,7 +94,7 @@ impl<'t> Captures<'t> {
 
     /// Appends a template with the texts of groups in the place of `$name`, `${name}`, `$1` and `${1}`, and `$` for `$$`.
     pub fn expand(&self, template: &str, to: &mut String) {
-        expand(template, self, to);
+        Expander::default().append_expansion(to, template, self);
     }
 }
 

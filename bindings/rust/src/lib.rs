@@ -3,6 +3,7 @@
 
 mod captures;
 mod error;
+mod expander;
 mod handle;
 mod input;
 mod iter;
@@ -14,6 +15,7 @@ mod set;
 
 pub use captures::{Captures, Match};
 pub use error::{Error, Result};
+pub use expander::Expander;
 pub use input::RegexInput;
 pub use iter::{CaptureMatches, Matches, Split, SplitN};
 pub use options::{RegexBuilder, RegexOptionsBuilder};

@@ -51,6 +51,12 @@ impl RegexBuilder {
         }
     }
 
+    /// Takes another pattern.
+    pub fn pattern(&mut self, pattern: String) -> &mut RegexBuilder {
+        self.pattern = pattern;
+        self
+    }
+
     /// Compiles the pattern.
     pub fn build(&self) -> Result<Regex> {
         Regex::with_options(&self.pattern, &self.options)

@@ -393,3 +393,19 @@ impl std::str::FromStr for Regex {
         Regex::new(pattern)
     }
 }
+
+impl TryFrom<&str> for Regex {
+    type Error = Error;
+
+    fn try_from(pattern: &str) -> Result<Regex> {
+        Regex::new(pattern)
+    }
+}
+
+impl TryFrom<String> for Regex {
+    type Error = Error;
+
+    fn try_from(pattern: String) -> Result<Regex> {
+        Regex::new(&pattern)
+    }
+}

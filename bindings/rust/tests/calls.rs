@@ -1,7 +1,8 @@
 //! Each call of the wrapper, on the examples of the crate that was ported and on errors.
 
 use proved_fancy_regex::{
-    Captures, Error, Regex, RegexBuilder, RegexInput, RegexOptionsBuilder, RegexSet, Replacer,
+    Captures, Error, Expander, Regex, RegexBuilder, RegexInput, RegexOptionsBuilder, RegexSet,
+    Replacer,
 };
 use std::borrow::Cow;
 
@@ -163,6 +164,40 @@ fn templates_are_expanded() {
     assert_eq!(regex.replacen("ab cd e", 2, "-"), "- - e");
     assert_eq!(Regex::new("").unwrap().replace_all("é", "-"), "-é-");
     assert_eq!(Regex::new("").unwrap().replace_all("é", ""), "é");
+}
+
+#[test]
+fn python_templates_are_expanded() {
+    let regex = Regex::new("(?<first>.)(.)?").unwrap();
+    let groups = regex.captures("ab").unwrap().unwrap();
+    for (template, wanted) in [
+        (r"\1.\g<2>.\g<first>", "a.b.a"),
+        (r"\\1\0", r"\1ab"),
+        (r"\10\g<x>\x$1", r"\x$1"),
+        (r"\18446744073709551616", "6"),
+        (r"\g<1\", r"\g<1\"),
+    ] {
+        assert_eq!(Expander::python().expansion(template, &groups), wanted);
+    }
+    let mut out = Vec::new();
+    let default = Expander::default();
+    default
+        .write_expansion(&mut out, "$first$$", &groups)
+        .unwrap();
+    assert_eq!(out, b"a$");
+    assert_eq!(Expander::python().escape(r"a\b"), r"a\\b");
+    assert!(matches!(default.escape("ab"), Cow::Borrowed("ab")));
+}
+
+#[test]
+fn conversions() {
+    let regex = Regex::try_from("b+").unwrap();
+    let found = regex.find("abb").unwrap().unwrap();
+    assert_eq!(<&str>::from(found), "bb");
+    assert_eq!(std::ops::Range::from(found), 1..3);
+    let mut builder = RegexBuilder::new("a");
+    let other = builder.pattern("c".to_string()).build().unwrap();
+    assert_eq!(other.as_str(), "c");
 }
 
 #[test]

@@ -1,7 +1,17 @@
 //! The examples in the documentation of the crate that was ported, each with what it prints there. Left out are those of calls that
 //! the wrapper does not have; `Captures` and `RegexInput` have no parameter for the kind of text here.
 
-use proved_fancy_regex::{Captures, NoExpand, Regex, RegexBuilder, RegexInput, RegexSet, Replacer};
+use proved_fancy_regex::{
+    Captures, Expander, NoExpand, Regex, RegexBuilder, RegexInput, RegexSet, Replacer,
+};
+
+#[test]
+fn expander_escape() {
+    assert_eq!(
+        Expander::default().escape("Has a literal $ sign."),
+        "Has a literal $$ sign."
+    );
+}
 
 #[test]
 fn oniguruma_mode() {

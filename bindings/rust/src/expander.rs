@@ -1,0 +1,131 @@
+use crate::captures::Captures;
+use std::borrow::Cow;
+use std::io;
+
+/// Expands and escapes templates. In the default form `$name`, `${name}` and the same with a number stand for the text of a group,
+/// and `$$` for `$`; in the form of Python `\\g<name>`, `\\g<1>` and `\\1` do, and `\\\\` stands for `\\`. A group that does not exist or
+/// took no part has no text. A sign that begins nothing stands for itself.
+///
+/// ```
+/// use proved_fancy_regex::{Expander, Regex};
+///
+/// let regex = Regex::new("(?<year>[0-9]+)-([0-9]+)").unwrap();
+/// let groups = regex.captures("2018-04").unwrap().unwrap();
+/// assert_eq!(Expander::python().expansion(r"\2 of \g<year>", &groups), "04 of 2018");
+/// ```
+#[derive(Clone, Copy, Debug)]
+pub struct Expander {
+    is_python: bool,
+}
+
+impl Default for Expander {
+    /// The expander of the default form, with `$`.
+    fn default() -> Expander {
+        Expander { is_python: false }
+    }
+}
+
+impl Expander {
+    /// The expander of the form of Python, with `\\`.
+    pub fn python() -> Expander {
+        Expander { is_python: true }
+    }
+
+    /// The text with each sign doubled: a template that expands to the text. A text without a sign is borrowed.
+    pub fn escape<'t>(&self, text: &'t str) -> Cow<'t, str> {
+        let sign = self.sign();
+        if !text.contains(sign) {
+            return Cow::Borrowed(text);
+        }
+        Cow::Owned(text.replace(sign, &String::from_iter([sign, sign])))
+    }
+
+    /// What the template stands for in a match.
+    pub fn expansion(&self, template: &str, groups: &Captures<'_>) -> String {
+        let mut text = String::new();
+        self.append_expansion(&mut text, template, groups);
+        text
+    }
+
+    /// Appends what the template stands for in a match.
+    pub fn append_expansion(&self, to: &mut String, template: &str, groups: &Captures<'_>) {
+        let sign = self.sign();
+        let mut rest = template;
+        while let Some(at) = rest.find(sign) {
+            to.push_str(&rest[..at]);
+            rest = self.reference(&rest[at + sign.len_utf8()..], groups, to);
+        }
+        to.push_str(rest);
+    }
+
+    /// Writes what the template stands for in a match.
+    pub fn write_expansion(
+        &self,
+        mut to: impl io::Write,
+        template: &str,
+        groups: &Captures<'_>,
+    ) -> io::Result<()> {
+        to.write_all(self.expansion(template, groups).as_bytes())
+    }
+
+    fn sign(&self) -> char {
+        if self.is_python {
+            '\\'
+        } else {
+            '$'
+        }
+    }
+
+    /// Appends what the text behind a sign refers to, and returns what stands behind it.
+    fn reference<'t>(&self, tail: &'t str, groups: &Captures<'_>, to: &mut String) -> &'t str {
+        if let Some(rest) = tail.strip_prefix(self.sign()) {
+            to.push(self.sign());
+            return rest;
+        }
+        let (name, rest) = match self.delimited(tail).or_else(|| self.bare(tail)) {
+            Some(parts) => parts,
+            None => {
+                to.push(self.sign());
+                return tail;
+            }
+        };
+        let by_number = || groups.get(name.parse().ok()?);
+        if let Some(found) = groups.name(name).or_else(by_number) {
+            to.push_str(found.as_str());
+        }
+        rest
+    }
+
+    /// A name between its signs, and what stands behind them.
+    fn delimited<'t>(&self, tail: &'t str) -> Option<(&'t str, &'t str)> {
+        let (open, close) = if self.is_python {
+            ("g<", ">")
+        } else {
+            ("{", "}")
+        };
+        let (name, rest) = leading(tail.strip_prefix(open)?, is_name_part)?;
+        Some((name, rest.strip_prefix(close)?))
+    }
+
+    /// A name or a number that no sign ends, and the rest: the longest name, or in the form of Python the longest number below 2^64.
+    fn bare<'t>(&self, tail: &'t str) -> Option<(&'t str, &'t str)> {
+        if !self.is_python {
+            return leading(tail, is_name_part);
+        }
+        let (digits, _) = leading(tail, |c| c.is_ascii_digit())?;
+        let length = (1..=digits.len())
+            .rev()
+            .find(|&n| digits[..n].parse::<u64>().is_ok())?;
+        Some(tail.split_at(length))
+    }
+}
+
+fn is_name_part(c: char) -> bool {
+    c == '_' || c.is_alphanumeric()
+}
+
+/// The longest beginning of such characters, if there is one, and the rest.
+fn leading(tail: &str, is_part: impl Fn(char) -> bool) -> Option<(&str, &str)> {
+    let end = tail.find(|c| !is_part(c)).unwrap_or(tail.len());
+    (end > 0).then(|| tail.split_at(end))
+}
