@@ -2,20 +2,6 @@
 
 use fancy_search_words::{Arguments, Options, Refusal, Subcommand, read_words};
 use std::alloc::Global;
-use std::test::Fail;
-
-/// No option.
-const NONE: Options = Options {
-    case_insensitive: false,
-    multi_line: false,
-    dot_matches_new_line: false,
-    ignore_whitespace: false,
-    ascii: false,
-    oniguruma: false,
-    not_empty: false,
-    longest: false,
-    limit: None,
-};
 
 /// What the words ask, or a word for why they ask nothing.
 fn requested<'a>(
@@ -27,30 +13,6 @@ fn requested<'a>(
         Err(Refusal::Help(_)) => Err("help"),
         Err(Refusal::Words(_)) => Err("words"),
         Err(Refusal::Memory) => Err("memory"),
-    }
-}
-
-#[test]
-fn options_and_patterns(rt: HostRuntime) {
-    for (words, pattern, options) in [
-        (["find", "a"].as_slice(), "a", NONE),
-        (["find", ""].as_slice(), "", NONE),
-        (["find", "--", "-a"].as_slice(), "-a", NONE),
-        (["find", "-"].as_slice(), "-", NONE),
-        (
-            ["find", "--limit=18446744073709551615", "a"].as_slice(),
-            "a",
-            Options {
-                limit: Some(18_446_744_073_709_551_615),
-                ..NONE
-            },
-        ),
-    ] {
-        assert_eq!(rt;
-            requested(rt.alloc(), words),
-            Ok((Subcommand::Find(pattern), options)),
-            "{pattern}"
-        );
     }
 }
 
@@ -85,108 +47,6 @@ fn all_options(rt: HostRuntime) {
         requested(rt.alloc(), many),
         Ok((Subcommand::Captures("(a)"), all))
     );
-}
-
-#[test]
-fn subcommands(rt: HostRuntime) {
-    for (words, subcommand) in [
-        (["split", "a"].as_slice(), Subcommand::Split("a")),
-        (
-            ["replace", "a", "$0"].as_slice(),
-            Subcommand::Replace {
-                pattern: "a",
-                template: "$0",
-            },
-        ),
-        (
-            ["replace", "a", ""].as_slice(),
-            Subcommand::Replace {
-                pattern: "a",
-                template: "",
-            },
-        ),
-        (
-            ["replace", "--", "-a", "-b"].as_slice(),
-            Subcommand::Replace {
-                pattern: "-a",
-                template: "-b",
-            },
-        ),
-        (["print", "a"].as_slice(), Subcommand::Print("a")),
-    ] {
-        assert_eq!(rt; requested(rt.alloc(), words), Ok((subcommand, NONE)));
-    }
-}
-
-#[test]
-fn patterns_of_a_set(rt: HostRuntime) -> Result<(), Fail> {
-    let alloc = rt.alloc();
-    for (words, second) in [
-        (["set", "--", "a", "-b"].as_slice(), "-b"),
-        (["set", "a", "--", "-b"].as_slice(), "-b"),
-        (["set", "a", ""].as_slice(), ""),
-    ] {
-        let mut patterns = Vec::new(alloc);
-        patterns.push("a")?;
-        patterns.push(second)?;
-        assert_eq!(rt;
-            requested(alloc, words),
-            Ok((Subcommand::Set(patterns), NONE))
-        );
-    }
-    Ok(())
-}
-
-/// Whether these are words that do not parse.
-fn is_refused(alloc: Global, words: &[&str]) -> bool {
-    match read_words(alloc, words) {
-        Err(Refusal::Words(_text)) => true,
-        Err(Refusal::Help(_text)) => false,
-        Err(Refusal::Memory) => false,
-        Ok(_asked) => false,
-    }
-}
-
-#[test]
-fn words_that_do_not_parse(rt: HostRuntime) {
-    assert!(rt; is_refused(rt.alloc(), &[]));
-    for words in [
-        ["find"].as_slice(),
-        ["split"].as_slice(),
-        ["replace", "a"].as_slice(),
-        ["replace", "a", "b", "c"].as_slice(),
-        ["print"].as_slice(),
-        ["set"].as_slice(),
-        ["set", "a", "-b"].as_slice(),
-        ["a"].as_slice(),
-        ["seek", "a"].as_slice(),
-        ["find", "a", "b"].as_slice(),
-        ["find", "-a"].as_slice(),
-        ["find", "-q", "a"].as_slice(),
-        ["-i", "find", "a"].as_slice(),
-        ["find", "--limit", "x", "a"].as_slice(),
-        ["find", "--limit", "18446744073709551616", "a"].as_slice(),
-        ["find", "--limit", "-1", "a"].as_slice(),
-        ["find", "--limit"].as_slice(),
-        ["find", "--ascii=1", "a"].as_slice(),
-        ["find", "-i", "-i", "a"].as_slice(),
-    ] {
-        assert!(rt; is_refused(rt.alloc(), words));
-    }
-}
-
-#[test]
-fn words_that_ask_for_help(rt: HostRuntime) {
-    for words in [
-        ["--help"].as_slice(),
-        ["-h"].as_slice(),
-        ["help"].as_slice(),
-        ["find", "--help"].as_slice(),
-        ["captures", "a", "-h"].as_slice(),
-        ["replace", "a", "-h"].as_slice(),
-    ] {
-        assert_eq!(rt; requested(rt.alloc(), words), Err("help"));
-    }
 }
 
 /// The text of a call for help.
