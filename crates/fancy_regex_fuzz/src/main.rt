@@ -1,19 +1,21 @@
 //! A fuzzer of `fancy_regex` and of the program over it: makes patterns, texts, templates, options and inputs at random, runs the
 //! public calls on them and checks what has to hold between their answers. The words are the seed and the number of cases, 1 and
 //! 5,000 if they are not given. It stops at the first contradiction and prints the smallest pattern and text that it finds for it.
-//! How the cases ended is counted on standard error. Exit status: 0 without a contradiction, 1 with one, 2 if it cannot run.
+//! It tells how the cases ended, counted by the kind of their patterns. Exit status: 0 without a contradiction, 1 with one, 2 if it
+//! cannot run or runs out of memory.
 #![tactic(auto)]
 
 mod fault;
 mod report;
 
-use fancy_regex_fuzz_cases::case::{Case, Ending, ending_of};
-use fancy_regex_fuzz_cases::inputs::Part;
 use fancy_regex_fuzz_cases::pattern::{Kind, make_pattern};
 use fancy_regex_fuzz_cases::random::Random;
-use fancy_regex_fuzz_cases::setting::Setting;
-use fancy_regex_fuzz_cases::shrink::shrunk;
 use fancy_regex_fuzz_cases::text::{make_template, make_text};
+use fancy_regex_fuzz_checks::case::Case;
+use fancy_regex_fuzz_checks::ending::{Ending, ending_of};
+use fancy_regex_fuzz_checks::part::Part;
+use fancy_regex_fuzz_checks::setting::Setting;
+use fancy_regex_fuzz_checks::shrink::shrunk;
 use fault::Fault;
 use report::{Report, print_contradiction};
 use std::env;
@@ -63,7 +65,7 @@ fn fuzz(rt: &HostRuntime, seed: u64, count: u64) -> Result<bool, Fault> {
     Ok(true)
 }
 
-/// Makes a case and runs it; whether it agrees. A contradiction is printed.
+/// Makes a case and runs it; whether it agrees. A contradiction is printed, and want of memory is a fault.
 fn runs_well(
     rt: &HostRuntime,
     random: &mut Random,
@@ -88,6 +90,7 @@ fn runs_well(
             print_contradiction(rt, least.borrowed(), check)?;
             Ok(false)
         }
-        _ => Ok(true),
+        Ending::Memory => Err(Fault::Memory),
+        Ending::Refused | Ending::Limited | Ending::Agrees => Ok(true),
     }
 }

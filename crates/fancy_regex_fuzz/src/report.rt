@@ -1,16 +1,16 @@
 //! What is printed: how the cases ended, counted by the kind of their patterns, and a contradiction.
 
 use crate::fault::Fault;
-use fancy_regex_fuzz_cases::case::{Case, Ending};
-use fancy_regex_fuzz_cases::check::Check;
 use fancy_regex_fuzz_cases::pattern::Kind;
+use fancy_regex_fuzz_checks::case::Case;
+use fancy_regex_fuzz_checks::check::Check;
+use fancy_regex_fuzz_checks::ending::Ending;
 
 /// How the cases of a kind ended.
 #[derive(Clone, Copy)]
 struct Counts {
     refused: u64,
     limited: u64,
-    memory: u64,
     agrees: u64,
 }
 
@@ -19,12 +19,11 @@ impl Counts {
         Counts {
             refused: 0,
             limited: 0,
-            memory: 0,
             agrees: 0,
         }
     }
 
-    /// The counts with one more.
+    /// The counts with one more. Want of memory and a contradiction end the run, and are not counted.
     fn with(self, ending: Ending) -> Counts {
         match ending {
             Ending::Refused => Counts {
@@ -35,15 +34,11 @@ impl Counts {
                 limited: self.limited.saturating_add(1),
                 ..self
             },
-            Ending::Memory => Counts {
-                memory: self.memory.saturating_add(1),
-                ..self
-            },
             Ending::Agrees => Counts {
                 agrees: self.agrees.saturating_add(1),
                 ..self
             },
-            Ending::Contradicts(_) => self,
+            Ending::Memory | Ending::Contradicts(_) => self,
         }
     }
 
@@ -51,12 +46,9 @@ impl Counts {
         let Counts {
             refused,
             limited,
-            memory,
             agrees,
         } = self;
-        eprintln!(rt;
-            "{kind}: {agrees} agree, {refused} refused, {limited} limited, {memory} without memory"
-        )?;
+        println!(rt; "{kind}: {agrees} agree, {refused} refused, {limited} limited")?;
         Ok(())
     }
 }
@@ -88,7 +80,7 @@ impl Report {
         }
     }
 
-    /// Prints a line for each kind on standard error.
+    /// Prints a line for each kind.
     pub fn print(&self, rt: &HostRuntime) -> Result<(), Fault> {
         self.plain.print(rt, "plain")?;
         self.grammar.print(rt, "by grammar")?;

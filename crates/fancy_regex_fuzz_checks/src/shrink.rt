@@ -1,8 +1,9 @@
 //! The smallest case that can be found for a contradiction.
 
-use crate::case::{Case, Ending, ending_of};
+use crate::case::Case;
 use crate::check::Check;
-use crate::inputs::Part;
+use crate::ending::{Ending, ending_of};
+use crate::part::Part;
 use crate::setting::Setting;
 use std::alloc::{AllocError, Global};
 
@@ -53,12 +54,16 @@ pub fn shrunk(alloc: Global, case: Case<'_>, check: Check) -> Result<OwnedCase, 
     Ok(least)
 }
 
-/// The pattern without one of its characters, if the check still does not hold.
+/// The pattern without one of its characters, if the check still does not hold. One that is made as plain may not stay plain, so it
+/// is left as it is where just that is the check.
 fn shorter_pattern(
     alloc: Global,
     case: Case<'_>,
     check: Check,
 ) -> Result<Option<String>, AllocError> {
+    if check == Check::Plain {
+        return Ok(None);
+    }
     for index in 0..case.pattern.chars().count() {
         let pattern = without(alloc, case.pattern, index)?;
         let shorter = Case {

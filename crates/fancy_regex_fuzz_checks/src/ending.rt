@@ -1,35 +1,26 @@
-//! A case, and how it ends.
+//! How a case ends.
 
+use crate::case::Case;
 use crate::check::{CHECKS, Check};
-use crate::groups::{captures_alike, groups_agree, items_alike};
-use crate::inputs::{Part, anchored_alike, begins_alike, part_alike};
+use crate::engines::engines_agree;
+use crate::groups::{captures_alike, found_again, groups_agree, items_alike};
+use crate::inputs::{anchored_alike, begins_alike, part_alike};
 use crate::iteration::{ends_increase, limited_pieces_agree, next_is_found, pieces_are_the_text};
 use crate::refused::refused_alike;
 use crate::replacing::{
     escaped_comes_back, expands_each, expansions_agree, first_between_pieces, fixed_between_pieces,
     replaced_is_the_text,
 };
-use crate::setting::Setting;
 use crate::variants::{
-    finds_itself, has_its_bytes, keeps_its_bound, longest_ends_behind, reprints_alike, seeks_alike,
-    set_agrees, twice_in_a_set,
+    builds_alike, finds_itself, has_its_bytes, keeps_its_bound, longest_ends_behind,
+    reprints_alike, seeks_alike, set_agrees, twice_in_a_set,
 };
 use crate::words::program_agrees;
-use fancy_regex::{Error, Match, Regex, Result};
+use fancy_regex::{Captures, Error, Match, Regex, Result};
 use std::alloc::Global;
 
 /// The byte offsets of a match.
 pub type Place = (usize, usize);
-
-/// A pattern, a text, a template, options, and a part of the text to be searched.
-#[derive(Clone, Copy)]
-pub struct Case<'c> {
-    pub pattern: &'c str,
-    pub text: &'c str,
-    pub template: &'c str,
-    pub setting: Setting,
-    pub part: Part,
-}
 
 /// How a case ends.
 #[derive(Clone, Copy, PartialEq, Eq)]
@@ -51,6 +42,7 @@ pub fn ending_of(alloc: Global, case: Case<'_>) -> Ending {
     match built(alloc, case) {
         Ok(regex) => ending_of_built(alloc, case, &regex),
         Err(Error::Memory) => Ending::Memory,
+        Err(_) if case.setting.is_plain => Ending::Contradicts(Check::Plain),
         Err(error) => match refused_alike(alloc, case, &error) {
             Ok(true) => Ending::Refused,
             Err(Error::Memory) => Ending::Memory,
@@ -67,14 +59,19 @@ fn built(alloc: Global, case: Case<'_>) -> Result<Regex> {
 
 /// Runs all checks of a pattern that is built.
 fn ending_of_built(alloc: Global, case: Case<'_>, regex: &Regex) -> Ending {
-    match found_span(alloc, regex, case.text) {
-        Ok(first) => checked(alloc, case, regex, first),
-        Err(error) => ending_of_error(case, Check::IsMatch, &error),
+    match regex.captures(alloc, case.text) {
+        Ok(first) => checked(alloc, case, regex, &first),
+        Err(error) => ending_of_error(case, Check::Captures, &error),
     }
 }
 
 /// Runs the checks up to the first that does not hold or cannot be run. `first` is what the regex found before.
-fn checked(alloc: Global, case: Case<'_>, regex: &Regex, first: Option<Place>) -> Ending {
+fn checked(
+    alloc: Global,
+    case: Case<'_>,
+    regex: &Regex,
+    first: &Option<Captures<'_, &str>>,
+) -> Ending {
     for check in CHECKS.iter() {
         match holds(alloc, case, regex, *check, first) {
             Ok(true) => {}
@@ -101,17 +98,18 @@ fn holds(
     case: Case<'_>,
     regex: &Regex,
     check: Check,
-    first: Option<Place>,
+    first: &Option<Captures<'_, &str>>,
 ) -> Result<bool> {
     match check {
         Check::Refused => Ok(true),
-        Check::Again => Ok(found_span(alloc, regex, case.text)? == first),
+        Check::Again => found_again(alloc, regex, case.text, first),
         Check::Captures => captures_alike(alloc, regex, case.text, first),
         Check::IsMatch => Ok(regex.is_match(alloc, case.text)? == first.is_some()),
         Check::Input => part_alike(alloc, regex, case),
         Check::Anchored => anchored_alike(alloc, regex, case),
         Check::From => begins_alike(alloc, regex, case),
         Check::Groups => groups_agree(alloc, regex, case.text),
+        Check::Engines => engines_agree(alloc, case, regex),
         Check::Ends => ends_increase(alloc, regex, case.text),
         Check::Items => items_alike(alloc, regex, case),
         Check::Pieces => pieces_are_the_text(alloc, regex, case.text),
@@ -135,6 +133,7 @@ fn holds_of_others(alloc: Global, case: Case<'_>, regex: &Regex, check: Check) -
         Check::Seek => seeks_alike(alloc, case, regex),
         Check::Bytes => has_its_bytes(alloc, case, regex),
         Check::Reprint => reprints_alike(alloc, case, regex),
+        Check::Builder => builds_alike(alloc, case, regex),
         Check::Longest => longest_ends_behind(alloc, case, regex),
         Check::Plain => keeps_its_bound(alloc, case, regex),
         Check::Escape => finds_itself(alloc, case.text),

@@ -1,6 +1,10 @@
 //! Checks against other regexes of the same pattern, against a set, and against what is known of the pattern's bytes.
 
-use crate::case::{Case, found_span};
+use crate::case::Case;
+use crate::ending::{Place, found_span};
+use crate::groups::finds_same;
+use crate::inputs::found_in;
+use crate::part::input_of;
 use fancy_regex::{
     ByteSet, CompileError, Error, Regex, RegexInput, RegexOptionsBuilder, RegexSet, Result, Steps,
     escape,
@@ -16,7 +20,7 @@ fn variant(alloc: Global, options: &RegexOptionsBuilder, pattern: &str) -> Resul
     }
 }
 
-/// Whether the regex of another pattern or of other options finds the same.
+/// Whether the regex of another pattern or of other options finds the same groups.
 fn finds_alike(
     alloc: Global,
     options: &RegexOptionsBuilder,
@@ -25,9 +29,16 @@ fn finds_alike(
     text: &str,
 ) -> Result<bool> {
     match variant(alloc, options, pattern)? {
-        Some(other) => Ok(found_span(alloc, &other, text)? == found_span(alloc, regex, text)?),
+        Some(other) => finds_same(alloc, regex, &other, text),
         None => Ok(true),
     }
+}
+
+/// Whether a builder that keeps the pattern builds a regex that finds the same groups.
+pub fn builds_alike(alloc: Global, case: Case<'_>, regex: &Regex) -> Result<bool> {
+    let builder = case.setting.kept_builder(alloc, case.pattern)?;
+    let other = builder.build(alloc)?;
+    finds_same(alloc, regex, &other, case.text)
 }
 
 /// Whether the option `seek` changes nothing.
@@ -37,7 +48,7 @@ pub fn seeks_alike(alloc: Global, case: Case<'_>, regex: &Regex) -> Result<bool>
     finds_alike(alloc, &options, case.pattern, regex, case.text)
 }
 
-/// Whether the printed pattern, if there is one, finds the same.
+/// Whether the printed pattern, if there is one, finds the same groups.
 pub fn reprints_alike(alloc: Global, case: Case<'_>, regex: &Regex) -> Result<bool> {
     match case.setting.builder().reprint(alloc, case.pattern)? {
         Some(printed) => {
@@ -65,27 +76,47 @@ pub fn longest_ends_behind(alloc: Global, case: Case<'_>, regex: &Regex) -> Resu
 
 /// Whether a set of this pattern alone finds what the regex finds: one that is made of the pattern, and one of another such regex.
 pub fn set_agrees(alloc: Global, case: Case<'_>, regex: &Regex) -> Result<bool> {
-    let found = found_span(alloc, regex, case.text)?;
     let options = case.setting.builder();
     let set = RegexSet::new_with_options(alloc, &[case.pattern], &options)?;
-    let mut regexes = Vec::new(alloc);
-    regexes.push(options.build(alloc, String::from_str(alloc, case.pattern)?)?)?;
-    let same = RegexSet::from_regexes(regexes);
-    Ok(set_span(alloc, &set, case.text)? == found && set_span(alloc, &same, case.text)? == found)
+    Ok(set_finds_same(alloc, case, regex, &set)? && other_set_agrees(alloc, case, regex)?)
 }
 
-/// The span of the first item of a set.
-fn set_span(alloc: Global, set: &RegexSet, text: &str) -> Result<Option<(usize, usize)>> {
-    let Some(mut items) = set.find_input(alloc, RegexInput::new(text))? else {
-        return Ok(None);
-    };
-    match items.next() {
-        Some(item) => {
-            let item = item?;
-            Ok(Some((item.start(), item.end())))
+/// Whether a set of another such regex finds what the regex finds.
+fn other_set_agrees(alloc: Global, case: Case<'_>, regex: &Regex) -> Result<bool> {
+    let pattern = String::from_str(alloc, case.pattern)?;
+    let mut regexes = Vec::new(alloc);
+    regexes.push(case.setting.builder().build(alloc, pattern)?)?;
+    let set = RegexSet::from_regexes(regexes);
+    set_finds_same(alloc, case, regex, &set)
+}
+
+/// Whether a set of one member finds what the regex finds in a part of the text, with the anchor and without it.
+fn set_finds_same(alloc: Global, case: Case<'_>, regex: &Regex, set: &RegexSet) -> Result<bool> {
+    for anchored in [false, true] {
+        let found = found_in(alloc, regex, case, anchored)?;
+        let input = input_of(case.text, case.part, anchored);
+        if !set_finds(alloc, set, input, found)? {
+            return Ok(false);
         }
-        None => Ok(None),
     }
+    Ok(true)
+}
+
+/// Whether this is the span of the one item of a set's search; there is no item where there is none.
+fn set_finds(
+    alloc: Global,
+    set: &RegexSet,
+    input: RegexInput<&str>,
+    found: Option<Place>,
+) -> Result<bool> {
+    let Some(mut items) = set.find_input(alloc, input)? else {
+        return Ok(found.is_none());
+    };
+    let Some(item) = items.next() else {
+        return Ok(false);
+    };
+    let item = item?;
+    Ok(Some((item.start(), item.end())) == found && items.next().is_none())
 }
 
 /// Whether a set that has the pattern twice finds the match of the regex for both, in the order of their numbers.

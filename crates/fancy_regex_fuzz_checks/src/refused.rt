@@ -1,13 +1,18 @@
 //! The check of a pattern that is refused.
 
 use crate::case::Case;
+use crate::engines::parts_refuse;
 use fancy_regex::{Error, RegexSet, Result};
 use std::alloc::Global;
 
-/// Whether a set refuses the pattern with the same error, and printing as well if the pattern cannot be read; one that can be read
-/// is printed or has no printed text. The place of an error lies in the pattern or at its end.
+/// Whether a set and the inner calls refuse the pattern with the same error, and printing as well if the pattern cannot be read; one
+/// that can be read is printed or has no printed text. The place of an error lies in the pattern or at its end.
 pub fn refused_alike(alloc: Global, case: Case<'_>, error: &Error) -> Result<bool> {
-    Ok(set_refuses(alloc, case, error)? && printing_agrees(alloc, case, error)?)
+    Ok(
+        set_refuses(alloc, case, error)?
+            && printing_agrees(alloc, case, error)?
+            && parts_refuse(alloc, case, error)?,
+    )
 }
 
 /// Whether a set of the pattern is refused with this error.

@@ -3,9 +3,9 @@
 /// What has to hold between calls.
 #[derive(Clone, Copy, Debug, PartialEq, Eq)]
 pub enum Check {
-    /// All calls that need the pattern refuse it with the same error.
+    /// All calls that need the pattern refuse it with the same error, and so do the inner calls, one after the other.
     Refused,
-    /// A search finds what it found before all other checks.
+    /// `find` and `captures` find what they found before all other checks.
     Again,
     /// `captures` has the match of `find` as its group 0.
     Captures,
@@ -19,6 +19,8 @@ pub enum Check {
     From,
     /// A group's name gives the last group of that name, and each group that is set lies in the text.
     Groups,
+    /// Reading, analysis, compiler and machine, and the runner for what it runs, give the groups that the regex gives.
+    Engines,
     /// The ends of an iteration's matches increase, and its first match is that of `find`.
     Ends,
     /// The iteration over the groups in a part of the text has the matches of the iteration over its matches.
@@ -41,19 +43,21 @@ pub enum Check {
     Expansion,
     /// An escaped template has no fault and expands to what it was.
     Escaped,
-    /// A set of this pattern alone finds what `find_input` finds.
+    /// A set of this pattern alone finds in a part of the text what `find_input` finds there, and nothing else.
     Set,
     /// A set that has the pattern twice finds the same match twice.
     Twice,
-    /// With start bytes and without, a search finds the same.
+    /// With start bytes and without, a search finds the same groups.
     Seek,
     /// A match starts with a start byte where it takes any, and the text has all required bytes.
     Bytes,
-    /// The printed pattern finds the same.
+    /// The printed pattern finds the same groups.
     Reprint,
+    /// A builder that keeps the pattern builds a regex that finds the same groups.
+    Builder,
     /// The longest match ends where the first match ends, or behind it.
     Longest,
-    /// A search of a plain pattern keeps its bound on looks, and meets no limit.
+    /// A plain pattern is built, and a search of it keeps its bound on looks and meets no limit.
     Plain,
     /// The escaped text finds the whole text.
     Escape,
@@ -62,13 +66,14 @@ pub enum Check {
 }
 
 /// All checks of a pattern that is built.
-pub static CHECKS: [Check; 27] = [
+pub static CHECKS: [Check; 29] = [
     Check::Captures,
     Check::IsMatch,
     Check::Input,
     Check::Anchored,
     Check::From,
     Check::Groups,
+    Check::Engines,
     Check::Ends,
     Check::Items,
     Check::Pieces,
@@ -85,6 +90,7 @@ pub static CHECKS: [Check; 27] = [
     Check::Seek,
     Check::Bytes,
     Check::Reprint,
+    Check::Builder,
     Check::Longest,
     Check::Plain,
     Check::Escape,

@@ -1,6 +1,6 @@
 //! Checks of iterations and splits.
 
-use crate::case::found_span;
+use crate::ending::found_span;
 use fancy_regex::{Regex, Result};
 use std::alloc::Global;
 
@@ -24,21 +24,32 @@ pub fn ends_increase(alloc: Global, regex: &Regex, text: &str) -> Result<bool> {
 
 /// Whether pieces and matches in turn are the text.
 pub fn pieces_are_the_text(alloc: Global, regex: &Regex, text: &str) -> Result<bool> {
-    let mut joined = String::new(alloc);
+    let mut at = 0;
     let mut pieces = regex.split(alloc, text);
     let mut matches = regex.find_iter(alloc, text);
     while let Some(piece) = pieces.next() {
-        let piece = piece?;
-        joined.push_str(piece)?;
-        match matches.next() {
-            Some(found) => {
-                let found = found?;
-                joined.push_str(found.as_str())?;
-            }
-            None => return Ok(joined.as_str() == text && pieces.next().is_none()),
+        let Some(end) = end_of(text, at, piece?) else {
+            return Ok(false);
+        };
+        let Some(found) = matches.next() else {
+            return Ok(end == text.len() && pieces.next().is_none());
+        };
+        match end_of(text, end, found?.as_str()) {
+            Some(next) => at = next,
+            None => return Ok(false),
         }
     }
     Ok(false)
+}
+
+/// The end of a part that stands in the text at this byte offset, if it stands there.
+fn end_of(text: &str, at: usize, part: &str) -> Option<usize> {
+    let rest = text.get(at..)?;
+    if rest.starts_with(part) {
+        Some(at.saturating_add(part.len()))
+    } else {
+        None
+    }
 }
 
 /// Whether the pieces up to each small limit are the first pieces and the rest.

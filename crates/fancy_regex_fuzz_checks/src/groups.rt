@@ -1,18 +1,57 @@
 //! Checks of capture groups.
 
-use crate::case::{Case, Place, span};
-use crate::inputs::{input_of, whole};
+use crate::case::Case;
+use crate::ending::{found_span, span};
+use crate::inputs::whole;
+use crate::part::input_of;
 use fancy_regex::{Captures, Regex, Result};
 use std::alloc::Global;
 
-/// Whether group 0 is the match that `find` found.
+/// Whether group 0 is the match that `find` finds.
 pub fn captures_alike(
     alloc: Global,
     regex: &Regex,
     text: &str,
-    first: Option<Place>,
+    first: &Option<Captures<'_, &str>>,
 ) -> Result<bool> {
-    Ok(whole(regex.captures(alloc, text)?) == first)
+    Ok(found_span(alloc, regex, text)? == whole(first))
+}
+
+/// Whether `captures` and `find` find what was found before.
+pub fn found_again(
+    alloc: Global,
+    regex: &Regex,
+    text: &str,
+    first: &Option<Captures<'_, &str>>,
+) -> Result<bool> {
+    let is_found = captures_alike(alloc, regex, text, first)?;
+    let again = regex.captures(alloc, text)?;
+    Ok(is_found && are_same(&again, first))
+}
+
+/// Whether another regex finds the same match, by `find` and with all groups.
+pub fn finds_same(alloc: Global, regex: &Regex, other: &Regex, text: &str) -> Result<bool> {
+    let found = regex.captures(alloc, text)?;
+    found_again(alloc, other, text, &found)
+}
+
+/// Whether two matches have the same groups; so have two searches that find nothing.
+fn are_same(found: &Option<Captures<'_, &str>>, other: &Option<Captures<'_, &str>>) -> bool {
+    match (found, other) {
+        (Some(found), Some(other)) => have_same_spans(found, other),
+        (None, None) => true,
+        _ => false,
+    }
+}
+
+/// Whether the groups are as many, with the same spans.
+fn have_same_spans(groups: &Captures<'_, &str>, others: &Captures<'_, &str>) -> bool {
+    for group in 0..groups.len() {
+        if span(groups.get(group)) != span(others.get(group)) {
+            return false;
+        }
+    }
+    groups.len() == others.len()
 }
 
 /// Whether the groups of the first match agree with the regex and with their names.
