@@ -124,6 +124,61 @@ static int sets(void) {
     return 0;
 }
 
+/* Whether just these bytes are marked. */
+static bool marks(const bool *table, const char *bytes) {
+    for (int byte = 0; byte < 256; byte++)
+        if (table[byte] != (byte != 0 && strchr(bytes, byte) != NULL)) return false;
+    return true;
+}
+
+static int questions(void) {
+    fancy_regex regex = FANCY_REGEX_EMPTY;
+    bool table[256] = {true};
+    char text[16];
+    size_t length = 9;
+    WANT(fancy_regex_start_bytes(&regex, "fn|let|impl", 11, NULL, table) == FANCY_REGEX_DONE && marks(table, "fli"));
+    WANT(fancy_regex_start_bytes(&regex, "a?", 2, NULL, table) == FANCY_REGEX_NO_MATCH && marks(table, "fli"));
+    WANT(fancy_regex_required_bytes(&regex, "a?b", 3, NULL, table) == FANCY_REGEX_DONE && marks(table, "b"));
+    WANT(fancy_regex_groups(&regex) == 0 && fancy_regex_fault_text(&regex, NULL, 0) == 0);
+    WANT(fancy_regex_required_bytes(&regex, "a)", 2, NULL, table) == FANCY_REGEX_NO_PATTERN && fancy_regex_fault_place(&regex) == 1);
+    WANT(fancy_regex_start_bytes(&regex, "\xff", 1, NULL, table) == FANCY_REGEX_NOT_UTF8 && marks(table, "b"));
+    WANT(fancy_regex_start_bytes(&regex, "a", 1, NULL, NULL) == FANCY_REGEX_NULL_POINTER);
+    WANT(fancy_regex_escape("a.b", 3, text, sizeof text, &length) == FANCY_REGEX_DONE && length == 4 && memcmp(text, "a\\.b", 4) == 0);
+    WANT(fancy_regex_escape(".\n", 2, NULL, 0, &length) == FANCY_REGEX_DONE && length == 4);
+    WANT(fancy_regex_escape("\xff", 1, text, sizeof text, &length) == FANCY_REGEX_NOT_UTF8 && length == 0);
+    WANT(fancy_regex_escape("a", 1, text, sizeof text, NULL) == FANCY_REGEX_NULL_POINTER);
+    WANT(fancy_regex_build(&regex, "(?<day>a)(?<b>b)", 16, NULL) == FANCY_REGEX_DONE);
+    WANT(fancy_regex_group_names(&regex, text, sizeof text, &length) == FANCY_REGEX_DONE && length == 7 && memcmp(text, "\nday\nb\n", 7) == 0);
+    WANT(fancy_regex_group_names(&regex, NULL, 0, &length) == FANCY_REGEX_DONE && length == 7);
+    WANT(fancy_regex_template_check(&regex, "$day-${b}$$", 11, false) == FANCY_REGEX_DONE);
+    WANT(fancy_regex_template_check(&regex, "\\g<day>", 7, true) == FANCY_REGEX_DONE);
+    WANT(fancy_regex_template_check(&regex, "$1", 2, false) == FANCY_REGEX_REFUSED);
+    WANT(fancy_regex_template_check(&regex, "$", 1, false) == FANCY_REGEX_NO_PATTERN && fancy_regex_fault_place(&regex) == 0);
+    WANT(fancy_regex_template_check(&regex, "\xff", 1, false) == FANCY_REGEX_NOT_UTF8);
+    fancy_regex_free(&regex);
+    WANT(fancy_regex_template_check(&regex, "a", 1, false) == FANCY_REGEX_EMPTY_HANDLE);
+    WANT(fancy_regex_group_names(&regex, NULL, 0, &length) == FANCY_REGEX_EMPTY_HANDLE && length == 0);
+    return 0;
+}
+
+static int mixed_sets(void) {
+    fancy_regex set = FANCY_REGEX_EMPTY;
+    fancy_regex_options options[2] = {FANCY_REGEX_OPTIONS, FANCY_REGEX_OPTIONS};
+    fancy_regex_member members[2];
+    const size_t ends[] = {1, 2}, falling[] = {2, 1};
+    size_t count = 9;
+    options[0].case_insensitive = true;
+    WANT(fancy_regex_set_build_mixed(&set, "aa", ends, 2, options) == FANCY_REGEX_DONE);
+    WANT(fancy_regex_set_find(&set, "bA", 2, 0, members, 2, &count) == FANCY_REGEX_DONE && count == 1 && members[0].pattern == 0);
+    WANT(fancy_regex_set_find(&set, "ba", 2, 0, members, 2, &count) == FANCY_REGEX_DONE && count == 2 && members[1].pattern == 1);
+    WANT(fancy_regex_set_build_mixed(&set, "a)", ends, 2, options) == FANCY_REGEX_NO_PATTERN && fancy_regex_fault_place(&set) == 0);
+    WANT(fancy_regex_set_build_mixed(&set, "aa", falling, 2, options) == FANCY_REGEX_WRONG_ENDS);
+    WANT(fancy_regex_set_build_mixed(&set, NULL, NULL, 0, NULL) == FANCY_REGEX_DONE);
+    WANT(fancy_regex_set_build_mixed(&set, "aa", ends, 2, NULL) == FANCY_REGEX_NULL_POINTER);
+    fancy_regex_free(&set);
+    return 0;
+}
+
 static int options(void) {
     fancy_regex regex = FANCY_REGEX_EMPTY;
     fancy_regex_options options = FANCY_REGEX_OPTIONS;
@@ -181,7 +236,7 @@ static int wrong_calls(void) {
 }
 
 int main(void) {
-    if (right_calls() != 0 || iteration() != 0 || lists() != 0 || sets() != 0 || options() != 0 || wrong_calls() != 0) return 1;
+    if (right_calls() != 0 || iteration() != 0 || lists() != 0 || sets() != 0 || mixed_sets() != 0 || questions() != 0 || options() != 0 || wrong_calls() != 0) return 1;
     printf("calls: done\n");
     return 0;
 }

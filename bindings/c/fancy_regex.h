@@ -13,7 +13,7 @@
  * - A handle is FANCY_REGEX_EMPTY or what these functions made of it. Its two fields are never written by hand, and a handle is
  *   not copied and then used twice, as a `FILE` is not.
  * - No two calls on one handle overlap, not even two searches. A handle may move to another thread between calls, if a lock or
- *   the start or end of a thread puts the calls in order. Calls on different handles share nothing and may overlap.
+ *   the start or end of a thread puts the calls in order, and the program's heap serves every thread. Calls on different handles share nothing and may overlap.
  * - The fields of type bool are true or false. A text is UTF-8 where the field `is_utf8` of a query says so, and the text of a
  *   walk stays as it is from the first call to the last.
  * - The program's malloc, realloc and free are one allocator, which aligns a block to each power of two up to 16 that divides its
@@ -119,7 +119,13 @@ int32_t fancy_regex_raw_find_all(fancy_regex *regex, const uint8_t *text, size_t
 int32_t fancy_regex_raw_split(fancy_regex *regex, const uint8_t *text, size_t length, bool is_utf8, fancy_regex_span *pieces, size_t room, size_t *count);
 int32_t fancy_regex_raw_replace_all(fancy_regex *regex, const uint8_t *text, size_t length, bool is_utf8, const uint8_t *with, size_t with_length, uint8_t *out, size_t room, size_t *out_length);
 int32_t fancy_regex_raw_set_build(fancy_regex *set, const uint8_t *patterns, size_t length, const size_t *ends, size_t count, const fancy_regex_options *options);
+int32_t fancy_regex_raw_set_build_mixed(fancy_regex *set, const uint8_t *patterns, size_t length, const size_t *ends, size_t count, const fancy_regex_options *options, size_t options_count);
 int32_t fancy_regex_raw_set_find(fancy_regex *set, const uint8_t *text, size_t length, const fancy_regex_query *query, fancy_regex_member *members, size_t room, size_t *count);
+int32_t fancy_regex_raw_start_bytes(fancy_regex *fault, const uint8_t *pattern, size_t length, const fancy_regex_options *options, bool *table, size_t room);
+int32_t fancy_regex_raw_required_bytes(fancy_regex *fault, const uint8_t *pattern, size_t length, const fancy_regex_options *options, bool *table, size_t room);
+int32_t fancy_regex_raw_template_check(fancy_regex *regex, const uint8_t *with, size_t length, bool is_python);
+int32_t fancy_regex_raw_escape(const uint8_t *text, size_t length, uint8_t *out, size_t room, size_t *out_length);
+int32_t fancy_regex_raw_group_names(fancy_regex *regex, uint8_t *out, size_t room, size_t *out_length);
 size_t fancy_regex_raw_groups(fancy_regex *regex);
 size_t fancy_regex_raw_group_name(fancy_regex *regex, size_t group, uint8_t *out, size_t room);
 size_t fancy_regex_raw_fault_place(fancy_regex *regex);
@@ -314,6 +320,21 @@ static inline int32_t fancy_regex_set_build(fancy_regex *set, const char *patter
     return fancy_regex_raw_set_build(set, fancy_regex_bytes(patterns), length, ends != NULL ? ends : &none, count, fancy_regex_options_or_default(options));
 }
 
+/* As fancy_regex_set_build, where each pattern has its own options: `options` has `count` of them. A search of this set asks each member
+ * at each place; one of patterns with the same options is faster. */
+static inline int32_t fancy_regex_set_build_mixed(fancy_regex *set, const char *patterns, const size_t *ends, size_t count, const fancy_regex_options *options) {
+    size_t none = 0;
+    int32_t counted = fancy_regex_test(ends, count, sizeof(size_t));
+    int32_t chosen = fancy_regex_test(options, count, sizeof(fancy_regex_options));
+    if (set == NULL) return FANCY_REGEX_NULL_POINTER;
+    if (counted != FANCY_REGEX_DONE) return counted;
+    if (chosen != FANCY_REGEX_DONE) return chosen;
+    size_t length = count != 0 ? ends[count - 1] : 0;
+    int32_t tested = fancy_regex_test(patterns, length, 1);
+    if (tested != FANCY_REGEX_DONE) return tested;
+    return fancy_regex_raw_set_build_mixed(set, fancy_regex_bytes(patterns), length, ends != NULL ? ends : &none, count, fancy_regex_options_or_default(options), count);
+}
+
 /* Writes the members of a set that match at the earliest place from `position` on at which one of them does, in order of their
  * numbers, into the `room` members of `members`, as many as there is room for, and how many there are into `count`; \G matches at
  * `position`. A match may start behind that place, after \K. The answer is FANCY_REGEX_DONE, with a count of 0 where no member
@@ -329,6 +350,65 @@ static inline int32_t fancy_regex_set_find(fancy_regex *set, const char *text, s
     if (tested != FANCY_REGEX_DONE) return tested;
     if (roomy != FANCY_REGEX_DONE) return roomy;
     return fancy_regex_raw_set_find(set, fancy_regex_bytes(text), length, &query, members != NULL ? members : &none, room, count);
+}
+
+/* Marks in `table`, which has 256 places, the bytes that the matches of a regex start with that is built of this pattern with these
+ * options: each match starts at a byte whose place is true. The answer is FANCY_REGEX_DONE; or FANCY_REGEX_NO_MATCH where a match may
+ * be empty or the bytes are not known, and the table stays as it is; or a fault of building, and the table stays as it is. The pattern
+ * is not built, and may be one that is refused. `options` may be null: the default ones. The handle `fault` is emptied first, and
+ * holds the fault, if there is one, for fancy_regex_fault_text; with NULL_POINTER and TOO_LONG it stays as it was. */
+static inline int32_t fancy_regex_start_bytes(fancy_regex *fault, const char *pattern, size_t length, const fancy_regex_options *options, bool table[256]) {
+    int32_t tested = fancy_regex_test(pattern, length, 1);
+    if (fault == NULL || table == NULL) return FANCY_REGEX_NULL_POINTER;
+    if (tested != FANCY_REGEX_DONE) return tested;
+    return fancy_regex_raw_start_bytes(fault, fancy_regex_bytes(pattern), length, fancy_regex_options_or_default(options), table, 256);
+}
+
+/* As fancy_regex_start_bytes, with bytes that each text has in which the pattern matches; of a part that may be left out none are
+ * known. The answer is never FANCY_REGEX_NO_MATCH. */
+static inline int32_t fancy_regex_required_bytes(fancy_regex *fault, const char *pattern, size_t length, const fancy_regex_options *options, bool table[256]) {
+    int32_t tested = fancy_regex_test(pattern, length, 1);
+    if (fault == NULL || table == NULL) return FANCY_REGEX_NULL_POINTER;
+    if (tested != FANCY_REGEX_DONE) return tested;
+    return fancy_regex_raw_required_bytes(fault, fancy_regex_bytes(pattern), length, fancy_regex_options_or_default(options), table, 256);
+}
+
+/* Whether each reference of the `length` bytes of `with` is to a group of the regex, and each $ begins something; with `is_python` the
+ * references are \g<name>, \g<1> and \1, and the sign is \. The answer is FANCY_REGEX_DONE, or the first fault from the left:
+ * FANCY_REGEX_REFUSED for a group that is not there, also for a number above 0 where groups have names, and FANCY_REGEX_NO_PATTERN for a
+ * sign that begins nothing; or NULL_POINTER, TOO_LONG, EMPTY_HANDLE, NO_REGEX, NOT_UTF8 or MEMORY. */
+static inline int32_t fancy_regex_template_check(fancy_regex *regex, const char *with, size_t length, bool is_python) {
+    int32_t tested = fancy_regex_test(with, length, 1);
+    if (regex == NULL) return FANCY_REGEX_NULL_POINTER;
+    if (tested != FANCY_REGEX_DONE) return tested;
+    return fancy_regex_raw_template_check(regex, fancy_regex_bytes(with), length, is_python);
+}
+
+/* Writes a pattern that matches exactly the text into the `room` bytes of `out`, cut off where there is too little room, and with no
+ * zero byte behind it; and the length of the whole pattern into `out_length`. The answer is FANCY_REGEX_DONE, or NULL_POINTER, TOO_LONG,
+ * NOT_UTF8 or MEMORY; the length is 0 then. With no room `out` may be null: the length is told. No fault is kept. */
+static inline int32_t fancy_regex_escape(const char *text, size_t length, char *out, size_t room, size_t *out_length) {
+    uint8_t none = 0;
+    int32_t tested = fancy_regex_test(text, length, 1);
+    int32_t roomy = fancy_regex_test(out, room, 1);
+    if (out_length == NULL) return FANCY_REGEX_NULL_POINTER;
+    *out_length = 0;
+    if (tested != FANCY_REGEX_DONE) return tested;
+    if (roomy != FANCY_REGEX_DONE) return roomy;
+    return fancy_regex_raw_escape(fancy_regex_bytes(text), length, out != NULL ? (uint8_t *)out : &none, room, out_length);
+}
+
+/* Writes the names of all groups of the regex, in UTF-8, a line for each group in order of their numbers, into the `room` bytes of `out`,
+ * cut off where there is too little room; and the length of all lines into `out_length`. Each line ends in a newline; that of a group
+ * without a name, as group 0, is empty. The answer is FANCY_REGEX_DONE, or NULL_POINTER, TOO_LONG, EMPTY_HANDLE, NO_REGEX or MEMORY; the
+ * length is 0 then. With no room `out` may be null: the length is told. */
+static inline int32_t fancy_regex_group_names(fancy_regex *regex, char *out, size_t room, size_t *out_length) {
+    uint8_t none = 0;
+    int32_t roomy = fancy_regex_test(out, room, 1);
+    if (out_length != NULL) *out_length = 0;
+    if (regex == NULL || out_length == NULL) return FANCY_REGEX_NULL_POINTER;
+    if (roomy != FANCY_REGEX_DONE) return roomy;
+    return fancy_regex_raw_group_names(regex, out != NULL ? (uint8_t *)out : &none, room, out_length);
 }
 
 /* The number of groups, the whole match included; 0 where the handle holds no regex. */
@@ -353,8 +433,8 @@ static inline size_t fancy_regex_fault_place(fancy_regex *regex) {
 
 /* Writes the text of the fault that the handle keeps into the `room` bytes of `out`, cut off where there is too little room, and
  * with no zero byte behind it. A handle keeps its last fault, of building or of a later call, until it is built again or freed;
- * EMPTY_HANDLE, NULL_POINTER and TOO_LONG are not kept. Returns the length of the whole text, 0 where no fault is kept or memory ran
- * out for its text, and where `out` is null but has room. */
+ * EMPTY_HANDLE, NULL_POINTER and TOO_LONG are not kept. Returns the length of the whole text, 0 only where no fault is kept and where
+ * `out` is null but has room. It takes no memory. */
 static inline size_t fancy_regex_fault_text(fancy_regex *regex, char *out, size_t room) {
     uint8_t none = 0;
     if (regex == NULL || fancy_regex_test(out, room, 1) != FANCY_REGEX_DONE) return 0;

@@ -179,13 +179,16 @@ static int32_t any_replacement(fancy_regex *regex) {
 static int32_t any_set(fancy_regex *set) {
     char patterns[4 * LONGEST];
     size_t ends[4], count = below(5), length = 0;
-    fancy_regex_options options = any_options();
+    fancy_regex_options options[4];
+    for (size_t i = 0; i < 4; i++) options[i] = any_options();
     for (size_t i = 0; i < count; i++) {
         length += any_pattern(patterns + length);
         ends[i] = below(64) == 0 ? below(9) : length;
     }
     if (count > 0) ends[count - 1] = length;
-    return fancy_regex_set_build(set, below(64) == 0 ? NULL : patterns, ends, count, below(4) == 0 ? NULL : &options);
+    const char *at = below(64) == 0 ? NULL : patterns;
+    if (below(3) == 0) return fancy_regex_set_build_mixed(set, at, ends, count, below(16) == 0 ? NULL : options);
+    return fancy_regex_set_build(set, at, ends, count, below(4) == 0 ? NULL : &options[0]);
 }
 
 static int32_t any_set_search(fancy_regex *set) {
@@ -204,11 +207,82 @@ static int32_t any_set_search(fancy_regex *set) {
 
 static int32_t any_question(fancy_regex *regex) {
     char text[64];
-    size_t place = fancy_regex_fault_place(regex);
+    size_t place = fancy_regex_fault_place(regex), room = below(sizeof text + 1);
     if (place != FANCY_REGEX_UNSET && place > 4 * LONGEST) wrong(__LINE__);
-    fancy_regex_fault_text(regex, text, below(sizeof text + 1));
+    marked(text, sizeof text);
+    size_t length = fancy_regex_fault_text(regex, text, room);
+    if (place != FANCY_REGEX_UNSET && length == 0) wrong(__LINE__);
+    want_marks(text, length < room ? length : room, sizeof text);
     fancy_regex_group_name(regex, below(6), text, below(sizeof text + 1));
     return fancy_regex_groups(regex) > 0 ? FANCY_REGEX_DONE : FANCY_REGEX_NO_MATCH;
+}
+
+/* The names of all groups are those that are asked for one by one. */
+static int32_t any_names(fancy_regex *regex) {
+    char lines[256], name[64];
+    size_t room = below(8) == 0 ? below(sizeof lines) : sizeof lines, whole = 77, at = 0, groups = fancy_regex_groups(regex);
+    marked(lines, sizeof lines);
+    int32_t answer = fancy_regex_group_names(regex, lines, room, &whole);
+    if (answer != FANCY_REGEX_DONE && whole != 0) wrong(__LINE__);
+    want_marks(lines, whole < room ? whole : room, sizeof lines);
+    if (answer != FANCY_REGEX_DONE || whole > room) return answer;
+    for (size_t group = 0; group < groups; group++) {
+        size_t length = fancy_regex_group_name(regex, group, name, sizeof name);
+        if (at + length + 1 > whole || memcmp(lines + at, name, length) != 0 || lines[at + length] != '\n') wrong(__LINE__);
+        at += length + 1;
+    }
+    if (at != whole) wrong(__LINE__);
+    return answer;
+}
+
+static const char *const template_pieces[] = {"$1", "${n}", "$$", "-", "$", "${", "\xc3\xa9", "$0", "\\g<n>", "\\1", "\\"};
+
+static int32_t any_check(fancy_regex *regex) {
+    char with[LONGEST];
+    size_t length = any_text(with, template_pieces, sizeof template_pieces / sizeof *template_pieces);
+    return fancy_regex_template_check(regex, below(32) == 0 ? NULL : with, length, below(2) == 0);
+}
+
+/* The pattern of a text matches just the text. */
+static int32_t any_escape(fancy_regex *regex) {
+    static const char *const pieces[] = {"a", ".", "\\", "(", "\xc3\xa9", "\n", "#", " ", "*", "{"};
+    char text[LONGEST], pattern[2 * LONGEST];
+    size_t length = any_text(text, pieces, sizeof pieces / sizeof *pieces), whole = 77;
+    size_t room = below(8) == 0 ? below(sizeof pattern) : sizeof pattern;
+    marked(pattern, sizeof pattern);
+    int32_t answer = fancy_regex_escape(below(32) == 0 ? NULL : text, length, pattern, room, &whole);
+    if (answer != FANCY_REGEX_DONE && whole != 0) wrong(__LINE__);
+    want_marks(pattern, whole < room ? whole : room, sizeof pattern);
+    if (answer != FANCY_REGEX_DONE || whole > room || regex == NULL) return answer;
+    fancy_regex_span span;
+    int32_t built = fancy_regex_build(regex, pattern, whole, NULL);
+    if (built == FANCY_REGEX_MEMORY) return answer;
+    if (built != FANCY_REGEX_DONE || fancy_regex_find(regex, text, length, 0, &span) != FANCY_REGEX_DONE) wrong(__LINE__);
+    if (span.start != 0 || span.end != length) wrong(__LINE__);
+    return answer;
+}
+
+/* The bytes of a pattern that is built: each match starts at a marked one, and its text has each required one. */
+static int32_t any_bytes(fancy_regex *regex) {
+    char pattern[LONGEST], text[LONGEST];
+    bool starts[256], required[256];
+    fancy_regex fault = FANCY_REGEX_EMPTY;
+    fancy_regex_options options = any_options();
+    fancy_regex_span span;
+    size_t length = any_pattern(pattern), searched = any_haystack(text);
+    marked(starts, sizeof starts);
+    int32_t known = fancy_regex_start_bytes(below(64) == 0 ? NULL : &fault, below(32) == 0 ? NULL : pattern, length, &options, starts);
+    if (known != FANCY_REGEX_DONE) want_marks(starts, 0, sizeof starts);
+    if (known < 0 && known != FANCY_REGEX_NULL_POINTER && fancy_regex_fault_text(&fault, NULL, 0) == 0) wrong(__LINE__);
+    int32_t asked = fancy_regex_required_bytes(&fault, pattern, length, &options, required);
+    if (asked == FANCY_REGEX_NO_MATCH) wrong(__LINE__);
+    fancy_regex_free(&fault);
+    if (asked != FANCY_REGEX_DONE || fancy_regex_build(regex, pattern, length, &options) != FANCY_REGEX_DONE) return known;
+    if (fancy_regex_find(regex, text, searched, 0, &span) != FANCY_REGEX_DONE) return known;
+    if (known == FANCY_REGEX_DONE && !starts[(unsigned char)text[span.start]]) wrong(__LINE__);
+    for (int byte = 0; byte < 256; byte++)
+        if (required[byte] && memchr(text, byte, searched) == NULL) wrong(__LINE__);
+    return known;
 }
 
 static int32_t any_build(fancy_regex *regex) {
@@ -233,14 +307,15 @@ static int32_t any_free(fancy_regex *regex) {
 
 static const struct kind kinds[] = {
     {"build", any_build, 5}, {"search", any_search, 8}, {"find_all", any_list, 3}, {"split", any_split, 2}, {"replace_all", any_replacement, 3},
-    {"set_build", any_set, 2}, {"set_find", any_set_search, 4}, {"questions", any_question, 2}, {"free", any_free, 1},
+    {"set_build", any_set, 3}, {"set_find", any_set_search, 4}, {"questions", any_question, 2}, {"names", any_names, 1}, {"check", any_check, 1},
+    {"escape", any_escape, 1}, {"bytes", any_bytes, 2}, {"free", any_free, 1},
 };
 
 #define KINDS (sizeof kinds / sizeof *kinds)
 #define ENDS 15
 
 static size_t any_kind(void) {
-    uint64_t drawn = below(30);
+    uint64_t drawn = below(36);
     size_t kind = 0;
     while (drawn >= kinds[kind].share) drawn -= kinds[kind++].share;
     return kind;

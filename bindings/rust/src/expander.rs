@@ -1,8 +1,12 @@
 use crate::captures::Captures;
+use crate::error::Result;
+use crate::handle::filled_from;
+use crate::raw;
+use crate::regex::Regex;
 use std::borrow::Cow;
 use std::io;
 
-/// Expands and escapes templates. In the default form `$name`, `${name}` and the same with a number stand for the text of a group,
+/// Expands, checks and escapes templates. In the default form `$name`, `${name}` and the same with a number stand for the text of a group,
 /// and `$$` for `$`; in the form of Python `\\g<name>`, `\\g<1>` and `\\1` do, and `\\\\` stands for `\\`. A group that does not exist or
 /// took no part has no text. A sign that begins nothing stands for itself.
 ///
@@ -29,6 +33,12 @@ impl Expander {
     /// The expander of the form of Python, with `\\`.
     pub fn python() -> Expander {
         Expander { is_python: true }
+    }
+
+    /// Accepts a template whose references are all to groups of the regex, and whose signs all begin something. Else the error tells
+    /// the first fault from the left.
+    pub fn check(&self, template: &str, regex: &Regex) -> Result<()> {
+        regex.check_template(template, self.is_python)
     }
 
     /// The text with each sign doubled: a template that expands to the text. A text without a sign is borrowed.
@@ -128,4 +138,35 @@ fn is_name_part(c: char) -> bool {
 fn leading(tail: &str, is_part: impl Fn(char) -> bool) -> Option<(&str, &str)> {
     let end = tail.find(|c| !is_part(c)).unwrap_or(tail.len());
     (end > 0).then(|| tail.split_at(end))
+}
+
+/// The text as a pattern that matches exactly it; a text without a character that has a meaning in patterns is borrowed.
+///
+/// # Panics
+///
+/// If memory runs out.
+///
+/// ```
+/// assert_eq!(proved_fancy_regex::escape("a.b"), r"a\.b");
+/// ```
+pub fn escape(text: &str) -> Cow<'_, str> {
+    let pattern = filled_from(text.len() + 16, |out| {
+        let mut length = 0;
+        // The text is borrowed for the call, and the room is that of the slice.
+        let status = unsafe {
+            raw::fancy_regex_raw_escape(
+                text.as_ptr(),
+                text.len(),
+                out.as_mut_ptr(),
+                out.len(),
+                &mut length,
+            )
+        };
+        assert_eq!(status, raw::DONE, "no memory for a pattern");
+        Ok(length)
+    });
+    match pattern {
+        Ok(pattern) if pattern != text => Cow::Owned(pattern),
+        _ => Cow::Borrowed(text),
+    }
 }

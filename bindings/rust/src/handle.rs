@@ -5,8 +5,10 @@ use std::cell::UnsafeCell;
 /// A handle of the library, which it frees.
 pub(crate) struct Owned(UnsafeCell<Handle>);
 
-// The library shares nothing between handles, and keeps no thread's own state. That is not proved. A handle is not `Sync`: calls
-// on one must not overlap.
+// A handle may move to another thread: what it holds names no thread and shares nothing, which is proved of the library's type `Handle`,
+// whose two fields these are. Beyond that proof this rests on two things: the heap of `raw.rs` may be called from every thread, and frees what
+// another one allocated, as the C library's does; and moving an `Owned` orders the calls, as Rust's `Send` asks of whoever moves it.
+// A handle is not `Sync`: every call on it takes it alone, and two must not overlap.
 unsafe impl Send for Owned {}
 
 impl Drop for Owned {
@@ -47,21 +49,33 @@ impl Owned {
     }
 
     fn fault_text(&self) -> String {
-        // The room is that of the slice.
-        text_of(|room| unsafe {
-            raw::fancy_regex_raw_fault_text(self.at(), room.as_mut_ptr(), room.len())
-        })
+        let text = filled(|room| {
+            // The room is that of the slice.
+            let length = unsafe {
+                raw::fancy_regex_raw_fault_text(self.at(), room.as_mut_ptr(), room.len())
+            };
+            Ok(length)
+        });
+        text.unwrap_or_default()
     }
 }
 
 /// The text that a call writes into as much room as there is, and whose length it returns.
-pub(crate) fn text_of(write: impl Fn(&mut [u8]) -> usize) -> String {
-    let mut text = vec![0; 64];
-    let mut length = write(&mut text);
+pub(crate) fn filled(write: impl Fn(&mut [u8]) -> Result<usize>) -> Result<String> {
+    filled_from(64, write)
+}
+
+/// The same, with room for so many bytes at first.
+pub(crate) fn filled_from(
+    room: usize,
+    write: impl Fn(&mut [u8]) -> Result<usize>,
+) -> Result<String> {
+    let mut text = vec![0; room];
+    let mut length = write(&mut text)?;
     if length > text.len() {
         text.resize(length, 0);
-        length = write(&mut text);
+        length = write(&mut text)?;
     }
     text.truncate(length);
-    String::from_utf8_lossy(&text).into_owned()
+    Ok(String::from_utf8(text).expect("the text is UTF-8"))
 }

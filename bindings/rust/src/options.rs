@@ -1,3 +1,4 @@
+use crate::byte_set::ByteSet;
 use crate::error::Result;
 use crate::raw::Options;
 use crate::regex::Regex;
@@ -25,6 +26,18 @@ impl RegexOptionsBuilder {
     /// Compiles a pattern.
     pub fn build<P: AsRef<str>>(&self, pattern: P) -> Result<Regex> {
         Regex::with_options(pattern.as_ref(), &self.options)
+    }
+
+    /// The bytes that the matches of a pattern start with, if it is compiled with these options; `None` if a match may be empty, or
+    /// if the bytes are not known. The pattern is not compiled.
+    pub fn start_bytes(&self, pattern: &str) -> Result<Option<ByteSet>> {
+        ByteSet::start(pattern, &self.options)
+    }
+
+    /// Bytes that each text has in which the pattern matches, if it is compiled with these options; none are known of a part that may
+    /// be left out. The pattern is not compiled.
+    pub fn required_bytes(&self, pattern: &str) -> Result<ByteSet> {
+        ByteSet::required(pattern, &self.options)
     }
 }
 

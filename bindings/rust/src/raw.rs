@@ -150,13 +150,50 @@ extern "C" {
         room: usize,
         count: *mut usize,
     ) -> i32;
-    pub fn fancy_regex_raw_groups(handle: *mut Handle) -> usize;
-    pub fn fancy_regex_raw_group_name(
+    pub fn fancy_regex_raw_set_build_mixed(
         handle: *mut Handle,
-        group: usize,
+        patterns: *const u8,
+        length: usize,
+        ends: *const usize,
+        count: usize,
+        options: *const Options,
+        options_count: usize,
+    ) -> i32;
+    pub fn fancy_regex_raw_start_bytes(
+        handle: *mut Handle,
+        pattern: *const u8,
+        length: usize,
+        options: *const Options,
+        table: *mut bool,
+        room: usize,
+    ) -> i32;
+    pub fn fancy_regex_raw_required_bytes(
+        handle: *mut Handle,
+        pattern: *const u8,
+        length: usize,
+        options: *const Options,
+        table: *mut bool,
+        room: usize,
+    ) -> i32;
+    pub fn fancy_regex_raw_template_check(
+        handle: *mut Handle,
+        template: *const u8,
+        length: usize,
+        is_python: bool,
+    ) -> i32;
+    pub fn fancy_regex_raw_escape(
+        text: *const u8,
+        length: usize,
         out: *mut u8,
         room: usize,
-    ) -> usize;
+        out_length: *mut usize,
+    ) -> i32;
+    pub fn fancy_regex_raw_group_names(
+        handle: *mut Handle,
+        out: *mut u8,
+        room: usize,
+        out_length: *mut usize,
+    ) -> i32;
     pub fn fancy_regex_raw_fault_place(handle: *mut Handle) -> usize;
     pub fn fancy_regex_raw_fault_text(handle: *mut Handle, out: *mut u8, room: usize) -> usize;
 }

@@ -1,6 +1,6 @@
 use crate::captures::{Captures, Match, Names};
 use crate::error::{Error, Result};
-use crate::handle::{text_of, Owned};
+use crate::handle::{filled, filled_from, Owned};
 use crate::input::RegexInput;
 use crate::iter::{CaptureMatches, Matches, Split, SplitN};
 use crate::options::RegexOptionsBuilder;
@@ -21,6 +21,7 @@ use std::fmt;
 pub struct Regex {
     handle: Owned,
     pattern: String,
+    options: Options,
     names: Names,
 }
 
@@ -34,6 +35,7 @@ impl Regex {
         let mut regex = Regex {
             handle: Owned::empty(),
             pattern: pattern.to_string(),
+            options: *options,
             names: Names::from(Vec::new()),
         };
         // The handle is empty, and the pattern and the options are borrowed for the call.
@@ -41,9 +43,48 @@ impl Regex {
             raw::fancy_regex_raw_build(regex.handle.at(), pattern.as_ptr(), pattern.len(), options)
         };
         regex.handle.told(status)?;
-        let groups = unsafe { raw::fancy_regex_raw_groups(regex.handle.at()) };
-        regex.names = (0..groups).map(|group| regex.name_of(group)).collect();
+        let lines = regex.group_lines()?;
+        let name = |line: &str| (!line.is_empty()).then(|| line.to_string());
+        regex.names = lines.lines().map(name).collect();
         Ok(regex)
+    }
+
+    /// The names of the groups, a line for each; the line of a group without a name is empty.
+    fn group_lines(&self) -> Result<String> {
+        filled(|room| {
+            let mut length = 0;
+            // The room is that of the slice.
+            let status = unsafe {
+                raw::fancy_regex_raw_group_names(
+                    self.handle.at(),
+                    room.as_mut_ptr(),
+                    room.len(),
+                    &mut length,
+                )
+            };
+            self.handle.told(status)?;
+            Ok(length)
+        })
+    }
+
+    /// The options of the pattern.
+    pub(crate) fn options(&self) -> &Options {
+        &self.options
+    }
+
+    /// The first fault of a template from the left.
+    pub(crate) fn check_template(&self, template: &str, is_python: bool) -> Result<()> {
+        // The template is borrowed for the call.
+        let status = unsafe {
+            raw::fancy_regex_raw_template_check(
+                self.handle.at(),
+                template.as_ptr(),
+                template.len(),
+                is_python,
+            )
+        };
+        self.handle.told(status)?;
+        Ok(())
     }
 
     /// The text of the pattern.
@@ -286,19 +327,12 @@ impl Regex {
 
     /// The text with each match replaced by a template, as the library does it.
     fn replaced<'t>(&self, text: &'t str, template: &str) -> Result<Cow<'t, str>> {
-        let mut out = vec![0; text.len() + text.len() / 4 + 64];
-        let mut length = self.replace_into(text, template, &mut out)?;
-        if length > out.len() {
-            out.resize(length, 0);
-            length = self.replace_into(text, template, &mut out)?;
-        }
-        out.truncate(length);
-        if out == text.as_bytes() {
+        let room = text.len() + text.len() / 4 + 64;
+        let out = filled_from(room, |out| self.replace_into(text, template, out))?;
+        if out == text {
             return Ok(Cow::Borrowed(text));
         }
-        Ok(Cow::Owned(
-            String::from_utf8(out).expect("the replaced text is UTF-8"),
-        ))
+        Ok(Cow::Owned(out))
     }
 
     /// Writes as much of the replaced text as there is room for, and returns its length.
@@ -320,15 +354,6 @@ impl Regex {
         };
         self.handle.told(status)?;
         Ok(length)
-    }
-
-    /// The name of a group, if it has one.
-    fn name_of(&self, group: usize) -> Option<String> {
-        // The room is that of the slice.
-        let name = text_of(|room| unsafe {
-            raw::fancy_regex_raw_group_name(self.handle.at(), group, room.as_mut_ptr(), room.len())
-        });
-        (!name.is_empty()).then_some(name)
     }
 }
 

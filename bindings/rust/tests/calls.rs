@@ -1,8 +1,8 @@
 //! Each call of the wrapper, on the examples of the crate that was ported and on errors.
 
 use proved_fancy_regex::{
-    Captures, Error, Expander, Regex, RegexBuilder, RegexInput, RegexOptionsBuilder, RegexSet,
-    Replacer,
+    escape, Captures, Error, Expander, Regex, RegexBuilder, RegexInput, RegexOptionsBuilder,
+    RegexSet, Replacer,
 };
 use std::borrow::Cow;
 
@@ -190,6 +190,58 @@ fn python_templates_are_expanded() {
 }
 
 #[test]
+fn templates_are_checked() {
+    let numbers = Regex::new("(a)").unwrap();
+    let names = Regex::new("(?<a>a)").unwrap();
+    let default = Expander::default();
+    assert_eq!(default.check("$1$$${0}", &numbers), Ok(()));
+    assert_eq!(Expander::python().check(r"\g<a>\0", &names), Ok(()));
+    for (template, regex) in [("$2", &numbers), ("$b", &numbers), ("$1", &names)] {
+        let refused = default.check(template, regex);
+        assert!(matches!(refused, Err(Error::CompileError(_))), "{template}");
+    }
+    let loose = default.check("a$", &numbers).unwrap_err();
+    assert!(matches!(&loose, Error::ParseError(0, _)));
+    assert_eq!(
+        loose.to_string(),
+        "Parsing error at position 0: General parsing error: parse error in template while expanding"
+    );
+    assert_eq!(default.check("$1", &numbers), Ok(()));
+}
+
+#[test]
+fn texts_are_escaped() {
+    assert_eq!(escape("a.b\n"), "a\\.b\\n");
+    assert!(matches!(escape("é"), Cow::Borrowed("é")));
+    let long = "(".repeat(1000);
+    let regex = Regex::new(&escape(&long)).unwrap();
+    assert_eq!(regex.find(&long).unwrap().unwrap().range(), 0..1000);
+}
+
+#[test]
+fn bytes_are_known_by_their_options() {
+    let mut options = RegexOptionsBuilder::new();
+    options.case_insensitive(true);
+    let set = options.start_bytes("k").unwrap().unwrap();
+    assert!(set.contains(b'K') && set.contains(b'k') && !set.contains(b'j'));
+    let error = options.start_bytes("a)").unwrap_err();
+    assert!(matches!(error, Error::ParseError(1, _)));
+    assert!(matches!(
+        options.required_bytes("(").unwrap_err(),
+        Error::ParseError(1, _)
+    ));
+}
+
+#[test]
+fn groups_have_many_names() {
+    let pattern: String = (0..300).map(|n| format!("(?<n{n}>a?)(?:b)")).collect();
+    let regex = Regex::new(&pattern).unwrap();
+    assert_eq!(regex.captures_len(), 301);
+    let names: Vec<_> = regex.capture_names().skip(1).flatten().collect();
+    assert_eq!((names.len(), names[299]), (300, "n299"));
+}
+
+#[test]
 fn conversions() {
     let regex = Regex::try_from("b+").unwrap();
     let found = regex.find("abb").unwrap().unwrap();
@@ -198,6 +250,23 @@ fn conversions() {
     let mut builder = RegexBuilder::new("a");
     let other = builder.pattern("c".to_string()).build().unwrap();
     assert_eq!(other.as_str(), "c");
+}
+
+#[test]
+fn sets_of_regexes_keep_their_options() {
+    let any_case = RegexBuilder::new("a")
+        .case_insensitive(true)
+        .build()
+        .unwrap();
+    let regexes = [any_case, Regex::new("a").unwrap()];
+    let set = RegexSet::from_regexes(&regexes).unwrap();
+    let numbers = |text| {
+        let found = set.find_input(RegexInput::new(text)).unwrap().unwrap();
+        found.map(|m| m.unwrap().pattern()).collect::<Vec<_>>()
+    };
+    assert_eq!((numbers("bA"), numbers("ba")), (vec![0], vec![0, 1]));
+    assert!(regexes[0].is_match("A").unwrap());
+    assert_eq!(RegexSet::from_regexes([] as [Regex; 0]).unwrap().len(), 0);
 }
 
 #[test]

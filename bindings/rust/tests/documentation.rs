@@ -1,9 +1,12 @@
-//! The examples in the documentation of the crate that was ported, each with what it prints there. Left out are those of calls that
-//! the wrapper does not have; `Captures` and `RegexInput` have no parameter for the kind of text here.
+//! The examples in the documentation of the crate that was ported, each with what it prints there. Left out are those of texts that are not
+//! UTF-8 (two), and that of `seek_filter`. `Captures` and `RegexInput` have no parameter for the kind of text here, `from_regexes` takes no
+//! options of automata, and a set's match has no groups.
 
 use proved_fancy_regex::{
-    Captures, Expander, NoExpand, Regex, RegexBuilder, RegexInput, RegexSet, Replacer,
+    Captures, Expander, NoExpand, Regex, RegexBuilder, RegexInput, RegexOptionsBuilder, RegexSet,
+    Replacer,
 };
+use std::sync::Arc;
 
 #[test]
 fn expander_escape() {
@@ -11,6 +14,40 @@ fn expander_escape() {
         Expander::default().escape("Has a literal $ sign."),
         "Has a literal $$ sign."
     );
+}
+
+#[test]
+fn start_bytes() {
+    let builder = RegexOptionsBuilder::new();
+    let set = builder.start_bytes(r"fn|let|impl").unwrap().unwrap();
+    assert_eq!(set.iter().collect::<Vec<_>>(), vec![b'f', b'i', b'l']);
+    assert!(builder.start_bytes(r"a?").unwrap().is_none());
+}
+
+#[test]
+fn required_bytes() {
+    let builder = RegexOptionsBuilder::new();
+    let set = builder.required_bytes(r"a?b").unwrap();
+    assert_eq!(set.iter().collect::<Vec<_>>(), vec![b'b']);
+}
+
+#[test]
+#[allow(clippy::arc_with_non_send_sync)]
+fn from_regexes() {
+    let re1 = Arc::new(
+        RegexBuilder::new(r"hello")
+            .case_insensitive(true)
+            .build()
+            .unwrap(),
+    );
+    let re2 = Arc::new(Regex::new(r"\d+").unwrap());
+    let re3 = Arc::new(Regex::new(r"(?<=\w)end").unwrap());
+    let set = RegexSet::from_regexes([re1, re2, re3]).unwrap();
+    let mut matches = set.find_input(RegexInput::new("HELLO")).unwrap().unwrap();
+    let m = matches.next().unwrap().unwrap();
+    assert_eq!(m.pattern(), 0);
+    assert_eq!(m.as_str(), "HELLO");
+    assert!(matches.next().is_none());
 }
 
 #[test]

@@ -1,6 +1,6 @@
 -- The ends of a search, from what it answers.
-use Rattle.std.specs.Prelude.{◌≡◌, ℕ, ℤ, List, [], length, slice_index_or, true, false, Option, Some, None, IfSome, Ok, Err, string_bytes}
-use Rattle.std.proofs.Common.{arith}
+use Rattle.std.specs.Prelude.{◌≡◌, ℕ, ℤ, List, Bool, true, false, Option, Some, None, Result, Ok, Err, string_bytes}
+use Rattle.std.proofs.Common.{◌∙◌}
 use mathlib.Core.Path.{refl, sym, ap, subst}
 use Rattle.fancy_regex_meta.specs.Caps.{MetaKeepsCap}
 use Rattle.fancy_regex_meta.specs.Refusals.{Accepts}
@@ -12,9 +12,9 @@ use Rattle.fancy_regex_search.specs.declared.regex.Regex.{Regex}
 use Rattle.fancy_regex_search.specs.CaptureSpans.{AreGroupsOf}
 use Rattle.fancy_regex_ffi.specs.Codes.{code_of, fault_status}
 use Rattle.fancy_regex_ffi_lists.specs.Spans.{span_of}
-use Rattle.fancy_regex_ffi.specs.Ends.{FindEnds, CapturesEnd, FindReports, CapturesReport, LooksCounted, NameReports, IsNameWritten, IsBuilt, IsBuildFault, BuildEnds}
+use Rattle.fancy_regex_ffi.specs.Ends.{FindEnds, CapturesEnd, FindReports, CapturesReport, LooksCounted, NameReports, IsNameWritten, IsBuilt, IsBuildFault, BuildEnds, IsHeldAs}
 use Rattle.fancy_regex_ffi.specs.Searches.{IsFoundBy, IsCapturedBy, CountsLooksBy, AreGroupSpans, AreGroupsFound, config_of}
-use Rattle.fancy_regex_ffi.specs.Texts.{IsFrontOf, IsTextWritten}
+use Rattle.fancy_regex_ffi.specs.Bytes.{FaultHeld, AreStartsOrFault, AreRequiredOrFault, IsAskedEnd, StartBytesEnd, RequiredBytesEnd}
 use Rattle.fancy_regex_ffi.specs.declared.fault.Fault.{Fault}
 use Rattle.fancy_regex_ffi.specs.declared.held.Held.{Held}
 use Rattle.fancy_regex_ffi.specs.declared.held.Subject.{Subject}
@@ -84,22 +84,26 @@ captures_report old left held after text query status code spans written before 
     subst (λ (o : Option Held). CapturesReport o left text query code spans written) (sym before) (after, status, behind, told, same, ends)
 
 -- what a build reports
-pub build_reports : (options : RegexOptions) (pattern : List ℕ) (left : Option Held) (held : Held) (status : Status) (code : ℤ) → left ≡ Some held → code ≡ code_of status
+pub build_reports : (options : RegexOptions) (pattern : List ℕ) (left : Option Held) (held : Held) (status : Status) (code : ℤ) → IsHeldAs held status left code
     → IsBuilt options pattern held.subject held.fault status → BuildEnds options pattern left code
-build_reports options pattern left held status code behind told built =
-    subst (λ (l : Option Held). BuildEnds options pattern l code) (sym behind) (status, told, built)
+build_reports options pattern None held status code told built = told
+build_reports options pattern (Some left) held status code told built =
+    (status, told.1, subst (λ (h : Held). IsBuilt options pattern h.subject h.fault status) (sym told.0) built)
 
--- nothing is written of no text
-nothing_front : (old new : List ℕ) → new ≡ old → IsFrontOf [] old new
-nothing_front old new same k inside = (λ none. absurd (omega (arith, none)), λ _ d. ap (λ (xs : List ℕ). slice_index_or xs k d) same)
+-- a fault that is held alone
+pub fault_held : (held : Held) (fault : Fault) (left : Option Held) (code : ℤ) → IsHeldAs held (fault_status fault) left code → held.subject ≡ subjects.Nothing → held.fault ≡ Some fault
+    → FaultHeld fault left code
+fault_held held fault None code told nothing kept = told
+fault_held held fault (Some left) code told nothing kept = (ap (λ (h : Held). h.subject) told.0 ∙ nothing, ap (λ (h : Held). h.fault) told.0 ∙ kept, told.1)
 
--- no text is written
-pub nothing_written : (told : Option (List ℕ)) (old new : List ℕ) → new ≡ old → IsTextWritten told old new 0
-nothing_written told old new same = ([], refl, nothing_front old new same, λ some. absurd (omega (arith, some)))
+-- what a question about the starts reports
+pub start_bytes_end : (options : RegexOptions) (pattern : List ℕ) (left : Option Held) (code : ℤ) (old new : List Bool) (answer : Result Bool Fault)
+    → AreStartsOrFault options pattern answer old new → IsAskedEnd answer left code → StartBytesEnd options pattern left code old new
+start_bytes_end options pattern left code old new answer marked ended = (answer, marked, ended)
 
--- a text is written
-pub text_written : (told : Option (List ℕ)) (text old new : List ℕ) → IfSome told (λ bytes. text ≡ bytes) → IsFrontOf text old new → IsTextWritten told old new (length text)
-text_written told text old new same here = (text, refl, here, λ _. same)
+pub required_bytes_end : (options : RegexOptions) (pattern : List ℕ) (left : Option Held) (code : ℤ) (old new : List Bool) (answer : Result Bool Fault)
+    → AreRequiredOrFault options pattern answer old new → IsAskedEnd answer left code → RequiredBytesEnd options pattern left code old new
+required_bytes_end options pattern left code old new answer marked ended = (answer, marked, ended)
 
 -- the looks that are told of a handle that holds something
 pub looks_reported : (old : Option Held) (held : Held) (text : List ℕ) (query : Query) (first count : ℕ) → old ≡ Some held → first ≡ 0

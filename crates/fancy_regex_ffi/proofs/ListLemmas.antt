@@ -1,10 +1,11 @@
 -- What a call reports that writes a list.
-use Rattle.std.specs.Prelude.{◌≡◌, ℕ, ℤ, List, Option, Some, Result}
+use Rattle.std.specs.Prelude.{◌≡◌, ℕ, ℤ, Bool, List, Option, Some, Result}
 use mathlib.Core.Path.{sym, subst}
 use Rattle.fancy_regex_ffi_lists.specs.declared.member.Member.{Member}
 use Rattle.fancy_regex_ffi_lists.specs.declared.spans.Span.{Span}
 use Rattle.fancy_regex_ffi.specs.Ends.{FaultAfter}
 use Rattle.fancy_regex_ffi.specs.Lists.{OfRegex, AreMatchSpans, ArePieceSpans, IsReplacedText, AreMembers, IsListWritten, ListReports}
+use Rattle.fancy_regex_ffi.specs.Templates.{AreNames, NamesReport, IsChecked, CheckReports, done_code}
 use Rattle.fancy_regex_ffi.specs.declared.fault.Fault.{Fault}
 use Rattle.fancy_regex_ffi.specs.declared.held.Held.{Held}
 use Rattle.fancy_regex_ffi.specs.declared.held.Subject.{Subject}
@@ -36,3 +37,15 @@ pub members_report : (text : List ℕ) (query : Query) (old left : Option Held) 
     → old ≡ Some held → left ≡ Some after → AreMembers text query held.subject answer → IsListWritten answer code out written count → after.subject ≡ held.subject
     → FaultAfter answer held.fault after.fault → ListReports (AreMembers text query) old left code out written count
 members_report text query = list_reports (AreMembers text query)
+
+pub names_report : (old left : Option Held) (held after : Held) (answer : Result (List ℕ) Fault) (code : ℤ) (out written : List ℕ) (count : ℕ)
+    → old ≡ Some held → left ≡ Some after → AreNames held.subject answer → IsListWritten answer code out written count → after.subject ≡ held.subject
+    → FaultAfter answer held.fault after.fault → NamesReport old left code out written count
+names_report = list_reports AreNames
+
+-- what the check of a template reports
+pub check_reports : (template : List ℕ) (is_python : Bool) (old left : Option Held) (held after : Held) (answer : Result (Unit {0}) Fault) (code : ℤ) → old ≡ Some held → left ≡ Some after
+    → IsChecked template is_python held.subject answer → code ≡ done_code answer → after.subject ≡ held.subject → FaultAfter answer held.fault after.fault
+    → CheckReports old left template is_python code
+check_reports template is_python old left held after answer code before behind gives told same kept =
+    subst (λ (o : Option Held). CheckReports o left template is_python code) (sym before) (after, answer, behind, same, gives, told, kept)

@@ -1,14 +1,19 @@
 -- Sets: their patterns one behind another, and how they are built.
-use Rattle.std.specs.Prelude.{◌≡◌, ℕ, ◌<◌, ◌≤◌, ℤ, List, [], ◌∷◌, ◌++◌, length, map, drop, Option, Some, None, Err, slice_range, slice_index, IsUtf8}
+use Rattle.std.specs.Prelude.{◌≡◌, ℕ, ◌<◌, ◌≤◌, ℤ, List, [], ◌∷◌, ◌++◌, length, map, drop, Option, Some, None, Result, Ok, Err, IfOk, IfErr, slice_range, slice_index, IsUtf8}
 use Rattle.std.proofs.Common.{arith, suc, zero, append-nil, ◌∙◌}
+use Rattle.std.proofs.lemmas.List.{length-map}
 use mathlib.Core.Path.{refl, sym, ap, subst}
 use Rattle.fancy_regex_meaning.specs.WayLaws.{Each}
 use Rattle.fancy_regex_meta.specs.declared.options.RegexOptions.{RegexOptions}
+use Rattle.fancy_regex_meta.specs.declared.error.Error.{Error}
 use Rattle.fancy_regex_meta.specs.declared.error.Error.TheVariants.{Memory}
 use Rattle.fancy_regex.specs.SetMembers.{AreBuiltOf}
 use Rattle.fancy_regex.specs.declared.set.RegexSet.{RegexSet}
 use Rattle.fancy_regex_ffi.specs.Codes.{code_of, fault_status}
-use Rattle.fancy_regex_ffi.specs.Sets.{cut_at, Rise, AreTexts, IsPieceOrFault, IsSetBuilt, IsSetRefused, SetBuildEnds}
+use Rattle.fancy_regex_ffi.specs.Ends.{IsHeldAs}
+use Rattle.fancy_regex_ffi_lists.specs.Mixed.{AreBuiltEach}
+use Rattle.fancy_regex_ffi_lists.specs.declared.options.Options.{Options}
+use Rattle.fancy_regex_ffi.specs.Sets.{cut_at, Rise, AreTexts, IsPieceFault, IsPieceOrFault, IsSetBuilt, IsSetRefused, IsSetTold, SetBuildEnds, IsMixedBuilt, IsMixedRefused, MixedBuildEnds}
 use Rattle.fancy_regex_ffi.specs.declared.fault.Fault.{Fault}
 use Rattle.fancy_regex_ffi.specs.declared.fault.Fault.TheVariants as faults
 use Rattle.fancy_regex_ffi.specs.declared.held.Held.{Held}
@@ -17,28 +22,68 @@ use Rattle.fancy_regex_ffi.specs.declared.held.Subject.TheVariants as subjects
 use Rattle.fancy_regex_ffi.specs.declared.status.Status.{Status}
 use Rattle.fancy_regex_ffi.specs.declared.status.Status.TheVariants as statuses
 
--- a set that is built
-pub set_built_ends : (options : RegexOptions) (bytes ends : List ℕ) (subject : Subject) (kept : Option Fault) (set : RegexSet) → subject ≡ subjects.Set set → kept ≡ None
-    → AreTexts bytes 0 ends → AreBuiltOf options (cut_at bytes 0 ends) set.regexes.items → IsSetBuilt options bytes ends subject kept statuses.Done
-set_built_ends options bytes ends subject kept set same none texts members =
-    subst (λ (s : Subject). IsSetBuilt options bytes ends s kept statuses.Done) (sym same) (refl, none, texts, members)
+-- patterns that are no texts
+pub piece_refuses : (options : RegexOptions) (bytes ends : List ℕ) (fault : Fault) → IsPieceFault bytes ends fault → IsSetRefused options bytes ends fault
+piece_refuses options bytes ends (faults.Regex e) memory = subst (λ (x : Error). IsSetRefused options bytes ends (faults.Regex x)) (sym memory) (λ other. absurd (other refl), tt)
+piece_refuses options bytes ends faults.NotUtf8 wrong = wrong
+piece_refuses options bytes ends faults.WrongEnds wrong = wrong
+piece_refuses options bytes ends faults.NoRegex wrong = wrong
+piece_refuses options bytes ends faults.NoSet wrong = wrong
+piece_refuses options bytes ends faults.PastEnd wrong = wrong
+piece_refuses options bytes ends faults.OffBoundary wrong = wrong
 
--- patterns that are refused
-pub set_refused_ends : (options : RegexOptions) (bytes ends : List ℕ) (subject : Subject) (kept : Option Fault) (fault : Fault) → subject ≡ subjects.Nothing → kept ≡ Some fault
-    → IsSetRefused options bytes ends fault → IsSetBuilt options bytes ends subject kept (fault_status fault)
-set_refused_ends options bytes ends subject kept fault same holds wrong =
-    subst (λ (s : Subject). IsSetBuilt options bytes ends s kept (fault_status fault)) (sym same)
-    (subst (λ (k : Option Fault). IsSetBuilt options bytes ends subjects.Nothing k (fault_status fault)) (sym holds) (refl, wrong))
+pub piece_refuses_mixed : (options : List Options) (bytes ends : List ℕ) (fault : Fault) → IsPieceFault bytes ends fault → IsMixedRefused options bytes ends fault
+piece_refuses_mixed options bytes ends (faults.Regex e) memory = subst (λ (x : Error). IsMixedRefused options bytes ends (faults.Regex x)) (sym memory) (λ other. absurd (other refl), tt)
+piece_refuses_mixed options bytes ends faults.NotUtf8 wrong = wrong
+piece_refuses_mixed options bytes ends faults.WrongEnds wrong = wrong
+piece_refuses_mixed options bytes ends faults.NoRegex wrong = wrong
+piece_refuses_mixed options bytes ends faults.NoSet wrong = wrong
+piece_refuses_mixed options bytes ends faults.PastEnd wrong = wrong
+piece_refuses_mixed options bytes ends faults.OffBoundary wrong = wrong
 
--- want of memory
-pub memory_refuses : (options : RegexOptions) (bytes ends : List ℕ) → IsSetRefused options bytes ends (faults.Regex Memory)
-memory_refuses options bytes ends = (λ other. absurd (other refl), tt)
+-- the patterns are as many as their ends
+length-cut_at : (bytes ends : List ℕ) (from : ℕ) → length (cut_at bytes from ends) ≡ length ends
+length-cut_at bytes [] from = refl
+length-cut_at bytes (x ∷ xs) from = ap suc (length-cut_at bytes xs x)
+
+-- there are as many options as texts
+pub as_many : {A : Type 0} (text_of : A → List ℕ) (bytes ends : List ℕ) (options : List Options) (texts shown : List A) → length options ≡ length ends
+    → map text_of texts ≡ cut_at bytes 0 ends → shown ≡ texts → length options ≡ length shown
+as_many text_of bytes ends options texts shown so_many same is =
+    so_many ∙ sym (length-cut_at bytes ends 0) ∙ ap length (sym same) ∙ length-map texts text_of ∙ ap length (sym is)
 
 -- what a build of a set reports
-pub set_build_reports : (options : RegexOptions) (bytes ends : List ℕ) (left : Option Held) (held : Held) (status : Status) (code : ℤ) → left ≡ Some held → code ≡ code_of status
-    → IsSetBuilt options bytes ends held.subject held.fault status → SetBuildEnds options bytes ends left code
-set_build_reports options bytes ends left held status code behind told built =
-    subst (λ (l : Option Held). SetBuildEnds options bytes ends l code) (sym behind) (status, told, built)
+set_holds : (options : RegexOptions) (bytes ends : List ℕ) (answer : Result RegexSet Fault) (held : Held) (status : Status) → IfOk answer (λ _. AreTexts bytes 0 ends)
+    → IfOk answer (λ set. AreBuiltOf options (cut_at bytes 0 ends) set.regexes.items) → IfErr answer (IsSetRefused options bytes ends) → IsSetTold answer held status
+    → IsSetBuilt options bytes ends held.subject held.fault status
+set_holds options bytes ends (Ok set) held status texts members refused told =
+    subst (λ (s : Subject). IsSetBuilt options bytes ends s held.fault status) (sym told.0) (told.2, told.1, texts, members)
+set_holds options bytes ends (Err fault) held status texts members refused told =
+    subst (λ (s : Subject). IsSetBuilt options bytes ends s held.fault status) (sym told.0)
+    (subst (λ (k : Option Fault). IsSetBuilt options bytes ends subjects.Nothing k status) (sym told.1) (told.2, refused))
+
+pub set_build_reports : (options : RegexOptions) (bytes ends : List ℕ) (left : Option Held) (answer : Result RegexSet Fault) (held : Held) (status : Status) (code : ℤ)
+    → IfOk answer (λ _. AreTexts bytes 0 ends) → IfOk answer (λ set. AreBuiltOf options (cut_at bytes 0 ends) set.regexes.items) → IfErr answer (IsSetRefused options bytes ends)
+    → IsSetTold answer held status → IsHeldAs held status left code → SetBuildEnds options bytes ends left code
+set_build_reports options bytes ends None answer held status code texts members refused told ends_so = ends_so
+set_build_reports options bytes ends (Some left) answer held status code texts members refused told ends_so =
+    (status, ends_so.1, subst (λ (h : Held). IsSetBuilt options bytes ends h.subject h.fault status) (sym ends_so.0) (set_holds options bytes ends answer held status texts members refused told))
+
+mixed_holds : (options : List Options) (bytes ends : List ℕ) (answer : Result RegexSet Fault) (held : Held) (status : Status) → IfOk answer (λ _. AreTexts bytes 0 ends)
+    → IfOk answer (λ set. AreBuiltEach options (cut_at bytes 0 ends) set.regexes.items) → IfErr answer (IsMixedRefused options bytes ends) → IsSetTold answer held status
+    → IsMixedBuilt options bytes ends held.subject held.fault status
+mixed_holds options bytes ends (Ok set) held status texts members refused told =
+    subst (λ (s : Subject). IsMixedBuilt options bytes ends s held.fault status) (sym told.0) (told.2, told.1, texts, members)
+mixed_holds options bytes ends (Err fault) held status texts members refused told =
+    subst (λ (s : Subject). IsMixedBuilt options bytes ends s held.fault status) (sym told.0)
+    (subst (λ (k : Option Fault). IsMixedBuilt options bytes ends subjects.Nothing k status) (sym told.1) (told.2, refused))
+
+pub mixed_build_reports : (options : List Options) (bytes ends : List ℕ) (left : Option Held) (answer : Result RegexSet Fault) (held : Held) (status : Status) (code : ℤ)
+    → IfOk answer (λ _. AreTexts bytes 0 ends) → IfOk answer (λ set. AreBuiltEach options (cut_at bytes 0 ends) set.regexes.items) → IfErr answer (IsMixedRefused options bytes ends)
+    → IsSetTold answer held status → IsHeldAs held status left code → MixedBuildEnds options bytes ends left code
+mixed_build_reports options bytes ends None answer held status code texts members refused told ends_so = ends_so
+mixed_build_reports options bytes ends (Some left) answer held status code texts members refused told ends_so =
+    (status, ends_so.1, subst (λ (h : Held). IsMixedBuilt options bytes ends h.subject h.fault status) (sym ends_so.0) (mixed_holds options bytes ends answer held status texts members refused told))
 
 -- the patterns from the one with some number on begin with that one
 pub cut_next : (bytes ends : List ℕ) (from i end : ℕ) → i < length ends → end ≡ slice_index ends i
@@ -82,17 +127,17 @@ each_behind P (x ∷ xs) ys h = each_behind P xs ys h.1
 -- a piece that is no pattern refuses them all
 pub refused_at : {A : Type 0} (text_of : A → List ℕ) (bytes ends : List ℕ) (from i end : ℕ) (texts : List A) (fault : Fault) → i < length ends → end ≡ slice_index ends i
     → IsPieceOrFault bytes from end (Err fault) → map text_of texts ++ cut_at bytes from (drop i ends) ≡ cut_at bytes 0 ends → (Rise bytes 0 ends → Rise bytes from (drop i ends))
-    → (o : RegexOptions) → IsSetRefused o bytes ends fault
-refused_at text_of bytes ends from i end texts faults.WrongEnds h e piece so_far rise o = λ rises. let next = rise_next bytes ends from i end h e (rise rises) in piece (next.0, next.1)
-refused_at text_of bytes ends from i end texts faults.NotUtf8 h e piece so_far rise o = λ each.
+    → IsPieceFault bytes ends fault
+refused_at text_of bytes ends from i end texts faults.WrongEnds h e piece so_far rise = λ rises. let next = rise_next bytes ends from i end h e (rise rises) in piece (next.0, next.1)
+refused_at text_of bytes ends from i end texts faults.NotUtf8 h e piece so_far rise = λ each.
     let behind = each_behind IsUtf8 (map text_of texts) (cut_at bytes from (drop i ends)) (subst (λ (l : List (List ℕ)). Each IsUtf8 l) (sym so_far) each) in
     let here = subst (λ (l : List (List ℕ)). Each IsUtf8 l) (cut_next bytes ends from i end h e) behind in
     piece here.0
-refused_at text_of bytes ends from i end texts faults.NoRegex h e piece so_far rise o = absurd piece
-refused_at text_of bytes ends from i end texts faults.NoSet h e piece so_far rise o = absurd piece
-refused_at text_of bytes ends from i end texts faults.PastEnd h e piece so_far rise o = absurd piece
-refused_at text_of bytes ends from i end texts faults.OffBoundary h e piece so_far rise o = absurd piece
-refused_at text_of bytes ends from i end texts (faults.Regex error) h e piece so_far rise o = absurd piece
+refused_at text_of bytes ends from i end texts faults.NoRegex h e piece so_far rise = absurd piece
+refused_at text_of bytes ends from i end texts faults.NoSet h e piece so_far rise = absurd piece
+refused_at text_of bytes ends from i end texts faults.PastEnd h e piece so_far rise = absurd piece
+refused_at text_of bytes ends from i end texts faults.OffBoundary h e piece so_far rise = absurd piece
+refused_at text_of bytes ends from i end texts (faults.Regex error) h e piece so_far rise = absurd piece
 
 -- none is left
 none_left : (bytes ends : List ℕ) (i from : ℕ) → length ends ≤ i → cut_at bytes from (drop i ends) ≡ []

@@ -9,7 +9,7 @@ use Rattle.fancy_regex_meta.specs.Caps.{MetaKeepsCap}
 use Rattle.fancy_regex_ffi.specs.Codes.{code_of, fault_status}
 use Rattle.fancy_regex_ffi_lists.specs.Spans.{span_of}
 use Rattle.fancy_regex_ffi.specs.Places.{place_of}
-use Rattle.fancy_regex_ffi.specs.Texts.{IsFrontOf}
+use Rattle.fancy_regex_ffi_lists.specs.Fronts.{IsFrontOf}
 use Rattle.fancy_regex_ffi.specs.Searches.{IsFoundBy, IsCapturedBy, CountsLooksBy}
 use Rattle.fancy_regex_ffi.specs.declared.fault.Fault.{Fault}
 use Rattle.fancy_regex_ffi.specs.declared.fault.Fault.TheVariants as faults
@@ -35,6 +35,11 @@ IsBuilt options pattern (subjects.Regex regex) fault status =
 IsBuilt options pattern subjects.Nothing (Some fault) status = (status ≡ fault_status fault) × IsBuildFault options pattern fault
 IsBuilt options pattern subjects.Nothing None status = ⊥
 IsBuilt options pattern (subjects.Set set) fault status = ⊥
+
+-- what was built is held, and how that ended is told; or memory ran out for it
+abbrev pub IsHeldAs : Held → Status → Option Held → ℤ → Type 0
+IsHeldAs held status (Some left) code = (left ≡ held) × (code ≡ code_of status)
+IsHeldAs held status None code = code ≡ code_of statuses.Memory
 
 -- what stands in the handle after a build, and the number
 abbrev pub BuildEnds : RegexOptions → List ℕ → Option Held → ℤ → Type 0

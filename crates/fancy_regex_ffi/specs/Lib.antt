@@ -1,4 +1,4 @@
-pub mod Choices
+pub mod Bytes
 pub mod Codes
 pub mod Ends
 pub mod Handles
@@ -6,4 +6,5 @@ pub mod Lists
 pub mod Places
 pub mod Searches
 pub mod Sets
+pub mod Templates
 pub mod Texts

@@ -9,7 +9,7 @@ use Rattle.fancy_regex_ffi_lists.specs.declared.spans.Span.{Span}
 use Rattle.fancy_regex_ffi.specs.Codes.{code_of, fault_status}
 use Rattle.fancy_regex_ffi.specs.Ends.{FaultAfter}
 use Rattle.fancy_regex_ffi.specs.Searches.{config_of, CanBegin, IsPlaceFault}
-use Rattle.fancy_regex_ffi.specs.Texts.{IsFrontOf}
+use Rattle.fancy_regex_ffi_lists.specs.Fronts.{IsFrontOf}
 use Rattle.fancy_regex_ffi.specs.declared.fault.Fault.{Fault}
 use Rattle.fancy_regex_ffi.specs.declared.fault.Fault.TheVariants as faults
 use Rattle.fancy_regex_ffi.specs.declared.held.Held.{Held}

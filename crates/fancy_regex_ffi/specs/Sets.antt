@@ -5,6 +5,9 @@ use Rattle.fancy_regex_meaning.specs.WayLaws.{Each}
 use Rattle.fancy_regex_meta.specs.declared.options.RegexOptions.{RegexOptions}
 use Rattle.fancy_regex_meta.specs.declared.error.Error.TheVariants.{Memory}
 use Rattle.fancy_regex.specs.SetMembers.{AreBuiltOf, RefusesPatterns}
+use Rattle.fancy_regex.specs.declared.set.RegexSet.{RegexSet}
+use Rattle.fancy_regex_ffi_lists.specs.Mixed.{AreBuiltEach, RefusesEach}
+use Rattle.fancy_regex_ffi_lists.specs.declared.options.Options.{Options}
 use Rattle.fancy_regex_ffi.specs.Codes.{code_of, fault_status}
 use Rattle.fancy_regex_ffi.specs.declared.fault.Fault.{Fault}
 use Rattle.fancy_regex_ffi.specs.declared.fault.Fault.TheVariants as faults
@@ -36,12 +39,24 @@ IsPieceOrFault bytes from end (Err faults.WrongEnds) = (from ≤ end) × (end �
 IsPieceOrFault bytes from end (Err faults.NotUtf8) = IsUtf8 (slice_range bytes from end) → ⊥
 IsPieceOrFault bytes from end (Err _) = ⊥
 
+-- why the patterns are no texts: their ends are wrong, or one is not UTF-8; or want of memory
+abbrev pub IsPieceFault : List ℕ → List ℕ → Fault → Type 0
+IsPieceFault bytes ends (faults.Regex e) = e ≡ Memory
+IsPieceFault bytes ends faults.NotUtf8 = Each IsUtf8 (cut_at bytes 0 ends) → ⊥
+IsPieceFault bytes ends faults.WrongEnds = Rise bytes 0 ends → ⊥
+IsPieceFault bytes ends _ = ⊥
+
 -- why a set is not built of these patterns
 abbrev pub IsSetRefused : RegexOptions → List ℕ → List ℕ → Fault → Type 0
 IsSetRefused options bytes ends (faults.Regex e) = (e ≢ Memory → AreTexts bytes 0 ends) × RefusesPatterns options (cut_at bytes 0 ends) e
 IsSetRefused options bytes ends faults.NotUtf8 = Each IsUtf8 (cut_at bytes 0 ends) → ⊥
 IsSetRefused options bytes ends faults.WrongEnds = Rise bytes 0 ends → ⊥
 IsSetRefused options bytes ends _ = ⊥
+
+-- a set is held with no fault, or nothing with the fault; and how that ends
+abbrev pub IsSetTold : Result RegexSet Fault → Held → Status → Type 0
+IsSetTold (Ok set) held status = (held.subject ≡ subjects.Set set) × (held.fault ≡ None) × (status ≡ statuses.Done)
+IsSetTold (Err fault) held status = (held.subject ≡ subjects.Nothing) × (held.fault ≡ Some fault) × (status ≡ fault_status fault)
 
 -- what is built of these patterns, and how the call ends
 abbrev pub IsSetBuilt : RegexOptions → List ℕ → List ℕ → Subject → Option Fault → Status → Type 0
@@ -55,3 +70,21 @@ IsSetBuilt options bytes ends (subjects.Regex regex) fault status = ⊥
 abbrev pub SetBuildEnds : RegexOptions → List ℕ → List ℕ → Option Held → ℤ → Type 0
 SetBuildEnds options bytes ends (Some held) code = (status : Status) × (code ≡ code_of status) × IsSetBuilt options bytes ends held.subject held.fault status
 SetBuildEnds options bytes ends None code = code ≡ code_of statuses.Memory
+
+-- The same where each pattern has options of its own.
+abbrev pub IsMixedRefused : List Options → List ℕ → List ℕ → Fault → Type 0
+IsMixedRefused options bytes ends (faults.Regex e) = (e ≢ Memory → AreTexts bytes 0 ends) × RefusesEach options (cut_at bytes 0 ends) e
+IsMixedRefused options bytes ends faults.NotUtf8 = Each IsUtf8 (cut_at bytes 0 ends) → ⊥
+IsMixedRefused options bytes ends faults.WrongEnds = Rise bytes 0 ends → ⊥
+IsMixedRefused options bytes ends _ = ⊥
+
+abbrev pub IsMixedBuilt : List Options → List ℕ → List ℕ → Subject → Option Fault → Status → Type 0
+IsMixedBuilt options bytes ends (subjects.Set set) fault status =
+    (status ≡ statuses.Done) × (fault ≡ None) × AreTexts bytes 0 ends × AreBuiltEach options (cut_at bytes 0 ends) set.regexes.items
+IsMixedBuilt options bytes ends subjects.Nothing (Some fault) status = (status ≡ fault_status fault) × IsMixedRefused options bytes ends fault
+IsMixedBuilt options bytes ends subjects.Nothing None status = ⊥
+IsMixedBuilt options bytes ends (subjects.Regex regex) fault status = ⊥
+
+abbrev pub MixedBuildEnds : List Options → List ℕ → List ℕ → Option Held → ℤ → Type 0
+MixedBuildEnds options bytes ends (Some held) code = (status : Status) × (code ≡ code_of status) × IsMixedBuilt options bytes ends held.subject held.fault status
+MixedBuildEnds options bytes ends None code = code ≡ code_of statuses.Memory

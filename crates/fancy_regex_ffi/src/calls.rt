@@ -1,44 +1,27 @@
 //! What the exported calls do with what a handle holds.
 
-ghost use Rattle.std.specs.Prelude.{◌≡◌, Some, true, IfOk, IfErr, IfSome, option_map, chars, string_bytes, IsUtf8};
+ghost use Rattle.std.specs.Prelude.{◌≡◌, Some, true, IfOk, IfErr, option_map, chars, string_bytes, IsUtf8};
 ghost use Rattle.fancy_regex_meta.specs.Caps.{MetaKeepsCap};
 ghost use Rattle.fancy_regex_meta.specs.Refusals.{Accepts};
-ghost use Rattle.fancy_regex_ffi.specs.Choices.{chosen};
+ghost use Rattle.fancy_regex_ffi_lists.specs.Choices.{chosen};
 ghost use Rattle.fancy_regex_ffi.specs.Codes.{fault_status};
 ghost use Rattle.fancy_regex_ffi.specs.Ends.{IsBuildFault, IsBuilt, FindEnds, CapturesEnd, groups_for, place_kept, IsGroupName, IsNameOf, IsNameWritten};
 ghost use Rattle.fancy_regex_ffi.specs.Searches.{IsFoundBy, CountsLooksBy, IsCapturedBy, IsCapturedIn, IsGroupSpan, AreGroupSpans};
-ghost use Rattle.fancy_regex_ffi.specs.Texts.{IsTextWritten, text_kept};
+ghost use Rattle.fancy_regex_ffi.specs.Texts.{IsFaultWritten, IsTextWritten};
 ghost use Rattle.fancy_regex_ffi.specs.declared.held.Subject.TheVariants as subjects;
 
 use crate::fault::Fault;
-use crate::front::write_front;
 use crate::held::{Held, Subject};
-use crate::options::Options;
 use crate::query::{Query, check_place, find_in, text_of};
 use crate::status::Status;
 use fancy_regex::{Captures, Error, Regex, RegexInput, Steps};
-use fancy_regex_ffi_lists::Span;
+use fancy_regex_ffi_lists::{Options, Span, write_error, write_front};
 use std::alloc::Global;
 use std::{fmt, str};
 
-/// Builds a regex and what holds it; a refused pattern is held as its fault. `None` if memory runs out.
-pub fn build_held(
-    alloc: Global,
-    pattern: &[u8],
-    options: &Options,
-) -> Option<(Box<Held, Global>, Status)>
-    ensures { IfSome result (λ built. IsBuilt (chosen options.now) pattern.now built.0.value.subject built.0.value.fault built.1) }
-{
-    let (held, status) = built(alloc, pattern, options);
-    match Box::new(alloc, held) {
-        Ok(boxed) => Some((boxed, status)),
-        Err(_) => None,
-    }
-}
-
 /// Builds a regex, and tells how that ends.
 #[tactic(auto, using(crate::proofs::EndLemmas::built_ends, crate::proofs::EndLemmas::refused_ends))]
-fn built(alloc: Global, pattern: &[u8], options: &Options) -> (Held, Status)
+pub fn built(alloc: Global, pattern: &[u8], options: &Options) -> (Held, Status)
     ensures { IsBuilt (chosen options.now) pattern.now result.0.subject result.0.fault result.1 }
 {
     match build(alloc, pattern, options) {
@@ -106,8 +89,7 @@ fn find(
             Ok(text) => find_in(alloc, regex, text, query, steps),
             Err(fault) => Err(fault),
         },
-        Subject::Set(_) => Err(Fault::NoRegex),
-        Subject::Nothing => Err(Fault::NoRegex),
+        Subject::Set(_) | Subject::Nothing => Err(Fault::NoRegex),
     }
 }
 
@@ -147,8 +129,7 @@ fn captures(
             Ok(text) => captures_in(alloc, regex, text, query, spans),
             Err(fault) => Err(fault),
         },
-        Subject::Set(_) => Err(Fault::NoRegex),
-        Subject::Nothing => Err(Fault::NoRegex),
+        Subject::Set(_) | Subject::Nothing => Err(Fault::NoRegex),
     }
 }
 
@@ -211,8 +192,7 @@ pub fn groups_of(held: &Held) -> usize
 {
     match &held.subject {
         Subject::Regex(regex) => regex.captures_len(),
-        Subject::Set(_) => 0,
-        Subject::Nothing => 0,
+        Subject::Set(_) | Subject::Nothing => 0,
     }
 }
 
@@ -232,8 +212,7 @@ fn name_of(subject: &Subject, group: usize) -> &[u8]
             Some(name) => name.as_bytes(),
             None => &[],
         },
-        Subject::Set(_) => &[],
-        Subject::Nothing => &[],
+        Subject::Set(_) | Subject::Nothing => &[],
     }
 }
 
@@ -262,17 +241,30 @@ pub fn place_held(held: &Held) -> usize
     }
 }
 
-/// Writes the text of the last fault, as much as there is room for, and returns how long it is; 0 if there is none, or if memory
-/// runs out.
-#[tactic(auto, using(crate::proofs::EndLemmas::nothing_written, crate::proofs::EndLemmas::text_written))]
-pub fn write_fault(alloc: Global, held: &Held, out: &mut [u8]) -> usize
-    ensures { IsTextWritten (text_kept ⟦<Error as fmt::Display>⟧.output held.now.fault) out.old out.new result }
+/// Writes the text of the last fault, as much as there is room for, and returns how long it is; 0 only if there is none.
+pub fn write_fault(held: &Held, out: &mut [u8]) -> usize
+    ensures { IsTextWritten ⟦<Error as fmt::Display>⟧.output held.now.fault out.old out.new result }
 {
     match &held.fault {
-        Some(fault) => match fault.to_string(alloc) {
-            Ok(text) => write_front(out, text.as_bytes()),
-            Err(_) => 0,
-        },
+        Some(fault) => write_told(fault, out),
         None => 0,
+    }
+}
+
+/// Writes the text of a fault, as much as there is room for, and returns how long it is.
+fn write_told(fault: &Fault, out: &mut [u8]) -> usize
+    ensures { IsFaultWritten ⟦<Error as fmt::Display>⟧.output fault.now out.old out.new result }
+{
+    match fault {
+        Fault::NoRegex => write_front(out, b"the handle holds no regex"),
+        Fault::NoSet => write_front(out, b"the handle holds no set"),
+        Fault::WrongEnds => write_front(
+            out,
+            b"the ends of the patterns fall, or lie past their bytes",
+        ),
+        Fault::NotUtf8 => write_front(out, b"the text is not UTF-8"),
+        Fault::PastEnd => write_front(out, b"the search begins past the end of the text"),
+        Fault::OffBoundary => write_front(out, b"the search begins inside a character"),
+        Fault::Regex(error) => write_error(error, out),
     }
 }

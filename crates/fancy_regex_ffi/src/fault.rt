@@ -5,9 +5,8 @@ ghost use Rattle.fancy_regex_ffi.specs.declared.fault.Fault.TheVariants.{Regex};
 ghost use Rattle.fancy_regex_ffi.specs.Places.{place_of};
 
 use fancy_regex::Error as RegexError;
-use std::fmt;
 
-/// Why a call does not answer. Its `Display` is the text that C reads.
+/// Why a call does not answer.
 #[derive(Debug, Drop)]
 pub enum Fault {
     /// The handle holds no regex.
@@ -24,26 +23,6 @@ pub enum Fault {
     OffBoundary,
     /// An error of the library.
     Regex(RegexError),
-}
-
-impl fmt::Display for Fault {
-    ghost use Rattle.fancy_regex_ffi.specs.Texts.{fault_text};
-
-    ghost output = { fault_text ⟦<RegexError as fmt::Display>⟧.output };
-
-    fn fmt<W: fmt::Write>(&self, f: &mut fmt::Formatter<W>) -> fmt::Result {
-        match self {
-            Fault::NoRegex => f.write_str("the handle holds no regex"),
-            Fault::NoSet => f.write_str("the handle holds no set"),
-            Fault::WrongEnds => f.write_str(
-                "the ends of the patterns fall, or lie past their bytes",
-            ),
-            Fault::NotUtf8 => f.write_str("the text is not UTF-8"),
-            Fault::PastEnd => f.write_str("the search begins past the end of the text"),
-            Fault::OffBoundary => f.write_str("the search begins inside a character"),
-            Fault::Regex(error) => write!(f, "{error}"),
-        }
-    }
 }
 
 impl From<RegexError> for Fault {

@@ -26,6 +26,9 @@ impl Model for Handle {
     ghost also_owns = { λ h. owns_if_live token held_row h.at h.live h.held };
 }
 
+// What a handle owns names no thread, so a handle may go to another one: that is proved.
+unsafe impl Send for Handle {}
+
 impl Handle {
     /// The handle that holds nothing.
     pub fn empty() -> Handle

@@ -27,8 +27,7 @@ pub fn spans_of(
             Ok(text) => Ok(match_spans(alloc, regex, text)?),
             Err(fault) => Err(fault),
         },
-        Subject::Set(_) => Err(Fault::NoRegex),
-        Subject::Nothing => Err(Fault::NoRegex),
+        Subject::Set(_) | Subject::Nothing => Err(Fault::NoRegex),
     }
 }
 
@@ -47,8 +46,7 @@ pub fn pieces_of(
             Ok(text) => Ok(piece_spans(alloc, regex, text)?),
             Err(fault) => Err(fault),
         },
-        Subject::Set(_) => Err(Fault::NoRegex),
-        Subject::Nothing => Err(Fault::NoRegex),
+        Subject::Set(_) | Subject::Nothing => Err(Fault::NoRegex),
     }
 }
 
@@ -69,7 +67,6 @@ pub fn replaced_of<'t>(
             let template = text_of(template, false)?;
             Ok(replaced_text(alloc, regex, text, template)?)
         }
-        Subject::Set(_) => Err(Fault::NoRegex),
-        Subject::Nothing => Err(Fault::NoRegex),
+        Subject::Set(_) | Subject::Nothing => Err(Fault::NoRegex),
     }
 }

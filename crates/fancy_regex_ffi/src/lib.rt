@@ -2,38 +2,41 @@
 //! calls on one handle overlap, and handles share nothing. A call that can fail ends with a number that says how, and none panics.
 #![tactic(auto)]
 
-ghost use Rattle.std.specs.Prelude.{◌≡◌, true, None, IsUtf8};
-ghost use Rattle.fancy_regex_ffi.specs.Choices.{chosen};
+ghost use Rattle.std.specs.Prelude.{◌≡◌, true, None, IsUtf8, length};
+ghost use Rattle.fancy_regex_ffi_lists.specs.Choices.{chosen};
 ghost use Rattle.fancy_regex_ffi.specs.Ends.{BuildEnds, FindReports, CapturesReport, LooksCounted, NameReports, groups_in, place_in};
 ghost use Rattle.fancy_regex_ffi.specs.Lists.{ListReports, OfRegex, AreMatchSpans, ArePieceSpans, IsReplacedText, AreMembers};
-ghost use Rattle.fancy_regex_ffi.specs.Sets.{SetBuildEnds};
+ghost use Rattle.fancy_regex_ffi.specs.Sets.{SetBuildEnds, MixedBuildEnds};
+ghost use Rattle.fancy_regex_ffi.specs.Templates.{CheckReports, EscapeEnds, NamesReport};
 ghost use Rattle.fancy_regex_ffi.specs.Texts.{TextReports};
+ghost use Rattle.fancy_regex_ffi.specs.Bytes.{StartBytesEnd, RequiredBytesEnd};
 
 mod answers;
+mod bytes;
 mod calls;
 mod fault;
-mod front;
 mod handle;
 mod held;
 mod items;
 mod loose;
-mod options;
 mod query;
 mod sets;
 mod status;
+mod templates;
 
-use answers::{answer_items, answer_text};
-use calls::{build_held, captures_held, find_held, groups_of, place_held, write_fault, write_name};
+use answers::{answer_done, answer_items, answer_text, end_text, hold};
+use bytes::{end_asked, required_of, starts_of};
+use calls::{built, captures_held, find_held, groups_of, place_held, write_fault, write_name};
 use fancy_regex::{Error, Steps};
-use fancy_regex_ffi_lists::{Member, Span};
+use fancy_regex_ffi_lists::{Member, Options, Span};
 use handle::Handle;
 use items::{pieces_of, replaced_of, spans_of};
-use options::Options;
 use query::Query;
-use sets::{members_of, set_held};
+use sets::{build_mixed, build_set, members_of, set_told};
 use status::Status;
 use std::alloc::Global;
 use std::fmt;
+use templates::{checked, escaped, names_of};
 
 /// Builds a regex into the handle, which is emptied first.
 #[tactic(auto, using(crate::proofs::EndLemmas::build_reports))]
@@ -47,13 +50,8 @@ pub extern "C" fn fancy_regex_raw_build(
     ensures { BuildEnds (chosen options.now) pattern.now handle.new.held result }
 {
     fancy_regex_raw_free(alloc, handle);
-    match build_held(alloc, pattern, options) {
-        Some((held, status)) => {
-            handle.put(alloc, held);
-            status.code()
-        }
-        None => Status::Memory.code(),
-    }
+    let (held, status) = built(alloc, pattern, options);
+    hold(alloc, handle, held, status)
 }
 
 /// Empties the handle.
@@ -194,8 +192,8 @@ pub extern "C" fn fancy_regex_raw_fault_place(alloc: Global, handle: &mut Handle
     place
 }
 
-/// Writes the text of the last fault, as much as there is room for, and returns how long it is; 0 if there is none, or if memory
-/// runs out.
+/// Writes the text of the last fault, as much as there is room for, and returns how long it is; 0 only if there is none. It takes no
+/// memory.
 #[unsafe(no_mangle)]
 pub extern "C" fn fancy_regex_raw_fault_text(
     alloc: Global,
@@ -208,7 +206,7 @@ pub extern "C" fn fancy_regex_raw_fault_text(
     let Some(held) = handle.take(alloc) else {
         return 0;
     };
-    let length = write_fault(alloc, &held, out);
+    let length = write_fault(&held, out);
     handle.put(alloc, held);
     length
 }
@@ -301,13 +299,8 @@ pub extern "C" fn fancy_regex_raw_set_build(
     ensures { SetBuildEnds (chosen options.now) patterns.now ends.now handle.new.held result }
 {
     fancy_regex_raw_free(alloc, handle);
-    match set_held(alloc, patterns, ends, options) {
-        Some((held, status)) => {
-            handle.put(alloc, held);
-            status.code()
-        }
-        None => Status::Memory.code(),
-    }
+    let (held, status) = set_told(build_set(alloc, patterns, ends, options));
+    hold(alloc, handle, held, status)
 }
 
 /// The members of a set that match at the earliest place at which one of them does, in order of their numbers, as many as there is
@@ -333,4 +326,113 @@ pub extern "C" fn fancy_regex_raw_set_find(
     let status = answer_items(&mut held, answer, members, count);
     handle.put(alloc, held);
     status.code()
+}
+
+/// Builds a set of patterns, each with its own options, into the handle, which is emptied first. The patterns stand one behind another;
+/// `ends` are the offsets at which each of them ends.
+#[tactic(auto, using(crate::proofs::SetLemmas::mixed_build_reports))]
+#[unsafe(no_mangle)]
+pub extern "C" fn fancy_regex_raw_set_build_mixed(
+    alloc: Global,
+    handle: &mut Handle,
+    patterns: &[u8],
+    ends: &[usize],
+    options: &[Options],
+) -> i32
+    requires { length options.now ≡ length ends.now }
+    ensures { MixedBuildEnds options.now patterns.now ends.now handle.new.held result }
+{
+    fancy_regex_raw_free(alloc, handle);
+    let (held, status) = set_told(build_mixed(alloc, patterns, ends, options));
+    hold(alloc, handle, held, status)
+}
+
+/// The names of the groups in UTF-8, a line for each group in order of their numbers, as much as there is room for; and the length of
+/// all lines. The line of a group without a name is empty.
+#[tactic(auto, using(crate::proofs::ListLemmas::names_report))]
+#[unsafe(no_mangle)]
+pub extern "C" fn fancy_regex_raw_group_names(
+    alloc: Global,
+    handle: &mut Handle,
+    out: &mut [u8],
+    length: &mut usize,
+) -> i32
+    ensures { NamesReport handle.old.held handle.new.held result out.old out.new length.new }
+{
+    let Some(mut held) = handle.take(alloc) else {
+        *length = 0;
+        return Status::EmptyHandle.code();
+    };
+    let answer = names_of(alloc, &held.subject);
+    let status = answer_text(&mut held, answer, out, length);
+    handle.put(alloc, held);
+    status.code()
+}
+
+/// Whether each reference of a template is to a group of the regex, and each sign begins something; else the first fault from the left.
+#[tactic(auto, using(crate::proofs::ListLemmas::check_reports))]
+#[unsafe(no_mangle)]
+pub extern "C" fn fancy_regex_raw_template_check(
+    alloc: Global,
+    handle: &mut Handle,
+    template: &[u8],
+    is_python: bool,
+) -> i32
+    ensures { CheckReports handle.old.held handle.new.held template.now is_python result }
+{
+    let Some(mut held) = handle.take(alloc) else {
+        return Status::EmptyHandle.code();
+    };
+    let answer = checked(alloc, &held.subject, template, is_python);
+    let status = answer_done(&mut held, answer);
+    handle.put(alloc, held);
+    status.code()
+}
+
+/// The text as a pattern that matches exactly it, as much as there is room for; and the length of the pattern.
+#[unsafe(no_mangle)]
+pub extern "C" fn fancy_regex_raw_escape(
+    alloc: Global,
+    text: &[u8],
+    out: &mut [u8],
+    length: &mut usize,
+) -> i32
+    ensures { EscapeEnds text.now result out.old out.new length.new }
+{
+    end_text(escaped(alloc, text), out, length).code()
+}
+
+/// Marks the bytes that the matches of a pattern start with: 1 if they are known, and 0 if not. The pattern is not built. The handle is
+/// emptied first, and holds the fault, if there is one.
+#[tactic(auto, using(crate::proofs::EndLemmas::start_bytes_end))]
+#[unsafe(no_mangle)]
+pub extern "C" fn fancy_regex_raw_start_bytes(
+    alloc: Global,
+    handle: &mut Handle,
+    pattern: &[u8],
+    options: &Options,
+    table: &mut [bool],
+) -> i32
+    ensures { StartBytesEnd (chosen options.now) pattern.now handle.new.held result table.old table.new }
+{
+    fancy_regex_raw_free(alloc, handle);
+    let answer = starts_of(alloc, pattern, options, table);
+    end_asked(alloc, handle, answer)
+}
+
+/// Marks bytes that each text has in which the pattern matches; the handle is as after `fancy_regex_raw_start_bytes`.
+#[tactic(auto, using(crate::proofs::EndLemmas::required_bytes_end))]
+#[unsafe(no_mangle)]
+pub extern "C" fn fancy_regex_raw_required_bytes(
+    alloc: Global,
+    handle: &mut Handle,
+    pattern: &[u8],
+    options: &Options,
+    table: &mut [bool],
+) -> i32
+    ensures { RequiredBytesEnd (chosen options.now) pattern.now handle.new.held result table.old table.new }
+{
+    fancy_regex_raw_free(alloc, handle);
+    let answer = required_of(alloc, pattern, options, table);
+    end_asked(alloc, handle, answer)
 }

@@ -1,42 +1,25 @@
 //! Sets of patterns: how they are built and searched.
 
-ghost use Rattle.std.specs.Prelude.{◌≡◌, true, IsUtf8, IfOk, IfErr, IfSome, map};
+ghost use Rattle.std.specs.Prelude.{◌≡◌, true, IsUtf8, IfOk, IfErr, map, length};
 ghost use Rattle.fancy_regex.specs.SetMembers.{AreBuiltOf};
-ghost use Rattle.fancy_regex_ffi.specs.Choices.{chosen};
+ghost use Rattle.fancy_regex_ffi_lists.specs.Choices.{chosen};
+ghost use Rattle.fancy_regex_ffi_lists.specs.Mixed.{AreBuiltEach};
 ghost use Rattle.fancy_regex_ffi.specs.Lists.{AreMembers, listed};
-ghost use Rattle.fancy_regex_ffi.specs.Sets.{cut_at, AreTexts, IsPieceOrFault, IsSetBuilt, IsSetRefused};
+ghost use Rattle.fancy_regex_ffi.specs.Sets.{cut_at, AreTexts, IsPieceFault, IsPieceOrFault, IsSetRefused, IsSetTold, IsMixedRefused};
 
 use crate::fault::Fault;
 use crate::held::{Held, Subject};
-use crate::options::Options;
 use crate::query::{Query, check_place, text_of};
 use crate::status::Status;
 use fancy_regex::{Error, RegexSet};
-use fancy_regex_ffi_lists::{Member, set_members};
+use fancy_regex_ffi_lists::{Member, Options, mixed_set, set_members};
 use std::alloc::Global;
 
-/// Builds a set and what holds it; refused patterns are held as their fault. `None` if memory runs out.
-pub fn set_held(
-    alloc: Global,
-    patterns: &[u8],
-    ends: &[usize],
-    options: &Options,
-) -> Option<(Box<Held, Global>, Status)>
-    ensures { IfSome result (λ built. IsSetBuilt (chosen options.now) patterns.now ends.now built.0.value.subject built.0.value.fault built.1) }
+/// What holds a set, or the fault of building it; and how that ends.
+pub fn set_told(answer: Result<RegexSet, Fault>) -> (Held, Status)
+    ensures { IsSetTold answer result.0 result.1 }
 {
-    let (held, status) = set_built(alloc, patterns, ends, options);
-    match Box::new(alloc, held) {
-        Ok(boxed) => Some((boxed, status)),
-        Err(_) => None,
-    }
-}
-
-/// Builds a set, and tells how that ends.
-#[tactic(auto, using(crate::proofs::SetLemmas::set_built_ends, crate::proofs::SetLemmas::set_refused_ends))]
-fn set_built(alloc: Global, patterns: &[u8], ends: &[usize], options: &Options) -> (Held, Status)
-    ensures { IsSetBuilt (chosen options.now) patterns.now ends.now result.0.subject result.0.fault result.1 }
-{
-    match build_set(alloc, patterns, ends, options) {
+    match answer {
         Ok(set) => (Held::of_set(set), Status::Done),
         Err(fault) => {
             let status = Status::of_fault(&fault);
@@ -46,7 +29,7 @@ fn set_built(alloc: Global, patterns: &[u8], ends: &[usize], options: &Options) 
 }
 
 /// Builds a set of the patterns that stand one behind another.
-fn build_set(
+pub fn build_set(
     alloc: Global,
     patterns: &[u8],
     ends: &[usize],
@@ -61,11 +44,11 @@ fn build_set(
 }
 
 /// The texts of patterns that stand one behind another, by where each of them ends.
-#[tactic(auto, using(crate::proofs::SetLemmas::texts_next, crate::proofs::SetLemmas::texts_none, crate::proofs::SetLemmas::memory_refuses))]
+#[tactic(auto, using(crate::proofs::SetLemmas::texts_next, crate::proofs::SetLemmas::texts_none))]
 fn patterns_of<'p>(alloc: Global, bytes: &'p [u8], ends: &[usize]) -> Result<Vec<&'p str>, Fault>
     ensures texts { IfOk result (λ _. AreTexts bytes.entry.now 0 ends.now) }
     ensures same { IfOk result (λ texts. map (λ text. text.now) texts.items ≡ cut_at bytes.entry.now 0 ends.now) }
-    ensures refused { IfErr result (λ fault. (o : _) → IsSetRefused o bytes.entry.now ends.now fault) }
+    ensures refused { IfErr result (λ fault. IsPieceFault bytes.entry.now ends.now fault) }
 {
     let mut texts = Vec::new(alloc);
     let mut start = 0;
@@ -105,7 +88,23 @@ pub fn members_of(
             check_place(text, query.position)?;
             Ok(set_members(alloc, set, text, query.position, query.continues)?)
         }
-        Subject::Regex(_) => Err(Fault::NoSet),
-        Subject::Nothing => Err(Fault::NoSet),
+        Subject::Regex(_) | Subject::Nothing => Err(Fault::NoSet),
     }
+}
+
+/// Builds a set of the patterns that stand one behind another, each with its own options.
+#[tactic(auto, using(crate::proofs::SetLemmas::as_many))]
+pub fn build_mixed(
+    alloc: Global,
+    patterns: &[u8],
+    ends: &[usize],
+    options: &[Options],
+) -> Result<RegexSet, Fault>
+    requires { length options.now ≡ length ends.now }
+    ensures texts { IfOk result (λ _. AreTexts patterns.now 0 ends.now) }
+    ensures members { IfOk result (λ set. AreBuiltEach options.now (cut_at patterns.now 0 ends.now) set.regexes.items) }
+    ensures refused { IfErr result (IsMixedRefused options.now patterns.now ends.now) }
+{
+    let texts = patterns_of(alloc, patterns, ends)?;
+    Ok(mixed_set(alloc, &texts, options)?)
 }

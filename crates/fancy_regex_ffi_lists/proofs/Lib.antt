@@ -1,2 +1,5 @@
+pub mod FrontLemmas
 pub mod ListLemmas
 pub mod MemberLemmas
+pub mod MixedLemmas
+pub mod NameLemmas

@@ -1,2 +1,7 @@
+pub mod Choices
+pub mod Fronts
 pub mod Lists
+pub mod Mixed
+pub mod Names
 pub mod Spans
+pub mod Tables

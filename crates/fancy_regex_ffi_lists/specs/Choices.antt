@@ -2,7 +2,7 @@
 use Rattle.std.specs.Prelude.{ℕ, Bool, true, false, Option, Some, None}
 use Rattle.fancy_regex_meta.specs.declared.options.RegexOptions.{RegexOptions}
 use Rattle.fancy_regex_meta.specs.Defaults.{default_options}
-use Rattle.fancy_regex_ffi.specs.declared.options.Options.{Options}
+use Rattle.fancy_regex_ffi_lists.specs.declared.options.Options.{Options}
 
 -- the cap, if there is one
 abbrev pub cap_if : Bool → ℕ → Option ℕ

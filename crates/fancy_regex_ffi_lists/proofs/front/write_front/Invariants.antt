@@ -1,6 +1,6 @@
 -- The items below the index are written, and the others are as they were.
 use Rattle.std.specs.Prelude.{◌≡◌, ℕ, ◌<◌, ◌≤◌, length, slice_index_or}
-use Rattle.fancy_regex_ffi.proofs.front.write_front.Given as goal
+use Rattle.fancy_regex_ffi_lists.proofs.front.write_front.Given as goal
 
 abbrev pub invariant-loop-i : goal.invariant-loop-i
 invariant-loop-i g l = record {

@@ -1,7 +1,7 @@
 //! `Options`: how a pattern is built, as C gives it.
 
 ghost use Rattle.std.specs.Prelude.{◌≡◌};
-ghost use Rattle.fancy_regex_ffi.specs.Choices.{chosen};
+ghost use Rattle.fancy_regex_ffi_lists.specs.Choices.{chosen};
 
 use fancy_regex::RegexOptionsBuilder;
 
