@@ -14,3 +14,5 @@ mod LookBehindStarts
 mod CharLoops
 mod FailingPlaces
 mod WalkLemmas
+mod AheadLemmas
+mod StretchLemmas

@@ -7,6 +7,8 @@ pub mod Runs
 pub mod LookBehindStarts
 pub mod CharLoops
 pub mod Walks
+pub mod Ahead
+pub mod Stretches
 pub mod RunArguments
 pub mod MachineLimits
 pub mod SearchAnswers

@@ -5,6 +5,7 @@
 
 mod absent;
 mod advance;
+mod ahead;
 mod assertion;
 mod backref;
 mod char_loops;
@@ -22,6 +23,7 @@ mod sight;
 mod slot_check;
 mod start;
 mod step;
+mod stretches;
 mod walks;
 
 pub use error::RuntimeError;
