@@ -12,6 +12,7 @@ mod char_loops;
 mod error;
 mod failing_places;
 mod failing_starts;
+mod first_tests;
 mod haystack;
 mod look_behind_starts;
 mod memory;
