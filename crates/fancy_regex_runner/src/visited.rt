@@ -23,7 +23,7 @@ pub struct Visited {
 }
 
 impl Visited {
-    ghost use Rattle.fancy_regex_runner.specs.Visited.{Has, members, spent, Adds, IsSame};
+    ghost use Rattle.fancy_regex_runner.specs.Visited.{Has, members, spent, Adds, AddsRun, IsSame, spare};
 
     /// The empty set, for no states. It allocates nothing.
     pub fn new(alloc: Global) -> Visited {
@@ -59,6 +59,24 @@ impl Visited {
         ensures err { OnErr result (self.new.rows ≡ self.old.rows) }
     {
         add_zeros(&mut self.words, self.width)?;
+        self.rows += 1;
+        Ok(())
+    }
+
+    /// Adds a pair in a new row, behind the last one, where a row is one word. The error is want of memory, and then the set
+    /// is unchanged.
+    #[inline(always)]
+    fn append(&mut self, state: usize) -> Result<(), AllocError>
+        requires state { state < self.old.count }
+        requires narrow { self.old.width ≡ 1 }
+        requires rows { self.old.rows < 2 ^ 64 - 1 }
+        ensures same { (self.new.count ≡ self.old.count) × (self.new.base ≡ self.old.base) }
+        ensures rows { OnOk result (self.new.rows ≡ self.old.rows + 1) }
+        ensures adds { OnOk result (Adds (Has self.old) (Has self.new) state (self.old.base + self.old.rows)) }
+        ensures counted { OnOk result (members self.new ≡ members self.old + 1) }
+        ensures err { OnErr result ((self.new.rows ≡ self.old.rows) × IsSame self.old self.new) }
+    {
+        self.words.push(1u64 << (state % 64))?;
         self.rows += 1;
         Ok(())
     }
@@ -112,6 +130,37 @@ impl Visited {
         word & bit == 0
     }
 
+    /// How many rows, from that of the byte offset `at` on, can be added in the memory at hand: none where that row is not the
+    /// next one, or a row is longer than a word.
+    #[inline(always)]
+    pub fn spare_rows(&self, at: usize) -> usize
+        requires base { self.now.base ≤ at }
+        ensures { result ≡ spare self.now at }
+    {
+        if self.width != 1 || at - self.base != self.rows {
+            return 0;
+        }
+        self.words.capacity() - self.words.len()
+    }
+
+    /// Adds the pairs of a state and each of `count` byte offsets from `at` on, in new rows for which there is memory.
+    #[inline(always)]
+    pub fn insert_run(&mut self, state: usize, at: usize, count: usize)
+        requires state { state < self.old.count }
+        requires base { self.old.base ≤ at }
+        requires spare { count ≤ spare self.old at }
+        requires some { 0 < count }
+        ensures same { (self.new.count ≡ self.old.count) × (self.new.base ≡ self.old.base) }
+        ensures rows { self.new.rows ≡ at - self.old.base + count }
+        ensures adds { AddsRun (Has self.old) (Has self.new) state at (at + count) }
+        ensures counted { members self.new ≡ members self.old + count }
+    {
+        let length = self.words.len() + count;
+        if self.words.resize(length, 1u64 << (state % 64)).is_ok() {
+            self.rows += count;
+        }
+    }
+
     /// Whether the pair is in the set.
     #[inline(always)]
     pub fn has(&self, state: usize, at: usize) -> bool
@@ -139,6 +188,10 @@ impl Visited {
             (Has self.old state at × (members self.new ≡ members self.old))) }
         ensures err { OnErr result (IsSame self.old self.new) }
     {
+        if self.width == 1 && at - self.base == self.rows {
+            self.append(state)?;
+            return Ok(true);
+        }
         self.reach(at)?;
         Ok(self.set(state, at))
     }
