@@ -1,5 +1,5 @@
 -- Loops over one class.
-use Rattle.std.proofs.Common.{◌≡◌, ◌∙◌, ℕ, ◌+◌, ◌-◌, ◌<◌, ◌≤◌, ◌⊎◌, inl, inr, Bool, List, [], ◌∷◌, Option, Some, None, true, false, refl, sym, ap, ap₂, subst, arith, length, leb-true, le-leb, lt-ltb, ◌&&◌, nat_le, zero, suc, IsCharBoundary}
+use Rattle.std.proofs.Common.{◌≡◌, ◌∙◌, ℕ, ◌+◌, ◌-◌, ◌<◌, ◌≤◌, ◌⊎◌, inl, inr, Bool, List, [], ◌∷◌, Option, Some, None, true, false, true≢false, refl, sym, ap, ap₂, subst, arith, length, leb-true, le-leb, lt-ltb, ◌&&◌, nat_le, zero, suc, IsCharBoundary}
 use Rattle.std.proofs.lemmas.Bool.{and_parts, and_from, and_left, cond-true, cases_lt}
 use Rattle.std.proofs.lemmas.Str.{len_utf8_bounds}
 use Rattle.std.specs.Char.{len_utf8}
@@ -11,6 +11,7 @@ use Rattle.fancy_regex_states.specs.First.{state_at}
 use Rattle.fancy_regex_states.specs.declared.atom.Leaf.{Leaf}
 use Rattle.fancy_regex_states.specs.declared.state.State.{State}
 use Rattle.fancy_regex_states.specs.declared.state.State.TheVariants.{Read}
+use Rattle.fancy_regex_states.specs.declared.state.State.TheVariants.{Match as End}
 use Rattle.fancy_regex_runner.specs.CharTests.{read_next}
 use Rattle.fancy_regex_runner.specs.Meaning.{Spot, View, reads}
 use Rattle.fancy_regex_runner.specs.Attempt.{Trace, Continuation, either, save, accept, better_trace, better_spot, apply, land}
@@ -47,6 +48,26 @@ read_leads_on unicode matchers stop leaf next at (Some c) p =
     let some : 1 ≤ len_utf8 c = (len_utf8_bounds c).0 in
     (refl, omega arith, omega arith))
     (λ no. tt)
+
+-- whether it is the end of a match
+abbrev is_matched : Next → Bool
+is_matched (Pair q j) = false
+is_matched Back = false
+is_matched Matched = true
+
+not_pair : (q j : ℕ) → Pair q j ≡ Matched → ⊥
+not_pair q j e = true≢false (sym (ap is_matched e))
+
+not_back : Back ≡ Matched → ⊥
+not_back e = true≢false (sym (ap is_matched e))
+
+-- a state that reads is not the end of a match
+pub never_matched : (unicode : Bool) (matchers : List CharClassMatcher) (stop : ℕ) (leaf : Leaf) (next at : ℕ) (after : Option ℕ)
+    → read_next unicode matchers stop leaf next at after ≡ Matched → ⊥
+never_matched unicode matchers stop leaf next at None e = not_back e
+never_matched unicode matchers stop leaf next at (Some c) e =
+    next_if (λ n. n ≡ Matched → ⊥) (leaf_matches_char unicode matchers leaf c && nat_le (len_utf8 c) (stop - at)) (Pair next (at + len_utf8 c))
+    (λ yes e. not_pair next (at + len_utf8 c) e) (λ no e. not_back e) e
 
 none_above : (r : ℕ) (a : Option Trace) → Reaches false r a → r ≤ 0
 none_above r None h = absurd h
@@ -97,6 +118,11 @@ pub read_reader : (context : SearchContext) (q : ℕ) (leaf : Leaf) (next : ℕ)
 unfolding reads
 read_reader context q leaf next low is text view go explains i high b e =
     guard_no _ _ _ ((explains.agree q low).does i high ∙ ap (λ s. visit view context.stop go s i) is) (and_left _ _ ((explains.shows i b).has leaf ∙ e))
+
+-- the first of two ways, where the first is wanted
+first_trace : (t : Trace) (b : Option Trace) → better_trace false (Some t) b ≡ Some t
+first_trace t None = refl
+first_trace t (Some s) = refl
 
 -- what a visit of a loop leaves, once it marked a pair
 pub progresses : (next : Next) (marked now_marked len now_len : ℕ) → marked < now_marked → now_len + marked ≤ len + now_marked → Progresses next marked now_marked len now_len
@@ -150,6 +176,23 @@ module _ (context : SearchContext) (text : List ℕ) (view : View) (go : ℕ →
       ap (read_next context.rules.unicode context.matchers.now context.stop found.leaf id at) here
       ∙ cond-true _ _ _ (and_from _ _ matches (le-leb (len_utf8 c) (context.stop - at) fits))
       ∙ ap (λ n. Pair id (at + n)) long
+
+  -- where the first match is wanted, the loop matches as it does behind the character that it reads
+  pub reads_first : view.longest ≡ false → (next : ℕ) (t : Trace) → read_next context.rules.unicode context.matchers.now context.stop found.leaf id at (char_at text at) ≡ Pair id next
+      → (go id next).answer ≡ Some t → (go id at).answer ≡ Some t
+  reads_first first next t reads behind =
+      let one : LeadsTo go found.body at (Pair id next) = subst (LeadsTo go found.body at) reads body_leads in
+      ap (λ r. r.answer) head_does
+      ∙ ap₂ (λ (l : Bool) (x : Option Trace). better_trace l x (go found.exit at).answer) first (sym one.0 ∙ behind)
+      ∙ first_trace t (go found.exit at).answer
+
+  -- a loop before the end of the match that cannot read on ends there
+  pub ends_here : state_at context.states.now found.exit ≡ End → read_next context.rules.unicode context.matchers.now context.stop found.leaf id at (char_at text at) ≡ Back
+      → (go id at).answer ≡ Some (record { end = at; writes = [] })
+  ends_here kind reads =
+      let none : (go found.body at).answer ≡ None = subst (LeadsTo go found.body at) reads body_leads in
+      let ends : go found.exit at ≡ accept at = (explains.agree found.exit is.below.1).does at high ∙ ap (λ s. visit view context.stop go s at) kind in
+      ap (λ r. r.answer) head_does ∙ ap₂ (λ (a b : Option Trace). better_trace view.longest a b) none (ap (λ r. r.answer) ends)
 
   -- the loop reads on, and the exit is of no use
   pub passes_on : {goal best : Option Spot} {bottom slots : List ℕ} {Seen : ℕ → ℕ → Type 0} (rest : List Frame)
@@ -232,6 +275,23 @@ module _ (context : SearchContext) (text : List ℕ) (view : View) (go : ℕ →
         ]
       ])
       (subst (λ (k : ℕ). Dfs view.longest go goal best bottom (WithRun one id (at + 1) (at + 1 + n)) (Explore id k ∷ rest) slots) last next)
+
+-- a loop before the end of the match matches as it does behind its stretch, where the first match is wanted
+module _ (context : SearchContext) (text : List ℕ) (view : View) (go : ℕ → Continuation) (explains : Explains context text view go) (id : ℕ) (found : ClassLoop)
+    (is : IsLoop context.states.now id found) (state : id < length context.states.now) (kind : IsExit context found.exit Match)
+    (stretch : Stretch) (over : IsStretch context found.leaf Match stretch) (t : Trace) where
+  pub reads_stretch : (n at : ℕ) → at + n ≤ context.stop → ((i : ℕ) → at ≤ i → i < at + n → HasOver text stretch i)
+      → (go id (at + n)).answer ≡ Some t → (go id at).answer ≡ Some t
+  reads_stretch zero at high has h = let same : at + 0 ≡ at = omega arith in subst (λ (k : ℕ). (go id k).answer ≡ Some t) same h
+  reads_stretch (suc n) at high has h =
+      let here = has at (omega arith) (omega arith) in
+      let inside : at < context.stop = omega (arith, high) in
+      let on = over here.c here.small here.over in
+      let last : at + suc n ≡ at + 1 + n = omega arith in
+      let next = reads_stretch n (at + 1) (omega (arith, high)) (λ i low less. has i (omega (arith, low)) (omega (arith, less)))
+      (subst (λ (k : ℕ). (go id k).answer ≡ Some t) last h) in
+      let reads = reads_one context text view go explains id at found is state (omega (arith, inside)) here.boundary here.c here.here inside on.0 on.1 in
+      reads_first context text view go explains id at found is state (omega (arith, inside)) here.boundary (explains.longest ∙ kind.1) (at + 1) t reads next
 
 -- the place behind what a loop reads on over
 pub behind_is : (context : SearchContext) (text : List ℕ) (leaf : Leaf) (exit : Exit) (at : ℕ) (after : Option ℕ) → GoesOn context leaf exit after

@@ -17,6 +17,7 @@ use Rattle.fancy_regex_runner.specs.declared.class_loop.ClassLoop.{ClassLoop}
 use Rattle.fancy_regex_runner.specs.declared.class_loop.Exit.{Exit}
 use Rattle.fancy_regex_runner.specs.declared.class_loop.Exit.TheVariants.{Match, Reads, Other}
 use Rattle.fancy_regex_runner.specs.declared.class_loop.Place.{Place}
+use Rattle.fancy_regex_runner.specs.declared.scan.Scan.{Scan}
 use Rattle.fancy_regex_runner.specs.declared.class_loop.Stretch.{Stretch}
 use Rattle.fancy_regex_runner.specs.declared.search.SearchContext.{SearchContext}
 use Rattle.fancy_regex_runner.specs.declared.frame.Frame.{Frame}
@@ -105,6 +106,14 @@ IsOver stretch c = (slice_index_or stretch.members.now c false ≡ true) × IfSo
 -- a loop over this leaf reads on over what the stretch has, and the exit is of no use there
 abbrev pub IsStretch : SearchContext → Leaf → Exit → Stretch → Type 0
 IsStretch context leaf exit stretch = (c : ℕ) → c < 128 → IsOver stretch c → GoesOn context leaf exit (Some c)
+
+-- the pattern is one character, and behind it a greedy loop over one class, and the first match is wanted
+pub record IsScan (context : SearchContext) (scan : Scan) : Type 0 where
+  pub entry : state_at context.states.now context.entry ≡ Read scan.leaf scan.head
+  pub head : scan.head < length context.states.now
+  pub is_loop : IsLoop context.states.now scan.head scan.found
+  pub exit : IsExit context scan.found.exit Match
+  pub stretch : IsStretch context scan.found.leaf Match scan.stretch
 
 -- an ASCII character stands at i that the stretch has
 pub record HasOver (text : List ℕ) (stretch : Stretch) (i : ℕ) : Type 0 where

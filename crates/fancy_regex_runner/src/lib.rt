@@ -15,6 +15,7 @@ mod emit_both;
 mod frame;
 mod memory;
 mod node;
+mod scan;
 mod search;
 mod starts;
 mod state;

@@ -1,4 +1,4 @@
-use Rattle.std.proofs.Common.{◌≡◌, ℕ, ◌+◌, ◌-◌, ◌*◌, ◌^◌, ◌≤◌, ◌∙◌, min, List, Option, None, refl, sym, ap, ap₂, subst, arith, length}
+use Rattle.std.proofs.Common.{◌≡◌, ℕ, ◌+◌, ◌-◌, ◌*◌, ◌^◌, ◌≤◌, ◌∙◌, min, List, Option, Some, None, refl, sym, ap, ap₂, subst, arith, length}
 use Rattle.fancy_regex_class.specs.Looks.{looked_text, look_count}
 use Rattle.fancy_regex_runner.specs.Meaning.{Spot, View}
 use Rattle.fancy_regex_runner.specs.Attempt.{Continuation, land}
@@ -10,7 +10,7 @@ use Rattle.fancy_regex_runner.specs.declared.visited.Visited.{Visited}
 use Rattle.fancy_regex_runner.proofs.VisitedLemmas.{spent_most, looks_within, none_has}
 use Rattle.fancy_regex_runner.proofs.StartLemmas.{earliest_next, earliest_here, earliest_none, tried_next, tried_here, tried_none, behind_from, above_base, next_after}
 use Rattle.fancy_regex_runner.proofs.search.earliest_way.Goals as goal
-use Rattle.fancy_regex_runner.proofs.search.earliest_way.Goals.{After-next_start, After-begin, In_ok-end}
+use Rattle.fancy_regex_runner.proofs.search.earliest_way.Goals.{After-next_start, In-Some-scanned, After-begin, In_ok-end}
 
 pub starts-init : goal.starts-init
 starts-init c = record {
@@ -117,6 +117,40 @@ returns-in_err-end-clause-at_most c = bound (goal.at.returns-in_err-end-clause-a
 pub returns-in-Some-2-clause-at_most : goal.returns-in-Some-2-clause-at_most
 returns-in-Some-2-clause-at_most c = bound (goal.at.returns-in-Some-2-clause-at_most c).After-begin
 
+-- the same, where the pattern was scanned
+pub returns-in-Some-scanned-clause-at_most : goal.returns-in-Some-scanned-clause-at_most
+returns-in-Some-scanned-clause-at_most c =
+    let count : ℕ = length c.args.context.now.states.now in
+    let stop : ℕ = c.args.context.now.stop in
+    let is = c.in-Some-next_start.ensures.start in
+    let from = rw c.in-Some.is at c.starts.invariant.from in
+    let so_far = rw c.in-Some.is at c.starts.invariant.at_most in
+    let cap = capped c.starts.visited stop count c.starts.invariant.count c.starts.invariant.base.1 c.starts.invariant.rows in
+    looks_within (look_count c.scanned.new.text) (look_count c.args.text.now) (spent c.starts.visited) c.args.start stop count (stop + 1 - c.args.start) c.requires.range.0
+    (omega (arith, so_far, c.scanned.ensures.at_most, c.in-Some-next_start.ensures.at_most, from.0, from.1, is.low, is.high)) cap (omega (arith, c.requires.range.0))
+
+scan_ends : (c : In-Some-scanned) (view : View) (go : ℕ → Continuation) → Explains c.args.context.now (looked_text c.args.text.now) view go
+    → ended (Some c.in-Some-scanned.end) c.starts.backtrack.slots.items ≡ spot_from go c.args.context.now.entry c.args.backtrack.now.slots.items c.in-Some-next_start.place.at
+scan_ends c view go explains =
+    let inv = c.starts.invariant.found view go explains in
+    let here : Explains c.args.context.now (looked_text c.next_start.new.text) view go = rw (c.next_start.ensures.text, c.starts.invariant.text) explains in
+    c.in-Some-scanned.ensures.value view go here c.starts.backtrack.slots.items ∙ ap (λ s. land s (go c.args.context.now.entry c.in-Some-next_start.place.at).answer) inv.1
+
+pub returns-in-Some-scanned-clause-answer : goal.returns-in-Some-scanned-clause-answer
+returns-in-Some-scanned-clause-answer c view go explains =
+    let d = (goal.at.returns-in-Some-scanned-clause-answer c).After-next_start in
+    let over = rw c.in-Some-next_start.is at (passed d view go explains) in
+    sym (over.0 ∙ earliest_here (spot d go) c.in-Some-next_start.place.at _ _ (sym (scan_ends (goal.at.returns-in-Some-scanned-clause-answer c).In-Some-scanned view go explains)))
+
+pub returns-in-Some-scanned-clause-at_least : goal.returns-in-Some-scanned-clause-at_least
+returns-in-Some-scanned-clause-at_least c view go explains =
+    let d = (goal.at.returns-in-Some-scanned-clause-at_least c).After-next_start in
+    let over = rw c.in-Some-next_start.is at (passed d view go explains) in
+    let one = tried_here (spot d go) c.in-Some-next_start.place.at
+    (places_from (looked_text c.args.text.now) c.args.anchored c.in-Some-next_start.place.next c.args.context.now.stop) _
+    (sym (scan_ends (goal.at.returns-in-Some-scanned-clause-at_least c).In-Some-scanned view go explains)) in
+    omega (arith, over.1, one, c.scanned.ensures.more)
+
 -- what is known of the attempt
 record Attempted (c : In_ok-end) (view : View) (go : ℕ → Continuation) : Type 0 where
   pub value : ended c.in_ok-end.field-0 c.begin.new.backtrack.slots.items ≡ spot_from go c.args.context.now.entry c.args.backtrack.now.slots.items c.in-Some-next_start.place.at
@@ -125,7 +159,7 @@ record Attempted (c : In_ok-end) (view : View) (go : ℕ → Continuation) : Typ
 tried : (c : In_ok-end) (view : View) (go : ℕ → Continuation) → Explains c.args.context.now (looked_text c.args.text.now) view go → Attempted c view go
 tried c view go explains =
     let inv = c.starts.invariant.found view go explains in
-    let here : Explains c.args.context.now (looked_text c.next_start.new.text) view go = rw (c.next_start.ensures.text, c.starts.invariant.text) explains in
+    let here : Explains c.args.context.now (looked_text c.scanned.new.text) view go = rw (c.scanned.ensures.text, c.next_start.ensures.text, c.starts.invariant.text) explains in
     let value = c.in_ok-end.ensures.value view go here inv.0 in
     record {
       value = value ∙ ap (λ s. land s (go c.args.context.now.entry c.in-Some-next_start.place.at).answer) inv.1;
@@ -186,6 +220,6 @@ starts-preserved c =
       farthest = c.begin.auto.farthest ∙ c.starts.invariant.farthest;
       at_most = omega (arith, so_far, c.begin.ensures.counted, c.in-Some-next_start.ensures.at_most, from.0, is.low, after);
       more = omega (arith, c.next_start.ensures.more, c.begin.ensures.more, c.starts.invariant.more);
-      text = c.begin.ensures.text ∙ c.next_start.ensures.text ∙ c.starts.invariant.text;
-      same_counter = c.begin.ensures.same_counter ∙ c.next_start.ensures.same_counter ∙ c.starts.invariant.same_counter;
+      text = c.begin.ensures.text ∙ c.scanned.ensures.text ∙ c.next_start.ensures.text ∙ c.starts.invariant.text;
+      same_counter = c.begin.ensures.same_counter ∙ c.scanned.ensures.same_counter ∙ c.next_start.ensures.same_counter ∙ c.starts.invariant.same_counter;
     }
