@@ -1,5 +1,5 @@
-use Rattle.std.proofs.Common.{◌≡◌, ◌∙◌, ◌+◌, ◌-◌, ◌<◌, ◌≤◌, ℕ, Option, None, sym, ap, subst, arith, length, inl, inr, IsCharBoundary}
-use Rattle.regex_hir.specs.Text.{char_at, char_before}
+use Rattle.std.proofs.Common.{◌≡◌, ◌∙◌, ◌+◌, ◌-◌, ◌<◌, ◌≤◌, ℕ, sym, ap, subst, arith, length, inl, inr, IsCharBoundary}
+use Rattle.regex_hir.specs.Text.{char_at}
 use Rattle.fancy_regex_class.specs.Looks.{looked_text}
 use Rattle.fancy_regex_runner.specs.Meaning.{View}
 use Rattle.fancy_regex_runner.specs.Attempt.{Continuation}

@@ -1,5 +1,5 @@
-use Rattle.std.proofs.Common.{◌≡◌, ◌+◌, ◌*◌, ◌^◌, ◌%◌, ◌∙◌, ◌++◌, ◌∷◌, [], refl, ap, arith, set, replicate, false, true}
-use Rattle.fancy_regex_runner.specs.Visited.{flags, flags_of}
+use Rattle.std.proofs.Common.{◌+◌, ◌∙◌, refl, ap}
+use Rattle.fancy_regex_runner.specs.Visited.{flags}
 use Rattle.fancy_regex_runner.proofs.VisitedLemmas.{flags-appended, adds_appended, counted_appended, same_flags, on_err}
 use Rattle.fancy_regex_runner.proofs.visited.Visited.append.Goals as goal
 
