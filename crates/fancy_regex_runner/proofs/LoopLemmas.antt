@@ -14,7 +14,7 @@ use Rattle.fancy_regex_states.specs.declared.state.State.TheVariants.{Read}
 use Rattle.fancy_regex_states.specs.declared.state.State.TheVariants.{Match as End}
 use Rattle.fancy_regex_runner.specs.CharTests.{read_next}
 use Rattle.fancy_regex_runner.specs.Meaning.{Spot, View, reads}
-use Rattle.fancy_regex_runner.specs.Attempt.{Trace, Continuation, either, save, accept, better_trace, better_spot, apply, land}
+use Rattle.fancy_regex_runner.specs.Attempt.{Trace, Continuation, score, either, save, accept, better_trace, better_spot, apply, land}
 use Rattle.fancy_regex_runner.specs.Program.{visit}
 use Rattle.fancy_regex_runner.specs.Visited.{Adds, AddsRun}
 use Rattle.fancy_regex_runner.specs.Search.{IsLoop, IsReader, IsExit, IsStretch, HasOver, GoesOn, LeadsTo, Explains, Dfs, After, Progresses, Reaches, pending, slots_at_bottom, with_next}
@@ -29,6 +29,7 @@ use Rattle.fancy_regex_runner.specs.declared.class_loop.Stretch.{Stretch}
 use Rattle.fancy_regex_runner.specs.declared.class_loop.Exit.TheVariants.{Match, Reads, Other}
 use Rattle.fancy_regex_runner.proofs.DfsLemmas.{Dfs-split, Dfs-fewer, first_is_best, guard_no}
 use Rattle.fancy_regex_runner.proofs.LeadLemmas.{ComesTo, led, under, Dfs-comes, after_led, saved_fails}
+use Rattle.fancy_regex_runner.proofs.WaysLemmas.{better-None}
 use Rattle.fancy_regex_runner.proofs.StepLemmas.{next_if, read_leads}
 
 -- it leads on to this state, behind `at`, if it leads on
@@ -222,6 +223,24 @@ module _ (context : SearchContext) (text : List ℕ) (view : View) (go : ℕ →
       kind text view go explains at high boundary (ap (λ o. is_some_and o (leaf_matches_char context.rules.unicode context.matchers.now leaf)) here ∙ on.2) in
       goes_round rest Back none d id (at + 1) (reads_one c here inside on.0 on.1)
   passes_on rest d c Other kind here inside on = absurd on.2
+
+  -- where the exit refuses the character that the loop reads, the loop comes to the same behind it
+  pub reads_same : (leaf : Leaf) → IsExit context found.exit (Reads leaf) → (c : ℕ) → char_at text at ≡ Some c → at < context.stop → GoesOn context found.leaf (Reads leaf) (Some c)
+      → (go id at).answer ≡ (go id (at + 1)).answer
+  reads_same leaf kind c here inside on =
+      let none : (go found.exit at).answer ≡ None =
+      kind text view go explains at high boundary (ap (λ o. is_some_and o (leaf_matches_char context.rules.unicode context.matchers.now leaf)) here ∙ on.2) in
+      let one : LeadsTo go found.body at (Pair id (at + 1)) = subst (LeadsTo go found.body at) (reads_one c here inside on.0 on.1) body_leads in
+      ap (λ r. r.answer) head_does
+      ∙ ap (λ (x : Option Trace). better_trace view.longest (go found.body at).answer x) none
+      ∙ better-None (λ (t : Trace). score view.longest t.end) (go found.body at).answer
+      ∙ sym one.0
+
+  -- the loop fails where it cannot read on, and its exit fails
+  pub both_fail : (go found.exit at).answer ≡ None → read_next context.rules.unicode context.matchers.now context.stop found.leaf id at (char_at text at) ≡ Back → (go id at).answer ≡ None
+  both_fail none reads =
+      let body : (go found.body at).answer ≡ None = subst (LeadsTo go found.body at) reads body_leads in
+      ap (λ r. r.answer) head_does ∙ ap₂ (λ (a b : Option Trace). better_trace view.longest a b) body none
 
   pub passes_after : {goal best : Option Spot} {bottom slots : List ℕ} {Seen : ℕ → ℕ → Type 0} (rest : List Frame)
       → Dfs view.longest go goal best bottom Seen (Explore found.body at ∷ Explore found.exit at ∷ rest) slots

@@ -450,3 +450,12 @@ pub looks_within : (looks old spent start stop count extra : ℕ) → start ≤ 
 looks_within looks old spent start stop count extra low a b c =
     let split : stop + 1 ≡ start + (stop - start + 1) = omega arith in
     looks_in looks old spent start (stop - start + 1) count extra a (subst (λ (k : ℕ). spent ≤ k * count) split b) c
+
+-- dropping the rows before a later place spends as many more as there are places
+pub spent_ahead : (old new : Visited) (from n : ℕ) → old.base ≤ from → old.rows ≤ from - old.base → new.base ≡ from + n → new.count ≡ old.count → 0 < old.count
+    → spent old + n ≤ spent new
+spent_ahead old new from n low rows base count some =
+    let most = spent_dropped old from low rows in
+    let one : n * 1 ≤ n * old.count = mul-le n 1 n old.count (omega arith) (omega (arith, some)) in
+    let all : new.base * new.count ≡ (from + n) * old.count = ap₂ (λ (a b : ℕ). a * b) base count in
+    omega (arith, most, one, all)

@@ -104,12 +104,22 @@ impl Visited {
         ensures rows { (stop : ℕ) → self.old.rows ≤ stop - self.old.base + 1 → self.new.rows ≤ stop - self.new.base + 1 }
         ensures pairs { (q i : ℕ) → Has self.new q i → Has self.old q i }
         ensures spent { spent self.old ≤ spent self.new }
+        ensures dropped { self.old.rows ≤ from - self.old.base → (self.new.base ≡ from) × (self.new.rows ≡ 0) }
     {
         if self.rows <= from - self.base {
             self.words.clear();
             self.rows = 0;
             self.base = from;
         }
+    }
+
+    /// Whether all rows are of byte offsets before `from`.
+    #[inline(always)]
+    pub fn is_behind(&self, from: usize) -> bool
+        requires { self.now.base ≤ from }
+        ensures { result ≡ true → self.now.rows ≤ from - self.now.base }
+    {
+        self.rows <= from - self.base
     }
 
     /// Sets the bit of a pair whose row exists; returns whether it was clear.
