@@ -1,5 +1,5 @@
 -- Starts that are led to the end of the stretch of a loop.
-use Rattle.std.proofs.Common.{◌≡◌, ◌∙◌, ◌⊎◌, inl, inr, ℕ, zero, suc, ◌+◌, ◌-◌, ◌*◌, ◌<◌, ◌≤◌, ◌&&◌, nat_le, Bool, true, false, true≢false, List, ◌∷◌, Option, Some, None, length, refl, sym, ap, ap₂, subst, arith, lt-ltb, IsCharBoundary}
+use Rattle.std.proofs.Common.{◌≡◌, ◌∙◌, ◌⊎◌, inl, inr, ℕ, zero, suc, ◌+◌, ◌-◌, ◌<◌, ◌≤◌, ◌&&◌, nat_le, Bool, true, false, true≢false, List, Option, Some, None, length, refl, sym, ap, subst, arith, lt-ltb, IsCharBoundary}
 use Rattle.std.specs.Prelude.{is_some}
 use Rattle.std.specs.Char.{len_utf8}
 use Rattle.std.proofs.lemmas.Bool.{cond-true}
@@ -8,8 +8,7 @@ use Rattle.fancy_regex_class.specs.declared.class.CharClassMatcher.{CharClassMat
 use Rattle.fancy_regex_states.specs.CharTests.{leaf_matches_char}
 use Rattle.fancy_regex_states.specs.First.{state_at}
 use Rattle.fancy_regex_states.specs.declared.atom.Leaf.{Leaf}
-use Rattle.fancy_regex_states.specs.declared.state.State.{State}
-use Rattle.fancy_regex_states.specs.declared.state.State.TheVariants.{Read, Enter}
+use Rattle.fancy_regex_states.specs.declared.state.State.TheVariants.{Read}
 use Rattle.fancy_regex_runner.specs.CharTests.{read_next}
 use Rattle.fancy_regex_runner.specs.Meaning.{Spot, View}
 use Rattle.fancy_regex_runner.specs.Attempt.{Trace, Continuation, write, land}

@@ -1,5 +1,5 @@
 -- Starts that are led to the end of the stretch of a loop.
-use Rattle.std.specs.Prelude.{◌≡◌, ◌+◌, ◌*◌, ◌<◌, ◌≤◌, ℕ, false, List, Option, Some, None, length, slice_set, IsCharBoundary}
+use Rattle.std.specs.Prelude.{◌≡◌, ◌*◌, ◌<◌, ◌≤◌, ℕ, false, List, Option, Some, None, length, slice_set, IsCharBoundary}
 use Rattle.regex_hir.specs.Text.{char_at}
 use Rattle.fancy_regex_states.specs.First.{state_at}
 use Rattle.fancy_regex_states.specs.declared.state.State.{State}

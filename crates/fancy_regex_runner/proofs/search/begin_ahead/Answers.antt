@@ -1,4 +1,4 @@
-use Rattle.std.proofs.Common.{◌≡◌, ◌∙◌, ℕ, Bool, true, false, true≢false, List, Option, Some, None, refl, sym, ap}
+use Rattle.std.proofs.Common.{◌≡◌, ◌∙◌, ℕ, Bool, true, false, true≢false, Option, Some, None, refl, sym, ap}
 use Rattle.std.specs.Prelude.{is_some, not}
 use Rattle.fancy_regex_class.specs.Looks.{looked_text}
 use Rattle.fancy_regex_runner.specs.Meaning.{View}
