@@ -113,6 +113,11 @@ module _ (longest : Bool) where
     unfolding pending slots_at_bottom
     Dfs-done d = (sym (sym (better-None (λ (s : Spot). score longest s.at) best) ∙ d.value), d.unwinds)
 
+    -- the same where fewer pairs are marked
+    pub Dfs-fewer : {Fewer : ℕ → ℕ → Type 0} {stack : List Frame} {slots : List ℕ} → ((p j : ℕ) → Fewer p j → Seen p j)
+        → Dfs longest go goal best bottom Seen stack slots → Dfs longest go goal best bottom Fewer stack slots
+    Dfs-fewer fewer d = record { value = d.value; covers = λ p j r seen ok. d.covers p j r (fewer p j seen) ok; unwinds = d.unwinds }
+
     -- A pair that was marked before is dropped: what it reaches was found, since nothing is less deep than itself.
     pub Dfs-seen : {After : ℕ → ℕ → Type 0} {q i : ℕ} {rest : List Frame} {slots : List ℕ} → Dfs longest go goal best bottom Seen (Explore q i ∷ rest) slots
         → Seen q i → Adds Seen After q i → Dfs longest go goal best bottom After rest slots

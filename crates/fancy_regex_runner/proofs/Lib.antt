@@ -24,3 +24,4 @@ pub mod ShapeLemmas
 pub mod BuildLemmas
 pub mod TranslationLemmas
 pub mod ServedLemmas
+pub mod AheadLemmas

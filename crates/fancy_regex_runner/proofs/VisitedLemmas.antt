@@ -1,6 +1,6 @@
 -- Rows of bits as flags.
-use Rattle.std.proofs.Common.{◌≡◌, ℕ, zero, suc, ◌+◌, ◌-◌, ◌*◌, ◌/◌, ◌%◌, ◌^◌, ◌<◌, ◌≤◌, ◌⊎◌, Bool, true, false, not, cond, eqb, List, ◌++◌, length, map, replicate, get_or, set, refl, sym, ◌∙◌, ap, subst, inl, inr, arith, ext_get_or, length-set, length-append, get_or-set_same, get_or-set_other, eq-eqb, ne_eqb, w64, true≢false}
-use Rattle.std.proofs.lemmas.List.{length-replicate, get_or-replicate, get_or_past, set-get_or, get_or_append_left, get_or-append_right}
+use Rattle.std.proofs.Common.{◌≡◌, ℕ, zero, suc, ◌+◌, ◌-◌, ◌*◌, ◌/◌, ◌%◌, ◌^◌, ◌<◌, ◌≤◌, ◌⊎◌, Bool, true, false, not, cond, eqb, List, [], ◌∷◌, ◌++◌, length, map, replicate, get_or, set, refl, sym, ◌∙◌, ap, ap₂, subst, inl, inr, arith, ext_get_or, append_assoc, append-nil, length-set, length-append, get_or-set_same, get_or-set_other, eq-eqb, ne_eqb, w64, true≢false, take, ◌&&◌, ◌==◌, if◌then◌else◌, eqb-true, Result, Ok, Err}
+use Rattle.std.proofs.lemmas.List.{take_all, length-replicate, get_or-replicate, get_or_past, set-get_or, get_or_append_left, get_or-append_right}
 use Rattle.std.proofs.lemmas.List.Sums.{sum_by-set, sum_by-append, count_by-le-length}
 use Rattle.std.proofs.lemmas.List.Folds.{sum_by-replicate}
 use Rattle.std.proofs.lemmas.List.FromFn.{length-map-range_with_len, get_or-map-range_with_len}
@@ -8,12 +8,20 @@ use Rattle.std.proofs.lemmas.Bool.{cases_eq, cases_lt, not-true, not-false}
 use Rattle.std.proofs.lemmas.Nat.{one_shl, pow_pos, same_from_place, mul-le}
 use Rattle.std.proofs.lemmas.Nat.Bits.{bit_at_set_same, bit_at_set_other, bit_at-zero, and_pow}
 use Rattle.std.specs.Prelude.{bit_and, bit_or, count_by}
+use Rattle.std.specs.Result.{OnErr}
 use Rattle.std.specs.Bool.{MatchBool}
 use Rattle.std.specs.Int.{bit_at}
 use Rattle.std.specs.List.{range_with_len}
 use Rattle.std.proofs.Math.Nat.{mul-le-mul_left}
-use Rattle.fancy_regex_runner.specs.Visited.{flag_at, flags, flags_of, Has, members, spent, Adds, IsSame}
+use Rattle.std.proofs.Math.Seq.{set-append_seam}
+use Rattle.std.specs.Int.Bits.{or_zero_l}
+use Rattle.fancy_regex_runner.specs.Visited.{flag_at, flags, flags_of, Has, members, spent, Adds, AddsRun, IsSame, spare}
 use Rattle.fancy_regex_runner.specs.declared.visited.Visited.{Visited}
+
+-- what holds anyway holds on an error
+pub on_err : {T E : Type 0} (r : Result T E) (P : Type 0) → P → OnErr r P
+on_err (Ok x) P p = tt
+on_err (Err e) P p = p
 
 -- the test `word & bit == 0`
 pub bit_clear : (word k : ℕ) → k < 64 → eqb (bit_and word (1 * 2 ^ k % 2 ^ 64)) 0 ≡ not (eqb (bit_at word k) 1)
@@ -182,6 +190,25 @@ module _ (count width rows : ℕ) (words : List ℕ) where
             ∙ sym (get_or-append_right old (replicate count false) (rows * count) j false len high ∙ falses_only count (j - rows * count))
       ]))
 
+-- a new row of one word with one bit
+pub flags-appended : (count width rows : ℕ) (words : List ℕ) (column : ℕ) → width ≡ count / 64 + 1 → width ≡ 1 → length words ≡ rows * width → column < count
+    → flags count width (rows + 1) (words ++ (1 * 2 ^ (column % 64) % 2 ^ 64) ∷ [])
+    ≡ set (flags count width rows words ++ replicate count false) (rows * count + column) true
+flags-appended count width rows words column wide one filled k =
+    let bit : ℕ = 1 * 2 ^ (column % 64) % 2 ^ 64 in
+    let more : List ℕ = words ++ replicate width 0 in
+    let is : more ≡ words ++ 0 ∷ [] = ap (λ n. words ++ replicate {A = ℕ} n 0) one in
+    let place : rows * width + column / 64 ≡ length words = omega (arith, wide, one, filled, k) in
+    let last : length (replicate {A = ℕ} width 0) ≡ width = length-replicate width 0 in
+    let longer : length more ≡ (rows + 1) * width = omega (arith, length-append words (replicate width 0), last, filled) in
+    let read : 0 ≡ get_or more (rows * width + column / 64) 0 =
+    sym (get_or-append_right words (replicate width 0) (length words) (rows * width + column / 64) 0 refl (omega (arith, place)) ∙ zeros_only width _) in
+    let made : set more (rows * width + column / 64) (bit_or 0 bit) ≡ words ++ bit ∷ [] =
+    ap₂ (λ (xs : List ℕ) (i : ℕ). set xs i (bit_or 0 bit)) is place ∙ ap (set (words ++ 0 ∷ []) (length words)) (or_zero_l bit) ∙ set-append_seam words 0 [] bit in
+    ap (flags count width (rows + 1)) (sym made)
+    ∙ flags-set count width (rows + 1) more rows column 0 wide longer (omega arith) k read
+    ∙ ap (λ xs. set xs (rows * count + column) true) (flags-row count width rows words wide filled)
+
 -- a flag past those that were there
 past_grown : (xs : List Bool) (n k : ℕ) → get_or (xs ++ replicate n false) k false ≡ true → get_or xs k false ≡ true
 past_grown xs n k h =
@@ -229,6 +256,138 @@ adds_set old new q i q_in low c b e p j h =
           let same = same_from_place (j - old.base) p (i - old.base) q old.count p_in q_in place in
           inr (same.1, omega (arith, same.0))
     ]
+
+-- a pair in a new row
+pub adds_appended : (old new : Visited) (q : ℕ) → q < old.count → new.count ≡ old.count → new.base ≡ old.base
+    → flags_of new ≡ set (flags_of old ++ replicate old.count false) (old.rows * old.count + q) true → Adds (Has old) (Has new) q (old.base + old.rows)
+unfolding Has
+adds_appended old new q q_in c b e p j h =
+    let p_in : p < old.count = rw c at h.0 in
+    let j_low : old.base ≤ j = rw b at h.1 in
+    let grown : List Bool = flags_of old ++ replicate old.count false in
+    let flag : get_or (set grown (old.rows * old.count + q) true) ((j - old.base) * old.count + p) false ≡ true =
+    ap (λ xs. get_or xs ((j - old.base) * old.count + p) false) (sym e) ∙ (rw (← c, ← b) h.2) in
+    elim (member-set grown _ _ flag) [
+      | inl there ↦ inl (p_in, j_low, past_grown (flags_of old) old.count _ there)
+      | inr place ↦
+          let same = same_from_place (j - old.base) p old.rows q old.count p_in q_in place in
+          inr (same.1, omega (arith, same.0))
+    ]
+
+-- it is one more
+pub count_appended : (old : List Bool) (rows count q : ℕ) → length old ≡ rows * count → q < count
+    → count_by (λ b. b) (set (old ++ replicate count false) (rows * count + q) true) ≡ count_by (λ b. b) old + 1
+count_appended old rows count q len q_in =
+    let one : Bool → ℕ = λ b. cond b 1 0 in
+    let falses : List Bool = replicate count false in
+    let grown : List Bool = old ++ falses in
+    let k : ℕ = rows * count + q in
+    let last : length falses ≡ count = length-replicate count false in
+    let within : k < length grown = omega (arith, length-append old falses, len, last, q_in) in
+    let sum : count_by (λ b. b) (set grown k true) + one (get_or grown k false) ≡ count_by (λ b. b) grown + 1 = sum_by-set one grown k true false within in
+    let clear : get_or grown k false ≡ false =
+    get_or-append_right old falses (rows * count) k false len (omega arith) ∙ falses_only count (k - rows * count) in
+    let none : one (get_or grown k false) ≡ 0 = ap one clear in
+    let empty : ◌≡◌ {A = ℕ} (count_by (λ b. b) falses) 0 = sum_by-replicate one count false ∙ omega arith in
+    let both : count_by (λ b. b) grown ≡ count_by (λ b. b) old + count_by (λ b. b) falses = sum_by-append one old falses in
+    omega (arith, sum, none, empty, both)
+
+pub counted_appended : (old new : Visited) (q : ℕ) → q < old.count
+    → flags_of new ≡ set (flags_of old ++ replicate old.count false) (old.rows * old.count + q) true → members new ≡ members old + 1
+unfolding members
+counted_appended old new q q_in e =
+    ap (count_by (λ b. b)) e
+    ∙ count_appended (flags_of old) old.rows old.count q (length-flags old.count old.width old.rows old.words.items) q_in
+
+-- New rows of one word each, with one bit.
+module _ (count width column : ℕ) (wide : width ≡ count / 64 + 1) (one : width ≡ 1) (low : column < count) where
+  abbrev bit : ℕ
+  bit = 1 * 2 ^ (column % 64) % 2 ^ 64
+
+  abbrev after_run : ℕ → ℕ → List ℕ → List Bool
+  after_run n rows words = flags count width (rows + n) (words ++ replicate n bit)
+
+  -- the first of them, and the others
+  run_begins : (n rows : ℕ) (words : List ℕ) → after_run (suc n) rows words ≡ after_run n (rows + 1) (words ++ bit ∷ [])
+  run_begins n rows words =
+      let more : rows + suc n ≡ rows + 1 + n = omega arith in
+      ap₂ (λ (r : ℕ) (ws : List ℕ). flags count width r ws) more (sym (append_assoc words (bit ∷ []) (replicate n bit)))
+
+  filled_again : (rows : ℕ) (words : List ℕ) → length words ≡ rows * width → length (words ++ bit ∷ []) ≡ (rows + 1) * width
+  filled_again rows words filled = omega (arith, length-append words (bit ∷ []), filled, one)
+
+  -- a flag is an old one, or that of the column in a new row
+  pub run_flag : (n rows : ℕ) (words : List ℕ) (k : ℕ) → length words ≡ rows * width → get_or (after_run n rows words) k false ≡ true
+      → (get_or (flags count width rows words) k false ≡ true) ⊎ ((i : ℕ) × (rows ≤ i) × (i < rows + n) × (k ≡ i * count + column))
+  run_flag zero rows words k filled h =
+      let same : rows + 0 ≡ rows = omega arith in
+      inl (ap (λ xs. get_or xs k false) (ap₂ (λ (r : ℕ) (ws : List ℕ). flags count width r ws) (sym same) (sym (append-nil words))) ∙ h)
+  run_flag (suc n) rows words k filled h =
+      elim (run_flag n (rows + 1) (words ++ bit ∷ []) k (filled_again rows words filled) (ap (λ xs. get_or xs k false) (sym (run_begins n rows words)) ∙ h)) [
+        | inl there ↦
+            elim (member-set (flags count width rows words ++ replicate count false) _ k
+            (ap (λ xs. get_or xs k false) (sym (flags-appended count width rows words column wide one filled low)) ∙ there)) [
+              | inl old ↦ inl (past_grown (flags count width rows words) count k old)
+              | inr place ↦ inr (rows, omega arith, omega arith, place)
+            ]
+        | inr behind ↦ inr (behind.0, omega (arith, behind.1), omega (arith, behind.2), behind.3)
+      ]
+
+  -- each is one more
+  pub run_count : (n rows : ℕ) (words : List ℕ) → length words ≡ rows * width
+      → count_by (λ b. b) (after_run n rows words) ≡ count_by (λ b. b) (flags count width rows words) + n
+  run_count zero rows words filled =
+      let same : rows + 0 ≡ rows = omega arith in
+      ap (count_by (λ b. b)) (ap₂ (λ (r : ℕ) (ws : List ℕ). flags count width r ws) same (append-nil words)) ∙ omega arith
+  run_count (suc n) rows words filled =
+      let rest = run_count n (rows + 1) (words ++ bit ∷ []) (filled_again rows words filled) in
+      let first : count_by (λ b. b) (flags count width (rows + 1) (words ++ bit ∷ [])) ≡ count_by (λ b. b) (flags count width rows words) + 1 =
+      ap (count_by (λ b. b)) (flags-appended count width rows words column wide one filled low)
+      ∙ count_appended (flags count width rows words) rows count column (length-flags count width rows words) low in
+      ap (count_by (λ b. b)) (run_begins n rows words) ∙ rest ∙ omega (arith, first)
+
+-- where there is room for new rows, they are the next ones, and of one word
+both_hold : (a b : Bool) (room n : ℕ) → 0 < n → n ≤ (if a && b then room else 0) → (a ≡ true) × (b ≡ true)
+both_hold true true room n some h = (refl, refl)
+both_hold true false room n some h = absurd (omega (arith, some, h))
+both_hold false b room n some h = absurd (omega (arith, some, h))
+
+pub spare_some : (v : Visited) (at n : ℕ) → 0 < n → n ≤ spare v at → (v.width ≡ 1) × (at - v.base ≡ v.rows)
+spare_some v at n some h =
+    let both = both_hold (v.width == 1) (at - v.base == v.rows) _ n some h in
+    (eqb-true _ _ both.0, eqb-true _ _ both.1)
+
+-- words that were filled up
+pub words_resized : (old new : List ℕ) (n len count bit : ℕ) (done : Bool) → done ≡ true → length old ≡ len → n ≡ len + count
+    → new ≡ (if done then take n old ++ replicate (n - len) bit else old) → new ≡ old ++ replicate count bit
+words_resized old new n len count bit false is all to e = absurd (true≢false (sym is))
+words_resized old new n len count bit true is all to e =
+    let rest : n - len ≡ count = omega (arith, to) in
+    e ∙ ap₂ (λ (xs : List ℕ) (m : ℕ). xs ++ replicate m bit) (take_all n old (omega (arith, all, to))) rest
+
+-- the pairs of a state in new rows
+pub adds_run : (old new : Visited) (q at n : ℕ) → old.width ≡ 1 → q < old.count → old.base ≤ at → at - old.base ≡ old.rows → new.count ≡ old.count → new.base ≡ old.base
+    → flags_of new ≡ flags old.count old.width (old.rows + n) (old.words.items ++ replicate n (1 * 2 ^ (q % 64) % 2 ^ 64))
+    → AddsRun (Has old) (Has new) q at (at + n)
+unfolding Has
+adds_run old new q at n narrow q_in low next c b e p j h =
+    let p_in : p < old.count = rw c at h.0 in
+    let j_low : old.base ≤ j = rw b at h.1 in
+    let flag : get_or (flags old.count old.width (old.rows + n) (old.words.items ++ replicate n (1 * 2 ^ (q % 64) % 2 ^ 64))) ((j - old.base) * old.count + p) false ≡ true =
+    ap (λ xs. get_or xs ((j - old.base) * old.count + p) false) (sym e) ∙ (rw (← c, ← b) h.2) in
+    elim (run_flag old.count old.width q old.wide narrow q_in n old.rows old.words.items _ old.filled flag) [
+      | inl there ↦ inl (p_in, j_low, there)
+      | inr behind ↦
+          let same = same_from_place (j - old.base) p behind.0 q old.count p_in q_in behind.3 in
+          inr (same.1, omega (arith, same.0, behind.1), omega (arith, same.0, behind.2))
+    ]
+
+pub counted_run : (old new : Visited) (q n : ℕ) → old.width ≡ 1 → q < old.count
+    → flags_of new ≡ flags old.count old.width (old.rows + n) (old.words.items ++ replicate n (1 * 2 ^ (q % 64) % 2 ^ 64))
+    → members new ≡ members old + n
+unfolding members
+counted_run old new q n narrow q_in e =
+    ap (count_by (λ b. b)) e ∙ run_count old.count old.width q old.wide narrow q_in n old.rows old.words.items old.filled
 
 -- a pair whose flag is set is in the set
 pub has_flag : (v : Visited) (q i : ℕ) → q < v.count → v.base ≤ i → get_or (flags_of v) ((i - v.base) * v.count + q) false ≡ true → Has v q i
@@ -291,3 +450,12 @@ pub looks_within : (looks old spent start stop count extra : ℕ) → start ≤ 
 looks_within looks old spent start stop count extra low a b c =
     let split : stop + 1 ≡ start + (stop - start + 1) = omega arith in
     looks_in looks old spent start (stop - start + 1) count extra a (subst (λ (k : ℕ). spent ≤ k * count) split b) c
+
+-- dropping the rows before a later place spends as many more as there are places
+pub spent_ahead : (old new : Visited) (from n : ℕ) → old.base ≤ from → old.rows ≤ from - old.base → new.base ≡ from + n → new.count ≡ old.count → 0 < old.count
+    → spent old + n ≤ spent new
+spent_ahead old new from n low rows base count some =
+    let most = spent_dropped old from low rows in
+    let one : n * 1 ≤ n * old.count = mul-le n 1 n old.count (omega arith) (omega (arith, some)) in
+    let all : new.base * new.count ≡ (from + n) * old.count = ap₂ (λ (a b : ℕ). a * b) base count in
+    omega (arith, most, one, all)

@@ -14,3 +14,4 @@ pub mod Easy
 pub mod Runner
 pub mod Refusals
 pub mod Translation
+pub mod Ahead

@@ -12,9 +12,13 @@ use Rattle.fancy_regex_states.specs.declared.state.State.TheVariants.{Match as E
 use Rattle.fancy_regex_states.specs.declared.atom.Leaf.{Leaf}
 use Rattle.fancy_regex_states.specs.CharTests.{leaf_matches_char}
 use Rattle.regex_hir.specs.Text.{is_some_and, char_at}
+use Rattle.std.specs.Char.{len_utf8}
 use Rattle.fancy_regex_runner.specs.declared.class_loop.ClassLoop.{ClassLoop}
 use Rattle.fancy_regex_runner.specs.declared.class_loop.Exit.{Exit}
 use Rattle.fancy_regex_runner.specs.declared.class_loop.Exit.TheVariants.{Match, Reads, Other}
+use Rattle.fancy_regex_runner.specs.declared.class_loop.Place.{Place}
+use Rattle.fancy_regex_runner.specs.declared.scan.Scan.{Scan}
+use Rattle.fancy_regex_runner.specs.declared.class_loop.Stretch.{Stretch}
 use Rattle.fancy_regex_runner.specs.declared.search.SearchContext.{SearchContext}
 use Rattle.fancy_regex_runner.specs.declared.frame.Frame.{Frame}
 use Rattle.fancy_regex_runner.specs.declared.frame.Frame.TheVariants.{Explore, Restore}
@@ -48,6 +52,13 @@ pub record IsPair (text : List ℕ) (count stop base q i : ℕ) : Type 0 where
   pub low : base ≤ i
   pub high : i ≤ stop
   pub boundary : IsCharBoundary text i
+
+-- the state q at a place from `from` on, with the character there
+pub record IsPlace (text : List ℕ) (count stop base q from : ℕ) (place : Place) : Type 0 where
+  pub onward : from ≤ place.at
+  pub pair : IsPair text count stop base q place.at
+  pub after : place.after ≡ char_at text place.at
+  pub next : IfSome place.after (λ c. IsCharBoundary text (place.at + len_utf8 c))
 
 abbrev pub AllWithin : List ℕ → ℕ → ℕ → ℕ → List Frame → Type 0
 AllWithin text count stop base [] = Unit {0}
@@ -87,6 +98,30 @@ IsUseless context Other c = ⊥
 abbrev pub GoesOn : SearchContext → Leaf → Exit → Option ℕ → Type 0
 GoesOn context leaf exit None = ⊥
 GoesOn context leaf exit (Some c) = (c < 128) × (leaf_matches_char context.rules.unicode context.matchers.now leaf c ≡ true) × IsUseless context exit c
+
+-- the stretch has this ASCII character
+abbrev pub IsOver : Stretch → ℕ → Type 0
+IsOver stretch c = (slice_index_or stretch.members.now c false ≡ true) × IfSome stretch.wanted (λ w. w ≡ c → ⊥)
+
+-- a loop over this leaf reads on over what the stretch has, and the exit is of no use there
+abbrev pub IsStretch : SearchContext → Leaf → Exit → Stretch → Type 0
+IsStretch context leaf exit stretch = (c : ℕ) → c < 128 → IsOver stretch c → GoesOn context leaf exit (Some c)
+
+-- the pattern is one character, and behind it a greedy loop over one class, and the first match is wanted
+pub record IsScan (context : SearchContext) (scan : Scan) : Type 0 where
+  pub entry : state_at context.states.now context.entry ≡ Read scan.leaf scan.head
+  pub head : scan.head < length context.states.now
+  pub is_loop : IsLoop context.states.now scan.head scan.found
+  pub exit : IsExit context scan.found.exit Match
+  pub stretch : IsStretch context scan.found.leaf Match scan.stretch
+
+-- an ASCII character stands at i that the stretch has
+pub record HasOver (text : List ℕ) (stretch : Stretch) (i : ℕ) : Type 0 where
+  pub boundary : IsCharBoundary text i
+  pub c : ℕ
+  pub small : c < 128
+  pub here : char_at text i ≡ Some c
+  pub over : IsOver stretch c
 
 -- the table of first characters, if there is one, is that of the states
 abbrev pub HasTable : SearchContext → Type 0
@@ -140,6 +175,12 @@ module _ (longest : Bool) (go : ℕ → Continuation) where
   After Back i goal best bottom Seen stack slots = Dfs goal best bottom Seen stack slots
   After Matched i goal best bottom Seen stack slots =
       Dfs goal (better_spot longest best (Some (record { at = i; slots = slots }))) bottom Seen stack slots
+
+  -- the same after the head of a loop was visited: its body and its exit at this place are next
+  abbrev pub AtHead : ClassLoop → Option Place → Option Spot → Option Spot → List ℕ → (ℕ → ℕ → Type 0) → List Frame → List ℕ → Type 0
+  AtHead found None goal best bottom Seen stack slots = Dfs goal best bottom Seen stack slots
+  AtHead found (Some place) goal best bottom Seen stack slots =
+      Dfs goal best bottom Seen (Explore found.body place.at ∷ Explore found.exit place.at ∷ stack) slots
 
   -- each marked pair fails
   abbrev pub AllFail : (ℕ → ℕ → Type 0) → Type 0

@@ -1,5 +1,6 @@
 -- The starts of a search that are to be attempted.
-use Rattle.std.specs.Prelude.{◌≡◌, ◌⊎◌, ◌+◌, ◌<◌, ◌≤◌, ℕ, Bool, true, false, List, [], ◌∷◌, Option, Some, None, IfSome, IsCharBoundary, length}
+use Rattle.std.specs.Prelude.{◌≡◌, ◌⊎◌, ◌+◌, ◌<◌, ◌≤◌, ℕ, Bool, false, List, [], ◌∷◌, Option, Some, None, IfSome, IsCharBoundary, length}
+use Rattle.std.specs.Char.{len_utf8}
 use Rattle.regex_hir.specs.Text.{char_at}
 use Rattle.fancy_regex_class.specs.Looks.{HasMarkedAscii}
 use Rattle.fancy_regex_states.specs.First.{CannotFollow}
@@ -31,7 +32,13 @@ pub record IsStart (text : List ℕ) (stop from : ℕ) (start : Start) : Type 0 
   pub low : from ≤ start.at
   pub high : start.at ≤ stop
   pub boundary : IsCharBoundary text start.at
+  pub after : start.after ≡ char_at text start.at
+  pub past : IfSome start.after (λ c. IsCharBoundary text (start.at + len_utf8 c))
   pub behind : IfSome start.next (IsBehind text stop start.at)
+
+-- the match from the state q at i ends here, and no slots are written
+abbrev pub EndsAt : (ℕ → Continuation) → ℕ → ℕ → ℕ → Type 0
+EndsAt go q i end = (go q i).answer ≡ Some (record { end = end; writes = [] })
 
 -- where the starts end that were passed over: at the one that is to be attempted, or at the end of the range
 abbrev pub passed_to : ℕ → Option Start → ℕ

@@ -3,6 +3,7 @@
 ghost use Rattle.std.specs.Prelude.{◌≡◌, ℕ, List, ◌∷◌, ◌<◌, ◌≤◌, ◌+◌, ◌-◌, ◌*◌, ◌^◌, replicate, vec_len, IfSome, IfNone, IfOk, OnOk, slice_set, slice_index, length};
 ghost use Rattle.std.specs.Bool.{MatchBool};
 ghost use Rattle.fancy_regex_runner.specs.Search.{top_first, with_next, put_back, resume_result};
+ghost use Rattle.fancy_regex_runner.specs.Ahead.{slots_with};
 ghost use Rattle.fancy_regex_runner.specs.declared.frame.Frame.TheVariants.{Explore, Restore};
 
 use crate::frame::{Frame, Next};
@@ -80,6 +81,25 @@ impl BacktrackState {
             Next::Pair(state, at) => self.leave(state, at),
             Next::Back | Next::Matched => Ok(()),
         }
+    }
+
+    /// Writes to a slot, if there is one, and pushes nothing; returns its old value, with which the same call undoes it.
+    #[inline(always)]
+    pub fn set_slot(&mut self, slot: Option<usize>, value: usize) -> usize
+        ensures written { self.new.slots.items ≡ slots_with slot value self.old.slots.items }
+        ensures undone { slots_with slot result self.new.slots.items ≡ self.old.slots.items }
+        ensures stack { self.new.stack ≡ self.old.stack }
+        ensures slots { vec_len self.new.slots ≡ vec_len self.old.slots }
+    {
+        let Some(slot) = slot else {
+            return value;
+        };
+        if slot >= self.slots.len() {
+            return value;
+        }
+        let old = self.slots[slot];
+        self.slots[slot] = value;
+        old
     }
 
     /// Writes to a slot and pushes its old value; returns whether the slot exists. The error is want of memory.

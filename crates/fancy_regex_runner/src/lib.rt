@@ -15,6 +15,8 @@ mod emit_both;
 mod frame;
 mod memory;
 mod node;
+mod run_ahead;
+mod scan;
 mod search;
 mod starts;
 mod state;

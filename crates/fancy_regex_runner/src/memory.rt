@@ -38,19 +38,22 @@ impl SearchMemory {
         self.answer = answer;
     }
 
-    /// A copy of the slots of the way that was found, in the memory of an answer that was given back. The error is want of
-    /// memory, and then that memory is gone.
+    /// The slots of the way that was found, which are gone then; an answer that was given back serves in their place, if it has
+    /// the room, and else they are copied. The error is want of memory.
     pub(crate) fn take_answer(&mut self, alloc: Global) -> Result<Vec<usize>, AllocError>
         ensures value { IfOk result (λ answer. answer.items ≡ self.old.backtrack.slots.items) }
     {
         let mut answer = mem::replace(&mut self.answer, Vec::new(alloc));
+        if answer.capacity() >= self.backtrack.slots.len() {
+            return Ok(mem::replace(&mut self.backtrack.slots, answer));
+        }
         answer.clear();
         answer.extend_from_slice(&self.backtrack.slots)?;
         Ok(answer)
     }
 
     /// Begins a search over `count` states and the byte offsets from `base` on, of a pattern with so many groups: nothing is
-    /// visited, there are no frames, and all slots are unset. The error is want of memory.
+    /// visited, there are no frames, all slots are unset, and there are as many of the farthest way. The error is want of memory.
     pub(crate) fn restart(
         &mut self,
         count: usize,
@@ -60,11 +63,13 @@ impl SearchMemory {
         ensures visited { OnOk result ((self.new.visited.count ≡ count) × (self.new.visited.base ≡ base) × (self.new.visited.rows ≡ 0)) }
         ensures stack { OnOk result (vec_len self.new.backtrack.stack ≡ 0) }
         ensures slots { OnOk result (self.new.backtrack.slots.items ≡ replicate (2 * groups) (2 ^ 64 - 1)) }
-        ensures farthest { OnOk result (self.new.farthest.items ≡ replicate (2 * groups) (2 ^ 64 - 1)) }
+        ensures farthest { OnOk result (vec_len self.new.farthest ≡ 2 * groups) }
     {
         self.visited.restart(count, base);
         self.backtrack.restart(groups)?;
-        unset(&mut self.farthest, groups)?;
+        if self.farthest.len() != self.backtrack.slots.len() {
+            unset(&mut self.farthest, groups)?;
+        }
         Ok(())
     }
 }

@@ -23,7 +23,7 @@ pub struct Visited {
 }
 
 impl Visited {
-    ghost use Rattle.fancy_regex_runner.specs.Visited.{Has, members, spent, Adds, IsSame};
+    ghost use Rattle.fancy_regex_runner.specs.Visited.{Has, members, spent, Adds, AddsRun, IsSame, spare};
 
     /// The empty set, for no states. It allocates nothing.
     pub fn new(alloc: Global) -> Visited {
@@ -63,6 +63,24 @@ impl Visited {
         Ok(())
     }
 
+    /// Adds a pair in a new row, behind the last one, where a row is one word. The error is want of memory, and then the set
+    /// is unchanged.
+    #[inline(always)]
+    fn append(&mut self, state: usize) -> Result<(), AllocError>
+        requires state { state < self.old.count }
+        requires narrow { self.old.width ≡ 1 }
+        requires rows { self.old.rows < 2 ^ 64 - 1 }
+        ensures same { (self.new.count ≡ self.old.count) × (self.new.base ≡ self.old.base) }
+        ensures rows { OnOk result (self.new.rows ≡ self.old.rows + 1) }
+        ensures adds { OnOk result (Adds (Has self.old) (Has self.new) state (self.old.base + self.old.rows)) }
+        ensures counted { OnOk result (members self.new ≡ members self.old + 1) }
+        ensures err { OnErr result ((self.new.rows ≡ self.old.rows) × IsSame self.old self.new) }
+    {
+        self.words.push(1u64 << (state % 64))?;
+        self.rows += 1;
+        Ok(())
+    }
+
     /// Adds rows up to that of the byte offset `at`. The error is want of memory.
     #[inline(always)]
     fn reach(&mut self, at: usize) -> Result<(), AllocError>
@@ -86,12 +104,22 @@ impl Visited {
         ensures rows { (stop : ℕ) → self.old.rows ≤ stop - self.old.base + 1 → self.new.rows ≤ stop - self.new.base + 1 }
         ensures pairs { (q i : ℕ) → Has self.new q i → Has self.old q i }
         ensures spent { spent self.old ≤ spent self.new }
+        ensures dropped { self.old.rows ≤ from - self.old.base → (self.new.base ≡ from) × (self.new.rows ≡ 0) }
     {
         if self.rows <= from - self.base {
             self.words.clear();
             self.rows = 0;
             self.base = from;
         }
+    }
+
+    /// Whether all rows are of byte offsets before `from`.
+    #[inline(always)]
+    pub fn is_behind(&self, from: usize) -> bool
+        requires { self.now.base ≤ from }
+        ensures { result ≡ true → self.now.rows ≤ from - self.now.base }
+    {
+        self.rows <= from - self.base
     }
 
     /// Sets the bit of a pair whose row exists; returns whether it was clear.
@@ -110,6 +138,37 @@ impl Visited {
         let bit = 1u64 << (state % 64);
         self.words[place] = word | bit;
         word & bit == 0
+    }
+
+    /// How many rows, from that of the byte offset `at` on, can be added in the memory at hand: none where that row is not the
+    /// next one, or a row is longer than a word.
+    #[inline(always)]
+    pub fn spare_rows(&self, at: usize) -> usize
+        requires base { self.now.base ≤ at }
+        ensures { result ≡ spare self.now at }
+    {
+        if self.width != 1 || at - self.base != self.rows {
+            return 0;
+        }
+        self.words.capacity() - self.words.len()
+    }
+
+    /// Adds the pairs of a state and each of `count` byte offsets from `at` on, in new rows for which there is memory.
+    #[inline(always)]
+    pub fn insert_run(&mut self, state: usize, at: usize, count: usize)
+        requires state { state < self.old.count }
+        requires base { self.old.base ≤ at }
+        requires spare { count ≤ spare self.old at }
+        requires some { 0 < count }
+        ensures same { (self.new.count ≡ self.old.count) × (self.new.base ≡ self.old.base) }
+        ensures rows { self.new.rows ≡ at - self.old.base + count }
+        ensures adds { AddsRun (Has self.old) (Has self.new) state at (at + count) }
+        ensures counted { members self.new ≡ members self.old + count }
+    {
+        let length = self.words.len() + count;
+        if self.words.resize(length, 1u64 << (state % 64)).is_ok() {
+            self.rows += count;
+        }
     }
 
     /// Whether the pair is in the set.
@@ -139,6 +198,10 @@ impl Visited {
             (Has self.old state at × (members self.new ≡ members self.old))) }
         ensures err { OnErr result (IsSame self.old self.new) }
     {
+        if self.width == 1 && at - self.base == self.rows {
+            self.append(state)?;
+            return Ok(true);
+        }
         self.reach(at)?;
         Ok(self.set(state, at))
     }

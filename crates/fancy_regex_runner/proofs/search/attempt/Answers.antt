@@ -17,7 +17,7 @@ unfolding top_first
 pairs-init c =
     let none : c.args.backtrack.now.stack.items ≡ [] = nil_from_length _ (omega (arith, c.args.backtrack.now.stack.ok.0)) in
     record {
-      tracking = λ view go explains failed. rw none (Dfs-root c.args.context.now.entry c.args.from c.args.backtrack.now.slots.items failed);
+      tracking = λ view go explains failed. rw none (Dfs-root c.args.entry c.args.from c.args.backtrack.now.slots.items failed);
       first = λ e. refl;
       pair = c.requires.pair;
       within = rw none tt;
@@ -64,7 +64,7 @@ returns-then-not-context-clause-value c view go explains failed =
 -- after a pair that did not lead on
 joined : (c : After-pop_explore) (view : View) (go : ℕ → Continuation) → Explains c.args.context.now (looked_text c.args.text.now) view go
     → AllFail view.longest go (Has c.args.visited.now)
-    → Dfs view.longest go (land c.args.backtrack.now.slots.items (go c.args.context.now.entry c.args.from).answer) (ended c.match-branch-2.best c.match-branch-2.farthest)
+    → Dfs view.longest go (land c.args.backtrack.now.slots.items (go c.args.entry c.args.from).answer) (ended c.match-branch-2.best c.match-branch-2.farthest)
     c.args.backtrack.now.slots.items (Has c.visit.new.visited) (top_first c.visit.new.backtrack.stack.items) c.visit.new.backtrack.slots.items
 joined c view go explains failed =
     let was = c.in_ok-state.ensures.tracking view go (rw c.pairs.invariant.text explains) _ _ _ (c.pairs.invariant.tracking view go explains failed) in

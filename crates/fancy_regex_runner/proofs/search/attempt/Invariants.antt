@@ -11,7 +11,7 @@ abbrev pub invariant-pairs : goal.invariant-pairs
 invariant-pairs l = record {
   tracking : (view : View) (go : ℕ → Continuation) → Explains l.context (looked_text l.fn.text) view go
       → AllFail view.longest go (Has l.fn.visited)
-      → Dfs view.longest go (land l.fn.backtrack.slots.items (go l.context.entry l.from).answer) (ended l.best l.farthest) l.fn.backtrack.slots.items (Has l.visited)
+      → Dfs view.longest go (land l.fn.backtrack.slots.items (go l.entry l.from).answer) (ended l.best l.farthest) l.fn.backtrack.slots.items (Has l.visited)
       (Explore l.id l.at ∷ top_first l.backtrack.stack.items) l.backtrack.slots.items;
   first : l.context.rules.longest ≡ false → l.best ≡ None;
   pair : IsPair (looked_text l.fn.text) (length l.context.states.now) l.context.stop l.fn.visited.base l.id l.at;

@@ -110,6 +110,9 @@ returns-then-not-is_refused-clause-passed c view go explains failed slots =
     let d = (goal.at.returns-then-not-is_refused-clause-passed c).After-is_refused in
     (passed d view go explains failed slots).found ∙ ap (earliest (spots d go slots)) (split d)
 
+pub returns-then-not-is_refused-clause-split : goal.returns-then-not-is_refused-clause-split
+returns-then-not-is_refused-clause-split c = split (goal.at.returns-then-not-is_refused-clause-split c).After-is_refused
+
 pub returns-then-not-is_refused-clause-at_least : goal.returns-then-not-is_refused-clause-at_least
 returns-then-not-is_refused-clause-at_least c view go explains failed slots =
     let d = (goal.at.returns-then-not-is_refused-clause-at_least c).After-is_refused in
