@@ -26,11 +26,12 @@ static COMPLEX: [(&str, usize); 8] = [
 ];
 
 /// Patterns that are built under a cap on their programs.
-static BUILT: [(&str, usize); 4] = [
+static BUILT: [(&str, usize); 5] = [
     ("a", 0),
     ("(a)\\1", 100),
     ("(a\\g<1>?b)", 1000),
     ("(?!b)(?:(?:a{1000}){1000}){1000}", 100),
+    ("(?(DEFINE)(a)(\\g<1>\\g<1>\\g<1>))\\g<2>", 5),
 ];
 
 /// The regex of a pattern under a cap on its program and a limit on backtracks.
@@ -46,24 +47,19 @@ fn build(alloc: Global, pattern: &str, cap: usize, limit: usize) -> Result<Regex
 #[test]
 fn what_explodes_is_refused(rt: HostRuntime) {
     for (pattern, cap) in COMPLEX.iter() {
-        let Err(Error::CompileError(CompileError::PatternTooComplex)) = build(
-            rt.alloc(),
-            pattern,
-            *cap,
-            USUAL_LIMIT,
-        ) else {
-            panic!(rt; "{pattern} is not too complex");
-        };
+        let refused = build(rt.alloc(), pattern, *cap, USUAL_LIMIT).err();
+        assert!(rt;
+            refused == Some(Error::CompileError(CompileError::PatternTooComplex)),
+            "{pattern}"
+        );
     }
 }
 
 #[test]
 fn what_keeps_its_cap_is_built(rt: HostRuntime) {
     for (pattern, cap) in BUILT.iter() {
-        assert!(rt;
-            build(rt.alloc(), pattern, *cap, USUAL_LIMIT).is_ok(),
-            "{pattern}"
-        );
+        let built = build(rt.alloc(), pattern, *cap, USUAL_LIMIT);
+        assert!(rt; built.is_ok(), "{pattern}");
     }
 }
 
@@ -80,33 +76,24 @@ static FOUND: [(&str, usize, &str, usize, &[Option<(usize, usize)>]); 9] = [
     ("(a)*(?!b)", 10, "a", 10, &[Some((0, 10)), Some((9, 10))]),
     ("(a)\\1", 0, "a", 2, &[Some((0, 2)), Some((0, 1))]),
     ("(?>a*)b", USUAL_LIMIT, "a", 20, &[]),
-    (
-        "(?:(?:(?:(?=a)(?=a)){10}){10})(?=b)",
-        USUAL_LIMIT,
-        "a",
-        1,
-        &[],
-    ),
+    ("(?:(?:(?:(?=a)(?=a)){10}){10})(?=b)", 1000, "a", 1, &[]),
     ("(a|b|ab)*bc", 0, "ab", 30, &[]),
     ("(a*)*b", 0, "a", 30, &[]),
     ("a{30}b", 0, "a", 60, &[]),
 ];
 
-/// The limit that a search meets.
-#[derive(Clone, Copy)]
-enum Limit {
-    Backtracks,
-    Branches,
-}
+const BACKTRACKS: RuntimeError = RuntimeError::BacktrackLimitExceeded;
+
+const BRANCHES: RuntimeError = RuntimeError::StackOverflow;
 
 /// A pattern, a limit on backtracks, a text as a piece and how often it stands there, and the limit that the search meets.
-static LIMITED: [(&str, usize, &str, usize, Limit); 6] = [
-    ("(a+)+\\1b", USUAL_LIMIT, "a", 40, Limit::Backtracks),
-    ("(a+)+\\1b", 0, "a", 40, Limit::Backtracks),
-    ("(a)\\1", 0, "baa", 1, Limit::Backtracks),
-    ("(a)*(?!b)c", 10, "a", 10, Limit::Backtracks),
-    ("(?~b)(?~b)c", 100, "a", 30, Limit::Backtracks),
-    ("(a)*\\1c", USUAL_LIMIT, "a", 1_000_001, Limit::Branches),
+static LIMITED: [(&str, usize, &str, usize, RuntimeError); 6] = [
+    ("(a+)+\\1b", USUAL_LIMIT, "a", 40, BACKTRACKS),
+    ("(a+)+\\1b", 0, "a", 40, BACKTRACKS),
+    ("(a)\\1", 0, "baa", 1, BACKTRACKS),
+    ("(a)*(?!b)c", 10, "a", 10, BACKTRACKS),
+    ("(?~b)(?~b)c", 100, "a", 30, BACKTRACKS),
+    ("(a)*\\1c", USUAL_LIMIT, "a", 1_000_001, BRANCHES),
 ];
 
 /// The text of a piece that stands there so often.
@@ -135,23 +122,15 @@ fn finds(
 #[test]
 fn a_search_within_its_limit_answers(rt: HostRuntime) {
     for (pattern, limit, piece, count, wanted) in FOUND.iter() {
-        let Ok(true) = finds(rt.alloc(), pattern, *limit, piece, *count, wanted) else {
-            panic!(rt; "{pattern} finds something else");
-        };
+        let is_found = finds(rt.alloc(), pattern, *limit, piece, *count, wanted);
+        assert!(rt; is_found == Ok(true), "{pattern}");
     }
 }
 
 #[test]
 fn a_search_past_its_limit_fails(rt: HostRuntime) {
     for (pattern, limit, piece, count, met) in LIMITED.iter() {
-        let Err(Error::RuntimeError(error)) = finds(rt.alloc(), pattern, *limit, piece, *count, &[])
-        else {
-            panic!(rt; "{pattern} answers");
-        };
-        let wanted = match met {
-            Limit::Backtracks => RuntimeError::BacktrackLimitExceeded,
-            Limit::Branches => RuntimeError::StackOverflow,
-        };
-        assert!(rt; error == wanted, "{pattern}");
+        let error = finds(rt.alloc(), pattern, *limit, piece, *count, &[]).err();
+        assert!(rt; error == Some(Error::RuntimeError(*met)), "{pattern}");
     }
 }

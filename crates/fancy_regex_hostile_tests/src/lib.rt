@@ -6,8 +6,6 @@
 #![tactic(auto)]
 
 #[cfg(test)]
-mod engines;
-#[cfg(test)]
 mod exploding;
 #[cfg(test)]
 mod odd_inputs;

@@ -1,35 +1,94 @@
-//! How calls that may want memory have to end.
+//! How calls that may want memory have to end, and how a refusal that they saw is told.
 
-use fancy_regex::{Error, Regex, Result};
+use fancy_regex::{Error, Result};
 use std::alloc::Global;
 
-/// Whether a call gave the wanted answer, or wanted memory.
-fn may_come(outcome: &Result<bool>) -> bool {
+/// A text of a table.
+pub type Text = &'static str;
+
+/// A row of a table: what is made once, and a call on it, which is made twice, since the first one may want memory.
+pub trait Attempt {
+    /// What the calls are made on. It is as before after a refusal.
+    type Made: Drop;
+
+    /// Makes it.
+    fn make(&self, alloc: Global) -> Result<Self::Made>;
+
+    /// Makes the call: whether its answer is the right one, or its error.
+    fn is_right(&self, alloc: Global, made: &Self::Made) -> Result<bool>;
+}
+
+/// How a call ended.
+#[derive(Clone, Copy, PartialEq, Eq)]
+pub enum Ending {
+    Right,
+    Wrong,
+    WantedMemory,
+}
+
+/// How a call ended that had this outcome.
+pub fn ending_of(outcome: &Result<bool>) -> Ending {
     match outcome {
-        Ok(is_wanted) => *is_wanted,
-        Err(Error::Memory) => true,
-        Err(_) => false,
+        Ok(true) => Ending::Right,
+        Err(Error::Memory) => Ending::WantedMemory,
+        _ => Ending::Wrong,
     }
 }
 
-/// Whether a call gave the wanted answer.
-fn is_wanted(outcome: &Result<bool>) -> bool {
-    match outcome {
-        Ok(is_wanted) => *is_wanted,
-        Err(_) => false,
+/// Writes on standard output that a call wanted memory. `tests/refused_memory/sweep` asks for this line where it refuses a request.
+fn tell(rt: &HostRuntime) {
+    let _ = println!(rt; "a call wanted memory");
+}
+
+/// What a row's calls are made on, at the second attempt if the first wanted memory, which is told.
+fn made_of<A: Attempt>(rt: &HostRuntime, row: &A) -> Option<A::Made> {
+    match row.make(rt.alloc()) {
+        Err(Error::Memory) => {
+            tell(rt);
+            row.make(rt.alloc()).ok()
+        }
+        made => made.ok(),
     }
 }
 
-/// Whether two equal calls end rightly, of which at most one met a refusal: that one with the wanted answer or with want of
-/// memory, the other with the wanted answer.
-pub fn are_right(first: &Result<bool>, second: &Result<bool>) -> bool {
-    (is_wanted(first) && may_come(second)) || (may_come(first) && is_wanted(second))
+/// Whether both of two equal calls end rightly, of which at most one met a refusal: that one with the right answer or with want of
+/// memory, which is told, the other with the right answer.
+fn are_right(rt: &HostRuntime, first: Ending, second: Ending) -> bool {
+    match (first, second) {
+        (Ending::Right, Ending::Right) => true,
+        (Ending::Right, Ending::WantedMemory) | (Ending::WantedMemory, Ending::Right) => {
+            tell(rt);
+            true
+        }
+        _ => false,
+    }
 }
 
-/// The regex of a pattern, at the second attempt if the first ran out of memory.
-pub fn regex_of(alloc: Global, pattern: &str) -> Option<Regex> {
-    match Regex::new(alloc, pattern) {
-        Err(Error::Memory) => Regex::new(alloc, pattern).ok(),
-        built => built.ok(),
+/// Whether both calls of a row end rightly.
+fn holds<A: Attempt>(rt: &HostRuntime, row: &A) -> bool {
+    let Some(made) = made_of(rt, row) else {
+        return false;
+    };
+    let first = ending_of(&row.is_right(rt.alloc(), &made));
+    let second = ending_of(&row.is_right(rt.alloc(), &made));
+    are_right(rt, first, second)
+}
+
+/// The number of the first row that does not hold, from 0; `None` if all rows hold.
+pub fn first_wrong<A: Attempt>(rt: &HostRuntime, rows: &[A]) -> Option<usize> {
+    for (number, row) in rows.iter().enumerate() {
+        if !holds(rt, row) {
+            return Some(number);
+        }
     }
+    None
+}
+
+/// The outcome of a call that has left a text: right for the whole text, want of memory for another that is due where the call wants
+/// memory.
+pub fn shows(text: &str, whole: &str, cut: &[&str]) -> Result<bool> {
+    if cut.contains(&text) {
+        return Err(Error::Memory);
+    }
+    Ok(text == whole)
 }

@@ -1,11 +1,24 @@
 //! Memory is refused while a text is appended to a buffer: the buffer is as before, and the same call then appends.
 
-use crate::outcome::{are_right, regex_of};
-use fancy_regex::{CompileError, Error, Expander, Expr, NoExpand, Regex, Replacer, Result, escape};
+use crate::outcome::{Attempt, Text, first_wrong};
+use fancy_regex::{
+    Captures, CompileError, Error, Expander, Expr, ExprTree, NoExpand, Regex, Replacer, Result,
+    escape,
+};
 use std::alloc::Global;
 
 /// What the buffer holds at first.
 const BEFORE: &str = "before ";
+
+/// The outcome of a call that may have appended to a buffer: whether it holds the wanted text now. A refused call counts as such
+/// only where the buffer is as before.
+fn appended(outcome: Result<()>, buffer: &[u8], wanted: &str) -> Result<bool> {
+    match outcome {
+        Ok(()) => Ok(buffer == wanted.as_bytes()),
+        Err(error) if buffer == BEFORE.as_bytes() => Err(error),
+        Err(_) => Ok(false),
+    }
+}
 
 /// A call that appends the expansion of a template.
 #[derive(Clone, Copy)]
@@ -18,119 +31,134 @@ enum Call {
     ReplaceAppend,
     /// `Replacer::replace_append` of a text that is no template, by a lent replacer.
     ReplaceAppendPlain,
+    /// `Expander::write_expansion_vec` of a template with backslashes.
+    WriteExpansion,
 }
 
-/// A call, a template, and what the buffer holds at the end for the groups of `(\w+) (?<b>\w+)` in `hello world`.
-static ROWS: [(Call, &str, &str); 7] = [
-    (Call::AppendExpansion, "$2 $1", "before world hello"),
-    (Call::AppendExpansion, "", "before "),
-    (
+/// A call, a template, and what the buffer holds at the end for the groups of `PATTERN` in `TEXT`.
+struct Appending(Call, Text, Text);
+
+const PATTERN: &str = "(\\w+) (?<b>\\w+)";
+
+const TEXT: &str = "hello world";
+
+static APPENDED: [Appending; 8] = [
+    Appending(Call::AppendExpansion, "$2 $1", "before world hello"),
+    Appending(Call::AppendExpansion, "", "before "),
+    Appending(
         Call::AppendExpansion,
         "a text without groups, longer than the buffer has room for at first",
         "before a text without groups, longer than the buffer has room for at first",
     ),
-    (Call::Expand, "${b}-$0-$$", "before world-hello world-$"),
-    (Call::ReplaceAppend, "$2 $1", "before world hello"),
-    (Call::ReplaceAppend, "$0$0", "before hello worldhello world"),
-    (
+    Appending(Call::Expand, "${b}-$0-$$", "before world-hello world-$"),
+    Appending(Call::ReplaceAppend, "$2 $1", "before world hello"),
+    Appending(Call::ReplaceAppend, "$0$0", "before hello worldhello world"),
+    Appending(
         Call::ReplaceAppendPlain,
         "$0 as it is, and not as a template",
         "before $0 as it is, and not as a template",
     ),
+    Appending(Call::WriteExpansion, "\\g<1>-\\10\\\\", "before hello-\\"),
 ];
 
-/// Whether the buffer holds this at the end. A refused call counts as such only where the buffer is as before.
-fn appends(alloc: Global, regex: &Regex, call: Call, template: &str, wanted: &str) -> Result<bool> {
-    let Some(groups) = regex.captures(alloc, "hello world")? else {
-        return Ok(false);
-    };
-    let mut buffer = String::from_str(alloc, BEFORE)?;
-    let mut replacer = template;
-    let result = match call {
-        Call::AppendExpansion => {
-            Expander::default().append_expansion(alloc, &mut buffer, template, &groups)
+/// Appends the expansion of a template to the text of a buffer.
+fn append(
+    alloc: Global,
+    groups: &Captures<'_, &str>,
+    call: Call,
+    template: &str,
+    buffer: &mut String,
+) -> Result<()> {
+    match call {
+        Call::Expand => groups.expand(alloc, template, buffer),
+        Call::ReplaceAppend => {
+            let mut replacer = template;
+            replacer.replace_append(alloc, groups, buffer)
         }
-        Call::Expand => groups.expand(alloc, template, &mut buffer),
-        Call::ReplaceAppend => replacer.replace_append(alloc, &groups, &mut buffer),
         Call::ReplaceAppendPlain => {
             let mut plain = NoExpand(template);
-            plain.by_ref().replace_append(alloc, &groups, &mut buffer)
+            plain.by_ref().replace_append(alloc, groups, buffer)
         }
-    };
-    match result {
-        Ok(()) => Ok(buffer.as_str() == wanted),
-        Err(error) if buffer.as_str() == BEFORE => Err(error),
-        Err(_) => Ok(false),
+        _ => Expander::default().append_expansion(alloc, buffer, template, groups),
+    }
+}
+
+/// Whether a call appends this text.
+fn appends(
+    alloc: Global,
+    groups: &Captures<'_, &str>,
+    call: Call,
+    template: &str,
+    wanted: &str,
+) -> Result<bool> {
+    if matches!(call, Call::WriteExpansion) {
+        let mut bytes = BEFORE.as_bytes().to_vec(alloc)?;
+        let outcome = Expander::python().write_expansion_vec(alloc, &mut bytes, template, groups);
+        return appended(outcome, bytes.as_slice(), wanted);
+    }
+    let mut buffer = String::from_str(alloc, BEFORE)?;
+    let outcome = append(alloc, groups, call, template, &mut buffer);
+    appended(outcome, buffer.as_bytes(), wanted)
+}
+
+impl Attempt for Appending {
+    type Made = Regex;
+
+    fn make(&self, alloc: Global) -> Result<Regex> {
+        Regex::new(alloc, PATTERN)
+    }
+
+    fn is_right(&self, alloc: Global, regex: &Regex) -> Result<bool> {
+        match regex.captures(alloc, TEXT)? {
+            Some(groups) => appends(alloc, &groups, self.0, self.1, self.2),
+            None => Ok(false),
+        }
     }
 }
 
 #[test]
 fn a_refused_expansion_leaves_the_buffer(rt: HostRuntime) {
-    let alloc = rt.alloc();
-    let Some(regex) = regex_of(alloc, "(\\w+) (?<b>\\w+)") else {
-        panic!(rt; "no regex");
-    };
-    for (call, template, wanted) in ROWS.iter() {
-        let first = appends(alloc, &regex, *call, template, wanted);
-        let second = appends(alloc, &regex, *call, template, wanted);
-        assert!(rt; are_right(&first, &second), "{template}");
-    }
-}
-
-/// Whether the expansion of a template with backslashes, as bytes, is this. A refused call counts as such only where the bytes are
-/// as before.
-fn appends_bytes(alloc: Global, regex: &Regex, template: &str, wanted: &str) -> Result<bool> {
-    let Some(groups) = regex.captures(alloc, "hello world")? else {
-        return Ok(false);
-    };
-    let mut bytes = Vec::new(alloc);
-    match Expander::python().write_expansion_vec(alloc, &mut bytes, template, &groups) {
-        Ok(()) => Ok(bytes.as_slice() == wanted.as_bytes()),
-        Err(error) if bytes.is_empty() => Err(error),
-        Err(_) => Ok(false),
-    }
-}
-
-#[test]
-fn a_refused_expansion_leaves_the_bytes(rt: HostRuntime) {
-    let alloc = rt.alloc();
-    let Some(regex) = regex_of(alloc, "(\\w+)") else {
-        panic!(rt; "no regex");
-    };
-    let first = appends_bytes(alloc, &regex, "\\g<1>-\\10\\\\", "hello-\\");
-    let second = appends_bytes(alloc, &regex, "\\g<1>-\\10\\\\", "hello-\\");
-    assert!(rt; are_right(&first, &second));
+    assert_eq!(rt; first_wrong(&rt, &APPENDED), None);
 }
 
 /// A pattern, and what the buffer holds when it is printed.
-static PRINTED: [(&str, &str); 3] = [
-    ("(a|b|ab)*bc", "before (a|b|ab)*bc"),
-    ("(?i)a|[b-d]{2}", "before (?i:a)|(?i:[b-d]){2}"),
-    ("(?<a>x)[^\\d]", "before (x)[^\\d]"),
+struct Printing(Text, Text);
+
+static PRINTED: [Printing; 3] = [
+    Printing("(a|b|ab)*bc", "before (a|b|ab)*bc"),
+    Printing("(?i)a|[b-d]{2}", "before (?i:a)|(?i:[b-d]){2}"),
+    Printing("(?<a>x)[^\\d]", "before (x)[^\\d]"),
 ];
 
-/// Whether the buffer holds this when the pattern is printed. A refused call counts as such only where the buffer is as before.
-fn prints(alloc: Global, pattern: &str, wanted: &str) -> Result<bool> {
-    let tree = Expr::parse_tree(alloc, pattern)?;
-    let mut buffer = String::from_str(alloc, BEFORE)?;
-    if !tree.expr.is_printable(alloc)? {
-        return Ok(false);
+/// Whether a copy of a tree is the same tree.
+fn can_be_copied(alloc: Global, expr: &Expr) -> Result<bool> {
+    let copy = expr.try_clone(alloc)?;
+    Ok(copy == *expr)
+}
+
+impl Attempt for Printing {
+    type Made = ExprTree;
+
+    fn make(&self, alloc: Global) -> Result<ExprTree> {
+        Ok(Expr::parse_tree(alloc, self.0)?)
     }
-    match tree.expr.to_str(&mut buffer, 0) {
-        Ok(()) => Ok(buffer.as_str() == wanted),
-        Err(_) if buffer.as_str() == BEFORE => Err(Error::Memory),
-        Err(_) => Ok(false),
+
+    fn is_right(&self, alloc: Global, tree: &ExprTree) -> Result<bool> {
+        if !tree.expr.is_printable(alloc)? || !can_be_copied(alloc, &tree.expr)? {
+            return Ok(false);
+        }
+        let mut buffer = String::from_str(alloc, BEFORE)?;
+        let outcome = match tree.expr.to_str(&mut buffer, 0) {
+            Ok(()) => Ok(()),
+            Err(_) => Err(Error::Memory),
+        };
+        appended(outcome, buffer.as_bytes(), self.1)
     }
 }
 
 #[test]
 fn a_refused_print_leaves_the_buffer(rt: HostRuntime) {
-    let alloc = rt.alloc();
-    for (pattern, wanted) in PRINTED.iter() {
-        let first = prints(alloc, pattern, wanted);
-        let second = prints(alloc, pattern, wanted);
-        assert!(rt; are_right(&first, &second), "{pattern}");
-    }
+    assert_eq!(rt; first_wrong(&rt, &PRINTED), None);
 }
 
 /// A call that makes a text.
@@ -142,62 +170,64 @@ enum Making {
     EscapeTemplate,
     /// `Expander::expansion` of a template.
     Expansion,
+    /// `Expander::check` of a template, and the name that no group has.
+    Check,
 }
 
-/// A call, a text or template, and what is made of it for the groups of `(\w+) (?<b>\w+)` in `hello world`.
-static MADE: [(Making, &str, &str); 4] = [
-    (Making::Escape, "a.b", "a\\.b"),
-    (Making::Escape, "ab", "ab"),
-    (Making::EscapeTemplate, "$a", "$$a"),
-    (Making::Expansion, "$b-$0", "world-hello world"),
+/// A call, a text or template, and what is made of it for the groups of `PATTERN` in `TEXT`.
+struct Made(Making, Text, Text);
+
+static MADE: [Made; 5] = [
+    Made(Making::Escape, "a.b", "a\\.b"),
+    Made(Making::Escape, "ab", "ab"),
+    Made(Making::EscapeTemplate, "$a", "$$a"),
+    Made(Making::Expansion, "$b-$0", "world-hello world"),
+    Made(Making::Check, "$b ${other}", "other"),
 ];
 
-/// Whether a call makes this text.
-fn makes(alloc: Global, regex: &Regex, call: Making, text: &str, wanted: &str) -> Result<bool> {
-    match call {
-        Making::Escape => Ok(escape(alloc, text)?.as_str() == wanted),
-        Making::EscapeTemplate => Ok(Expander::default().escape(alloc, text)?.as_str() == wanted),
-        Making::Expansion => match regex.captures(alloc, "hello world")? {
-            Some(groups) => {
-                let made = Expander::default().expansion(alloc, text, &groups)?;
-                Ok(made.as_str() == wanted)
-            }
-            None => Ok(false),
-        },
-    }
-}
-
-#[test]
-fn a_text_that_wants_memory_can_be_made_again(rt: HostRuntime) {
-    let alloc = rt.alloc();
-    let Some(regex) = regex_of(alloc, "(\\w+) (?<b>\\w+)") else {
-        panic!(rt; "no regex");
+/// Whether a template has this expansion.
+fn expands(alloc: Global, regex: &Regex, template: &str, wanted: &str) -> Result<bool> {
+    let Some(groups) = regex.captures(alloc, TEXT)? else {
+        return Ok(false);
     };
-    for (call, text, wanted) in MADE.iter() {
-        let first = makes(alloc, &regex, *call, text, wanted);
-        let second = makes(alloc, &regex, *call, text, wanted);
-        assert!(rt; are_right(&first, &second), "{text}");
-    }
+    let made = Expander::default().expansion(alloc, template, &groups)?;
+    Ok(made.as_str() == wanted)
 }
 
-/// Whether a template is refused for a name that no group has.
-fn is_refused(alloc: Global, regex: &Regex, template: &str) -> Result<bool> {
+/// Whether a template is refused for this name.
+fn is_refused(alloc: Global, regex: &Regex, template: &str, wanted: &str) -> Result<bool> {
     match Expander::default().check(alloc, template, regex) {
         Err(Error::CompileError(CompileError::InvalidGroupNameBackref(name))) => {
-            Ok(template.contains(name.as_str()))
+            Ok(name.as_str() == wanted)
         }
         Err(error) => Err(error),
         Ok(()) => Ok(false),
     }
 }
 
+/// Whether a call makes this text.
+fn makes(alloc: Global, regex: &Regex, call: Making, text: &str, wanted: &str) -> Result<bool> {
+    match call {
+        Making::Escape => Ok(escape(alloc, text)?.as_str() == wanted),
+        Making::EscapeTemplate => Ok(Expander::default().escape(alloc, text)?.as_str() == wanted),
+        Making::Expansion => expands(alloc, regex, text, wanted),
+        Making::Check => is_refused(alloc, regex, text, wanted),
+    }
+}
+
+impl Attempt for Made {
+    type Made = Regex;
+
+    fn make(&self, alloc: Global) -> Result<Regex> {
+        Regex::new(alloc, PATTERN)
+    }
+
+    fn is_right(&self, alloc: Global, regex: &Regex) -> Result<bool> {
+        makes(alloc, regex, self.0, self.1, self.2)
+    }
+}
+
 #[test]
-fn a_check_that_wants_memory_can_be_repeated(rt: HostRuntime) {
-    let alloc = rt.alloc();
-    let Some(regex) = regex_of(alloc, "(?<b>a)") else {
-        panic!(rt; "no regex");
-    };
-    let first = is_refused(alloc, &regex, "$b ${other}");
-    let second = is_refused(alloc, &regex, "$b ${other}");
-    assert!(rt; are_right(&first, &second));
+fn a_text_that_wants_memory_can_be_made_again(rt: HostRuntime) {
+    assert_eq!(rt; first_wrong(&rt, &MADE), None);
 }

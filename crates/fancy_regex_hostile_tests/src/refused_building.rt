@@ -1,7 +1,7 @@
 //! Memory is refused while a pattern is read, built or asked for its bytes: nothing was made, and the same call of the same
 //! builder then answers.
 
-use crate::outcome::are_right;
+use crate::outcome::{Attempt, Text, first_wrong};
 use fancy_regex::{
     ByteSet, Error, Expr, Regex, RegexBuilder, RegexOptionsBuilder, RegexSet, Result,
 };
@@ -14,85 +14,114 @@ enum Call {
     Parse,
     /// Building: a regex with so many groups, the whole match included.
     Build,
-    /// Building with the usual options.
-    New,
-    /// Building by a builder that keeps the pattern.
-    BuildKept,
+    /// Making a regex of a text.
+    FromText,
+    /// Making a regex of a text that is handed over.
+    FromString,
     /// Building a set of the pattern and two more: so many members.
     BuildSet,
 }
 
 /// A call, a pattern, and how many groups or members come of it.
-static COUNTS: [(Call, &str, usize); 24] = [
-    (Call::Parse, "(a|b|ab)*bc", 1),
-    (Call::Parse, "(?<a>x)(?<b>y)(?<a>z)", 3),
-    (Call::Parse, "(?=(a|ab)(?!x))\\1c", 1),
-    (Call::Parse, "(\\((?:[^()]|\\g<1>)*\\))", 1),
-    (Call::Parse, "(?~a[b-d&&c]+)(?(a)y|\\R)", 0),
-    (Call::Build, "(a|b|ab)*bc", 2),
-    (Call::Build, "(?<a>x)(?<b>y)(?<a>z)", 4),
-    (Call::Build, "(?=(a|ab)(?!x))\\1c", 2),
-    (Call::Build, "(\\((?:[^()]|\\g<1>)*\\))", 2),
-    (Call::Build, "(a)?(?(1)b|c)", 2),
-    (Call::Build, "(?<=a|bc)d", 1),
-    (Call::Build, "(?~abc)", 1),
-    (Call::Build, "(?>a{2,3}+)\\Kb\\G?", 1),
-    (Call::Build, "(?i)(k)\\1\\b", 2),
-    (Call::Build, "[a-z[é]]\\w\\p{Lu}", 1),
-    (Call::Build, "", 1),
-    (Call::Build, "(?x) a # b\n (?(DEFINE)(?<d>[0-9]+))\\g<d>", 2),
-    (Call::Build, "(?m)^a$|\\Ab\\z|\\<c\\>", 1),
-    (Call::Build, "((?:a|b)++)(?!\\1)", 2),
-    (Call::Build, "a(?:\\g<0>)?b", 1),
-    (Call::New, "(a)\\1", 2),
-    (Call::BuildKept, "(a|b)", 2),
-    (Call::BuildKept, "(a)(?=b)", 2),
-    (Call::BuildSet, "\\d+", 3),
+struct Building(Call, Text, usize);
+
+static BUILT: [Building; 25] = [
+    Building(Call::Parse, "(a|b|ab)*bc", 1),
+    Building(Call::Parse, "(?<a>x)(?<b>y)(?<a>z)", 3),
+    Building(Call::Parse, "(?=(a|ab)(?!x))\\1c", 1),
+    Building(Call::Parse, "(\\((?:[^()]|\\g<1>)*\\))", 1),
+    Building(Call::Parse, "(?~a[b-d&&c]+)(?(a)y|\\R)", 0),
+    Building(Call::Build, "(a|b|ab)*bc", 2),
+    Building(Call::Build, "(?<a>x)(?<b>y)(?<a>z)", 4),
+    Building(Call::Build, "(?=(a|ab)(?!x))\\1c", 2),
+    Building(Call::Build, "(\\((?:[^()]|\\g<1>)*\\))", 2),
+    Building(Call::Build, "(a)?(?(1)b|c)", 2),
+    Building(Call::Build, "(?<=a|bc)d", 1),
+    Building(Call::Build, "(?~abc)", 1),
+    Building(Call::Build, "(?>a{2,3}+)\\Kb\\G?", 1),
+    Building(Call::Build, "(?i)(k)\\1\\b", 2),
+    Building(Call::Build, "[a-z[é]]\\w\\p{Lu}", 1),
+    Building(Call::Build, "", 1),
+    Building(Call::Build, "(?x) a # b\n (?(DEFINE)(?<d>[0-9]+))\\g<d>", 2),
+    Building(Call::Build, "(?m)^a$|\\Ab\\z|\\<c\\>", 1),
+    Building(Call::Build, "((?:a|b)++)(?!\\1)", 2),
+    Building(Call::Build, "a(?:\\g<0>)?b", 1),
+    Building(Call::FromText, "(a|b)", 2),
+    Building(Call::FromText, "(a)(?=b)", 2),
+    Building(Call::FromString, "(a|b)", 2),
+    Building(Call::FromString, "(a)\\1", 2),
+    Building(Call::BuildSet, "\\d+", 3),
 ];
 
-/// Whether a call makes what has so many groups or members.
-fn makes(
-    alloc: Global,
-    options: &RegexOptionsBuilder,
-    call: Call,
-    pattern: &str,
-    wanted: usize,
-) -> Result<bool> {
+/// The number of members of a set of the pattern and two more.
+fn members_built(alloc: Global, options: &RegexOptionsBuilder, pattern: &str) -> Result<usize> {
+    let patterns = [pattern, "\\w+", "(?<=\\$)\\d+\\.\\d+"];
+    let set = RegexSet::new_with_options(alloc, &patterns, options)?;
+    Ok(set.len())
+}
+
+/// The regex that a call builds.
+fn built(alloc: Global, options: &RegexOptionsBuilder, call: Call, pattern: &str) -> Result<Regex> {
     match call {
-        Call::Parse => {
-            let tree = Expr::parse_tree(alloc, pattern)?;
-            Ok(tree.total_groups == wanted)
+        Call::FromText => Regex::try_from((pattern, alloc)),
+        Call::FromString => Regex::try_from((String::from_str(alloc, pattern)?, alloc)),
+        _ => options.build(alloc, String::from_str(alloc, pattern)?),
+    }
+}
+
+/// The number of groups or members that a call makes.
+fn count(alloc: Global, options: &RegexOptionsBuilder, call: Call, pattern: &str) -> Result<usize> {
+    match call {
+        Call::Parse => Ok(Expr::parse_tree(alloc, pattern)?.total_groups),
+        Call::BuildSet => members_built(alloc, options, pattern),
+        _ => {
+            let regex = built(alloc, options, call, pattern)?;
+            Ok(regex.captures_len())
         }
-        Call::Build => {
-            let regex = options.build(alloc, String::from_str(alloc, pattern)?)?;
-            Ok(regex.captures_len() == wanted)
-        }
-        Call::New => {
-            let regex = Regex::new(alloc, pattern)?;
-            Ok(regex.captures_len() == wanted)
-        }
-        Call::BuildKept => {
-            let builder = RegexBuilder::new(alloc, pattern)?;
-            let regex = builder.build(alloc)?;
-            Ok(regex.captures_len() == wanted)
-        }
-        Call::BuildSet => {
-            let patterns = [pattern, "\\w+", "(?<=\\$)\\d+\\.\\d+"];
-            let set = RegexSet::new_with_options(alloc, &patterns, options)?;
-            Ok(set.len() == wanted)
-        }
+    }
+}
+
+impl Attempt for Building {
+    type Made = RegexOptionsBuilder;
+
+    fn make(&self, _alloc: Global) -> Result<RegexOptionsBuilder> {
+        Ok(RegexOptionsBuilder::new())
+    }
+
+    fn is_right(&self, alloc: Global, options: &RegexOptionsBuilder) -> Result<bool> {
+        Ok(count(alloc, options, self.0, self.1)? == self.2)
     }
 }
 
 #[test]
 fn a_call_that_wants_memory_makes_nothing(rt: HostRuntime) {
-    let alloc = rt.alloc();
-    let options = RegexOptionsBuilder::new();
-    for (call, pattern, wanted) in COUNTS.iter() {
-        let first = makes(alloc, &options, *call, pattern, *wanted);
-        let second = makes(alloc, &options, *call, pattern, *wanted);
-        assert!(rt; are_right(&first, &second), "{pattern}");
+    assert_eq!(rt; first_wrong(&rt, &BUILT), None);
+}
+
+/// A pattern of which a builder that keeps it builds a regex with so many groups, the whole match included.
+struct Kept(Text, usize);
+
+// The builder has its pattern and its option after a refusal too: without the option there would be one group more.
+static KEPT: [Kept; 2] = [Kept("(?<n>a)(b)", 2), Kept("(?<n>a)(b)(?!c)", 2)];
+
+impl Attempt for Kept {
+    type Made = RegexBuilder;
+
+    fn make(&self, alloc: Global) -> Result<RegexBuilder> {
+        let mut builder = RegexBuilder::new(alloc, self.0)?;
+        builder.ignore_numbered_groups_when_named_groups_exist(true);
+        Ok(builder)
     }
+
+    fn is_right(&self, alloc: Global, builder: &RegexBuilder) -> Result<bool> {
+        let regex = builder.build(alloc)?;
+        Ok(regex.captures_len() == self.1)
+    }
+}
+
+#[test]
+fn a_builder_that_is_kept_builds_again(rt: HostRuntime) {
+    assert_eq!(rt; first_wrong(&rt, &KEPT), None);
 }
 
 /// A question about a pattern.
@@ -107,20 +136,22 @@ enum Question {
 }
 
 /// A question, a pattern, and the answer: a text, or the bytes as characters.
-static QUESTIONS: [(Question, &str, Option<&str>); 9] = [
-    (Question::Reprint, "(?i)a|b{2}", Some("(?i:a)|(?i:b){2}")),
-    (Question::Reprint, "(?<a>x)[^\\d]", Some("(x)[^\\d]")),
-    (Question::Reprint, "a\\Z", None),
-    (Question::StartBytes, "fn|let|impl", Some("fil")),
-    (Question::StartBytes, "a?", None),
-    (Question::StartBytes, "(?<=foo)bar", Some("b")),
-    (Question::StartBytes, "a(?=d)|b", Some("ab")),
-    (Question::RequiredBytes, "a?b", Some("b")),
-    (Question::RequiredBytes, "(?=(a|ab)(?!x))\\1c", Some("c")),
+struct Asking(Question, Text, Option<Text>);
+
+static ASKED: [Asking; 9] = [
+    Asking(Question::Reprint, "(?i)a|b{2}", Some("(?i:a)|(?i:b){2}")),
+    Asking(Question::Reprint, "(?<a>x)[^\\d]", Some("(x)[^\\d]")),
+    Asking(Question::Reprint, "a\\Z", None),
+    Asking(Question::StartBytes, "fn|let|impl", Some("fil")),
+    Asking(Question::StartBytes, "a?", None),
+    Asking(Question::StartBytes, "(?<=foo)bar", Some("b")),
+    Asking(Question::StartBytes, "a(?=d)|b", Some("ab")),
+    Asking(Question::RequiredBytes, "a?b", Some("b")),
+    Asking(Question::RequiredBytes, "(?=(a|ab)(?!x))\\1c", Some("c")),
 ];
 
 /// Whether the set has just the bytes of the text.
-fn has_just(bytes: &ByteSet, text: &str) -> bool {
+fn has_just(bytes: ByteSet, text: &str) -> bool {
     for byte in 0..=255u8 {
         if bytes.contains(byte) != text.as_bytes().contains(&byte) {
             return false;
@@ -129,93 +160,90 @@ fn has_just(bytes: &ByteSet, text: &str) -> bool {
     true
 }
 
-/// Whether the answer to a question is this one.
-fn answers(
-    alloc: Global,
-    options: &RegexOptionsBuilder,
-    question: Question,
-    pattern: &str,
-    wanted: Option<&str>,
-) -> Result<bool> {
-    let bytes = match question {
-        Question::Reprint => {
-            return match (options.reprint(alloc, pattern)?, wanted) {
-                (Some(text), Some(wanted)) => Ok(text.as_str() == wanted),
-                (None, None) => Ok(true),
-                _ => Ok(false),
-            };
+impl Attempt for Asking {
+    type Made = RegexOptionsBuilder;
+
+    fn make(&self, _alloc: Global) -> Result<RegexOptionsBuilder> {
+        Ok(RegexOptionsBuilder::new())
+    }
+
+    fn is_right(&self, alloc: Global, options: &RegexOptionsBuilder) -> Result<bool> {
+        match self.0 {
+            Question::Reprint => match options.reprint(alloc, self.1)? {
+                Some(text) => Ok(self.2 == Some(text.as_str())),
+                None => Ok(self.2.is_none()),
+            },
+            Question::StartBytes => match options.start_bytes(alloc, self.1)? {
+                Some(bytes) => Ok(self.2.is_some_and(|text| has_just(bytes, text))),
+                None => Ok(self.2.is_none()),
+            },
+            Question::RequiredBytes => {
+                let bytes = options.required_bytes(alloc, self.1)?;
+                Ok(self.2.is_some_and(|text| has_just(bytes, text)))
+            }
         }
-        Question::StartBytes => options.start_bytes(alloc, pattern)?,
-        Question::RequiredBytes => Some(options.required_bytes(alloc, pattern)?),
-    };
-    match (bytes, wanted) {
-        (Some(bytes), Some(wanted)) => Ok(has_just(&bytes, wanted)),
-        (None, None) => Ok(true),
-        _ => Ok(false),
     }
 }
 
 #[test]
 fn a_question_that_wants_memory_can_be_repeated(rt: HostRuntime) {
-    let alloc = rt.alloc();
-    let options = RegexOptionsBuilder::new();
-    for (question, pattern, wanted) in QUESTIONS.iter() {
-        let first = answers(alloc, &options, *question, pattern, *wanted);
-        let second = answers(alloc, &options, *question, pattern, *wanted);
-        assert!(rt; are_right(&first, &second), "{pattern}");
-    }
+    assert_eq!(rt; first_wrong(&rt, &ASKED), None);
 }
 
 /// A pattern of which no regex is built, and the text of the error.
-static FAULTS: [(&str, &str); 6] = [
-    (
+struct Fault(Text, Text);
+
+static FAULTS: [Fault; 8] = [
+    Fault(
         "a(b",
         "Parsing error at position 3: Opening parenthesis without closing parenthesis",
     ),
-    ("\\q", "Parsing error at position 0: Invalid escape: \\q"),
-    (
+    Fault("\\q", "Parsing error at position 0: Invalid escape: \\q"),
+    Fault(
         "(?<a>x)\\k<b>",
         "Parsing error at position 7: Invalid group name in back reference: b",
     ),
-    ("[z-a]", "Error compiling regex: inner error: [z-a]"),
-    ("(a\\g<1>)", "Error compiling regex: never ending recursion"),
-    (
+    Fault(
+        "(?<a>x)\\k<a>(?<a>y)",
+        "Parsing error at position 7: Invalid group name in back reference: a",
+    ),
+    Fault("[z-a]", "Error compiling regex: inner error: [z-a]"),
+    Fault("(a\\g<1>)", "Error compiling regex: never ending recursion"),
+    Fault(
+        "(?~(?~abc))",
+        "Error compiling regex: feature not yet supported: absent operator",
+    ),
+    Fault(
         "(?:a{65536}){65536}",
         "Error compiling regex: pattern too complex",
     ),
 ];
 
-/// Whether the error of a pattern has this text.
-fn is_refused(alloc: Global, pattern: &str, wanted: &str) -> Result<bool> {
-    match Regex::new(alloc, pattern) {
-        Ok(_) => Ok(false),
-        Err(Error::Memory) => Err(Error::Memory),
-        Err(error) => Ok(error.to_string(alloc)?.as_str() == wanted),
+/// Whether an error has this text. Want of memory has none.
+fn has_text(alloc: Global, error: Error, text: &str) -> Result<bool> {
+    if matches!(&error, Error::Memory) {
+        return Err(error);
+    }
+    let told = error.to_string(alloc)?;
+    Ok(told.as_str() == text)
+}
+
+impl Attempt for Fault {
+    type Made = RegexOptionsBuilder;
+
+    fn make(&self, _alloc: Global) -> Result<RegexOptionsBuilder> {
+        Ok(RegexOptionsBuilder::new())
+    }
+
+    fn is_right(&self, alloc: Global, options: &RegexOptionsBuilder) -> Result<bool> {
+        match built(alloc, options, Call::Build, self.0) {
+            Ok(_) => Ok(false),
+            Err(error) => has_text(alloc, error, self.1),
+        }
     }
 }
 
 #[test]
 fn a_fault_that_wants_memory_is_found_again(rt: HostRuntime) {
-    let alloc = rt.alloc();
-    for (pattern, wanted) in FAULTS.iter() {
-        let first = is_refused(alloc, pattern, wanted);
-        let second = is_refused(alloc, pattern, wanted);
-        assert!(rt; are_right(&first, &second), "{pattern}");
-    }
-}
-
-/// A class that is not read as one class, so that its members are found by a search for each character.
-const SEARCHED_CLASS: &str = "[)-[a]|b]";
-
-/// Whether the class has the members that are due.
-fn has_its_members(alloc: Global) -> Result<bool> {
-    let regex = Regex::new(alloc, SEARCHED_CLASS)?;
-    Ok(regex.is_match(alloc, "a")? && !regex.is_match(alloc, "b")?)
-}
-
-#[test]
-fn a_class_that_wants_memory_is_searched_for_again(rt: HostRuntime) {
-    let first = has_its_members(rt.alloc());
-    let second = has_its_members(rt.alloc());
-    assert!(rt; are_right(&first, &second));
+    assert_eq!(rt; first_wrong(&rt, &FAULTS), None);
 }

@@ -3,271 +3,231 @@
 //!
 //! The items of a run are shown as one text: each piece or match in brackets, `!` for want of memory, `?` for another error.
 
-use crate::outcome::regex_of;
-use fancy_regex::{Error, Regex, RegexInput, RegexSet, RegexSetMatch, RegexSetMatchesAt, Result};
-use std::alloc::{AllocError, Global};
+use crate::outcome::{Attempt, Text, first_wrong, shows};
+use fancy_regex::{
+    Captures, Error, Regex, RegexInput, RegexOptionsBuilder, RegexSet, RegexSetMatch,
+    RegexSetMatchesAt, Result,
+};
+use std::alloc::Global;
 
-/// The items of a run as a text.
-type Shown = std::result::Result<String, AllocError>;
+/// A text to show items in, with room for more bytes than any shown text below has, so that showing wants no more memory.
+fn room(alloc: Global) -> Result<String> {
+    Ok(String::with_capacity(alloc, 64)?)
+}
 
-/// More bytes than any shown text below has, so that showing the items wants no more memory.
-const CAPACITY: usize = 64;
-
-/// Whether the text is one of these.
-fn is_one_of(shown: &Shown, texts: &[&str]) -> bool {
-    let Ok(shown) = shown else {
-        return false;
+/// Appends an item, for which there is room.
+fn show(shown: &mut String, item: Result<&str>) {
+    let parts = match item {
+        Ok(piece) => ["[", piece, "]"],
+        Err(Error::Memory) => ["!", "", ""],
+        Err(_) => ["?", "", ""],
     };
-    for text in texts {
-        if shown.as_str() == *text {
-            return true;
-        }
-    }
-    false
-}
-
-/// Whether two equal calls, of which at most one met a refusal, show what is due: the whole text without a refusal, and one of the
-/// others with it.
-fn are_due(first: &Shown, second: &Shown, whole: &str, cut: &[&str]) -> bool {
-    let whole = [whole];
-    if is_one_of(first, &whole) {
-        is_one_of(second, &whole) || is_one_of(second, cut)
-    } else {
-        is_one_of(first, cut) && is_one_of(second, &whole)
+    for part in parts {
+        let _ = shown.push_str(part);
     }
 }
 
-/// An empty text with room, at the second attempt if the first ran out of memory.
-fn room(alloc: Global) -> Shown {
-    match String::with_capacity(alloc, CAPACITY) {
-        Ok(text) => Ok(text),
-        Err(_) => String::with_capacity(alloc, CAPACITY),
-    }
+/// A call that iterates.
+#[derive(Clone, Copy)]
+enum Call {
+    Matches,
+    /// The first group of each match.
+    Groups,
+    Split,
+    /// `splitn` with this limit.
+    SplitN(usize),
 }
 
-/// Appends an item.
-fn push_item(shown: &mut String, item: Result<&str>) -> std::result::Result<(), AllocError> {
-    match item {
-        Ok(piece) => {
-            shown.push('[')?;
-            shown.push_str(piece)?;
-            shown.push(']')
-        }
-        Err(Error::Memory) => shown.push('!'),
-        Err(_) => shown.push('?'),
-    }
-}
+/// A call, a pattern, a text, its items, and the items where a search wants memory.
+struct Iterating(Call, Text, Text, Text, &'static [Text]);
 
-const TEXT: &str = "ab c,def";
-
-/// The words of the text.
 const WORDS: &str = "[ab][c][def]";
 
-/// The words where a search wants memory.
-static CUT_WORDS: [&str; 4] = ["!", "[ab]!", "[ab][c]!", "[ab][c][def]!"];
+const CUT_WORDS: [&str; 4] = ["!", "[ab]!", "[ab][c]!", "[ab][c][def]!"];
 
-/// The matches of an iteration.
-fn matches_of(alloc: Global, regex: &Regex) -> Shown {
-    let mut shown = room(alloc)?;
-    let mut matches = regex.find_iter(alloc, TEXT);
-    while let Some(item) = matches.next() {
-        match item {
-            Ok(found) => push_item(&mut shown, Ok(found.as_str()))?,
-            Err(error) => push_item(&mut shown, Err(error))?,
-        }
-    }
-    Ok(shown)
-}
+const PIECES: &str = "[a][][bc][]";
 
-/// The first groups of an iteration.
-fn groups_of(alloc: Global, regex: &Regex) -> Shown {
-    let mut shown = room(alloc)?;
-    let mut all = regex.captures_iter(alloc, TEXT);
-    while let Some(item) = all.next() {
-        match item {
-            Ok(groups) => match groups.get(1) {
-                Some(found) => push_item(&mut shown, Ok(found.as_str()))?,
-                None => shown.push('?')?,
-            },
-            Err(error) => push_item(&mut shown, Err(error))?,
-        }
-    }
-    Ok(shown)
-}
+const THREE: &str = "[a][][bc,]";
 
-#[test]
-fn an_iteration_ends_after_want_of_memory(rt: HostRuntime) {
-    let alloc = rt.alloc();
-    for pattern in ["(\\w+)", "(\\w+)(?!x)"] {
-        let Some(regex) = regex_of(alloc, pattern) else {
-            panic!(rt; "no regex");
-        };
-        let first = matches_of(alloc, &regex);
-        let second = matches_of(alloc, &regex);
-        assert!(rt; are_due(&first, &second, WORDS, &CUT_WORDS), "{pattern}");
-        let first = groups_of(alloc, &regex);
-        let second = groups_of(alloc, &regex);
-        assert!(rt; are_due(&first, &second, WORDS, &CUT_WORDS), "{pattern}");
-    }
-}
-
-/// A pattern that matches a comma, a text, a limit, the pieces up to the limit, and these where a search wants memory.
-static SPLITS: [(&str, &str, usize, &str, &[&str]); 6] = [
-    (",", "a,,bc,", 9, "[a][][bc][]", &CUT_PIECES),
-    (",(?!x)", "a,,bc,", 9, "[a][][bc][]", &CUT_PIECES),
-    (",", "a,,bc,", 3, "[a][][bc,]", &["![a,,bc,]", "[a]![,bc,]"]),
-    (
-        ",(?!x)",
-        "a,,bc,",
-        3,
-        "[a][][bc,]",
-        &["![a,,bc,]", "[a]![,bc,]"],
-    ),
-    (",(?!x)", "a,,bc,", 1, "[a,,bc,]", &[]),
-    (",(?!x)", "abc", 9, "[abc]", &["![abc]"]),
-];
+const CUT_THREE: [&str; 2] = ["![a,,bc,]", "[a]![,bc,]"];
 
 const CUT_PIECES: [&str; 4] = ["![a,,bc,]", "[a]![,bc,]", "[a][]![bc,]", "[a][][bc]![]"];
 
-/// The pieces of a split with a limit.
-fn limited_pieces_of(alloc: Global, regex: &Regex, text: &str, limit: usize) -> Shown {
-    let mut shown = room(alloc)?;
-    for item in regex.splitn(alloc, text, limit) {
-        push_item(&mut shown, item)?;
-    }
-    Ok(shown)
-}
+static ITERATED: [Iterating; 12] = [
+    Iterating(Call::Matches, "(\\w+)", "ab c,def", WORDS, &CUT_WORDS),
+    Iterating(Call::Matches, "(\\w+)(?!x)", "ab c,def", WORDS, &CUT_WORDS),
+    Iterating(Call::Groups, "(\\w+)", "ab c,def", WORDS, &CUT_WORDS),
+    Iterating(Call::Groups, "(\\w+)(?!x)", "ab c,def", WORDS, &CUT_WORDS),
+    Iterating(Call::Split, ",", "a,,bc,", PIECES, &CUT_PIECES),
+    Iterating(Call::Split, ",(?!x)", "a,,bc,", PIECES, &CUT_PIECES),
+    Iterating(Call::SplitN(9), ",", "a,,bc,", PIECES, &CUT_PIECES),
+    Iterating(Call::SplitN(9), ",(?!x)", "a,,bc,", PIECES, &CUT_PIECES),
+    Iterating(Call::SplitN(3), ",", "a,,bc,", THREE, &CUT_THREE),
+    Iterating(Call::SplitN(3), ",(?!x)", "a,,bc,", THREE, &CUT_THREE),
+    Iterating(Call::SplitN(1), ",(?!x)", "a,,bc,", "[a,,bc,]", &[]),
+    Iterating(Call::SplitN(9), ",(?!x)", "abc", "[abc]", &["![abc]"]),
+];
 
-#[test]
-fn a_limited_split_gives_the_rest_after_want_of_memory(rt: HostRuntime) {
-    let alloc = rt.alloc();
-    for (pattern, text, limit, whole, cut) in SPLITS.iter() {
-        let Some(regex) = regex_of(alloc, pattern) else {
-            panic!(rt; "no regex");
-        };
-        let first = limited_pieces_of(alloc, &regex, text, *limit);
-        let second = limited_pieces_of(alloc, &regex, text, *limit);
-        assert!(rt;
-            are_due(&first, &second, whole, cut),
-            "{text} up to {limit}"
-        );
-    }
-}
-
-/// The pieces of a split.
-fn pieces_of(alloc: Global, regex: &Regex, text: &str) -> Shown {
-    let mut shown = room(alloc)?;
-    for item in regex.split(alloc, text) {
-        push_item(&mut shown, item)?;
-    }
-    Ok(shown)
-}
-
-#[test]
-fn a_split_gives_the_rest_after_want_of_memory(rt: HostRuntime) {
-    let alloc = rt.alloc();
-    for pattern in [",", ",(?!x)"] {
-        let Some(regex) = regex_of(alloc, pattern) else {
-            panic!(rt; "no regex");
-        };
-        let first = pieces_of(alloc, &regex, "a,,bc,");
-        let second = pieces_of(alloc, &regex, "a,,bc,");
-        assert!(rt;
-            are_due(&first, &second, "[a][][bc][]", &CUT_PIECES),
-            "{pattern}"
-        );
-    }
-}
-
-/// The patterns of a set, each of which matches at 1 in `$29.99`.
-const MEMBERS: [&str; 3] = ["\\d+", "\\w+", "(?<=\\$)\\d+\\.\\d+"];
-
-/// Their items.
-const ITEMS: &str = "[29][29][29.99]";
-
-/// Their items where the search of a member wants memory; `!` alone is want of memory of the search of the set.
-static CUT_ITEMS: [&str; 4] = ["![29][29.99]", "[29]![29.99]", "[29][29]!", "!"];
-
-/// Appends the match of a member, or `?` if it is not its turn.
-fn push_member(
-    shown: &mut String,
-    found: &RegexSetMatch<'_, &str>,
-    member: usize,
-) -> std::result::Result<(), AllocError> {
-    if found.pattern() == member {
-        push_item(shown, Ok(found.as_str()))
-    } else {
-        shown.push('?')
-    }
-}
-
-/// Appends the items of a set, one for each member in turn.
-fn push_members(
-    shown: &mut String,
-    found: &mut RegexSetMatchesAt<'_, &str>,
-) -> std::result::Result<(), AllocError> {
-    let mut member = 0usize;
-    while let Some(item) = found.next() {
+/// Shows the matches of an iteration.
+fn show_matches(alloc: Global, regex: &Regex, text: &str, shown: &mut String) {
+    let mut matches = regex.find_iter(alloc, text);
+    while let Some(item) = matches.next() {
         match item {
-            Ok(found) => push_member(shown, &found, member)?,
-            Err(error) => push_item(shown, Err(error))?,
+            Ok(found) => show(shown, Ok(found.as_str())),
+            Err(error) => show(shown, Err(error)),
         }
-        member = member.saturating_add(1);
     }
-    Ok(())
 }
 
-/// The items of a search of a set.
-fn items_of(alloc: Global, set: &RegexSet) -> Shown {
-    let mut shown = room(alloc)?;
-    match set.find_input(alloc, RegexInput::new("$29.99")) {
-        Ok(Some(mut found)) => push_members(&mut shown, &mut found)?,
-        Ok(None) => {}
-        Err(error) => push_item(&mut shown, Err(error))?,
+/// The text of the first group, or `?`.
+fn first_group<'t>(groups: &Captures<'_, &'t str>) -> &'t str {
+    match groups.get(1) {
+        Some(found) => found.as_str(),
+        None => "?",
     }
-    Ok(shown)
 }
 
-/// The set that a call makes of the members' patterns.
-#[derive(Clone, Copy, Debug)]
+/// Shows the first groups of an iteration.
+fn show_groups(alloc: Global, regex: &Regex, text: &str, shown: &mut String) {
+    let mut all = regex.captures_iter(alloc, text);
+    while let Some(item) = all.next() {
+        match item {
+            Ok(groups) => show(shown, Ok(first_group(&groups))),
+            Err(error) => show(shown, Err(error)),
+        }
+    }
+}
+
+/// Shows the pieces of a split.
+fn show_pieces(alloc: Global, regex: &Regex, text: &str, shown: &mut String) {
+    for item in regex.split(alloc, text) {
+        show(shown, item);
+    }
+}
+
+/// Shows the pieces of a split up to a limit.
+fn show_first_pieces(alloc: Global, regex: &Regex, text: &str, limit: usize, shown: &mut String) {
+    for item in regex.splitn(alloc, text, limit) {
+        show(shown, item);
+    }
+}
+
+impl Attempt for Iterating {
+    type Made = Regex;
+
+    fn make(&self, alloc: Global) -> Result<Regex> {
+        Regex::new(alloc, self.1)
+    }
+
+    fn is_right(&self, alloc: Global, regex: &Regex) -> Result<bool> {
+        let mut shown = room(alloc)?;
+        match self.0 {
+            Call::Matches => show_matches(alloc, regex, self.2, &mut shown),
+            Call::Groups => show_groups(alloc, regex, self.2, &mut shown),
+            Call::Split => show_pieces(alloc, regex, self.2, &mut shown),
+            Call::SplitN(limit) => show_first_pieces(alloc, regex, self.2, limit, &mut shown),
+        }
+        shows(&shown, self.3, self.4)
+    }
+}
+
+#[test]
+fn an_iteration_ends_or_gives_the_rest_after_want_of_memory(rt: HostRuntime) {
+    assert_eq!(rt; first_wrong(&rt, &ITERATED), None);
+}
+
+/// A call that makes a set.
+#[derive(Clone, Copy)]
 enum Making {
     /// `RegexSet::new`, whose set knows which members may start at a byte.
     New,
     /// `RegexSet::from_regexes`, whose set does not.
     FromRegexes,
+    /// `RegexSet::new_with_options`, with no backtracks allowed.
+    Limited,
 }
 
-/// The set of the members.
-fn set_by(alloc: Global, making: Making) -> Result<RegexSet> {
-    match making {
-        Making::New => RegexSet::new(alloc, &MEMBERS),
-        Making::FromRegexes => {
-            let mut regexes = Vec::new(alloc);
-            for pattern in MEMBERS {
-                regexes.push(Regex::new(alloc, pattern)?)?;
-            }
-            Ok(RegexSet::from_regexes(regexes))
-        }
+/// A call, the patterns of a set, a text, the items of a search, one for each member, and the items where a search wants memory.
+struct Asking(Making, &'static [Text], Text, Text, &'static [Text]);
+
+const MEMBERS: [&str; 3] = ["\\d+", "\\w+", "(?<=\\$)\\d+\\.\\d+"];
+
+const ITEMS: &str = "[29][29][29.99]";
+
+const CUT_ITEMS: [&str; 3] = ["!", "[29]![29.99]", "[29][29]!"];
+
+// The second meets its limit on `aa`.
+const LIMITED: [&str; 2] = ["a", "(?:(a|aa)+)\\1"];
+
+// `!` alone is want of memory of the search of the set. A set asks its first member while it looks for the place of the match.
+static ASKED: [Asking; 3] = [
+    Asking(Making::New, &MEMBERS, "$29.99", ITEMS, &CUT_ITEMS),
+    Asking(Making::FromRegexes, &MEMBERS, "$29.99", ITEMS, &CUT_ITEMS),
+    Asking(Making::Limited, &LIMITED, "aa", "[a]?", &["!", "[a]!"]),
+];
+
+/// The set of the regexes of the patterns.
+fn set_of_regexes(alloc: Global, patterns: &[&str]) -> Result<RegexSet> {
+    let mut regexes = Vec::new(alloc);
+    for pattern in patterns {
+        regexes.push(Regex::new(alloc, pattern)?)?;
+    }
+    Ok(RegexSet::from_regexes(regexes))
+}
+
+/// Shows the match of a member, or `?` if it is not its turn.
+fn show_member(shown: &mut String, found: &RegexSetMatch<'_, &str>, member: usize) {
+    if found.pattern() == member {
+        show(shown, Ok(found.as_str()));
+    } else {
+        show(shown, Ok("?"));
     }
 }
 
-/// The set of the members, at the second attempt if the first ran out of memory.
-fn set_of(alloc: Global, making: Making) -> Option<RegexSet> {
-    match set_by(alloc, making) {
-        Err(Error::Memory) => set_by(alloc, making).ok(),
-        made => made.ok(),
+/// Shows the items of a set, one for each member in turn.
+fn show_members(shown: &mut String, found: &mut RegexSetMatchesAt<'_, &str>) {
+    let mut member = 0usize;
+    while let Some(item) = found.next() {
+        match item {
+            Ok(found) => show_member(shown, &found, member),
+            Err(error) => show(shown, Err(error)),
+        }
+        member = member.saturating_add(1);
+    }
+}
+
+/// Shows the items of a search of a set.
+fn show_search(alloc: Global, set: &RegexSet, text: &str, shown: &mut String) {
+    match set.find_input(alloc, RegexInput::new(text)) {
+        Ok(Some(mut found)) => show_members(shown, &mut found),
+        Ok(None) => {}
+        Err(error) => show(shown, Err(error)),
+    }
+}
+
+impl Attempt for Asking {
+    type Made = RegexSet;
+
+    fn make(&self, alloc: Global) -> Result<RegexSet> {
+        let mut options = RegexOptionsBuilder::new();
+        match self.0 {
+            Making::New => RegexSet::new(alloc, self.1),
+            Making::FromRegexes => set_of_regexes(alloc, self.1),
+            Making::Limited => {
+                options.backtrack_limit(0);
+                RegexSet::new_with_options(alloc, self.1, &options)
+            }
+        }
+    }
+
+    fn is_right(&self, alloc: Global, set: &RegexSet) -> Result<bool> {
+        let mut shown = room(alloc)?;
+        show_search(alloc, set, self.2, &mut shown);
+        shows(&shown, self.3, self.4)
     }
 }
 
 #[test]
 fn a_set_goes_on_after_want_of_memory(rt: HostRuntime) {
-    let alloc = rt.alloc();
-    for making in [Making::New, Making::FromRegexes] {
-        let Some(set) = set_of(alloc, making) else {
-            panic!(rt; "no set");
-        };
-        let first = items_of(alloc, &set);
-        let second = items_of(alloc, &set);
-        assert!(rt; are_due(&first, &second, ITEMS, &CUT_ITEMS), "{making:?}");
-    }
+    assert_eq!(rt; first_wrong(&rt, &ASKED), None);
 }
