@@ -8,8 +8,8 @@ use Rattle.fancy_regex_class.specs.RunInputs.{match_slots}
 use Rattle.fancy_regex_meta.specs.MetaMatches.{meta_match, meta_pattern}
 use Rattle.fancy_regex_meta.specs.SearchLimits.{IsMetaSearchError, meta_uses_easy, max_looks}
 use Rattle.fancy_regex_input.specs.SearchInputs.{whole}
-use Rattle.fancy_regex_search.specs.CaptureSpans.{span_in, IsSpanAt}
-use Rattle.fancy_regex_ffi_lists.specs.Spans.{span_of}
+use Rattle.fancy_regex_search.specs.CaptureSpans.{span_in}
+use Rattle.fancy_regex_ffi_lists.specs.Groups.{IsGroupSpan}
 use Rattle.fancy_regex_ffi.specs.declared.fault.Fault.{Fault}
 use Rattle.fancy_regex_ffi.specs.declared.fault.Fault.TheVariants as faults
 use Rattle.fancy_regex_ffi.specs.declared.query.Query.{Query}
@@ -75,10 +75,6 @@ abbrev pub CountsLooksBy : Subject → List ℕ → Query → ℕ → ℕ → Ty
 CountsLooksBy (subjects.Regex regex) text query old new = CountsLooks regex.meta text query old new
 CountsLooksBy (subjects.Set set) text query old new = new ≡ old
 CountsLooksBy subjects.Nothing text query old new = new ≡ old
-
--- the span of a group: that of the part of the text that it matched, and the largest number twice where it took no part
-abbrev pub IsGroupSpan : List ℕ → List ℕ → ℕ → Span → Type 0
-IsGroupSpan text slots k span = (found : Option (ℕ × ℕ)) × IsSpanAt text slots k found × (span ≡ span_of found)
 
 -- the spans of the groups, from group 0, as many as there are spans
 abbrev pub AreGroupSpans : List ℕ → List ℕ → List Span → Type 0

@@ -6,7 +6,7 @@ ghost use Rattle.fancy_regex_meta.specs.Refusals.{Accepts};
 ghost use Rattle.fancy_regex_ffi_lists.specs.Choices.{chosen};
 ghost use Rattle.fancy_regex_ffi.specs.Codes.{fault_status};
 ghost use Rattle.fancy_regex_ffi.specs.Ends.{IsBuildFault, IsBuilt, FindEnds, CapturesEnd, groups_for, place_kept, IsGroupName, IsNameOf, IsNameWritten};
-ghost use Rattle.fancy_regex_ffi.specs.Searches.{IsFoundBy, CountsLooksBy, IsCapturedBy, IsCapturedIn, IsGroupSpan, AreGroupSpans};
+ghost use Rattle.fancy_regex_ffi.specs.Searches.{IsFoundBy, CountsLooksBy, IsCapturedBy, IsCapturedIn, AreGroupSpans};
 ghost use Rattle.fancy_regex_ffi.specs.Texts.{IsFaultWritten, IsTextWritten};
 ghost use Rattle.fancy_regex_ffi.specs.declared.held.Subject.TheVariants as subjects;
 
@@ -15,7 +15,7 @@ use crate::held::{Held, Subject};
 use crate::query::{Query, check_place, find_in, text_of};
 use crate::status::Status;
 use fancy_regex::{Captures, Error, Regex, RegexInput, Steps};
-use fancy_regex_ffi_lists::{Options, Span, write_error, write_front};
+use fancy_regex_ffi_lists::{Options, Span, group_span, write_error, write_front};
 use std::alloc::Global;
 use std::{fmt, str};
 
@@ -162,16 +162,6 @@ fn write_groups(captures: &Captures<'_, &str>, spans: &mut [Span])
 {
     for (group, span) in spans.iter_mut().enumerate() {
         *span = group_span(captures, group);
-    }
-}
-
-/// The span of a group; unset if it took no part in the match, or if there is no such group.
-fn group_span(captures: &Captures<'_, &str>, group: usize) -> Span
-    ensures { IsGroupSpan captures.now.haystack.now captures.now.slots.items group result }
-{
-    match captures.get(group) {
-        Some(found) => Span::of(Some((found.start(), found.end()))),
-        None => Span::of(None),
     }
 }
 
