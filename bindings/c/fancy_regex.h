@@ -180,7 +180,7 @@ static inline int32_t fancy_regex_find_by(fancy_regex *regex, const char *text, 
 /* As fancy_regex_find_by, and writes into `looks`, which must not be null, a count of the looks at the text that the linear-time matcher
  * makes: 0 where nothing is searched and for a pattern that needs a backtracking program; for another pattern at most W * (N + 1),
  * where N is the number of bytes from the place of the search to the end of the text, 0 past the end, and W is a number that the pattern
- * and its options give. */
+ * and its options give; and, where the search answers, at least one for each place at which it tries to begin a match. */
 static inline int32_t fancy_regex_find_counted(fancy_regex *regex, const char *text, size_t length, const fancy_regex_query *query, fancy_regex_span *span, uint64_t *looks) {
     fancy_regex_span ignored = {FANCY_REGEX_UNSET, FANCY_REGEX_UNSET};
     int32_t tested = fancy_regex_test(text, length, 1);

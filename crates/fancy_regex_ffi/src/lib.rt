@@ -78,7 +78,8 @@ pub extern "C" fn fancy_regex_raw_find(
 }
 
 /// The first match of a search, and how many looks at the text are counted: none where the handle holds no regex or a backtracking
-/// program runs, and else at most as many as the linear-time matcher may make.
+/// program runs, and else at most as many as the linear-time matcher may make; where the search answers, at least one for each start that
+/// it tries.
 #[unsafe(no_mangle)]
 pub extern "C" fn fancy_regex_raw_find_counted(
     alloc: Global,
@@ -90,7 +91,7 @@ pub extern "C" fn fancy_regex_raw_find_counted(
 ) -> i32
     requires { query.now.is_utf8 ≡ true → IsUtf8 text.now }
     ensures answer { FindReports handle.old.held handle.new.held text.now query.now result span.new }
-    ensures looks { LooksCounted handle.old.held text.now query.now looks.new }
+    ensures looks { LooksCounted handle.old.held text.now query.now result looks.new }
 {
     let mut steps = Steps::new();
     let code = find_counted(alloc, handle, text, query, span, &mut steps);
@@ -111,7 +112,7 @@ fn find_counted(
     requires utf8 { query.now.is_utf8 ≡ true → IsUtf8 text.now }
     requires fresh { steps.old ≡ 0 }
     ensures answer { FindReports handle.old.held handle.new.held text.now query.now result span.new }
-    ensures looks { LooksCounted handle.old.held text.now query.now steps.new }
+    ensures looks { LooksCounted handle.old.held text.now query.now result steps.new }
 {
     let Some(mut held) = handle.take(alloc) else {
         *span = Span::of(None);

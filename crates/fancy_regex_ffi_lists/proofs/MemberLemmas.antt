@@ -4,6 +4,7 @@ use Rattle.std.specs.Prelude.{MatchOption}
 use Rattle.std.proofs.lemmas.Bool.{cases_lt}
 use Rattle.fancy_regex.specs.Searches.{Match, SetAnswer}
 use Rattle.fancy_regex.specs.SearchConfig.{SearchConfig}
+use Rattle.fancy_regex.specs.CaptureSpans.{span_in}
 use Rattle.fancy_regex.specs.Error.{Error}
 use Rattle.fancy_regex.specs.Error.TheVariants as errors
 use Rattle.fancy_regex.specs.SetAnswers.{answer_of_set, found_from, AreInLimits, AreInLimitsBefore, IsAnswerOfSet, IsErrorOfMember, IsSetError}
@@ -58,6 +59,10 @@ abbrev pub IsLeft : {X : Type 0} → (X → ℕ × Match → Type 0) → List Re
 IsLeft Tells regexes text config p first next left =
     MatchOption first (left ≡ found_from regexes text config p next)
     (λ x. (found : ℕ × Match) × (left ≡ found ∷ found_from regexes text config p next) × Tells x found)
+
+-- the number and the span of a member that is shown
+abbrev pub IsShownAs : ℕ × (ℕ × ℕ) → ℕ × Match → Type 0
+IsShownAs shown found = shown ≡ (found.0, span_in found.1)
 
 -- at first it is the answer
 pub left_first : {X : Type 0} {Shows : X → ℕ × Match → Type 0} (Tells : X → ℕ × Match → Type 0) (regexes : List Regex) (text : List ℕ) (config : SearchConfig) (p : ℕ) (first : Option X) (next : ℕ)

@@ -17,7 +17,7 @@ pub returns-in_default-clause-groups : goal.returns-in_default-clause-groups
 returns-in_default-clause-groups c =
     let set = c.args.set.now in
     let told = rw (c.in_default.is, c.input_at.ensures.haystack, c.input_at.ensures.config) at c.in_ok-found.ensures.answer in
-    subst (λ a. AreGroupsOfEach set.regexes.items c.args.text.now (members_found a) c.new-groups.result.items) (sym told) c.new-groups.ensures.items
+    rw told c.new-groups.ensures.items
 
 pub loop-member-init : goal.loop-member-init
 loop-member-init c =
@@ -74,7 +74,7 @@ loop-member-preserved c =
     let found = left_next
     (λ y f. IsMatchOfMember set.regexes.items f y.pattern y.matched.captures.regex.now y.matched.captures.slots.items (y.matched.start, y.matched.end)
     × (y.matched.captures.haystack.now ≡ text))
-    set.regexes.items text config s.members.position s.first s.next t.next x inv.left inv.is_left told (λ f h. (h.0, ap (λ b. b.now) h.2 ∙ inv.text)) in
+    set.regexes.items text config s.members.position s.first s.next t.next x inv.left inv.is_left told (λ f h. (h.0, ap (λ b. b.now) h.2)) in
     let pushed = rw (c.pattern.ensures, c.captures.ensures) at c.in_ok-push_groups.ensures in
     let added = added_of_member set.regexes.items text x.matched.captures.haystack.now x.matched.captures.slots.items found.0 x.pattern x.matched.captures.regex.now (x.matched.start, x.matched.end)
     c.loop-member.groups.items _ found.2.0 found.2.1 pushed in

@@ -1,10 +1,9 @@
-use Rattle.std.proofs.Common.{◌≡◌, ◌∙◌, ◌++◌, map, ap, sym, refl}
+use Rattle.std.proofs.Common.{◌∙◌, ◌++◌, map, ap, sym, refl}
 use Rattle.std.proofs.lemmas.Result.{err_from_is_err_and}
-use Rattle.fancy_regex.specs.CaptureSpans.{span_in}
 use Rattle.fancy_regex.specs.SetAnswers.{found_from}
 use Rattle.fancy_regex_ffi_lists.specs.Lists.{config_at, member_found, members_found}
 use Rattle.fancy_regex_ffi_lists.proofs.ListLemmas.{members_more, members_all}
-use Rattle.fancy_regex_ffi_lists.proofs.MemberLemmas.{answer_error_is, error_at_answer, left_first, left_next, left_none, limits_next, set_error_is}
+use Rattle.fancy_regex_ffi_lists.proofs.MemberLemmas.{IsShownAs, answer_error_is, error_at_answer, left_first, left_next, left_none, limits_next, set_error_is}
 use Rattle.fancy_regex_ffi_lists.proofs.members.set_members.Goals as goal
 
 pub returns-in_err-found-clause-fails : goal.returns-in_err-found-clause-fails
@@ -27,7 +26,7 @@ loop-member-init c =
     let of = rw (c.in-Some.is, c.input_at.ensures.haystack, c.input_at.ensures.config) at c.in_ok-found.ensures.of in
     let told = rw (c.in-Some.is, c.input_at.ensures.haystack, c.input_at.ensures.config) at c.in_ok-found.ensures.answer in
     let stays = rw (c.in-Some.is, c.input_at.ensures.haystack, c.input_at.ensures.config) at c.in_ok-found.ensures.stays in
-    let left = left_first (λ x f. (x.pattern, (x.matched.start, x.matched.end)) ≡ (f.0, span_in f.1)) set.regexes.items text config s.members.position s.first s.next told (λ x f h i. (h.0.number_is i, h.0.span_is i)) in
+    let left = left_first (λ x f. IsShownAs (x.pattern, (x.matched.start, x.matched.end)) f) set.regexes.items text config s.members.position s.first s.next told (λ x f h i. (h.0.number_is i, h.0.span_is i)) in
     record {
       set = of.0;
       text = ap (λ b. b.now) of.1;
@@ -66,7 +65,7 @@ loop-member-preserved c =
     let steps = c.in-Some-next.ensures.steps in
     let told = rw (c.in_ok-member.was, inv.set, inv.text, inv.config) at steps.2 in
     let passed = rw (c.in_ok-member.was, inv.set, inv.text, inv.config) at steps.3 in
-    let found = left_next (λ x f. (x.pattern, (x.matched.start, x.matched.end)) ≡ (f.0, span_in f.1)) set.regexes.items text config s.members.position s.first s.next t.next c.in_ok-member.member inv.left inv.is_left told (λ f h i. (h.0.number_is i, h.0.span_is i)) in
+    let found = left_next (λ x f. IsShownAs (x.pattern, (x.matched.start, x.matched.end)) f) set.regexes.items text config s.members.position s.first s.next t.next c.in_ok-member.member inv.left inv.is_left told (λ f h i. (h.0.number_is i, h.0.span_is i)) in
     rw (steps.0, steps.1) (record {
       set = inv.set;
       text = inv.text;
@@ -90,5 +89,5 @@ returns-clause-members c =
     let inv = c.loop-member.invariant in
     let config = config_at c.args.text.now c.args.position c.args.continues in
     let told = rw (inv.set, inv.text, inv.config) at c.in_default-next.ensures.steps.2 in
-    let none = left_none (λ x f. (x.pattern, (x.matched.start, x.matched.end)) ≡ (f.0, span_in f.1)) c.args.set.now.regexes.items c.args.text.now config s.members.position s.first s.next _ inv.left inv.is_left told in
+    let none = left_none (λ x f. IsShownAs (x.pattern, (x.matched.start, x.matched.end)) f) c.args.set.now.regexes.items c.args.text.now config s.members.position s.first s.next _ inv.left inv.is_left told in
     members_all _ _ inv.left none inv.members
