@@ -29,14 +29,9 @@ module _ (regexes : List Regex) (text : List ℕ) (config : SearchConfig) where
   abbrev limits : ℕ → ℕ → ℕ → Type 0
   limits = AreInLimits regexes text config
 
-  limits_join : (p i j : ℕ) → limits p 0 i → limits p i j → limits p 0 j
+  -- what is passed over in two goes
+  pub limits_join : (p i j : ℕ) → limits p 0 i → limits p i j → limits p 0 j
   limits_join p i j h g = λ k low high. ⊎_elim (λ (lt : k < i). h k low lt) (λ (ge : i ≤ k). g k ge high) (cases_lt k i)
-
-  -- what is passed over up to an item stays within its limits
-  pub limits_next : {X A : Type 0} {B : X → Type 0} (p : ℕ) (first : Option X) (next after : ℕ) → limits p 0 next → MatchOption first A (λ y. B y × (after ≡ next))
-      → MatchOption first (limits p next after) (λ _. Unit {0}) → limits p 0 after
-  limits_next p None next after h told passed = limits_join p next after h passed
-  limits_next p (Some y) next after h told passed = subst (λ (n : ℕ). limits p 0 n) (sym told.1) h
 
   -- an error is that of a member at the position of the answer
   pub error_at_answer : {X : Type 0} (answer : SetAnswer) (p : ℕ) (first : Option X) (next after : ℕ) (e : Error) → answer_of_set regexes text config ≡ Some answer → answer.position ≡ p
@@ -76,15 +71,16 @@ module _ {X : Type 0} (Tells : X → ℕ × Match → Type 0) (regexes : List Re
   abbrev found : ℕ → List (ℕ × Match)
   found = found_from regexes text config p
 
-  -- what is shown next is the first of what is left
+  -- what is shown next is the first of what is left, and what is passed over up to it stays within its limits
   pub left_next : {Shown : ℕ × Match → Type 0} (first : Option X) (next after : ℕ) (x : X) (left : List (ℕ × Match)) → IsLeft Tells regexes text config p first next left
       → MatchOption first ((f : ℕ × Match) × (next ≤ f.0) × (after ≡ f.0 + 1) × (found next ≡ f ∷ found after) × Shown f)
       (λ y. (◌≡◌ {A = Option (Result X Error)} (Some (Ok x)) (Some (Ok y))) × (after ≡ next))
-      → ((f : ℕ × Match) → Shown f → Tells x f) → (f : ℕ × Match) × (left ≡ f ∷ found after) × Tells x f
-  left_next None next after x left l h tells = (h.0, l ∙ h.3, tells h.0 h.4)
-  left_next (Some y) next after x left l h tells =
+      → ((f : ℕ × Match) → Shown f → Tells x f) → AreInLimits regexes text config p 0 next → MatchOption first (AreInLimits regexes text config p next after) (λ _. Unit {0})
+      → (f : ℕ × Match) × (left ≡ f ∷ found after) × Tells x f × AreInLimits regexes text config p 0 after
+  left_next None next after x left l h tells before passed = (h.0, l ∙ h.3, tells h.0 h.4, limits_join regexes text config p next after before passed)
+  left_next (Some y) next after x left l h tells before passed =
       let same : x ≡ y = cc (h.0) in
-      (l.0, l.1 ∙ ap (λ n. l.0 ∷ found n) (sym h.1), subst (λ (z : X). Tells z l.0) (sym same) l.2)
+      (l.0, l.1 ∙ ap (λ n. l.0 ∷ found n) (sym h.1), subst (λ (z : X). Tells z l.0) (sym same) l.2, subst (λ (n : ℕ). AreInLimits regexes text config p 0 n) (sym h.1) before)
 
   -- at the end none is left
   pub left_none : (first : Option X) (next after : ℕ) (left : List (ℕ × Match)) → IsLeft Tells regexes text config p first next left

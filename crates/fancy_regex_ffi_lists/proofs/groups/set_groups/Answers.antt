@@ -4,7 +4,7 @@ use Rattle.fancy_regex.specs.SetAnswers.{answer_of_set, found_from, IsMatchOfMem
 use Rattle.fancy_regex_ffi_lists.specs.Lists.{config_at, members_found}
 use Rattle.fancy_regex_ffi_lists.specs.Groups.{AreGroupsOfEach}
 use Rattle.fancy_regex_ffi_lists.proofs.GroupLemmas.{added_of_member, completes_all, completes_next, completes_none}
-use Rattle.fancy_regex_ffi_lists.proofs.MemberLemmas.{answer_error_is, error_at_answer, left_first, left_next, left_none, limits_next, set_error_is}
+use Rattle.fancy_regex_ffi_lists.proofs.MemberLemmas.{answer_error_is, error_at_answer, left_first, left_next, left_none, set_error_is}
 use Rattle.fancy_regex_ffi_lists.proofs.groups.set_groups.Goals as goal
 
 pub returns-in_err-found-clause-fails : goal.returns-in_err-found-clause-fails
@@ -74,8 +74,8 @@ loop-member-preserved c =
     let found = left_next
     (λ y f. IsMatchOfMember set.regexes.items f y.pattern y.matched.captures.regex.now y.matched.captures.slots.items (y.matched.start, y.matched.end)
     × (y.matched.captures.haystack.now ≡ text))
-    set.regexes.items text config s.members.position s.first s.next t.next x inv.left inv.is_left told (λ f h. (h.0, ap (λ b. b.now) h.2)) in
-    let pushed = rw (c.pattern.ensures, c.captures.ensures) at c.in_ok-push_groups.ensures in
+    set.regexes.items text config s.members.position s.first s.next t.next x inv.left inv.is_left told (λ f h. (h.0, ap (λ b. b.now) h.2)) inv.here passed in
+    let pushed = rw (c.pattern.ensures, c.captures-2.ensures) at c.in_ok-push_groups.ensures in
     let added = added_of_member set.regexes.items text x.matched.captures.haystack.now x.matched.captures.slots.items found.0 x.pattern x.matched.captures.regex.now (x.matched.start, x.matched.end)
     c.loop-member.groups.items _ found.2.0 found.2.1 pushed in
     rw (steps.0, steps.1) (record {
@@ -86,7 +86,7 @@ loop-member-preserved c =
       is_answer = inv.is_answer;
       at = inv.at;
       before = inv.before;
-      here = limits_next set.regexes.items text config s.members.position s.first s.next t.next inv.here told passed;
+      here = found.3;
       left = found_from set.regexes.items text config s.members.position t.next;
       is_left = refl;
       groups = completes_next set.regexes.items text (members_found (answer_of_set set.regexes.items text config)) inv.left found.0 _ c.loop-member.groups.items added.0 _ found.1 added.1 added.2 inv.groups;

@@ -3,7 +3,7 @@ use Rattle.std.proofs.lemmas.Result.{err_from_is_err_and}
 use Rattle.fancy_regex.specs.SetAnswers.{found_from}
 use Rattle.fancy_regex_ffi_lists.specs.Lists.{config_at, member_found, members_found}
 use Rattle.fancy_regex_ffi_lists.proofs.ListLemmas.{members_more, members_all}
-use Rattle.fancy_regex_ffi_lists.proofs.MemberLemmas.{IsShownAs, answer_error_is, error_at_answer, left_first, left_next, left_none, limits_next, set_error_is}
+use Rattle.fancy_regex_ffi_lists.proofs.MemberLemmas.{IsShownAs, answer_error_is, error_at_answer, left_first, left_next, left_none, set_error_is}
 use Rattle.fancy_regex_ffi_lists.proofs.members.set_members.Goals as goal
 
 pub returns-in_err-found-clause-fails : goal.returns-in_err-found-clause-fails
@@ -65,7 +65,7 @@ loop-member-preserved c =
     let steps = c.in-Some-next.ensures.steps in
     let told = rw (c.in_ok-member.was, inv.set, inv.text, inv.config) at steps.2 in
     let passed = rw (c.in_ok-member.was, inv.set, inv.text, inv.config) at steps.3 in
-    let found = left_next (λ x f. IsShownAs (x.pattern, (x.matched.start, x.matched.end)) f) set.regexes.items text config s.members.position s.first s.next t.next c.in_ok-member.member inv.left inv.is_left told (λ f h i. (h.0.number_is i, h.0.span_is i)) in
+    let found = left_next (λ x f. IsShownAs (x.pattern, (x.matched.start, x.matched.end)) f) set.regexes.items text config s.members.position s.first s.next t.next c.in_ok-member.member inv.left inv.is_left told (λ f h i. (h.0.number_is i, h.0.span_is i)) inv.here passed in
     rw (steps.0, steps.1) (record {
       set = inv.set;
       text = inv.text;
@@ -74,7 +74,7 @@ loop-member-preserved c =
       is_answer = inv.is_answer;
       at = inv.at;
       before = inv.before;
-      here = limits_next set.regexes.items text config s.members.position s.first s.next t.next inv.here told passed;
+      here = found.3;
       left = found_from set.regexes.items text config s.members.position t.next;
       is_left = refl;
       members =
