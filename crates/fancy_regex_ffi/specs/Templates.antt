@@ -73,7 +73,7 @@ CheckReports None left template is_python code = (code ≡ code_of statuses.Empt
 
 -- the pattern that matches exactly the text, or why there is none: want of memory, or that the text is not UTF-8
 abbrev pub IsEscaped : List ℕ → Result (List ℕ) Fault → Type 0
-IsEscaped text (Ok pattern) = IsUtf8 text × IsUtf8 pattern × (chars pattern ≡ escaped_pattern (chars text))
+IsEscaped text (Ok pattern) = IsUtf8 text × (chars pattern ≡ escaped_pattern (chars text))
 IsEscaped text (Err (faults.Regex Memory)) = IsUtf8 text
 IsEscaped text (Err faults.NotUtf8) = IsUtf8 text → ⊥
 IsEscaped text (Err _) = ⊥
