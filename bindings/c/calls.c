@@ -111,6 +111,7 @@ static int sets(void) {
     WANT(fancy_regex_set_find(&set, "$29.99", 6, 3, members, 3, &count) == FANCY_REGEX_DONE && count == 1 && members[0].pattern == 2);
     WANT(fancy_regex_set_find(&set, "\xc3\xa9", 2, 1, members, 3, &count) == FANCY_REGEX_OFF_BOUNDARY && count == 0);
     WANT(fancy_regex_set_find(&set, "a", 1, 2, members, 3, &count) == FANCY_REGEX_PAST_END);
+    WANT(fancy_regex_set_captures(&set, "\xc3\xa9", 2, 1, members, 3, &count) == FANCY_REGEX_OFF_BOUNDARY && count == 0);
     WANT(fancy_regex_find(&set, "1", 1, 0, &span) == FANCY_REGEX_NO_REGEX && fancy_regex_groups(&set) == 0);
     WANT(fancy_regex_fault_text(&set, NULL, 0) == strlen("the handle holds no regex"));
     WANT(fancy_regex_set_build(&set, patterns, falling, 3, NULL) == FANCY_REGEX_WRONG_ENDS);
@@ -120,6 +121,41 @@ static int sets(void) {
     WANT(fancy_regex_set_find(&set, "a", 1, 0, members, 3, &count) == FANCY_REGEX_DONE && count == 0);
     WANT(fancy_regex_set_build(&set, NULL, ends, 1, NULL) == FANCY_REGEX_NULL_POINTER);
     WANT(fancy_regex_set_build(&set, "a", NULL, 1, NULL) == FANCY_REGEX_NULL_POINTER);
+    fancy_regex_free(&set);
+    return 0;
+}
+
+/* Whether this is a group of the member with this number, with this span. */
+static bool is_group(fancy_regex_member group, size_t pattern, size_t start, size_t end) {
+    return group.pattern == pattern && group.start == start && group.end == end;
+}
+
+static int set_groups(void) {
+    fancy_regex set = FANCY_REGEX_EMPTY;
+    fancy_regex_query within = {2, true, false};
+    fancy_regex_member groups[8];
+    const size_t ends[] = {8, 9, 12};
+    size_t count = 9;
+    memset(groups, 7, sizeof groups);
+    WANT(fancy_regex_set_captures(&set, "a", 1, 0, groups, 8, &count) == FANCY_REGEX_EMPTY_HANDLE && count == 0);
+    WANT(fancy_regex_set_build(&set, "(a)|(b)cx(b)", ends, 3, NULL) == FANCY_REGEX_DONE);
+    WANT(fancy_regex_set_captures(&set, "-bca", 4, 0, groups, 8, &count) == FANCY_REGEX_DONE && count == 5);
+    WANT(is_group(groups[0], 0, 1, 3) && is_group(groups[1], 0, FANCY_REGEX_UNSET, FANCY_REGEX_UNSET) && is_group(groups[2], 0, 1, 2));
+    WANT(is_group(groups[3], 2, 1, 2) && is_group(groups[4], 2, 1, 2) && groups[5].pattern > 7);
+    WANT(fancy_regex_set_captures(&set, "-bca", 4, 0, NULL, 0, &count) == FANCY_REGEX_DONE && count == 5);
+    WANT(fancy_regex_set_captures_by(&set, "-bca", 4, &within, groups, 2, &count) == FANCY_REGEX_DONE && count == 3);
+    WANT(is_group(groups[0], 0, 3, 4) && is_group(groups[1], 0, 3, 4) && is_group(groups[2], 0, 1, 2));
+    WANT(fancy_regex_set_find_by(&set, "-bca", 4, &within, groups, 8, &count) == FANCY_REGEX_DONE && count == 1 && is_group(groups[0], 0, 3, 4));
+    WANT(fancy_regex_set_captures(&set, "--", 2, 0, groups, 8, &count) == FANCY_REGEX_DONE && count == 0);
+    WANT(fancy_regex_set_captures(&set, "\xff", 1, 0, groups, 8, &count) == FANCY_REGEX_NOT_UTF8 && count == 0);
+    WANT(fancy_regex_set_captures(&set, "a", 1, 2, groups, 8, &count) == FANCY_REGEX_PAST_END);
+    WANT(fancy_regex_set_captures_by(&set, "a", 1, NULL, groups, 8, &count) == FANCY_REGEX_NULL_POINTER && count == 0);
+    WANT(fancy_regex_set_captures(&set, "a", 1, 0, NULL, 8, &count) == FANCY_REGEX_NULL_POINTER);
+    WANT(fancy_regex_set_captures(&set, "a", 1, 0, groups, 8, NULL) == FANCY_REGEX_NULL_POINTER);
+    WANT(fancy_regex_set_captures(&set, "a", SIZE_MAX, 0, groups, 8, &count) == FANCY_REGEX_TOO_LONG);
+    WANT(fancy_regex_set_captures(&set, "a", 1, 0, groups, SIZE_MAX / 8, &count) == FANCY_REGEX_TOO_LONG);
+    WANT(fancy_regex_build(&set, "a", 1, NULL) == FANCY_REGEX_DONE);
+    WANT(fancy_regex_set_captures(&set, "a", 1, 0, groups, 8, &count) == FANCY_REGEX_NO_SET && count == 0);
     fancy_regex_free(&set);
     return 0;
 }
@@ -236,7 +272,7 @@ static int wrong_calls(void) {
 }
 
 int main(void) {
-    if (right_calls() != 0 || iteration() != 0 || lists() != 0 || sets() != 0 || mixed_sets() != 0 || questions() != 0 || options() != 0 || wrong_calls() != 0) return 1;
+    if (right_calls() != 0 || iteration() != 0 || lists() != 0 || sets() != 0 || set_groups() != 0 || mixed_sets() != 0 || questions() != 0 || options() != 0 || wrong_calls() != 0) return 1;
     printf("calls: done\n");
     return 0;
 }

@@ -6,6 +6,8 @@
  *     if (fancy_regex_build(&regex, "(\\d+)-(\\d+)", 11, NULL) == FANCY_REGEX_DONE) { ... }
  *     fancy_regex_free(&regex);
  *
+ * Patterns and texts have lengths: no zero byte ends them, and one within them is a character as others. All offsets are in bytes.
+ *
  * What the caller owes, since no callee can see it in C:
  *
  * - A pointer that is not null leads to what its type says, for as long as the call runs, and nothing else writes it then. A
@@ -74,7 +76,8 @@ typedef struct fancy_regex_span {
     size_t end;
 } fancy_regex_span;
 
-/* A member of a set that matches: its number from 0, and the span of its match. */
+/* A member of a set that matches: its number from 0, and the span of its match, or that of a group of its match, which is
+ * FANCY_REGEX_UNSET twice where the group took no part. */
 typedef struct fancy_regex_member {
     size_t pattern;
     size_t start;
@@ -121,6 +124,7 @@ int32_t fancy_regex_raw_replace_all(fancy_regex *regex, const uint8_t *text, siz
 int32_t fancy_regex_raw_set_build(fancy_regex *set, const uint8_t *patterns, size_t length, const size_t *ends, size_t count, const fancy_regex_options *options);
 int32_t fancy_regex_raw_set_build_mixed(fancy_regex *set, const uint8_t *patterns, size_t length, const size_t *ends, size_t count, const fancy_regex_options *options, size_t options_count);
 int32_t fancy_regex_raw_set_find(fancy_regex *set, const uint8_t *text, size_t length, const fancy_regex_query *query, fancy_regex_member *members, size_t room, size_t *count);
+int32_t fancy_regex_raw_set_captures(fancy_regex *set, const uint8_t *text, size_t length, const fancy_regex_query *query, fancy_regex_member *groups, size_t room, size_t *count);
 int32_t fancy_regex_raw_start_bytes(fancy_regex *fault, const uint8_t *pattern, size_t length, const fancy_regex_options *options, bool *table, size_t room);
 int32_t fancy_regex_raw_required_bytes(fancy_regex *fault, const uint8_t *pattern, size_t length, const fancy_regex_options *options, bool *table, size_t room);
 int32_t fancy_regex_raw_template_check(fancy_regex *regex, const uint8_t *with, size_t length, bool is_python);
@@ -176,7 +180,7 @@ static inline int32_t fancy_regex_find_by(fancy_regex *regex, const char *text, 
 /* As fancy_regex_find_by, and writes into `looks`, which must not be null, a count of the looks at the text that the linear-time matcher
  * makes: 0 where nothing is searched and for a pattern that needs a backtracking program; for another pattern at most W * (N + 1),
  * where N is the number of bytes from the place of the search to the end of the text, 0 past the end, and W is a number that the pattern
- * and its options give. */
+ * and its options give; and, where the search answers, at least one for each place at which it tries to begin a match. */
 static inline int32_t fancy_regex_find_counted(fancy_regex *regex, const char *text, size_t length, const fancy_regex_query *query, fancy_regex_span *span, uint64_t *looks) {
     fancy_regex_span ignored = {FANCY_REGEX_UNSET, FANCY_REGEX_UNSET};
     int32_t tested = fancy_regex_test(text, length, 1);
@@ -201,7 +205,8 @@ static inline int32_t fancy_regex_captures_by(fancy_regex *regex, const char *te
 /* Searches the `length` bytes of `text` for the first match that starts at the byte offset `position` or later; \G matches at
  * `position`. Answers FANCY_REGEX_DONE and its span, or FANCY_REGEX_NO_MATCH, or a fault; the span is unset then. `span` may be
  * null where only the answer is of interest. The faults are NULL_POINTER, TOO_LONG, EMPTY_HANDLE, NO_REGEX, NOT_UTF8, PAST_END,
- * OFF_BOUNDARY, LIMIT and MEMORY. */
+ * OFF_BOUNDARY, LIMIT and MEMORY. Each call tests that the whole text is UTF-8: whoever searches one long text often says so by
+ * fancy_regex_find_by, or walks over it by fancy_regex_next. */
 static inline int32_t fancy_regex_find(fancy_regex *regex, const char *text, size_t length, size_t position, fancy_regex_span *span) {
     fancy_regex_query query = {position, false, true};
     return fancy_regex_find_by(regex, text, length, &query, span);
@@ -335,6 +340,30 @@ static inline int32_t fancy_regex_set_build_mixed(fancy_regex *set, const char *
     return fancy_regex_raw_set_build_mixed(set, fancy_regex_bytes(patterns), length, ends != NULL ? ends : &none, count, fancy_regex_options_or_default(options), count);
 }
 
+/* The search that the query describes; the answers are those of fancy_regex_set_find. */
+static inline int32_t fancy_regex_set_find_by(fancy_regex *set, const char *text, size_t length, const fancy_regex_query *query, fancy_regex_member *members, size_t room, size_t *count) {
+    fancy_regex_member none = {0, 0, 0};
+    int32_t tested = fancy_regex_test(text, length, 1);
+    int32_t roomy = fancy_regex_test(members, room, sizeof(fancy_regex_member));
+    if (count != NULL) *count = 0;
+    if (set == NULL || query == NULL || count == NULL) return FANCY_REGEX_NULL_POINTER;
+    if (tested != FANCY_REGEX_DONE) return tested;
+    if (roomy != FANCY_REGEX_DONE) return roomy;
+    return fancy_regex_raw_set_find(set, fancy_regex_bytes(text), length, query, members != NULL ? members : &none, room, count);
+}
+
+/* The search that the query describes; the answers are those of fancy_regex_set_captures. */
+static inline int32_t fancy_regex_set_captures_by(fancy_regex *set, const char *text, size_t length, const fancy_regex_query *query, fancy_regex_member *groups, size_t room, size_t *count) {
+    fancy_regex_member none = {0, 0, 0};
+    int32_t tested = fancy_regex_test(text, length, 1);
+    int32_t roomy = fancy_regex_test(groups, room, sizeof(fancy_regex_member));
+    if (count != NULL) *count = 0;
+    if (set == NULL || query == NULL || count == NULL) return FANCY_REGEX_NULL_POINTER;
+    if (tested != FANCY_REGEX_DONE) return tested;
+    if (roomy != FANCY_REGEX_DONE) return roomy;
+    return fancy_regex_raw_set_captures(set, fancy_regex_bytes(text), length, query, groups != NULL ? groups : &none, room, count);
+}
+
 /* Writes the members of a set that match at the earliest place from `position` on at which one of them does, in order of their
  * numbers, into the `room` members of `members`, as many as there is room for, and how many there are into `count`; \G matches at
  * `position`. A match may start behind that place, after \K. The answer is FANCY_REGEX_DONE, with a count of 0 where no member
@@ -342,14 +371,15 @@ static inline int32_t fancy_regex_set_build_mixed(fancy_regex *set, const char *
  * fancy_regex_find, with NO_SET in the place of NO_REGEX; the search of each member that is asked may pass its limit. */
 static inline int32_t fancy_regex_set_find(fancy_regex *set, const char *text, size_t length, size_t position, fancy_regex_member *members, size_t room, size_t *count) {
     fancy_regex_query query = {position, false, true};
-    fancy_regex_member none = {0, 0, 0};
-    int32_t tested = fancy_regex_test(text, length, 1);
-    int32_t roomy = fancy_regex_test(members, room, sizeof(fancy_regex_member));
-    if (count != NULL) *count = 0;
-    if (set == NULL || count == NULL) return FANCY_REGEX_NULL_POINTER;
-    if (tested != FANCY_REGEX_DONE) return tested;
-    if (roomy != FANCY_REGEX_DONE) return roomy;
-    return fancy_regex_raw_set_find(set, fancy_regex_bytes(text), length, &query, members != NULL ? members : &none, room, count);
+    return fancy_regex_set_find_by(set, text, length, &query, members, room, count);
+}
+
+/* As fancy_regex_set_find, with the groups: `groups` is given, for each member that matches, all groups of its match in order of their
+ * numbers, the first of them group 0, the whole match. So a member with a pattern of two groups fills three places, each with its number.
+ * The count is that of all groups of all members that match. */
+static inline int32_t fancy_regex_set_captures(fancy_regex *set, const char *text, size_t length, size_t position, fancy_regex_member *groups, size_t room, size_t *count) {
+    fancy_regex_query query = {position, false, true};
+    return fancy_regex_set_captures_by(set, text, length, &query, groups, room, count);
 }
 
 /* Marks in `table`, which has 256 places, the bytes that the matches of a regex start with that is built of this pattern with these
@@ -418,7 +448,7 @@ static inline size_t fancy_regex_groups(fancy_regex *regex) {
 
 /* Writes the name of the group with this number, in UTF-8, into the `room` bytes of `out`, cut off where there is too little room, and
  * with no zero byte behind it. Returns the length of the whole name, 0 where the group has none or there is no such group or regex,
- * and where `out` is null but has room. */
+ * and where `out` is null but has room, or more room than an object can have. */
 static inline size_t fancy_regex_group_name(fancy_regex *regex, size_t group, char *out, size_t room) {
     uint8_t none = 0;
     if (regex == NULL || fancy_regex_test(out, room, 1) != FANCY_REGEX_DONE) return 0;
@@ -433,8 +463,8 @@ static inline size_t fancy_regex_fault_place(fancy_regex *regex) {
 
 /* Writes the text of the fault that the handle keeps into the `room` bytes of `out`, cut off where there is too little room, and
  * with no zero byte behind it. A handle keeps its last fault, of building or of a later call, until it is built again or freed;
- * EMPTY_HANDLE, NULL_POINTER and TOO_LONG are not kept. Returns the length of the whole text, 0 only where no fault is kept and where
- * `out` is null but has room. It takes no memory. */
+ * EMPTY_HANDLE, NULL_POINTER and TOO_LONG are not kept. Returns the length of the whole text, 0 only where no fault is kept, and where
+ * `out` is null but has room, or more room than an object can have. It takes no memory. */
 static inline size_t fancy_regex_fault_text(fancy_regex *regex, char *out, size_t room) {
     uint8_t none = 0;
     if (regex == NULL || fancy_regex_test(out, room, 1) != FANCY_REGEX_DONE) return 0;

@@ -205,6 +205,31 @@ static int32_t any_set_search(fancy_regex *set) {
     return answer;
 }
 
+/* Of the groups of the members that match, those with number 0 are the members themselves. */
+static int32_t any_set_groups(fancy_regex *set) {
+    char text[LONGEST];
+    size_t length = any_haystack(text), position = below(length + 2), room = below(65), count = 77, found = 0, matching = 0;
+    fancy_regex_member groups[64], members[4];
+    const char *at = below(32) == 0 ? NULL : text;
+    fancy_regex_query query = {position, false, below(4) != 0};
+    marked(groups, sizeof groups);
+    int32_t answer = fancy_regex_set_captures_by(set, at, length, &query, groups, room, &count);
+    if (answer != FANCY_REGEX_DONE && count != 0) wrong(__LINE__);
+    size_t written = count < room ? count : room;
+    want_marks(groups, written * sizeof *groups, sizeof groups);
+    int32_t again = fancy_regex_set_find_by(set, at, length, &query, members, 4, &matching);
+    if (answer == FANCY_REGEX_MEMORY || again == FANCY_REGEX_MEMORY) return answer;
+    if (again != answer || matching > count) wrong(__LINE__);
+    for (size_t i = 0; i < written; i++) {
+        fancy_regex_span span = {groups[i].start, groups[i].end};
+        bool whole = i == 0 || groups[i].pattern != groups[i - 1].pattern;
+        if (!is_span(span, length)) wrong(__LINE__);
+        if (whole && (found >= matching || memcmp(&groups[i], &members[found++], sizeof *members) != 0)) wrong(__LINE__);
+    }
+    if (count <= room && found != matching) wrong(__LINE__);
+    return answer;
+}
+
 static int32_t any_question(fancy_regex *regex) {
     char text[64];
     size_t place = fancy_regex_fault_place(regex), room = below(sizeof text + 1);
@@ -307,15 +332,15 @@ static int32_t any_free(fancy_regex *regex) {
 
 static const struct kind kinds[] = {
     {"build", any_build, 5}, {"search", any_search, 8}, {"find_all", any_list, 3}, {"split", any_split, 2}, {"replace_all", any_replacement, 3},
-    {"set_build", any_set, 3}, {"set_find", any_set_search, 4}, {"questions", any_question, 2}, {"names", any_names, 1}, {"check", any_check, 1},
-    {"escape", any_escape, 1}, {"bytes", any_bytes, 2}, {"free", any_free, 1},
+    {"set_build", any_set, 3}, {"set_find", any_set_search, 4}, {"set_groups", any_set_groups, 2}, {"questions", any_question, 2},
+    {"names", any_names, 1}, {"check", any_check, 1}, {"escape", any_escape, 1}, {"bytes", any_bytes, 2}, {"free", any_free, 1},
 };
 
 #define KINDS (sizeof kinds / sizeof *kinds)
 #define ENDS 15
 
 static size_t any_kind(void) {
-    uint64_t drawn = below(36);
+    uint64_t drawn = below(38);
     size_t kind = 0;
     while (drawn >= kinds[kind].share) drawn -= kinds[kind++].share;
     return kind;

@@ -141,12 +141,12 @@ extern "C" {
         count: usize,
         options: *const Options,
     ) -> i32;
-    pub fn fancy_regex_raw_set_find(
+    pub fn fancy_regex_raw_set_captures(
         handle: *mut Handle,
         text: *const u8,
         length: usize,
         query: *const Query,
-        members: *mut Member,
+        groups: *mut Member,
         room: usize,
         count: *mut usize,
     ) -> i32;

@@ -72,6 +72,11 @@ impl Regex {
         &self.options
     }
 
+    /// The names of the groups.
+    pub(crate) fn names(&self) -> Names {
+        self.names.clone()
+    }
+
     /// The first fault of a template from the left.
     pub(crate) fn check_template(&self, template: &str, is_python: bool) -> Result<()> {
         // The template is borrowed for the call.

@@ -1,12 +1,14 @@
-use crate::captures::Match;
+use crate::captures::{Captures, Match, Names};
 use crate::error::Result;
 use crate::handle::Owned;
 use crate::input::RegexInput;
 use crate::options::RegexOptionsBuilder;
-use crate::raw::{self, Member, Options, Query, Span};
+use crate::raw::{self, Options, Query, Span};
 use crate::regex::{query, Regex};
 use std::borrow::Borrow;
+use std::cell::{Cell, RefCell};
 use std::fmt;
+use std::iter::Peekable;
 use std::vec;
 
 /// Several patterns, its members, that are searched for together. They are numbered from 0. A set is `Send` and not `Sync`.
@@ -19,9 +21,44 @@ use std::vec;
 /// let texts: Vec<_> = found.map(|m| m.unwrap()).map(|m| (m.pattern(), m.as_str())).collect();
 /// assert_eq!(texts, [(0, "29"), (1, "29"), (2, "29.99")]);
 /// ```
+///
+/// The groups of each match are there too:
+///
+/// ```
+/// # use proved_fancy_regex::{RegexInput, RegexSet};
+/// let set = RegexSet::new([r"(?<hour>\d\d):\d\d", r"\w+"]).unwrap();
+/// let mut found = set.find_input(RegexInput::new("at 12:30").from_pos(2)).unwrap().unwrap();
+/// let time = found.next().unwrap().unwrap();
+/// assert_eq!((time.pattern(), &time.captures()["hour"]), (0, "12"));
+/// ```
 pub struct RegexSet {
     handle: Owned,
-    length: usize,
+    members: Vec<Member>,
+    /// The most groups that a search found so far: how much room the next one has.
+    room: Cell<usize>,
+}
+
+/// A member of a set, and the names of its groups once they are known.
+struct Member {
+    pattern: String,
+    options: Options,
+    names: RefCell<Option<Names>>,
+}
+
+impl Member {
+    /// The names of the groups, of which there are so many. The pattern is compiled once for them if there are more than group 0.
+    fn names(&self, groups: usize) -> Result<Names> {
+        let mut names = self.names.borrow_mut();
+        if let Some(names) = &*names {
+            return Ok(names.clone());
+        }
+        let read = if groups == 1 {
+            Names::from(vec![None])
+        } else {
+            Regex::with_options(&self.pattern, &self.options)?.names()
+        };
+        Ok(names.insert(read).clone())
+    }
 }
 
 impl RegexSet {
@@ -35,8 +72,13 @@ impl RegexSet {
         patterns: I,
         options: &RegexOptionsBuilder,
     ) -> Result<RegexSet> {
-        let listed = Listed::of(patterns);
-        let set = RegexSet::of(&listed);
+        let named = |pattern: S| Member {
+            pattern: pattern.as_ref().to_string(),
+            options: options.options,
+            names: RefCell::new(None),
+        };
+        let set = RegexSet::of(patterns.into_iter().map(named).collect());
+        let listed = Listed::of(&set.members);
         // The handle is empty, and the patterns, their ends and the options are borrowed for the call.
         let status = unsafe {
             raw::fancy_regex_raw_set_build(
@@ -66,13 +108,14 @@ impl RegexSet {
     pub fn from_regexes<I: IntoIterator<Item = R>, R: Borrow<Regex>>(
         regexes: I,
     ) -> Result<RegexSet> {
-        let regexes: Vec<R> = regexes.into_iter().collect();
-        let options: Vec<Options> = regexes
-            .iter()
-            .map(|regex| *regex.borrow().options())
-            .collect();
-        let listed = Listed::of(regexes.iter().map(|regex| regex.borrow().as_str()));
-        let set = RegexSet::of(&listed);
+        let named = |regex: R| Member {
+            pattern: regex.borrow().as_str().to_string(),
+            options: *regex.borrow().options(),
+            names: RefCell::new(Some(regex.borrow().names())),
+        };
+        let set = RegexSet::of(regexes.into_iter().map(named).collect());
+        let listed = Listed::of(&set.members);
+        let options: Vec<Options> = set.members.iter().map(|member| member.options).collect();
         // As above; there are as many options as ends.
         let status = unsafe {
             raw::fancy_regex_raw_set_build_mixed(
@@ -89,57 +132,73 @@ impl RegexSet {
         Ok(set)
     }
 
-    /// The set of so many members before it is built.
-    fn of(listed: &Listed) -> RegexSet {
+    /// The set of these members before it is built.
+    fn of(members: Vec<Member>) -> RegexSet {
         RegexSet {
             handle: Owned::empty(),
-            length: listed.ends.len(),
+            members,
+            room: Cell::new(8),
         }
     }
 
     /// The number of members.
     pub fn len(&self) -> usize {
-        self.length
+        self.members.len()
     }
 
     /// Whether the set has no members.
     pub fn is_empty(&self) -> bool {
-        self.length == 0
+        self.members.is_empty()
     }
 
     /// The members that match at the earliest place at which one of them matches, in the order of their numbers; `None` if no member
-    /// matches anywhere. All of them are searched for at once: where one fails, its error is that of the call.
+    /// matches anywhere. All of them are searched for at once: where one fails, its error is that of the call. The names of the groups
+    /// of a member are read when it first matches: where it has groups, its pattern is compiled once more for that.
     ///
     /// # Panics
     ///
     /// If the search begins inside a character.
-    pub fn find_input<'t>(&self, input: RegexInput<'t>) -> Result<Option<RegexSetMatchesAt<'t>>> {
+    pub fn find_input<'r, 't>(
+        &'r self,
+        input: RegexInput<'t>,
+    ) -> Result<Option<RegexSetMatchesAt<'r, 't>>> {
         let query = match query(input.text, input.start, input.continues) {
             Some(query) => query,
             None => return Ok(None),
         };
-        let mut members = vec![Member::NONE; self.length];
-        let count = self.find_into(input.text, &query, &mut members)?;
-        members.truncate(count);
-        let text = input.text;
-        Ok((count > 0).then(|| RegexSetMatchesAt {
-            text,
-            members: members.into_iter(),
+        let groups = self.groups(input.text, &query)?;
+        Ok((!groups.is_empty()).then(|| RegexSetMatchesAt {
+            set: self,
+            text: input.text,
+            groups: groups.into_iter().peekable(),
         }))
     }
 
-    /// Writes the members that match, and returns how many there are.
-    fn find_into(&self, text: &str, query: &Query, members: &mut [Member]) -> Result<usize> {
+    /// The groups of the members that match. A search that finds more groups than there is room for is made again.
+    fn groups(&self, text: &str, query: &Query) -> Result<Vec<raw::Member>> {
+        let mut groups = vec![raw::Member::NONE; self.room.get()];
+        let mut count = self.groups_into(text, query, &mut groups)?;
+        if count > groups.len() {
+            self.room.set(count);
+            groups.resize(count, raw::Member::NONE);
+            count = self.groups_into(text, query, &mut groups)?;
+        }
+        groups.truncate(count);
+        Ok(groups)
+    }
+
+    /// Writes as many groups of the members that match as there is room for, and returns how many there are.
+    fn groups_into(&self, text: &str, query: &Query, groups: &mut [raw::Member]) -> Result<usize> {
         let mut count = 0;
         // The text is UTF-8, as the query says; all is borrowed for the call, and the room is that of the slice.
         let status = unsafe {
-            raw::fancy_regex_raw_set_find(
+            raw::fancy_regex_raw_set_captures(
                 self.handle.at(),
                 text.as_ptr(),
                 text.len(),
                 query,
-                members.as_mut_ptr(),
-                members.len(),
+                groups.as_mut_ptr(),
+                groups.len(),
                 &mut count,
             )
         };
@@ -150,7 +209,7 @@ impl RegexSet {
 
 impl fmt::Debug for RegexSet {
     fn fmt(&self, f: &mut fmt::Formatter<'_>) -> fmt::Result {
-        write!(f, "RegexSet of {} patterns", self.length)
+        write!(f, "RegexSet of {} patterns", self.len())
     }
 }
 
@@ -161,13 +220,13 @@ struct Listed {
 }
 
 impl Listed {
-    fn of<I: IntoIterator<Item = S>, S: AsRef<str>>(patterns: I) -> Listed {
+    fn of(members: &[Member]) -> Listed {
         let mut listed = Listed {
             bytes: String::new(),
             ends: Vec::new(),
         };
-        for pattern in patterns {
-            listed.bytes.push_str(pattern.as_ref());
+        for member in members {
+            listed.bytes.push_str(&member.pattern);
             listed.ends.push(listed.bytes.len());
         }
         listed
@@ -175,10 +234,10 @@ impl Listed {
 }
 
 /// The match of one member of a set.
-#[derive(Clone, Copy, Debug, PartialEq, Eq)]
+#[derive(Clone, Debug)]
 pub struct RegexSetMatch<'t> {
     pattern: usize,
-    matched: Match<'t>,
+    groups: Captures<'t>,
 }
 
 impl<'t> RegexSetMatch<'t> {
@@ -187,46 +246,77 @@ impl<'t> RegexSetMatch<'t> {
         self.pattern
     }
 
+    /// The groups of the match.
+    pub fn captures(&self) -> &Captures<'t> {
+        &self.groups
+    }
+
     /// The match.
     pub fn get(&self) -> Match<'t> {
-        self.matched
+        self.groups.whole()
     }
 
     /// The byte offset at which the match starts.
     pub fn start(&self) -> usize {
-        self.matched.start()
+        self.get().start()
     }
 
     /// The byte offset at which the match ends, exclusive.
     pub fn end(&self) -> usize {
-        self.matched.end()
+        self.get().end()
     }
 
     /// The text that matched.
     pub fn as_str(&self) -> &'t str {
-        self.matched.as_str()
+        self.get().as_str()
     }
 }
 
 /// The members of a set that match at one place, in the order of their numbers.
-#[derive(Clone, Debug)]
-pub struct RegexSetMatchesAt<'t> {
+#[derive(Clone)]
+pub struct RegexSetMatchesAt<'r, 't> {
+    set: &'r RegexSet,
     text: &'t str,
-    members: vec::IntoIter<Member>,
+    groups: Peekable<vec::IntoIter<raw::Member>>,
 }
 
-impl<'t> Iterator for RegexSetMatchesAt<'t> {
+impl<'r, 't> RegexSetMatchesAt<'r, 't> {
+    /// The set.
+    pub fn regex_set(&self) -> &'r RegexSet {
+        self.set
+    }
+
+    /// The searched text.
+    pub fn haystack(&self) -> &'t str {
+        self.text
+    }
+}
+
+impl<'t> Iterator for RegexSetMatchesAt<'_, 't> {
     type Item = Result<RegexSetMatch<'t>>;
 
     fn next(&mut self) -> Option<Result<RegexSetMatch<'t>>> {
-        let member = self.members.next()?;
-        let span = Span {
-            start: member.start,
-            end: member.end,
+        let pattern = self.groups.peek()?.pattern;
+        let mut spans = Vec::new();
+        while let Some(group) = self.groups.next_if(|group| group.pattern == pattern) {
+            spans.push(Span {
+                start: group.start,
+                end: group.end,
+            });
+        }
+        let names = match self.set.members[pattern].names(spans.len()) {
+            Ok(names) => names,
+            Err(error) => return Some(Err(error)),
         };
         Some(Ok(RegexSetMatch {
-            pattern: member.pattern,
-            matched: Match::new(self.text, span),
+            pattern,
+            groups: Captures::new(self.text, spans, names),
         }))
+    }
+}
+
+impl fmt::Debug for RegexSetMatchesAt<'_, '_> {
+    fn fmt(&self, f: &mut fmt::Formatter<'_>) -> fmt::Result {
+        write!(f, "<RegexSetMatchesAt>")
     }
 }

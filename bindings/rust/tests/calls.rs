@@ -270,6 +270,35 @@ fn sets_of_regexes_keep_their_options() {
 }
 
 #[test]
+fn groups_of_members_are_told() {
+    let set = RegexSet::new(["b", "(?<n>a)|(?<m>b)(c)", r"(.)(?<n>c)(?<n>d)?", r"b\Kc"]).unwrap();
+    for _ in 0..2 {
+        let found = set.find_input(RegexInput::new("-bcd")).unwrap().unwrap();
+        let found: Vec<_> = found.map(|m| m.unwrap()).collect();
+        let spans = |number: usize| {
+            let groups = found[number].captures().iter();
+            groups.map(|m| m.map(|m| m.range())).collect::<Vec<_>>()
+        };
+        assert_eq!(spans(0), [Some(1..2)]);
+        assert_eq!(spans(1), [Some(1..3), None, Some(1..2), Some(2..3)]);
+        assert_eq!(spans(2), [Some(1..4), Some(1..2), Some(2..3), Some(3..4)]);
+        assert_eq!((found[3].pattern(), spans(3)), (3, vec![Some(2..3)]));
+        assert_eq!(&found[1].captures()["m"], "b");
+        assert!(found[1].captures().name("n").is_none());
+        assert_eq!(&found[2].captures()["n"], "d");
+    }
+    let patterns: Vec<_> = (0..40).map(|n| format!("(a)(?<n{n}>b)")).collect();
+    let many = RegexSet::new(&patterns).unwrap();
+    for _ in 0..2 {
+        let found = many.find_input(RegexInput::new("xab")).unwrap().unwrap();
+        assert_eq!((found.haystack(), found.regex_set().len()), ("xab", 40));
+        for (n, m) in found.map(|m| m.unwrap()).enumerate() {
+            assert_eq!((m.pattern(), &m.captures()[&*format!("n{n}")]), (n, "b"));
+        }
+    }
+}
+
+#[test]
 fn sets_are_searched() {
     let mut options = RegexOptionsBuilder::new();
     options.case_insensitive(true);

@@ -1,6 +1,6 @@
 //! The examples in the documentation of the crate that was ported, each with what it prints there. Left out are those of texts that are not
-//! UTF-8 (two), and that of `seek_filter`. `Captures` and `RegexInput` have no parameter for the kind of text here, `from_regexes` takes no
-//! options of automata, and a set's match has no groups.
+//! UTF-8 (two), and that of `seek_filter`. `Captures` and `RegexInput` have no parameter for the kind of text here, and `from_regexes`
+//! takes no options of automata.
 
 use proved_fancy_regex::{
     Captures, Expander, NoExpand, Regex, RegexBuilder, RegexInput, RegexOptionsBuilder, RegexSet,
@@ -222,6 +222,7 @@ fn set_match() {
     assert_eq!(m.get().as_str(), "abc");
     assert_eq!(m.start(), 0);
     assert_eq!(m.end(), 3);
+    assert_eq!(m.captures().len(), 1);
 }
 
 #[test]

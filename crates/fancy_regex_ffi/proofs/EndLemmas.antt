@@ -12,10 +12,12 @@ use Rattle.fancy_regex_search.specs.declared.regex.Regex.{Regex}
 use Rattle.fancy_regex_search.specs.CaptureSpans.{AreGroupsOf}
 use Rattle.fancy_regex_ffi.specs.Codes.{code_of, fault_status}
 use Rattle.fancy_regex_ffi_lists.specs.Spans.{span_of}
-use Rattle.fancy_regex_ffi.specs.Ends.{FindEnds, CapturesEnd, FindReports, CapturesReport, LooksCounted, NameReports, IsNameWritten, IsBuilt, IsBuildFault, BuildEnds, IsHeldAs}
-use Rattle.fancy_regex_ffi.specs.Searches.{IsFoundBy, IsCapturedBy, CountsLooksBy, AreGroupSpans, AreGroupsFound, config_of}
+use Rattle.fancy_regex_ffi.specs.Ends.{FindEnds, CapturesEnd, FindReports, CapturesReport, LooksCounted, NameReports, IsNameWritten, IsBuilt, IsAnswer, IsBuildFault, BuildEnds, IsHeldAs}
+use Rattle.fancy_regex_ffi.specs.Searches.{IsFoundBy, IsCapturedBy, CountsLooksBy, CountsStartsBy, AreGroupSpans, AreGroupsFound, config_of}
 use Rattle.fancy_regex_ffi.specs.Bytes.{FaultHeld, AreStartsOrFault, AreRequiredOrFault, IsAskedEnd, StartBytesEnd, RequiredBytesEnd}
 use Rattle.fancy_regex_ffi.specs.declared.fault.Fault.{Fault}
+use Rattle.fancy_regex_ffi.specs.declared.fault.Fault.TheVariants as faults
+use Rattle.fancy_regex_meta.specs.declared.error.Error.TheVariants.{ParseError, CompileError, RuntimeError, Memory}
 use Rattle.fancy_regex_ffi.specs.declared.held.Held.{Held}
 use Rattle.fancy_regex_ffi.specs.declared.held.Subject.{Subject}
 use Rattle.fancy_regex_ffi.specs.declared.held.Subject.TheVariants as subjects
@@ -106,10 +108,24 @@ pub required_bytes_end : (options : RegexOptions) (pattern : List ℕ) (left : O
 required_bytes_end options pattern left code old new answer marked ended = (answer, marked, ended)
 
 -- the looks that are told of a handle that holds something
-pub looks_reported : (old : Option Held) (held : Held) (text : List ℕ) (query : Query) (first count : ℕ) → old ≡ Some held → first ≡ 0
-    → CountsLooksBy held.subject text query first count → LooksCounted old text query count
-looks_reported old held text query first count before none counts =
-    subst (λ (o : Option Held). LooksCounted o text query count) (sym before) (subst (λ (n : ℕ). CountsLooksBy held.subject text query n count) none counts)
+pub looks_reported : (old : Option Held) (held : Held) (text : List ℕ) (query : Query) (first count : ℕ) (status : Status) (code : ℤ) → old ≡ Some held → first ≡ 0 → code ≡ code_of status
+    → CountsLooksBy held.subject text query first count → (IsAnswer status → CountsStartsBy held.subject text query first count) → LooksCounted old text query code count
+looks_reported old held text query first count status code before none told counts starts =
+    subst (λ (o : Option Held). LooksCounted o text query code count) (sym before)
+    (status, told, subst (λ (n : ℕ). CountsLooksBy held.subject text query n count) none counts, λ is. subst (λ (n : ℕ). CountsStartsBy held.subject text query n count) none (starts is))
+
+-- a fault is no answer
+pub no_answer : (fault : Fault) → IsAnswer (fault_status fault) → ⊥
+no_answer faults.NoRegex h = h
+no_answer faults.NoSet h = h
+no_answer faults.WrongEnds h = h
+no_answer faults.NotUtf8 h = h
+no_answer faults.PastEnd h = h
+no_answer faults.OffBoundary h = h
+no_answer (faults.Regex (ParseError _ _)) h = h
+no_answer (faults.Regex (CompileError _)) h = h
+no_answer (faults.Regex (RuntimeError _)) h = h
+no_answer (faults.Regex Memory) h = h
 
 -- the name that is told of a handle that holds something
 pub name_reported : (old : Option Held) (held : Held) (group : ℕ) (room written : List ℕ) (count : ℕ) → old ≡ Some held → IsNameWritten held.subject group room written count → NameReports old group room written count

@@ -4,7 +4,7 @@ use mathlib.Core.Path.{sym, subst}
 use Rattle.fancy_regex_ffi_lists.specs.declared.member.Member.{Member}
 use Rattle.fancy_regex_ffi_lists.specs.declared.spans.Span.{Span}
 use Rattle.fancy_regex_ffi.specs.Ends.{FaultAfter}
-use Rattle.fancy_regex_ffi.specs.Lists.{OfRegex, AreMatchSpans, ArePieceSpans, IsReplacedText, AreMembers, IsListWritten, ListReports}
+use Rattle.fancy_regex_ffi.specs.Lists.{OfRegex, AreMatchSpans, ArePieceSpans, IsReplacedText, AreMembers, AreMemberGroups, IsListWritten, ListReports}
 use Rattle.fancy_regex_ffi.specs.Templates.{AreNames, NamesReport, IsChecked, CheckReports, done_code}
 use Rattle.fancy_regex_ffi.specs.declared.fault.Fault.{Fault}
 use Rattle.fancy_regex_ffi.specs.declared.held.Held.{Held}
@@ -37,6 +37,11 @@ pub members_report : (text : List ℕ) (query : Query) (old left : Option Held) 
     → old ≡ Some held → left ≡ Some after → AreMembers text query held.subject answer → IsListWritten answer code out written count → after.subject ≡ held.subject
     → FaultAfter answer held.fault after.fault → ListReports (AreMembers text query) old left code out written count
 members_report text query = list_reports (AreMembers text query)
+
+pub member_groups_report : (text : List ℕ) (query : Query) (old left : Option Held) (held after : Held) (answer : Result (List Member) Fault) (code : ℤ) (out written : List Member) (count : ℕ)
+    → old ≡ Some held → left ≡ Some after → AreMemberGroups text query held.subject answer → IsListWritten answer code out written count → after.subject ≡ held.subject
+    → FaultAfter answer held.fault after.fault → ListReports (AreMemberGroups text query) old left code out written count
+member_groups_report text query = list_reports (AreMemberGroups text query)
 
 pub names_report : (old left : Option Held) (held after : Held) (answer : Result (List ℕ) Fault) (code : ℤ) (out written : List ℕ) (count : ℕ)
     → old ≡ Some held → left ≡ Some after → AreNames held.subject answer → IsListWritten answer code out written count → after.subject ≡ held.subject

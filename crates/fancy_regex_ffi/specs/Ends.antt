@@ -1,5 +1,5 @@
 -- How the exported calls end.
-use Rattle.std.specs.Prelude.{◌≡◌, ℕ, ◌<◌, ◌≤◌, ℤ, Bool, true, false, List, [], length, Option, Some, None, Result, Ok, Err, chars, string_bytes, unwrap_or, ◌-◌, ◌^◌, IsUtf8}
+use Rattle.std.specs.Prelude.{◌≡◌, ⊤, ℕ, ◌<◌, ◌≤◌, ℤ, Bool, true, false, List, [], length, Option, Some, None, Result, Ok, Err, chars, string_bytes, unwrap_or, ◌-◌, ◌^◌, IsUtf8}
 use Rattle.fancy_regex_meta.specs.declared.options.RegexOptions.{RegexOptions}
 use Rattle.fancy_regex_meta.specs.MetaMatches.{meta_pattern}
 use Rattle.fancy_regex_meta.specs.GroupNames.{name_at}
@@ -10,7 +10,7 @@ use Rattle.fancy_regex_ffi.specs.Codes.{code_of, fault_status}
 use Rattle.fancy_regex_ffi_lists.specs.Spans.{span_of}
 use Rattle.fancy_regex_ffi.specs.Places.{place_of}
 use Rattle.fancy_regex_ffi_lists.specs.Fronts.{IsFrontOf}
-use Rattle.fancy_regex_ffi.specs.Searches.{IsFoundBy, IsCapturedBy, CountsLooksBy}
+use Rattle.fancy_regex_ffi.specs.Searches.{IsFoundBy, IsCapturedBy, CountsLooksBy, CountsStartsBy}
 use Rattle.fancy_regex_ffi.specs.declared.fault.Fault.{Fault}
 use Rattle.fancy_regex_ffi.specs.declared.fault.Fault.TheVariants as faults
 use Rattle.fancy_regex_ffi.specs.declared.held.Held.{Held}
@@ -112,10 +112,17 @@ CapturesReport (Some held) left text query code spans written = (after : Held) �
     × (after.subject ≡ held.subject) × CapturesEnd held.subject text query status spans written held.fault after.fault
 CapturesReport None left text query code spans written = (code ≡ code_of statuses.EmptyHandle) × (written ≡ spans) × (left ≡ None)
 
--- the looks that a search of what a handle holds counts
-abbrev pub LooksCounted : Option Held → List ℕ → Query → ℕ → Type 0
-LooksCounted (Some held) text query count = CountsLooksBy held.subject text query 0 count
-LooksCounted None text query count = count ≡ 0
+-- the search answers: with a match, or that there is none
+abbrev pub IsAnswer : Status → Type 0
+IsAnswer statuses.Done = ⊤
+IsAnswer statuses.NoMatch = ⊤
+IsAnswer _ = ⊥
+
+-- the looks that a search of what a handle holds counts, given the number that it returns
+abbrev pub LooksCounted : Option Held → List ℕ → Query → ℤ → ℕ → Type 0
+LooksCounted (Some held) text query code count = (status : Status) × (code ≡ code_of status) × CountsLooksBy held.subject text query 0 count
+    × (IsAnswer status → CountsStartsBy held.subject text query 0 count)
+LooksCounted None text query code count = count ≡ 0
 
 -- the name of a group of what was built, as characters; there is none without a regex or without such a group
 abbrev pub IsGroupName : Subject → ℕ → Option (List ℕ) → Type 0
@@ -126,7 +133,7 @@ IsGroupName subjects.Nothing group name = name ≡ None
 
 -- the bytes are those of the name in UTF-8, and none without a name
 abbrev pub IsNameText : Option (List ℕ) → List ℕ → Type 0
-IsNameText (Some name) text = chars text ≡ name
+IsNameText (Some name) text = IsUtf8 text × (chars text ≡ name)
 IsNameText None text = text ≡ []
 
 -- the bytes are those of the name of the group

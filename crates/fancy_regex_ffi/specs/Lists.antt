@@ -1,8 +1,10 @@
--- The calls that write a list: all matches of a text, the pieces between them, the replaced text, and the members of a set.
+-- The calls that write a list: all matches of a text, the pieces between them, the replaced text, and the members of a set with their
+-- groups.
 use Rattle.std.specs.Prelude.{◌≡◌, ℕ, ℤ, List, length, Option, Some, None, Result, Ok, Err, string_bytes, IsUtf8}
 use Rattle.fancy_regex_search.specs.declared.regex.Regex.{Regex}
 use Rattle.fancy_search_text.specs.Matches.{IsErrorOfSearch}
 use Rattle.fancy_search_text.specs.Replaced.{replaced_in}
+use Rattle.fancy_regex_ffi_lists.specs.Groups.{AreMatchingGroups}
 use Rattle.fancy_regex_ffi_lists.specs.Lists.{gap_spans, match_spans, matches_of, matching_members, IsMemberError}
 use Rattle.fancy_regex_ffi_lists.specs.declared.member.Member.{Member}
 use Rattle.fancy_regex_ffi_lists.specs.declared.spans.Span.{Span}
@@ -60,13 +62,25 @@ abbrev pub AreMembersIn : List Regex → List ℕ → Query → Result (List Mem
 AreMembersIn regexes text query (Ok members) = CanBegin text query.position × (members ≡ matching_members regexes text (config_of text query))
 AreMembersIn regexes text query (Err fault) = IsSetFault regexes text query fault
 
--- the same for what was built; without a set it is the fault that says so
+-- The groups of those members, one behind another, or why there is no answer.
+abbrev pub AreMemberGroupsIn : List Regex → List ℕ → Query → Result (List Member) Fault → Type 0
+AreMemberGroupsIn regexes text query (Ok groups) = CanBegin text query.position × AreMatchingGroups regexes text (config_of text query) groups
+AreMemberGroupsIn regexes text query (Err fault) = IsSetFault regexes text query fault
+
+-- what a call on a set answers; without a set it answers the fault that says so
+abbrev pub OfSet : {X : Type 0} → (List Regex → Result X Fault → Type 0) → Subject → Result X Fault → Type 0
+OfSet Gives (subjects.Set set) answer = Gives set.regexes.items answer
+OfSet Gives (subjects.Regex regex) (Ok _) = ⊥
+OfSet Gives (subjects.Regex regex) (Err fault) = fault ≡ faults.NoSet
+OfSet Gives subjects.Nothing (Ok _) = ⊥
+OfSet Gives subjects.Nothing (Err fault) = fault ≡ faults.NoSet
+
+-- the members and the groups for what was built
 abbrev pub AreMembers : List ℕ → Query → Subject → Result (List Member) Fault → Type 0
-AreMembers text query (subjects.Set set) answer = AreMembersIn set.regexes.items text query answer
-AreMembers text query (subjects.Regex regex) (Ok _) = ⊥
-AreMembers text query (subjects.Regex regex) (Err fault) = fault ≡ faults.NoSet
-AreMembers text query subjects.Nothing (Ok _) = ⊥
-AreMembers text query subjects.Nothing (Err fault) = fault ≡ faults.NoSet
+AreMembers text query = OfSet (λ regexes. AreMembersIn regexes text query)
+
+abbrev pub AreMemberGroups : List ℕ → Query → Subject → Result (List Member) Fault → Type 0
+AreMemberGroups text query = OfSet (λ regexes. AreMemberGroupsIn regexes text query)
 
 -- the answer as a list
 abbrev pub listed : {V X : Type 0} → (V → X) → Result V Fault → Result X Fault

@@ -1,15 +1,15 @@
 -- What the searches over bytes answer.
-use Rattle.std.specs.Prelude.{◌≡◌, ℕ, ◌+◌, ◌<◌, ◌≤◌, Bool, true, false, List, length, Option, Some, None, Result, Ok, Err, option_map, IsUtf8, IsCharBoundary, EachIndex, HoldsAt}
+use Rattle.std.specs.Prelude.{◌≡◌, ⊤, ℕ, ◌+◌, ◌-◌, ◌^◌, ◌<◌, ◌≤◌, min, Bool, true, false, List, length, Option, Some, None, Result, Ok, Err, option_map, IsUtf8, IsCharBoundary, EachIndex, HoldsAt}
 use Rattle.std.specs.Borrow.{Bor}
 use Rattle.fancy_regex_meta.specs.declared.meta_regex.MetaRegex.{MetaRegex}
 use Rattle.fancy_regex_input.specs.declared.config.SearchConfig.{SearchConfig}
 use Rattle.fancy_regex_meaning.specs.Searches.{Match}
 use Rattle.fancy_regex_class.specs.RunInputs.{match_slots}
 use Rattle.fancy_regex_meta.specs.MetaMatches.{meta_match, meta_pattern}
-use Rattle.fancy_regex_meta.specs.SearchLimits.{IsMetaSearchError, meta_uses_easy, max_looks}
+use Rattle.fancy_regex_meta.specs.SearchLimits.{IsMetaSearchError, meta_starts_tried, meta_uses_easy, max_looks}
 use Rattle.fancy_regex_input.specs.SearchInputs.{whole}
-use Rattle.fancy_regex_search.specs.CaptureSpans.{span_in, IsSpanAt}
-use Rattle.fancy_regex_ffi_lists.specs.Spans.{span_of}
+use Rattle.fancy_regex_search.specs.CaptureSpans.{span_in}
+use Rattle.fancy_regex_ffi_lists.specs.Groups.{IsGroupSpan}
 use Rattle.fancy_regex_ffi.specs.declared.fault.Fault.{Fault}
 use Rattle.fancy_regex_ffi.specs.declared.fault.Fault.TheVariants as faults
 use Rattle.fancy_regex_ffi.specs.declared.query.Query.{Query}
@@ -76,9 +76,16 @@ CountsLooksBy (subjects.Regex regex) text query old new = CountsLooks regex.meta
 CountsLooksBy (subjects.Set set) text query old new = new ≡ old
 CountsLooksBy subjects.Nothing text query old new = new ≡ old
 
--- the span of a group: that of the part of the text that it matched, and the largest number twice where it took no part
-abbrev pub IsGroupSpan : List ℕ → List ℕ → ℕ → Span → Type 0
-IsGroupSpan text slots k span = (found : Option (ℕ × ℕ)) × IsSpanAt text slots k found × (span ≡ span_of found)
+-- How often a search that answers raises the counter at least, where the linear-time matcher runs: once for each start that it tries,
+-- as far as the counter reaches.
+abbrev pub CountsStarts : MetaRegex → List ℕ → Query → ℕ → ℕ → Type 0
+CountsStarts meta text query old new = meta_uses_easy meta ≡ true → min (old + meta_starts_tried meta text (config_of text query) false) (2 ^ 64 - 1) ≤ new
+
+-- the same for what was built
+abbrev pub CountsStartsBy : Subject → List ℕ → Query → ℕ → ℕ → Type 0
+CountsStartsBy (subjects.Regex regex) text query old new = CountsStarts regex.meta text query old new
+CountsStartsBy (subjects.Set set) text query old new = ⊤
+CountsStartsBy subjects.Nothing text query old new = ⊤
 
 -- the spans of the groups, from group 0, as many as there are spans
 abbrev pub AreGroupSpans : List ℕ → List ℕ → List Span → Type 0

@@ -5,8 +5,8 @@ ghost use Rattle.fancy_regex_meta.specs.Caps.{MetaKeepsCap};
 ghost use Rattle.fancy_regex_meta.specs.Refusals.{Accepts};
 ghost use Rattle.fancy_regex_ffi_lists.specs.Choices.{chosen};
 ghost use Rattle.fancy_regex_ffi.specs.Codes.{fault_status};
-ghost use Rattle.fancy_regex_ffi.specs.Ends.{IsBuildFault, IsBuilt, FindEnds, CapturesEnd, groups_for, place_kept, IsGroupName, IsNameOf, IsNameWritten};
-ghost use Rattle.fancy_regex_ffi.specs.Searches.{IsFoundBy, CountsLooksBy, IsCapturedBy, IsCapturedIn, IsGroupSpan, AreGroupSpans};
+ghost use Rattle.fancy_regex_ffi.specs.Ends.{IsAnswer, IsBuildFault, IsBuilt, FindEnds, CapturesEnd, groups_for, place_kept, IsGroupName, IsNameOf, IsNameWritten};
+ghost use Rattle.fancy_regex_ffi.specs.Searches.{IsFoundBy, CountsLooksBy, CountsStartsBy, IsCapturedBy, IsCapturedIn, AreGroupSpans};
 ghost use Rattle.fancy_regex_ffi.specs.Texts.{IsFaultWritten, IsTextWritten};
 ghost use Rattle.fancy_regex_ffi.specs.declared.held.Subject.TheVariants as subjects;
 
@@ -15,7 +15,7 @@ use crate::held::{Held, Subject};
 use crate::query::{Query, check_place, find_in, text_of};
 use crate::status::Status;
 use fancy_regex::{Captures, Error, Regex, RegexInput, Steps};
-use fancy_regex_ffi_lists::{Options, Span, write_error, write_front};
+use fancy_regex_ffi_lists::{Options, Span, group_span, write_error, write_front};
 use std::alloc::Global;
 use std::{fmt, str};
 
@@ -52,7 +52,7 @@ fn build(alloc: Global, pattern: &[u8], options: &Options) -> Result<Regex, Faul
 
 /// How a search ends, and the span of the first match; a fault is kept. The counter is raised by the looks of the linear-time
 /// matcher.
-#[tactic(auto, using(crate::proofs::EndLemmas::found_ends, crate::proofs::EndLemmas::missing_ends, crate::proofs::EndLemmas::fault_ends))]
+#[tactic(auto, using(crate::proofs::EndLemmas::found_ends, crate::proofs::EndLemmas::missing_ends, crate::proofs::EndLemmas::fault_ends, crate::proofs::EndLemmas::no_answer))]
 pub fn find_held(
     alloc: Global,
     held: &mut Held,
@@ -64,6 +64,7 @@ pub fn find_held(
     ensures subject { held.new.subject ≡ held.old.subject }
     ensures answer { FindEnds held.old.subject text.now query.now result.0 result.1 held.old.fault held.new.fault }
     ensures looks { CountsLooksBy held.old.subject text.now query.now steps.old steps.new }
+    ensures starts { IsAnswer result.0 → CountsStartsBy held.old.subject text.now query.now steps.old steps.new }
 {
     match find(alloc, &held.subject, text, query, steps) {
         Ok(Some(found)) => (Status::Done, Span::of(Some(found))),
@@ -83,6 +84,7 @@ fn find(
     requires { query.now.is_utf8 ≡ true → IsUtf8 text.now }
     ensures answer { IsFoundBy subject.now text.now query.now result }
     ensures looks { CountsLooksBy subject.now text.now query.now steps.old steps.new }
+    ensures starts { IfOk result (λ _. CountsStartsBy subject.now text.now query.now steps.old steps.new) }
 {
     match subject {
         Subject::Regex(regex) => match text_of(text, query.is_utf8) {
@@ -162,16 +164,6 @@ fn write_groups(captures: &Captures<'_, &str>, spans: &mut [Span])
 {
     for (group, span) in spans.iter_mut().enumerate() {
         *span = group_span(captures, group);
-    }
-}
-
-/// The span of a group; unset if it took no part in the match, or if there is no such group.
-fn group_span(captures: &Captures<'_, &str>, group: usize) -> Span
-    ensures { IsGroupSpan captures.now.haystack.now captures.now.slots.items group result }
-{
-    match captures.get(group) {
-        Some(found) => Span::of(Some((found.start(), found.end()))),
-        None => Span::of(None),
     }
 }
 

@@ -5,7 +5,7 @@
 ghost use Rattle.std.specs.Prelude.{◌≡◌, true, None, IsUtf8, length};
 ghost use Rattle.fancy_regex_ffi_lists.specs.Choices.{chosen};
 ghost use Rattle.fancy_regex_ffi.specs.Ends.{BuildEnds, FindReports, CapturesReport, LooksCounted, NameReports, groups_in, place_in};
-ghost use Rattle.fancy_regex_ffi.specs.Lists.{ListReports, OfRegex, AreMatchSpans, ArePieceSpans, IsReplacedText, AreMembers};
+ghost use Rattle.fancy_regex_ffi.specs.Lists.{ListReports, OfRegex, AreMatchSpans, ArePieceSpans, IsReplacedText, AreMembers, AreMemberGroups};
 ghost use Rattle.fancy_regex_ffi.specs.Sets.{SetBuildEnds, MixedBuildEnds};
 ghost use Rattle.fancy_regex_ffi.specs.Templates.{CheckReports, EscapeEnds, NamesReport};
 ghost use Rattle.fancy_regex_ffi.specs.Texts.{TextReports};
@@ -32,7 +32,7 @@ use fancy_regex_ffi_lists::{Member, Options, Span};
 use handle::Handle;
 use items::{pieces_of, replaced_of, spans_of};
 use query::Query;
-use sets::{build_mixed, build_set, members_of, set_told};
+use sets::{build_mixed, build_set, member_groups_of, members_of, set_told};
 use status::Status;
 use std::alloc::Global;
 use std::fmt;
@@ -78,7 +78,8 @@ pub extern "C" fn fancy_regex_raw_find(
 }
 
 /// The first match of a search, and how many looks at the text are counted: none where the handle holds no regex or a backtracking
-/// program runs, and else at most as many as the linear-time matcher may make.
+/// program runs, and else at most as many as the linear-time matcher may make; where the search answers, at least one for each start that
+/// it tries.
 #[unsafe(no_mangle)]
 pub extern "C" fn fancy_regex_raw_find_counted(
     alloc: Global,
@@ -90,7 +91,7 @@ pub extern "C" fn fancy_regex_raw_find_counted(
 ) -> i32
     requires { query.now.is_utf8 ≡ true → IsUtf8 text.now }
     ensures answer { FindReports handle.old.held handle.new.held text.now query.now result span.new }
-    ensures looks { LooksCounted handle.old.held text.now query.now looks.new }
+    ensures looks { LooksCounted handle.old.held text.now query.now result looks.new }
 {
     let mut steps = Steps::new();
     let code = find_counted(alloc, handle, text, query, span, &mut steps);
@@ -111,7 +112,7 @@ fn find_counted(
     requires utf8 { query.now.is_utf8 ≡ true → IsUtf8 text.now }
     requires fresh { steps.old ≡ 0 }
     ensures answer { FindReports handle.old.held handle.new.held text.now query.now result span.new }
-    ensures looks { LooksCounted handle.old.held text.now query.now steps.new }
+    ensures looks { LooksCounted handle.old.held text.now query.now result steps.new }
 {
     let Some(mut held) = handle.take(alloc) else {
         *span = Span::of(None);
@@ -324,6 +325,31 @@ pub extern "C" fn fancy_regex_raw_set_find(
     };
     let answer = members_of(alloc, &held.subject, text, query);
     let status = answer_items(&mut held, answer, members, count);
+    handle.put(alloc, held);
+    status.code()
+}
+
+/// The groups of those members: the members in order of their numbers, and of each all its groups in order of theirs, from group 0, the
+/// whole match, on, as many as there is room for; and how many there are.
+#[tactic(auto, using(crate::proofs::ListLemmas::member_groups_report))]
+#[unsafe(no_mangle)]
+pub extern "C" fn fancy_regex_raw_set_captures(
+    alloc: Global,
+    handle: &mut Handle,
+    text: &[u8],
+    query: &Query,
+    groups: &mut [Member],
+    count: &mut usize,
+) -> i32
+    requires { query.now.is_utf8 ≡ true → IsUtf8 text.now }
+    ensures { ListReports (AreMemberGroups text.now query.now) handle.old.held handle.new.held result groups.old groups.new count.new }
+{
+    let Some(mut held) = handle.take(alloc) else {
+        *count = 0;
+        return Status::EmptyHandle.code();
+    };
+    let answer = member_groups_of(alloc, &held.subject, text, query);
+    let status = answer_items(&mut held, answer, groups, count);
     handle.put(alloc, held);
     status.code()
 }

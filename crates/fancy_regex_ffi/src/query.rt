@@ -1,7 +1,7 @@
 //! The searches over texts of bytes: each test that a Rust caller's types would make is made here.
 
-ghost use Rattle.std.specs.Prelude.{◌≡◌, true, IsUtf8};
-ghost use Rattle.fancy_regex_ffi.specs.Searches.{IsTextOrFault, IsPlaceOrFault, IsFoundIn, CountsLooks};
+ghost use Rattle.std.specs.Prelude.{◌≡◌, true, IfOk, IsUtf8};
+ghost use Rattle.fancy_regex_ffi.specs.Searches.{IsTextOrFault, IsPlaceOrFault, IsFoundIn, CountsLooks, CountsStarts};
 
 use crate::fault::Fault;
 use fancy_regex::{Regex, RegexInput, Steps};
@@ -57,6 +57,7 @@ pub fn find_in(
 ) -> Result<Option<(usize, usize)>, Fault>
     ensures answer { IsFoundIn regex.now.meta text.now query.now result }
     ensures looks { CountsLooks regex.now.meta text.now query.now steps.old steps.new }
+    ensures starts { IfOk result (λ _. CountsStarts regex.now.meta text.now query.now steps.old steps.new) }
 {
     check_place(text, query.position)?;
     let input = RegexInput::new(text)

@@ -4,7 +4,7 @@ ghost use Rattle.std.specs.Prelude.{◌≡◌, true, IsUtf8, IfOk, IfErr, map, l
 ghost use Rattle.fancy_regex.specs.SetMembers.{AreBuiltOf};
 ghost use Rattle.fancy_regex_ffi_lists.specs.Choices.{chosen};
 ghost use Rattle.fancy_regex_ffi_lists.specs.Mixed.{AreBuiltEach};
-ghost use Rattle.fancy_regex_ffi.specs.Lists.{AreMembers, listed};
+ghost use Rattle.fancy_regex_ffi.specs.Lists.{AreMemberGroups, AreMembers, listed};
 ghost use Rattle.fancy_regex_ffi.specs.Sets.{cut_at, AreTexts, IsPieceFault, IsPieceOrFault, IsSetRefused, IsSetTold, IsMixedRefused};
 
 use crate::fault::Fault;
@@ -12,7 +12,7 @@ use crate::held::{Held, Subject};
 use crate::query::{Query, check_place, text_of};
 use crate::status::Status;
 use fancy_regex::{Error, RegexSet};
-use fancy_regex_ffi_lists::{Member, Options, mixed_set, set_members};
+use fancy_regex_ffi_lists::{Member, Options, mixed_set, set_groups, set_members};
 use std::alloc::Global;
 
 /// What holds a set, or the fault of building it; and how that ends.
@@ -87,6 +87,26 @@ pub fn members_of(
             let text = text_of(text, query.is_utf8)?;
             check_place(text, query.position)?;
             Ok(set_members(alloc, set, text, query.position, query.continues)?)
+        }
+        Subject::Regex(_) | Subject::Nothing => Err(Fault::NoSet),
+    }
+}
+
+/// The groups of the members that match at the earliest place at which one of them does.
+pub fn member_groups_of(
+    alloc: Global,
+    subject: &Subject,
+    text: &[u8],
+    query: &Query,
+) -> Result<Vec<Member>, Fault>
+    requires { query.now.is_utf8 ≡ true → IsUtf8 text.now }
+    ensures { AreMemberGroups text.now query.now subject.now (listed (λ groups. groups.items) result) }
+{
+    match subject {
+        Subject::Set(set) => {
+            let text = text_of(text, query.is_utf8)?;
+            check_place(text, query.position)?;
+            Ok(set_groups(alloc, set, text, query.position, query.continues)?)
         }
         Subject::Regex(_) | Subject::Nothing => Err(Fault::NoSet),
     }

@@ -1,4 +1,5 @@
 pub mod FrontLemmas
+pub mod GroupLemmas
 pub mod ListLemmas
 pub mod MemberLemmas
 pub mod MixedLemmas

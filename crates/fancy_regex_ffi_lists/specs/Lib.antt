@@ -1,5 +1,6 @@
 pub mod Choices
 pub mod Fronts
+pub mod Groups
 pub mod Lists
 pub mod Mixed
 pub mod Names

@@ -5,7 +5,7 @@ use Rattle.fancy_regex.specs.SearchConfig.{SearchConfig}
 use Rattle.fancy_regex.specs.SearchInputs.{whole}
 use Rattle.fancy_regex.specs.Error.{Error}
 use Rattle.fancy_regex.specs.Error.TheVariants.{Memory}
-use Rattle.fancy_regex.specs.SetAnswers.{answer_of_set, IsErrorOfMember, IsTriedAt}
+use Rattle.fancy_regex.specs.SetAnswers.{answer_of_set, AreInLimits, AreInLimitsBefore, IsErrorOfMember, IsSetError}
 use Rattle.fancy_regex_search.specs.declared.regex.Regex.{Regex}
 use Rattle.fancy_search_text.specs.Matches.{matches_in}
 use Rattle.fancy_regex_ffi_lists.specs.Spans.{span_of}
@@ -42,11 +42,17 @@ member_found found = record { pattern = found.0; start = found.1.start; end = fo
 abbrev pub matching_members : List Regex → List ℕ → SearchConfig → List Member
 matching_members regexes text config = map member_found (members_found (answer_of_set regexes text config))
 
--- the members are asked at this position: it is one that the search tries, or that of the answer
-abbrev pub IsAskedAt : List Regex → List ℕ → SearchConfig → ℕ → Type 0
-IsAskedAt regexes text config p = IsTriedAt text config p ⊎ ((answer : SetAnswer) × (answer_of_set regexes text config ≡ Some answer) × (answer.position ≡ p))
+-- The error is the first one met at the position of the answer: that of the member with this number. All searches before it stay within
+-- their limits, or are not needed.
+pub record IsErrorAtAnswer (regexes : List Regex) (text : List ℕ) (config : SearchConfig) (e : Error) : Type 0 where
+  pub answer : SetAnswer
+  pub is_answer : answer_of_set regexes text config ≡ Some answer
+  pub number : ℕ
+  pub is_error : IsErrorOfMember regexes text config answer.position number e
+  pub before : AreInLimitsBefore regexes text config answer.position
+  pub here : AreInLimits regexes text config answer.position 0 number
 
--- want of memory, or the error of a member's search at a position at which it is asked
+-- want of memory, or the first error met: on the way to the answer, or behind its first member
 abbrev pub IsMemberError : List Regex → List ℕ → SearchConfig → Error → Type 0
 IsMemberError regexes text config Memory = Unit {0}
-IsMemberError regexes text config e = (p : ℕ) × (k : ℕ) × IsAskedAt regexes text config p × IsErrorOfMember regexes text config p k e
+IsMemberError regexes text config e = IsSetError regexes text config e ⊎ IsErrorAtAnswer regexes text config e

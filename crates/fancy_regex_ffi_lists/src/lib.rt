@@ -1,9 +1,10 @@
 //! What the library for C is given and returns: the options of a pattern, sets of patterns with options of their own, the spans of
-//! matches and of the pieces between them, the members of a set that match, the names of groups, the bytes that matches start with, and
-//! the room that lists and texts are written into.
+//! matches and of the pieces between them, the members of a set that match and their groups, the names of groups, the bytes that matches
+//! start with, and the room that lists and texts are written into.
 #![tactic(auto)]
 
 mod front;
+mod groups;
 mod matches;
 mod member;
 mod members;
@@ -14,6 +15,7 @@ mod spans;
 mod tables;
 
 pub use front::{write_error, write_front};
+pub use groups::{group_span, set_groups};
 pub use matches::{match_spans, piece_spans};
 pub use member::Member;
 pub use members::set_members;

@@ -33,7 +33,7 @@ pub fn set_members(
 }
 
 /// The input of a search of the whole text from a byte offset on.
-fn input_at(text: &str, position: usize, continues: bool) -> RegexInput<&str>
+pub(crate) fn input_at(text: &str, position: usize, continues: bool) -> RegexInput<&str>
     requires { IsCharBoundary text.now position }
     ensures haystack { result.haystack ≡ text.entry }
     ensures config { result.config ≡ config_at text.entry.now position continues }

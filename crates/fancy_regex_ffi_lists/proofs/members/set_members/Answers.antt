@@ -1,9 +1,9 @@
-use Rattle.std.proofs.Common.{◌∙◌, ◌++◌, map, ap, sym, refl, inr}
+use Rattle.std.proofs.Common.{◌∙◌, ◌++◌, map, ap, sym, refl}
 use Rattle.std.proofs.lemmas.Result.{err_from_is_err_and}
 use Rattle.fancy_regex.specs.SetAnswers.{found_from}
 use Rattle.fancy_regex_ffi_lists.specs.Lists.{config_at, member_found, members_found}
 use Rattle.fancy_regex_ffi_lists.proofs.ListLemmas.{members_more, members_all}
-use Rattle.fancy_regex_ffi_lists.proofs.MemberLemmas.{left_error, left_first, left_next, left_none, member_error_is, set_error_is}
+use Rattle.fancy_regex_ffi_lists.proofs.MemberLemmas.{IsShownAs, answer_error_is, error_at_answer, left_first, left_next, left_none, set_error_is}
 use Rattle.fancy_regex_ffi_lists.proofs.members.set_members.Goals as goal
 
 pub returns-in_err-found-clause-fails : goal.returns-in_err-found-clause-fails
@@ -25,12 +25,17 @@ loop-member-init c =
     let s = c.in-Some.found in
     let of = rw (c.in-Some.is, c.input_at.ensures.haystack, c.input_at.ensures.config) at c.in_ok-found.ensures.of in
     let told = rw (c.in-Some.is, c.input_at.ensures.haystack, c.input_at.ensures.config) at c.in_ok-found.ensures.answer in
-    let left = left_first (λ x. (x.pattern, (x.matched.start, x.matched.end))) set.regexes.items text config s.members.position s.first s.next told (λ x f h i. (h.0.number_is i, h.0.span_is i)) in
+    let stays = rw (c.in-Some.is, c.input_at.ensures.haystack, c.input_at.ensures.config) at c.in_ok-found.ensures.stays in
+    let left = left_first (λ x f. IsShownAs (x.pattern, (x.matched.start, x.matched.end)) f) set.regexes.items text config s.members.position s.first s.next told (λ x f h i. (h.0.number_is i, h.0.span_is i)) in
     record {
       set = of.0;
       text = ap (λ b. b.now) of.1;
       config = of.2;
-      asked = inr (told.0, told.1, told.2);
+      answer = told.0;
+      is_answer = told.1;
+      at = told.2;
+      before = stays.0;
+      here = stays.1;
       left = left.0;
       is_left = left.2;
       members = ap (λ out. out ++ map member_found left.0) c.new-members.ensures.items ∙ ap (λ fs. map member_found fs) left.1;
@@ -45,8 +50,9 @@ returns-in_err-member-clause-fails c =
     let s = c.loop-member.found in
     let inv = c.loop-member.invariant in
     let told = rw (c.in_err-member.was, inv.set, inv.text, inv.config) at c.in-Some-next.ensures.steps.2 in
-    let of_member = left_error set.regexes.items text config s.members.position s.first s.next _ _ told in
-    rw (p.1, p.2) (member_error_is set.regexes.items text config s.members.position of_member.0 _ inv.asked of_member.1)
+    let passed = rw (c.in_err-member.was, inv.set, inv.text, inv.config) at c.in-Some-next.ensures.steps.3 in
+    let met = error_at_answer set.regexes.items text config inv.answer s.members.position s.first s.next c.next.new.self.next _ inv.is_answer inv.at inv.before inv.here told passed in
+    rw (p.1, p.2) (answer_error_is set.regexes.items text config _ met)
 
 pub loop-member-preserved : goal.loop-member-preserved
 loop-member-preserved c =
@@ -58,12 +64,17 @@ loop-member-preserved c =
     let inv = c.loop-member.invariant in
     let steps = c.in-Some-next.ensures.steps in
     let told = rw (c.in_ok-member.was, inv.set, inv.text, inv.config) at steps.2 in
-    let found = left_next (λ x. (x.pattern, (x.matched.start, x.matched.end))) set.regexes.items text config s.members.position s.first s.next t.next c.in_ok-member.member inv.left inv.is_left told (λ f h i. (h.0.number_is i, h.0.span_is i)) in
+    let passed = rw (c.in_ok-member.was, inv.set, inv.text, inv.config) at steps.3 in
+    let found = left_next (λ x f. IsShownAs (x.pattern, (x.matched.start, x.matched.end)) f) set.regexes.items text config s.members.position s.first s.next t.next c.in_ok-member.member inv.left inv.is_left told (λ f h i. (h.0.number_is i, h.0.span_is i)) inv.here passed in
     rw (steps.0, steps.1) (record {
       set = inv.set;
       text = inv.text;
       config = inv.config;
-      asked = inv.asked;
+      answer = inv.answer;
+      is_answer = inv.is_answer;
+      at = inv.at;
+      before = inv.before;
+      here = found.3;
       left = found_from set.regexes.items text config s.members.position t.next;
       is_left = refl;
       members =
@@ -78,5 +89,5 @@ returns-clause-members c =
     let inv = c.loop-member.invariant in
     let config = config_at c.args.text.now c.args.position c.args.continues in
     let told = rw (inv.set, inv.text, inv.config) at c.in_default-next.ensures.steps.2 in
-    let none = left_none (λ x. (x.pattern, (x.matched.start, x.matched.end))) c.args.set.now.regexes.items c.args.text.now config s.members.position s.first s.next _ inv.left inv.is_left told in
+    let none = left_none (λ x f. IsShownAs (x.pattern, (x.matched.start, x.matched.end)) f) c.args.set.now.regexes.items c.args.text.now config s.members.position s.first s.next _ inv.left inv.is_left told in
     members_all _ _ inv.left none inv.members
