@@ -5,7 +5,7 @@ use Rattle.std.specs.List.{All}
 use Rattle.std.proofs.Math.Seq.{take-suc, take-append-add, drop-append_seam}
 use Rattle.std.proofs.lemmas.List.{set_comm, set-append_right, length-append, length-drop, length-take-le, take_all, drop_all, take_at, take_rest, take-append-le, append-nil}
 use Rattle.std.proofs.lemmas.List.Elements.{All-head, All-tail, All-push, All-weaker, All-append, All-take}
-use Rattle.fancy_regex_slots.specs.UndoLog.{undone, run_of, spread, memory_of, AreLogged, AreMarks, AreMarksBelow, IsLogBelow, IsShortened, IsSound, segment_limit, top_mark}
+use Rattle.fancy_regex_slots.specs.UndoLog.{undone, saved_row, spread, memory_of, AreLogged, AreMarks, AreMarksBelow, IsLogBelow, IsShortened, IsSound, segment_limit, top_mark}
 use Rattle.fancy_regex_slots.specs.declared.branch.Branch.{Branch}
 use Rattle.fancy_regex_slots.specs.declared.branch.OldValue.{OldValue}
 use Rattle.fancy_regex_slots.proofs.LogLemmas.{marks-closed, undone-popped, undone-last, threads_same, reverse-snoc}
@@ -90,7 +90,7 @@ undone_shortened values log shorter start k is inside le =
     ∙ ap (λ l. undone (undone values (drop start log)) (drop k l)) is.front
     ∙ undone-popped values log start k inside le
 
-threads_shortened : (values : List ℕ) (log shorter : List OldValue) (branches : List Branch) (limit h : ℕ) → AreMarksBelow limit h branches → IsShortened values (top_mark branches) log shorter → top_mark branches ≤ length log → map (run_of values shorter) branches ≡ map (run_of values log) branches
+threads_shortened : (values : List ℕ) (log shorter : List OldValue) (branches : List Branch) (limit h : ℕ) → AreMarksBelow limit h branches → IsShortened values (top_mark branches) log shorter → top_mark branches ≤ length log → map (saved_row values shorter) branches ≡ map (saved_row values log) branches
 unfolding AreMarks AreMarksBelow top_mark
 threads_shortened values log shorter [] limit h marks is inside = refl
 threads_shortened values log shorter (b ∷ branches) limit h marks is inside =

@@ -1,6 +1,4 @@
-use Rattle.std.proofs.Common.{◌≡◌, ◌≤◌, ◌<◌, ◌+◌, length, sym, subst, arith}
-use Rattle.std.specs.Prelude.{reverse}
-use Rattle.fancy_regex_slots.specs.UndoLog.{IsShortened, segment_limit, top_mark}
+use Rattle.std.proofs.Common.{arith}
 use Rattle.fancy_regex_slots.proofs.LogLemmas.{mark-inside}
 use Rattle.fancy_regex_slots.proofs.ShortenLemmas.{from-mark, memory-shortened, one-more, shortened-none, sound-shortened}
 use Rattle.fancy_regex_slots.proofs.undo_log.bound_log.Goals as goal
