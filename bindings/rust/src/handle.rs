@@ -5,7 +5,7 @@ use std::cell::UnsafeCell;
 /// A handle of the library, which it frees.
 pub(crate) struct Owned(UnsafeCell<Handle>);
 
-// A handle may move to another thread: what it holds names no thread and shares nothing, which is proved of the library's type `Handle`,
+// A handle may move to another thread: what it holds names no thread, which is proved of the library's type `Handle`,
 // whose two fields these are. Beyond that proof this rests on two things: the heap of `raw.rs` may be called from every thread, and frees what
 // another one allocated, as the C library's does; and moving an `Owned` orders the calls, as Rust's `Send` asks of whoever moves it.
 // A handle is not `Sync`: every call on it takes it alone, and two must not overlap.

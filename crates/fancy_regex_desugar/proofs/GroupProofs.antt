@@ -11,8 +11,9 @@ use Rattle.fancy_regex_meaning.specs.GroupLaws.{AreSame, OccursAt, OccursInRowAt
 use Rattle.fancy_regex_meaning.proofs.GroupProofs.{groups_are_counted, bodies_stand}
 use Rattle.fancy_regex_meaning.specs.Sizes.{size, target}
 use Rattle.fancy_regex_meaning.specs.Ways.{is_at_call_limit, max_open_calls}
-use Rattle.fancy_regex_desugar.specs.CorePatterns.{any, literal, class, CorePattern, nothing, read, general_newline, check, continue, keep_out, fail, cat, group, back, atomic, backref, exists, absent}
-use Rattle.fancy_regex_desugar.specs.Unfolded.{repeated, Written, pat_for, cat_all, alt_all, look, node, branches, written, written_all, written_call, core_pattern_of}
+use Rattle.fancy_regex_desugar.specs.CorePatterns.{any, literal, class, CorePattern, nothing, read, general_newline, check, continue, keep_out, fail, cat, group, back, delegate, backref, exists, absent}
+use Rattle.fancy_regex_desugar.specs.Delegates.{searched, is_delegated}
+use Rattle.fancy_regex_desugar.specs.Unfolded.{repeated, Written, pat_for, cat_all, alt_all, body_of, look, node, branches, written, written_all, written_call, core_pattern_of}
 use Rattle.fancy_regex_desugar.specs.Shapes.{HasGroups}
 use Rattle.fancy_regex_desugar.specs.DesugarLaws.{PatternGroupsAreInRange}
 
@@ -135,11 +136,14 @@ module _ (first end : ℕ) where
   either_held true p q h k = h
   either_held false p q h k = k
 
-  held_look : (how : LookAround) (u : Written) → BothHeld u → Held (look how u)
-  held_look LookAhead u h = record { is = h.front }
-  held_look LookAheadNeg u h = record { is = h.front }
-  held_look LookBehind u h = record { is = h.behind }
-  held_look LookBehindNeg u h = record { is = h.behind }
+  held_body : (for_any : Bool) (t : Tree) (p : CorePattern) → HasGroups first end p → HasGroups first end (body_of for_any t p)
+  held_body for_any t p h = either_held (is_delegated for_any t) (delegate (searched for_any t) p) p tt h
+
+  held_look : (t : Tree) (how : LookAround) (u : Written) → BothHeld u → Held (look t how u)
+  held_look t LookAhead u h = record { is = held_body true t u.front h.front }
+  held_look t LookAheadNeg u h = record { is = held_body true t u.front h.front }
+  held_look t LookBehind u h = record { is = h.behind }
+  held_look t LookBehindNeg u h = record { is = h.behind }
 
   held_repeated : (p : CorePattern) (lo hi : ℕ) (greedy : Bool) → HasGroups first end p → HasGroups first end (repeated p lo hi greedy)
   held_repeated p zero zero greedy h = tt
@@ -172,16 +176,16 @@ module _ (first end : ℕ) where
         hold n (tree.group t) le room =
             hold_node (tree.group t) (group n (written groups pat (n + 1) t).front)
             (le, omega arith, (hold (n + 1) t (omega arith) (omega arith)).front)
-        hold n (tree.look_around t how) le room = hold_node (tree.look_around t how) _ (held_look how _ (hold n t le room)).is
+        hold n (tree.look_around t how) le room = hold_node (tree.look_around t how) _ (held_look t how _ (hold n t le room)).is
         hold n (tree.repeat t lo hi greedy) le room =
             hold_node (tree.repeat t lo hi greedy) _ (held_repeated _ lo hi greedy (hold n t le room).front)
         hold n (tree.atomic_group t) le room =
-            hold_node (tree.atomic_group t) (atomic (written groups pat n t).front) (hold n t le room).front
+            hold_node (tree.atomic_group t) _ (held_body false t (written groups pat n t).front (hold n t le room).front)
         hold n (tree.backref k casei) le room = hold_node (tree.backref k casei) (backref k casei) tt
         hold n (tree.backref_exists k None) le room = hold_node (tree.backref_exists k None) (exists k) tt
         hold n (tree.backref_exists k (Some level)) le room = hold_node (tree.backref_exists k (Some level)) fail tt
         hold n (tree.conditional c a b) le room = hold_node (tree.conditional c a b) _ (
-          (hold n c le (omega arith)).front,
+          held_body false c (written groups pat n c).front (hold n c le (omega arith)).front,
           (hold (n + group_count c) a (omega arith) (omega arith)).front,
           (hold (n + group_count c + group_count a) b (omega arith) (omega arith)).front,
         )

@@ -1,3 +1,6 @@
+pub mod ThinnedLemmas
+pub mod DelegateProofs
+pub mod LazyLemmas
 pub mod WaysProofs
 pub mod ChoiceProofs
 pub mod ProgramSizeProofs

@@ -8,8 +8,9 @@ use Rattle.fancy_regex_meaning.specs.Groups.{group_count}
 use Rattle.fancy_regex_meaning.specs.Sizes.{size, target}
 use Rattle.fancy_regex_meaning.specs.Ways.{is_at_call_limit, max_open_calls}
 use Rattle.fancy_regex_meaning.specs.Choices.{nodes_with, row_nodes_with, nodes_of_call, sum_some, program_nodes}
-use Rattle.fancy_regex_desugar.specs.CorePatterns.{any, literal, class, CorePattern, nothing, read, general_newline, check, continue, keep_out, fail, backref, exists}
-use Rattle.fancy_regex_desugar.specs.Unfolded.{repeated, Written, pat_for, cat_all, alt_all, look, node, branches, written, written_all, written_call, core_pattern_of}
+use Rattle.fancy_regex_desugar.specs.CorePatterns.{any, literal, class, CorePattern, nothing, read, general_newline, check, continue, keep_out, fail, delegate, backref, exists}
+use Rattle.fancy_regex_desugar.specs.Delegates.{searched, is_delegated}
+use Rattle.fancy_regex_desugar.specs.Unfolded.{repeated, Written, pat_for, cat_all, alt_all, body_of, look, node, branches, written, written_all, written_call, core_pattern_of}
 use Rattle.fancy_regex_desugar.specs.ProgramSizes.{room}
 use Rattle.fancy_regex_desugar.specs.DesugarLaws.{UnfoldedSizeIsBounded, PatternSizeIsBounded}
 
@@ -45,12 +46,17 @@ either_fits : (b : Bool) (p q : CorePattern) (n : ℕ) → room p + 2 ≤ n → 
 either_fits true p q n h k = h
 either_fits false p q n h k = k
 
-fits_look : (how : LookAround) (u : Written) (n : ℕ) → BothFit u n → Fits (look how u) (1 + n)
+room_body : (for_any : Bool) (t : Tree) (p : CorePattern) (n : ℕ) → room p + 3 ≤ 16 * n → room (body_of for_any t p) + 3 ≤ 16 * n
 unfolding room
-fits_look LookAhead u n h = record { is = omega (arith, h.front) }
-fits_look LookAheadNeg u n h = record { is = omega (arith, h.front) }
-fits_look LookBehind u n h = record { is = omega (arith, h.behind) }
-fits_look LookBehindNeg u n h = record { is = omega (arith, h.behind) }
+room_body for_any t p n h =
+    elim (is_delegated for_any t) as (λ b. room (cond b (delegate (searched for_any t) p) p) + 3 ≤ 16 * n) [ true ↦ omega (arith, h) | false ↦ h ]
+
+fits_look : (t : Tree) (how : LookAround) (u : Written) (n : ℕ) → BothFit u n → Fits (look t how u) (1 + n)
+unfolding room
+fits_look t LookAhead u n h = record { is = omega (arith, room_body true t u.front n h.front) }
+fits_look t LookAheadNeg u n h = record { is = omega (arith, room_body true t u.front n h.front) }
+fits_look t LookBehind u n h = record { is = omega (arith, h.behind) }
+fits_look t LookBehindNeg u n h = record { is = omega (arith, h.behind) }
 
 module _ (groups : List Tree) where
   fit_node : (t : Tree) (p : CorePattern) (n : ℕ) → room p + 3 ≤ 16 * n → BothFit (node groups t p) n
@@ -84,15 +90,15 @@ module _ (groups : List Tree) where
       fit n (tree.literal val casei) = fit_node (tree.literal val casei) (read (literal (slice_index val 0) casei)) 1 (omega arith)
       fit n (tree.delegate text casei) = fit_node (tree.delegate text casei) (read (class text casei)) 1 (omega arith)
       fit n (tree.group t) = fit_node (tree.group t) _ _ (omega (arith, (fit (n + 1) t).front))
-      fit n (tree.look_around t how) = fit_node (tree.look_around t how) _ _ (fits_look how _ _ (fit n t)).is
+      fit n (tree.look_around t how) = fit_node (tree.look_around t how) _ _ (fits_look t how _ _ (fit n t)).is
       fit n (tree.repeat t lo hi greedy) =
           fit_node (tree.repeat t lo hi greedy) _ _ (omega (arith, (fit n t).front, room_repeated (written groups pat n t).front lo hi greedy))
-      fit n (tree.atomic_group t) = fit_node (tree.atomic_group t) _ _ (omega (arith, (fit n t).front))
+      fit n (tree.atomic_group t) = fit_node (tree.atomic_group t) _ _ (omega (arith, room_body false t (written groups pat n t).front (nodes_with call t) (fit n t).front))
       fit n (tree.backref k casei) = fit_node (tree.backref k casei) (backref k casei) 1 (omega arith)
       fit n (tree.backref_exists k None) = fit_node (tree.backref_exists k None) (exists k) 1 (omega arith)
       fit n (tree.backref_exists k (Some level)) = fit_node (tree.backref_exists k (Some level)) fail 1 (omega arith)
       fit n (tree.conditional c a b) = fit_node (tree.conditional c a b) _ _
-          (omega (arith, (fit n c).front, (fit (n + group_count c) a).front, (fit (n + group_count c + group_count a) b).front))
+          (omega (arith, room_body false c (written groups pat n c).front (nodes_with call c) (fit n c).front, (fit (n + group_count c) a).front, (fit (n + group_count c + group_count a) b).front))
       fit n (tree.subroutine_call k) = fit_node (tree.subroutine_call k) _ _ (fit_call k).is
       fit n tree.keep_out = fit_node tree.keep_out keep_out 1 (omega arith)
       fit n tree.continue = fit_node tree.continue continue 1 (omega arith)

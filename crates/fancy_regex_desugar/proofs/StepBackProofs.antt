@@ -7,8 +7,9 @@ use Rattle.fancy_regex_tree.specs.Tree.{Tree, Trees, no_trees, more_trees}
 use Rattle.fancy_regex_meaning.specs.Groups.{group_count}
 use Rattle.fancy_regex_meaning.specs.Sizes.{size, target}
 use Rattle.fancy_regex_meaning.specs.Ways.{is_at_call_limit}
-use Rattle.fancy_regex_desugar.specs.CorePatterns.{any, literal, class, CorePattern, nothing, read, general_newline, check, continue, keep_out, fail, cat, alt, group, ahead, never, back, atomic, repeat, backref, exists, conditional, absent}
-use Rattle.fancy_regex_desugar.specs.Unfolded.{repeated, Written, pat_for, cat_all, alt_all, look, node, branches, written, written_all, written_call}
+use Rattle.fancy_regex_desugar.specs.CorePatterns.{any, literal, class, CorePattern, nothing, read, general_newline, check, continue, keep_out, fail, cat, alt, group, ahead, never, back, atomic, delegate, repeat, backref, exists, conditional, absent}
+use Rattle.fancy_regex_desugar.specs.Delegates.{searched, is_delegated}
+use Rattle.fancy_regex_desugar.specs.Unfolded.{repeated, Written, pat_for, cat_all, alt_all, body_of, look, node, branches, written, written_all, written_call}
 use Rattle.fancy_regex_desugar.specs.Shapes.{StepsBackOnlyFirst}
 use Rattle.fancy_regex_desugar.specs.DesugarLaws.{UnfoldedStepsBackOnlyFirst}
 
@@ -32,6 +33,7 @@ freely true (ahead a) h = h
 freely true (never a) h = h
 freely true (back n) h = refl
 freely true (atomic a) h = h
+freely true (delegate t a) h = tt
 freely true (repeat a lo hi greedy) h = h
 freely true (backref k casei) h = tt
 freely true (exists k) h = tt
@@ -62,11 +64,15 @@ either_placed : (b : Bool) (p q : CorePattern) → StepsBackOnlyFirst true p →
 either_placed true p q h k = h
 either_placed false p q h k = k
 
-placed_look : (how : LookAround) (u : Written) → BothPlaced u → Placed false (look how u)
-placed_look LookAhead u h = record { is = freely true u.front h.front }
-placed_look LookAheadNeg u h = record { is = freely true u.front h.front }
-placed_look LookBehind u h = record { is = h.behind }
-placed_look LookBehindNeg u h = record { is = h.behind }
+placed_body : (for_any : Bool) (t : Tree) (p : CorePattern) → StepsBackOnlyFirst false p → StepsBackOnlyFirst false (body_of for_any t p)
+placed_body for_any t p h =
+    elim (is_delegated for_any t) as (λ b. StepsBackOnlyFirst false (cond b (delegate (searched for_any t) p) p)) [ true ↦ tt | false ↦ h ]
+
+placed_look : (t : Tree) (how : LookAround) (u : Written) → BothPlaced u → Placed false (look t how u)
+placed_look t LookAhead u h = record { is = freely true (body_of true t u.front) (placed_body true t u.front h.front) }
+placed_look t LookAheadNeg u h = record { is = freely true (body_of true t u.front) (placed_body true t u.front h.front) }
+placed_look t LookBehind u h = record { is = h.behind }
+placed_look t LookBehindNeg u h = record { is = h.behind }
 
 module _ (groups : List Tree) where
   place_node : (t : Tree) (p : CorePattern) → StepsBackOnlyFirst false p → BothPlaced (node groups t p)
@@ -92,15 +98,15 @@ module _ (groups : List Tree) where
       place n (tree.literal val casei) = place_node (tree.literal val casei) (read (literal (slice_index val 0) casei)) tt
       place n (tree.delegate text casei) = place_node (tree.delegate text casei) (read (class text casei)) tt
       place n (tree.group t) = place_node (tree.group t) (group n (written groups pat (n + 1) t).front) (place (n + 1) t).front
-      place n (tree.look_around t how) = place_node (tree.look_around t how) _ (placed_look how _ (place n t)).is
+      place n (tree.look_around t how) = place_node (tree.look_around t how) _ (placed_look t how _ (place n t)).is
       place n (tree.repeat t lo hi greedy) =
           place_node (tree.repeat t lo hi greedy) _ (placed_repeated false _ lo hi greedy (place n t).front)
-      place n (tree.atomic_group t) = place_node (tree.atomic_group t) (atomic (written groups pat n t).front) (place n t).front
+      place n (tree.atomic_group t) = place_node (tree.atomic_group t) _ (placed_body false t (written groups pat n t).front (place n t).front)
       place n (tree.backref k casei) = place_node (tree.backref k casei) (backref k casei) tt
       place n (tree.backref_exists k None) = place_node (tree.backref_exists k None) (exists k) tt
       place n (tree.backref_exists k (Some level)) = place_node (tree.backref_exists k (Some level)) fail tt
       place n (tree.conditional c a b) = place_node (tree.conditional c a b) _
-          ((place n c).front, (place (n + group_count c) a).front, (place (n + group_count c + group_count a) b).front)
+          (placed_body false c (written groups pat n c).front (place n c).front, (place (n + group_count c) a).front, (place (n + group_count c + group_count a) b).front)
       place n (tree.subroutine_call k) = place_node (tree.subroutine_call k) (pat k) (place_call k).is
       place n tree.keep_out = place_node tree.keep_out keep_out tt
       place n tree.continue = place_node tree.continue continue tt

@@ -1,25 +1,32 @@
--- A pattern that is written out has the ways of its tree.
-use Rattle.std.proofs.Common.{◌≡◌, ℕ, zero, suc, ◌+◌, Bool, true, false, cond, List, [], ◌∷◌, ◌++◌, map, Option, Some, None, refl, sym, ◌∙◌, slice_index}
-use Rattle.std.specs.List.{flat_map}
+-- A pattern that is written out has the ways of its tree, where a look-ahead may leave out repeated ones.
+use Rattle.std.proofs.Common.{◌≡◌, ℕ, zero, suc, ◌+◌, ◌-◌, Bool, true, false, cond, List, [], ◌∷◌, length, map, Option, Some, None, refl, sym, ap, ◌∙◌, subst, slice_index}
+use Rattle.std.specs.Prelude.{nat_lt, reverse}
+use Rattle.std.specs.List.{flat_map, filter, list_all}
 use Rattle.std.proofs.lemmas.List.{append-nil}
 use mathlib.Core.Path.{fun_ext}
 use Rattle.fancy_regex_tree.specs.declared.expr.LookAround.{LookAround}
 use Rattle.fancy_regex_tree.specs.declared.expr.LookAround.TheVariants.{LookAhead, LookAheadNeg, LookBehind, LookBehindNeg}
 use Rattle.fancy_regex_tree.specs.Tree as tree
 use Rattle.fancy_regex_tree.specs.Tree.{Tree, Trees, no_trees, more_trees}
-use Rattle.fancy_regex_meaning.specs.Positions.{position_before}
+use Rattle.fancy_regex_meaning.specs.Positions.{boundaries, position_before}
 use Rattle.fancy_regex_meaning.specs.Groups.{group_count}
 use Rattle.fancy_regex_meaning.specs.Sizes.{size, target, bound_of}
 use Rattle.fancy_regex_meaning.specs.Ways as row
-use Rattle.fancy_regex_meaning.specs.Ways.{MatchState, Moves, Meaning, Setting, with_position, for_some, all_of, any_of, keep_only_pairs, match_empty_if, is_none_of, first_only, call_ways, meaning, meanings, ways, is_at_call_limit, max_open_calls}
-use Rattle.fancy_regex_desugar.specs.CorePatterns.{any, literal, class, CorePattern, nothing, read, general_newline, check, continue, keep_out, fail, cat, group, back, atomic, repeat, backref, exists, conditional, absent}
-use Rattle.fancy_regex_desugar.specs.CoreWays.{core_ways}
-use Rattle.fancy_regex_desugar.specs.Unfolded.{repeated, Written, pat_for, cat_all, alt_all, look, node, branches, written, written_all, written_call, core_pattern_of}
-use Rattle.fancy_regex_desugar.specs.DesugarLaws.{UnfoldedKeepsWays, PatternKeepsWays}
+use Rattle.fancy_regex_meaning.specs.Ways.{MatchState, Moves, Meaning, Setting, with_position, set_pair, for_some, is_free, all_of, any_of, keep_only_pairs, match_empty_if, is_none_of, first_only, call_ways, meaning, meanings, ways, is_at_call_limit, max_open_calls}
+use Rattle.fancy_regex_meaning.specs.Searches.{is_admitted}
+use Rattle.fancy_regex_desugar.specs.CorePatterns.{any, literal, class, CorePattern, nothing, read, general_newline, check, continue, keep_out, fail, cat, group, back, atomic, delegate, repeat, backref, exists, conditional, absent}
+use Rattle.fancy_regex_desugar.specs.Delegates.{lazily, is_delegated, first_end}
+use Rattle.fancy_regex_desugar.specs.CoreWays.{end_ways, core_ways}
+use Rattle.fancy_regex_desugar.specs.Unfolded.{repeated, Written, pat_for, cat_all, alt_all, first_way_of, any_way_of, look, node, branches, written, written_all, written_call, core_pattern_of}
+use Rattle.fancy_regex_desugar.specs.DesugarLaws.{UnfoldedKeepsWays, PatternKeepsMatches}
+use Rattle.fancy_regex_desugar.specs.Thinned.{Thinned}
+use Rattle.fancy_regex_desugar.proofs.ThinnedLemmas.{Thins, thin_same, thin_equal, thin_append, thin_flat_map, thin_map, thin_due, thin_up_to, thin_loop, same_first, same_none, same_all_pass, same_choice}
+use Rattle.fancy_regex_desugar.proofs.DelegateProofs.{searched_can_be, searchable_way}
+use Rattle.fancy_regex_desugar.proofs.LazyLemmas.{any_way}
 
--- The pattern has these ways.
+-- The pattern has these ways, where repeated ones may be left out.
 pub record Has (s : Setting) (f : Moves) (p : CorePattern) : Type 0 where
-  pub is : f ≡ core_ways s p
+  pub is : (w : MatchState) → Thinned (f w) (core_ways s p w)
 
 -- And so it has from as far back.
 pub record Same (s : Setting) (m : Meaning) (u : Written) : Type 0 where
@@ -32,86 +39,172 @@ AllSame s [] (u ∷ us) = ⊥
 AllSame s (m ∷ ms) [] = ⊥
 AllSame s (m ∷ ms) (u ∷ us) = Same s m u × AllSame s ms us
 
+-- the branch that follows goes by the first way alone
+branch_of_first : (ws : List MatchState) (g h : Moves) (w : MatchState) → row.conditional ws g h w ≡ row.conditional (first_only ws) g h w
+branch_of_first [] g h w = refl
+branch_of_first (v ∷ vs) g h w = refl
+
+thin_branch : (ws : List MatchState) (f g k l : Moves) → Thins f k → Thins g l → (w : MatchState) → Thinned (row.conditional ws f g w) (row.conditional ws k l w)
+thin_branch [] f g k l h j w = j w
+thin_branch (v ∷ vs) f g k l h j w = h v
+
+-- a look-around leaves a way where there is one
+none_left : (w : MatchState) (ws : List MatchState) → is_none_of ws ≡ is_none_of (keep_only_pairs w ws)
+none_left w [] = refl
+none_left w (v ∷ vs) = refl
+
 module _ (s : Setting) where
   has_row : (ms : List Meaning) (us : List Written) → AllSame s ms us → Has s (all_of ms) (cat_all us)
   unfolding core_ways
-  has_row [] [] h = record { is = refl }
+  has_row [] [] h = record { is = λ w. thin_same (w ∷ []) }
   has_row [] (u ∷ us) h = absurd h
   has_row (m ∷ ms) [] h = absurd h
-  has_row (m ∷ ms) (u ∷ us) h = record { is = λ i w. flat_map ((has_row ms us h.1).is i) (h.0.front.is i w) }
+  has_row (m ∷ ms) (u ∷ us) h = record {
+    is = λ w. thin_flat_map (all_of ms) (core_ways s (cat_all us)) (has_row ms us h.1).is (m.from w) (core_ways s u.front w) (h.0.front.is w);
+  }
 
   has_front : (ms : List Meaning) (us : List Written) → AllSame s ms us → (w : MatchState) →
-      flat_map (λ m. m.from w) ms ≡ core_ways s (alt_all (map (λ u. u.front) us)) w
+      Thinned (flat_map (λ m. m.from w) ms) (core_ways s (alt_all (map (λ u. u.front) us)) w)
   unfolding core_ways
-  has_front [] [] h w = refl
+  has_front [] [] h w = thin_same []
   has_front [] (u ∷ us) h w = absurd h
   has_front (m ∷ ms) [] h w = absurd h
-  has_front (m ∷ []) (u ∷ []) h w = append-nil (m.from w) ∙ (λ i. h.0.front.is i w)
+  has_front (m ∷ []) (u ∷ []) h w = subst (λ l. Thinned l (core_ways s u.front w)) (sym (append-nil (m.from w))) (h.0.front.is w)
   has_front (m ∷ []) (u ∷ v ∷ us) h w = absurd h.1
   has_front (m ∷ l ∷ ms) (u ∷ []) h w = absurd h.1
-  has_front (m ∷ l ∷ ms) (u ∷ v ∷ us) h w = λ i. h.0.front.is i w ++ has_front (l ∷ ms) (v ∷ us) h.1 w i
+  has_front (m ∷ l ∷ ms) (u ∷ v ∷ us) h w =
+      thin_append (m.from w) (core_ways s u.front w) (flat_map (λ k. k.from w) (l ∷ ms)) (core_ways s (alt_all (map (λ x. x.front) (v ∷ us))) w)
+      (h.0.front.is w) (has_front (l ∷ ms) (v ∷ us) h.1 w)
 
   has_behind : (ms : List Meaning) (us : List Written) → AllSame s ms us → (w : MatchState) →
-      flat_map (λ m. m.behind w) ms ≡ core_ways s (alt_all (map (λ u. u.behind) us)) w
+      Thinned (flat_map (λ m. m.behind w) ms) (core_ways s (alt_all (map (λ u. u.behind) us)) w)
   unfolding core_ways
-  has_behind [] [] h w = refl
+  has_behind [] [] h w = thin_same []
   has_behind [] (u ∷ us) h w = absurd h
   has_behind (m ∷ ms) [] h w = absurd h
-  has_behind (m ∷ []) (u ∷ []) h w = append-nil (m.behind w) ∙ (λ i. h.0.behind.is i w)
+  has_behind (m ∷ []) (u ∷ []) h w = subst (λ l. Thinned l (core_ways s u.behind w)) (sym (append-nil (m.behind w))) (h.0.behind.is w)
   has_behind (m ∷ []) (u ∷ v ∷ us) h w = absurd h.1
   has_behind (m ∷ l ∷ ms) (u ∷ []) h w = absurd h.1
-  has_behind (m ∷ l ∷ ms) (u ∷ v ∷ us) h w = λ i. h.0.behind.is i w ++ has_behind (l ∷ ms) (v ∷ us) h.1 w i
+  has_behind (m ∷ l ∷ ms) (u ∷ v ∷ us) h w =
+      thin_append (m.behind w) (core_ways s u.behind w) (flat_map (λ k. k.behind w) (l ∷ ms)) (core_ways s (alt_all (map (λ x. x.behind) (v ∷ us))) w)
+      (h.0.behind.is w) (has_behind (l ∷ ms) (v ∷ us) h.1 w)
 
   -- so many characters back, and from there
   has_back : (n : ℕ) (f : Moves) (p : CorePattern) → Has s f p →
       Has s (λ w. for_some (λ q. f (with_position w q)) (position_before s.text n w.position)) (cat (back n) p)
   unfolding core_ways
-  has_back n f p h = record { is = fun_ext (λ w. from_there w (position_before s.text n w.position)) }
+  has_back n f p h = record { is = λ w. from_there w (position_before s.text n w.position) }
     where
       from_there : (w : MatchState) (o : Option ℕ) →
-          for_some (λ q. f (with_position w q)) o ≡ flat_map (core_ways s p) (for_some (λ q. with_position w q ∷ []) o)
-      from_there w None = refl
-      from_there w (Some q) = (λ i. h.is i (with_position w q)) ∙ sym (append-nil (core_ways s p (with_position w q)))
+          Thinned (for_some (λ q. f (with_position w q)) o) (flat_map (core_ways s p) (for_some (λ q. with_position w q ∷ []) o))
+      from_there w None = thin_same []
+      from_there w (Some q) =
+          subst (Thinned (f (with_position w q))) (sym (append-nil (core_ways s p (with_position w q)))) (h.is (with_position w q))
 
   has_choice : (b : Bool) (f g : Moves) (p q : CorePattern) → Has s f p → Has s g q → Has s (λ w. cond b (f w) (g w)) (cond b p q)
   has_choice true f g p q h k = record { is = h.is }
   has_choice false f g p q h k = record { is = k.is }
 
-  has_look : (how : LookAround) (m : Meaning) (u : Written) → Same s m u → Has s (row.look how m) (look how u)
+  -- where a body is delegated, of which the first way counts, that way leads to the end of the search
+  abbrev pub FirstIsFound : Tree → Moves → Type 0
+  FirstIsFound t f = is_delegated false t ≡ true → (w : MatchState) → first_only (f w) ≡ end_ways (first_end s t w.position) w
+
+  -- where a body is delegated, of which any way counts, a look-around leaves no more of its ways than of the search
+  abbrev pub AnyIsFound : Tree → Moves → Type 0
+  AnyIsFound t f = is_delegated true t ≡ true → (w : MatchState) →
+      Thinned (keep_only_pairs w (f w)) (keep_only_pairs w (end_ways (first_end s (lazily t) w.position) w))
+
+  pub found_first : (groups : List Tree) (call : ℕ → Moves) (n : ℕ) (t : Tree) → FirstIsFound t (meaning s groups call n t).from
+  found_first groups call n t h = searchable_way s groups call n t (searched_can_be false t h)
+
+  -- the first way of a body, delegated where it can be
+  pub first_way : (t : Tree) (f : Moves) (p : CorePattern) → Has s f p → FirstIsFound t f → (w : MatchState) →
+      first_only (f w) ≡ first_only (core_ways s (first_way_of t p) w)
   unfolding core_ways
-  has_look LookAhead m u h = record { is = λ i w. keep_only_pairs w (h.front.is i w) }
-  has_look LookAheadNeg m u h = record { is = λ i w. match_empty_if (is_none_of (h.front.is i w)) w }
-  has_look LookBehind m u h = record { is = λ i w. keep_only_pairs w (h.behind.is i w) }
-  has_look LookBehindNeg m u h = record { is = λ i w. match_empty_if (is_none_of (h.behind.is i w)) w }
+  first_way t f p h d w =
+      elim (is_delegated false t) as (λ b. is_delegated false t ≡ b → first_only (f w) ≡ first_only (core_ways s (cond b (delegate t p) p) w)) [
+        | true ↦ λ e. d e w ∙ one_way (first_end s t w.position)
+        | false ↦ λ e. same_first (f w) (core_ways s p w) (h.is w)
+      ] refl
+    where
+      one_way : (o : Option ℕ) → end_ways o w ≡ first_only (end_ways o w)
+      one_way None = refl
+      one_way (Some q) = refl
+
+  -- what a look-around leaves
+  left : (f : Moves) (p : CorePattern) → Has s f p → (w : MatchState) → Thinned (keep_only_pairs w (f w)) (keep_only_pairs w (core_ways s p w))
+  left f p h w = thin_map (λ v. record w { pairs = v.pairs }) (f w) (core_ways s p w) (h.is w)
+
+  -- what a look-ahead leaves of a body, delegated where it can be
+  left_of_body : (t : Tree) (f : Moves) (p : CorePattern) → Has s f p → AnyIsFound t f → (w : MatchState) →
+      Thinned (keep_only_pairs w (f w)) (keep_only_pairs w (core_ways s (any_way_of t p) w))
+  unfolding core_ways
+  left_of_body t f p h d w =
+      elim (is_delegated true t) as (λ b. is_delegated true t ≡ b →
+      Thinned (keep_only_pairs w (f w)) (keep_only_pairs w (core_ways s (cond b (delegate (lazily t) p) p) w))) [
+        | true ↦ λ e. d e w
+        | false ↦ λ e. left f p h w
+      ] refl
+
+  has_look : (t : Tree) (how : LookAround) (m : Meaning) (u : Written) → Same s m u → AnyIsFound t m.from → Has s (row.look how m) (look t how u)
+  unfolding core_ways
+  has_look t LookAhead m u h d = record { is = left_of_body t m.from u.front h.front d }
+  has_look t LookAheadNeg m u h d = record {
+    is = λ w.
+        let body : List MatchState = core_ways s (any_way_of t u.front) w in
+        thin_equal _ _ (ap (λ b. match_empty_if b w)
+        (none_left w (m.from w) ∙ same_none (keep_only_pairs w (m.from w)) (keep_only_pairs w body) (left_of_body t m.from u.front h.front d w)
+        ∙ sym (none_left w body)));
+  }
+  has_look t LookBehind m u h d = record { is = left m.behind u.behind h.behind }
+  has_look t LookBehindNeg m u h d = record {
+    is = λ w. thin_equal _ _ (ap (λ b. match_empty_if b w) (same_none (m.behind w) (core_ways s u.behind w) (h.behind.is w)));
+  }
 
   has_group : (k : ℕ) (f : Moves) (p : CorePattern) → Has s f p → Has s (row.group k f) (group k p)
   unfolding core_ways
-  has_group k f p h = record { is = λ i w. row.group k (h.is i) w }
+  has_group k f p h = record { is = λ w. thin_map (λ v. set_pair k (w.position, v.position) v) (f w) (core_ways s p w) (h.is w) }
 
-  has_atomic : (f : Moves) (p : CorePattern) → Has s f p → Has s (λ w. first_only (f w)) (atomic p)
+  has_atomic : (t : Tree) (f : Moves) (p : CorePattern) → Has s f p → FirstIsFound t f → Has s (λ w. first_only (f w)) (atomic (first_way_of t p))
   unfolding core_ways
-  has_atomic f p h = record { is = λ i w. first_only (h.is i w) }
+  has_atomic t f p h d = record { is = λ w. thin_equal _ _ (first_way t f p h d w) }
 
   has_repeat : (lo : ℕ) (hi : Option ℕ) (greedy : Bool) (f : Moves) (p : CorePattern) → Has s f p →
       Has s (row.repeat s lo hi greedy f) (repeat p lo hi greedy)
   unfolding core_ways
-  has_repeat lo hi greedy f p h = record { is = λ i w. row.repeat s lo hi greedy (h.is i) w }
+  has_repeat lo None greedy f p h = record { is = thin_due lo f (core_ways s p) _ _ h.is (thin_loop (length s.text + 1) greedy f (core_ways s p) h.is) }
+  has_repeat lo (Some hi) greedy f p h = record { is = thin_due lo f (core_ways s p) _ _ h.is (thin_up_to (hi - lo) greedy f (core_ways s p) h.is) }
 
   has_repeated : (lo hi : ℕ) (greedy : Bool) (f : Moves) (p : CorePattern) → Has s f p →
       Has s (row.repeat s lo (bound_of hi) greedy f) (repeated p lo hi greedy)
   unfolding core_ways
-  has_repeated zero zero greedy f p h = record { is = refl }
+  has_repeated zero zero greedy f p h = record { is = λ w. thin_same (w ∷ []) }
   has_repeated zero (suc hi) greedy f p h = has_repeat 0 (bound_of (suc hi)) greedy f p h
   has_repeated (suc lo) hi greedy f p h = has_repeat (suc lo) (bound_of hi) greedy f p h
 
-  has_conditional : (f g h : Moves) (p q r : CorePattern) → Has s f p → Has s g q → Has s h r →
-      Has s (λ w. row.conditional (f w) g h w) (conditional p q r)
+  has_conditional : (t : Tree) (f g h : Moves) (p q r : CorePattern) → Has s f p → FirstIsFound t f → Has s g q → Has s h r →
+      Has s (λ w. row.conditional (f w) g h w) (conditional (first_way_of t p) q r)
   unfolding core_ways
-  has_conditional f g h p q r c a b = record { is = λ i w. row.conditional (c.is i w) (a.is i) (b.is i) w }
+  has_conditional t f g h p q r c d a b = record {
+    is = λ w.
+        let body : List MatchState = core_ways s (first_way_of t p) w in
+        let same : row.conditional body g h w ≡ row.conditional (f w) g h w = branch_of_first body g h w
+        ∙ ap (λ ws. row.conditional ws g h w) (sym (first_way t f p c d w)) ∙ sym (branch_of_first (f w) g h w) in
+        subst (λ l. Thinned l (row.conditional body (core_ways s q) (core_ways s r) w)) same
+        (thin_branch body g h (core_ways s q) (core_ways s r) a.is b.is w);
+  }
 
   has_absent : (f : Moves) (p : CorePattern) → Has s f p → Has s (row.absent s f) (absent p)
   unfolding core_ways
-  has_absent f p h = record { is = λ i w. row.absent s (h.is i) w }
+  has_absent f p h = record {
+    is = λ w.
+        let ends : List ℕ = boundaries s.text w.position (length s.text) in
+        let ends_after : Moves → ℕ → ℕ → Bool = λ g q b. list_all (λ v. nat_lt q v.position) (g (with_position w b)) in
+        let same : (q : ℕ) → ends_after f q ≡ ends_after (core_ways s p) q = λ q. fun_ext (λ b.
+        same_all_pass (λ v. nat_lt q v.position) (f (with_position w b)) (core_ways s p (with_position w b)) (h.is (with_position w b))) in
+        let free : is_free s f w ≡ is_free s (core_ways s p) w = fun_ext (λ q. ap (λ test. list_all test ends) (same q)) in
+        thin_equal _ _ (ap (λ test. map (with_position w) (filter test (reverse ends))) free);
+  }
 
   module _ (groups : List Tree) where
     same_node : (t : Tree) (f : Moves) (p : CorePattern) → Has s f p → Same s (row.node s groups t f) (node groups t p)
@@ -119,13 +212,13 @@ module _ (s : Setting) where
 
     -- a pattern whose ways are those by definition
     same_leaf : (t : Tree) (p : CorePattern) → Same s (row.node s groups t (core_ways s p)) (node groups t p)
-    same_leaf t p = same_node t (core_ways s p) p (record { is = refl })
+    same_leaf t p = same_node t (core_ways s p) p (record { is = λ w. thin_same (core_ways s p w) })
 
     same_branches : (t : Tree) (ms : List Meaning) (us : List Written) → AllSame s ms us →
         Same s (row.branches s groups t ms) (branches groups t us)
     same_branches t ms us h =
-        let front : Has s (any_of ms).from (alt_all (map (λ u. u.front) us)) = record { is = fun_ext (has_front ms us h) } in
-        let behind : Has s (any_of ms).behind (alt_all (map (λ u. u.behind) us)) = record { is = fun_ext (has_behind ms us h) } in
+        let front : Has s (any_of ms).from (alt_all (map (λ u. u.front) us)) = record { is = has_front ms us h } in
+        let behind : Has s (any_of ms).behind (alt_all (map (λ u. u.behind) us)) = record { is = has_behind ms us h } in
         record {
           front = front;
           behind = has_choice (size groups t).always _ _ _ _ (has_back (size groups t).least _ _ front) behind;
@@ -148,15 +241,17 @@ module _ (s : Setting) where
         same n (tree.delegate text casei) = same_leaf (tree.delegate text casei) (read (class text casei))
         same n (tree.group t) = same_node (tree.group t) _ _ (has_group n _ _ (same (n + 1) t).front)
         same n (tree.look_around t how) = same_node (tree.look_around t how) _ _
-            (has_look how (meaning s groups call n t) (written groups pat n t) (same n t))
+            (has_look t how (meaning s groups call n t) (written groups pat n t) (same n t) (any_way s groups call n t))
         same n (tree.repeat t lo hi greedy) =
             same_node (tree.repeat t lo hi greedy) _ _ (has_repeated lo hi greedy _ _ (same n t).front)
-        same n (tree.atomic_group t) = same_node (tree.atomic_group t) _ _ (has_atomic _ _ (same n t).front)
+        same n (tree.atomic_group t) =
+            same_node (tree.atomic_group t) _ _
+            (has_atomic t _ _ (same n t).front (found_first groups call n t))
         same n (tree.backref k casei) = same_leaf (tree.backref k casei) (backref k casei)
         same n (tree.backref_exists k None) = same_leaf (tree.backref_exists k None) (exists k)
         same n (tree.backref_exists k (Some level)) = same_leaf (tree.backref_exists k (Some level)) fail
         same n (tree.conditional c a b) = same_node (tree.conditional c a b) _ _
-            (has_conditional _ _ _ _ _ _ (same n c).front (same (n + group_count c) a).front
+            (has_conditional c _ _ _ _ _ _ (same n c).front (found_first groups call n c) (same (n + group_count c) a).front
             (same (n + group_count c + group_count a) b).front)
         same n (tree.subroutine_call k) = same_node (tree.subroutine_call k) _ _ (same_call k)
         same n tree.keep_out = same_leaf tree.keep_out keep_out
@@ -181,13 +276,13 @@ module _ (s : Setting) where
     has_target : (b : Bool) (o : Option Tree) (f : Tree → Moves) (p : Tree → CorePattern) → ((t : Tree) → Has s (f t) (p t)) →
         Has s (λ w. cond b [] (for_some (λ t. f t w) o)) (cond b fail (pat_for p o))
     unfolding core_ways
-    has_target true o f p h = record { is = refl }
-    has_target false None f p h = record { is = refl }
+    has_target true o f p h = record { is = λ w. thin_same [] }
+    has_target false None f p h = record { is = λ w. thin_same [] }
     has_target false (Some t) f p h = record { is = (h t).is }
 
     pub same_calls : (m : ℕ) (opened : List ℕ) (k : ℕ) → Has s (call_ways s groups m opened k) (written_call groups m opened k)
     unfolding core_ways call_ways written_call
-    same_calls zero opened k = record { is = refl }
+    same_calls zero opened k = record { is = λ w. thin_same [] }
     same_calls (suc m) opened k =
         has_target (is_at_call_limit opened k) (target groups k)
         (λ body. (meaning s groups (call_ways s groups m (k ∷ opened)) (k + 1) body).from)
@@ -197,9 +292,10 @@ module _ (s : Setting) where
 pub unfolded_has_the_ways : UnfoldedKeepsWays
 unfolded_has_the_ways s groups m opened n t w =
     let h = same s groups _ _ (same_calls s groups m opened) n t in
-    ((λ i. h.front.is i w), (λ i. h.behind.is i w))
+    (h.front.is w, h.behind.is w)
 
-pub pattern_has_the_ways : PatternKeepsWays
+pub pattern_has_the_matches : PatternKeepsMatches
 unfolding core_pattern_of ways
-pattern_has_the_ways s pattern w =
-    (unfolded_has_the_ways s pattern.groups (max_open_calls pattern.groups) [] pattern.first_group pattern.tree w).0
+pattern_has_the_matches s pattern find w =
+    let thinned = (unfolded_has_the_ways s pattern.groups (max_open_calls pattern.groups) [] pattern.first_group pattern.tree w).0 in
+    same_choice find.options.longest (is_admitted find) _ _ thinned

@@ -2,7 +2,7 @@
 -- concatenation and alternation are binary.
 use Rattle.std.specs.Prelude.{ℕ, Bool, Option}
 use Rattle.fancy_regex_tree.specs.declared.expr.Assertion.{Assertion}
-use Rattle.fancy_regex_tree.specs.Tree.{Text}
+use Rattle.fancy_regex_tree.specs.Tree.{Text, Tree}
 
 -- a test on one character
 pub data CharacterTest : Type 0 where
@@ -42,6 +42,8 @@ pub data CorePattern : Type 0 where
   back : ℕ → CorePattern
   -- atomic group: only the preferred match of the body
   atomic : CorePattern → CorePattern
+  -- The first match of this tree alone, found by a search in linear time. The pattern has the same matches, or in another order.
+  delegate : Tree → CorePattern → CorePattern
   -- body, lower bound, upper bound (None: unbounded), greedy
   repeat : CorePattern → ℕ → Option ℕ → Bool → CorePattern
   -- back reference: group number, case-insensitive

@@ -1,12 +1,17 @@
 -- The ordered matches of a core pattern, and the number of choices that a search of it makes.
-use Rattle.std.specs.Prelude.{ℕ, ◌+◌, Bool, [], ◌∷◌, ◌++◌, is_some, ◌==◌}
+use Rattle.std.specs.Prelude.{ℕ, ◌+◌, Bool, Option, [], ◌∷◌, ◌++◌, is_some, ◌==◌}
 use Rattle.std.specs.List.{flat_map}
 use Rattle.regex_hir.specs.Text.{is_some_and}
 use Rattle.fancy_regex_meaning.specs.Positions.{position_before}
 use Rattle.fancy_regex_meaning.specs.Ways as row
 use Rattle.fancy_regex_meaning.specs.Ways.{MatchState, Moves, Setting, with_position, pair_of, for_some, match_empty_if, never_match, reset_match_start, is_none_of, keep_only_pairs, first_only, character, is_any, is_literal, general_newline_ways, holds}
 use Rattle.fancy_regex_meaning.specs.Choices.{and_then, repeat_choices, branch_choices, absent_choices}
-use Rattle.fancy_regex_desugar.specs.CorePatterns.{CharacterTest, any, literal, class, CorePattern, nothing, read, general_newline, check, continue, keep_out, fail, cat, alt, group, ahead, never, back, atomic, repeat, backref, exists, conditional, absent}
+use Rattle.fancy_regex_desugar.specs.CorePatterns.{CharacterTest, any, literal, class, CorePattern, nothing, read, general_newline, check, continue, keep_out, fail, cat, alt, group, ahead, never, back, atomic, delegate, repeat, backref, exists, conditional, absent}
+use Rattle.fancy_regex_desugar.specs.Delegates.{first_end}
+
+-- to that position, where there is one
+abbrev pub end_ways : Option ℕ → Moves
+end_ways o w = for_some (λ p. with_position w p ∷ []) o
 
 module _ (s : Setting) where
   -- whether the character passes the test
@@ -17,7 +22,7 @@ module _ (s : Setting) where
 
   -- the position n characters back; none where fewer precede it
   abbrev pub back_ways : ℕ → Moves
-  back_ways n w = for_some (λ p. with_position w p ∷ []) (position_before s.text n w.position)
+  back_ways n w = end_ways (position_before s.text n w.position) w
 
   -- the ordered matches, the preferred first
   unfoldable pub core_ways : CorePattern → Moves
@@ -35,6 +40,7 @@ module _ (s : Setting) where
   core_ways (never a) w = match_empty_if (is_none_of (core_ways a w)) w
   core_ways (back n) w = back_ways n w
   core_ways (atomic a) w = first_only (core_ways a w)
+  core_ways (delegate t a) w = end_ways (first_end s t w.position) w
   core_ways (repeat a lo hi greedy) w = row.repeat s lo hi greedy (core_ways a) w
   core_ways (backref k casei) w = row.backref s casei (pair_of w k) w
   core_ways (exists k) w = match_empty_if (is_some (pair_of w k)) w
@@ -50,6 +56,7 @@ module _ (s : Setting) where
   core_choices (ahead a) w = core_choices a w
   core_choices (never a) w = 1 + core_choices a w
   core_choices (atomic a) w = core_choices a w
+  core_choices (delegate t a) w = core_choices a w
   core_choices (repeat a lo hi greedy) w = repeat_choices s lo hi (core_ways a) (core_choices a) w
   core_choices (conditional c a b) w = 1 + core_choices c w + branch_choices (core_ways c w) (core_choices a) (core_choices b) w
   core_choices (absent a) w = absent_choices s (core_choices a) w

@@ -1,38 +1,42 @@
--- A desugared pattern has the same matches as its tree.
+-- A desugared pattern has the same matches as its tree, and no more choices.
 use Rattle.std.specs.Prelude.{◌≡◌, ◌≤◌, ◌+◌, ◌*◌, ℕ, true, false, List, length}
+use Rattle.std.specs.List.{filter}
 use Rattle.fancy_regex_tree.specs.Tree.{Tree}
 use Rattle.fancy_regex_meaning.specs.Groups.{Pattern, pattern_of, explicit_pattern_of}
 use Rattle.fancy_regex_meaning.specs.Ways.{MatchState, Setting, meaning, call_ways, ways}
 use Rattle.fancy_regex_meaning.specs.Choices.{count, call_choices, choices_at, nodes_with, nodes_of_call, program_nodes}
-use Rattle.fancy_regex_meaning.specs.Searches.{start_way}
+use Rattle.fancy_regex_meaning.specs.Searches.{Search, chosen, is_admitted, start_way}
 use Rattle.fancy_regex_desugar.specs.CoreWays.{core_ways, core_choices}
 use Rattle.fancy_regex_desugar.specs.ProgramSizes.{room}
 use Rattle.fancy_regex_desugar.specs.Shapes.{StepsBackOnlyFirst, HasGroups}
+use Rattle.fancy_regex_desugar.specs.Thinned.{Thinned}
 use Rattle.fancy_regex_desugar.specs.Unfolded.{unfolded, unfolded_behind, core_pattern_of}
 
--- A desugared part has the ordered matches of its tree, both forwards from a position and, for look-behind, ending at it.
+-- A desugared part has the ordered matches of its tree, both forwards from a position and, for look-behind, ending at it. Of equal ones,
+-- which a look-ahead may leave, it may have the first alone.
 abbrev pub UnfoldedKeepsWays : Type 0
 UnfoldedKeepsWays = (s : Setting) (groups : List Tree) (m : ℕ) (opened : List ℕ) (n : ℕ) (t : Tree) (w : MatchState) →
-    ((meaning s groups (call_ways s groups m opened) n t).from w ≡ core_ways s (unfolded groups m opened n t) w)
-    × ((meaning s groups (call_ways s groups m opened) n t).behind w ≡ core_ways s (unfolded_behind groups m opened n t) w)
+    Thinned ((meaning s groups (call_ways s groups m opened) n t).from w) (core_ways s (unfolded groups m opened n t) w)
+    × Thinned ((meaning s groups (call_ways s groups m opened) n t).behind w) (core_ways s (unfolded_behind groups m opened n t) w)
 
--- It has the same number of choices as its tree, in both directions.
+-- It has at most as many choices as its tree, in both directions.
 abbrev pub UnfoldedKeepsChoices : Type 0
 UnfoldedKeepsChoices = (s : Setting) (groups : List Tree) (m : ℕ) (opened : List ℕ) (n : ℕ) (t : Tree) (w : MatchState) →
-    ((count s groups (call_ways s groups m opened) (call_choices s groups m opened) n t).from w
-    ≡ core_choices s (unfolded groups m opened n t) w)
-    × ((count s groups (call_ways s groups m opened) (call_choices s groups m opened) n t).behind w
-    ≡ core_choices s (unfolded_behind groups m opened n t) w)
+    (core_choices s (unfolded groups m opened n t) w
+    ≤ (count s groups (call_ways s groups m opened) (call_choices s groups m opened) n t).from w)
+    × (core_choices s (unfolded_behind groups m opened n t) w
+    ≤ (count s groups (call_ways s groups m opened) (call_choices s groups m opened) n t).behind w)
 
--- The whole pattern has the ordered matches of its tree.
-abbrev pub PatternKeepsWays : Type 0
-PatternKeepsWays = (s : Setting) (pattern : Pattern) (w : MatchState) →
-    ways s pattern.groups pattern.first_group pattern.tree w ≡ core_ways s (core_pattern_of pattern) w
+-- Each search reports the same match of the whole pattern as of its tree.
+abbrev pub PatternKeepsMatches : Type 0
+PatternKeepsMatches = (s : Setting) (pattern : Pattern) (find : Search) (w : MatchState) →
+    chosen find.options.longest (filter (is_admitted find) (ways s pattern.groups pattern.first_group pattern.tree w))
+    ≡ chosen find.options.longest (filter (is_admitted find) (core_ways s (core_pattern_of pattern) w))
 
--- It has the same number of choices as its tree from each position.
+-- The whole pattern has at most as many choices as its tree from each position.
 abbrev pub PatternKeepsChoices : Type 0
 PatternKeepsChoices = (s : Setting) (pattern : Pattern) (p : ℕ) →
-    choices_at s pattern p ≡ core_choices s (core_pattern_of pattern) (start_way pattern p)
+    core_choices s (core_pattern_of pattern) (start_way pattern p) ≤ choices_at s pattern p
 
 -- A program has at most 16 instructions for each node of the tree; a call counts the nodes of its target's body.
 abbrev pub UnfoldedSizeIsBounded : Type 0

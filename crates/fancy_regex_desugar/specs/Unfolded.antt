@@ -1,5 +1,5 @@
 -- The core pattern that a tree is desugared to.
-use Rattle.std.specs.Prelude.{ℕ, zero, suc, ◌+◌, Bool, List, [], ◌∷◌, map, slice_index, Option, Some, None, if◌then◌else◌}
+use Rattle.std.specs.Prelude.{ℕ, zero, suc, ◌+◌, Bool, true, false, List, [], ◌∷◌, map, slice_index, Option, Some, None, if◌then◌else◌}
 use Rattle.fancy_regex_tree.specs.declared.expr.LookAround.{LookAround}
 use Rattle.fancy_regex_tree.specs.declared.expr.LookAround.TheVariants.{LookAhead, LookAheadNeg, LookBehind, LookBehindNeg}
 use Rattle.fancy_regex_tree.specs.Tree as tree
@@ -7,7 +7,8 @@ use Rattle.fancy_regex_tree.specs.Tree.{Tree, Trees, no_trees, more_trees}
 use Rattle.fancy_regex_meaning.specs.Groups.{Pattern, group_count}
 use Rattle.fancy_regex_meaning.specs.Sizes.{size, target, bound_of}
 use Rattle.fancy_regex_meaning.specs.Ways.{is_at_call_limit, max_open_calls}
-use Rattle.fancy_regex_desugar.specs.CorePatterns.{any, literal, class, CorePattern, nothing, read, general_newline, check, continue, keep_out, fail, cat, alt, group, ahead, never, back, atomic, repeat, backref, exists, conditional, absent}
+use Rattle.fancy_regex_desugar.specs.CorePatterns.{any, literal, class, CorePattern, nothing, read, general_newline, check, continue, keep_out, fail, cat, alt, group, ahead, never, back, atomic, delegate, repeat, backref, exists, conditional, absent}
+use Rattle.fancy_regex_desugar.specs.Delegates.{searched, is_delegated}
 
 -- The two forms of a node: `front` matches forwards from a position, `behind` steps back first, to end at the position (for look-behind).
 pub record Written : Type 0 where
@@ -44,12 +45,24 @@ repeated p zero zero greedy = nothing
 repeated p zero (suc hi) greedy = repeat p 0 (bound_of (suc hi)) greedy
 repeated p (suc lo) hi greedy = repeat p (suc lo) (bound_of hi) greedy
 
--- a look-around, by its kind
-abbrev pub look : LookAround → Written → CorePattern
-look LookAhead u = ahead u.front
-look LookAheadNeg u = never u.front
-look LookBehind u = ahead u.behind
-look LookBehindNeg u = never u.behind
+-- A body with its pattern, delegated where it can be.
+abbrev pub body_of : Bool → Tree → CorePattern → CorePattern
+body_of for_any t p = if is_delegated for_any t then delegate (searched for_any t) p else p
+
+-- a body of which only the first way counts
+abbrev pub first_way_of : Tree → CorePattern → CorePattern
+first_way_of = body_of false
+
+-- a body of which it counts only whether it has a way
+abbrev pub any_way_of : Tree → CorePattern → CorePattern
+any_way_of = body_of true
+
+-- a look-around with this body, by its kind
+abbrev pub look : Tree → LookAround → Written → CorePattern
+look t LookAhead u = ahead (any_way_of t u.front)
+look t LookAheadNeg u = never (any_way_of t u.front)
+look t LookBehind u = ahead u.behind
+look t LookBehindNeg u = never u.behind
 
 -- `groups` are the bodies of all groups, by their numbers
 module _ (groups : List Tree) where
@@ -77,15 +90,15 @@ module _ (groups : List Tree) where
     written call n (tree.literal val casei) = node (tree.literal val casei) (read (literal (slice_index val 0) casei))
     written call n (tree.delegate text casei) = node (tree.delegate text casei) (read (class text casei))
     written call n (tree.group t) = node (tree.group t) (group n (written call (n + 1) t).front)
-    written call n (tree.look_around t how) = node (tree.look_around t how) (look how (written call n t))
+    written call n (tree.look_around t how) = node (tree.look_around t how) (look t how (written call n t))
     written call n (tree.repeat t lo hi greedy) =
         node (tree.repeat t lo hi greedy) (repeated (written call n t).front lo hi greedy)
-    written call n (tree.atomic_group t) = node (tree.atomic_group t) (atomic (written call n t).front)
+    written call n (tree.atomic_group t) = node (tree.atomic_group t) (atomic (first_way_of t (written call n t).front))
     written call n (tree.backref k casei) = node (tree.backref k casei) (backref k casei)
     written call n (tree.backref_exists k None) = node (tree.backref_exists k None) (exists k)
     written call n (tree.backref_exists k (Some level)) = node (tree.backref_exists k (Some level)) fail
     written call n (tree.conditional c a b) = node (tree.conditional c a b)
-        (conditional (written call n c).front (written call (n + group_count c) a).front
+        (conditional (first_way_of c (written call n c).front) (written call (n + group_count c) a).front
         (written call (n + group_count c + group_count a) b).front)
     written call n (tree.subroutine_call k) = node (tree.subroutine_call k) (call k)
     written call n tree.keep_out = node tree.keep_out keep_out

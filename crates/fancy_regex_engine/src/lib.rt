@@ -13,7 +13,7 @@ pub use fancy_regex_machine::{
     RunMemory, RunOptions, RuntimeError, run, run_default, run_in, run_spans, run_spans_in,
 };
 pub use fancy_regex_program::{
-    AbsentRepeater, CaptureGroupRange, Insn, Prog, Repeat, RepeatEpsilon, compile,
+    AbsentRepeater, CaptureGroupRange, Delegate, Insn, Prog, Repeat, RepeatEpsilon, compile,
 };
 pub use fancy_regex_runner::Easy;
 pub use fancy_regex_sizes::{analyze, can_compile_as_anchored, is_well_formed};

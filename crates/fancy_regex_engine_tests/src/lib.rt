@@ -8,6 +8,8 @@ mod analysis;
 #[cfg(test)]
 mod class;
 #[cfg(test)]
+mod delegates;
+#[cfg(test)]
 mod machine;
 #[cfg(test)]
 mod program;

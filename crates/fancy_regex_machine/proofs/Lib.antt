@@ -13,6 +13,9 @@ mod FailingStarts
 mod LookBehindStarts
 mod CharLoops
 mod FailingPlaces
+mod RoundLemmas
 mod WalkLemmas
 mod AheadLemmas
 mod StretchLemmas
+mod FirstTestLemmas
+mod DoubledLemmas

@@ -12,3 +12,4 @@ pub mod Stretches
 pub mod RunArguments
 pub mod MachineLimits
 pub mod SearchAnswers
+pub mod Doubled

@@ -101,6 +101,7 @@ fn are_newlines(text: &[u8], crlf: bool, position: usize) -> bool
 }
 
 /// Whether the character before `position` is a word character.
+#[inline(always)]
 fn is_after_word(haystack: &Haystack, position: usize) -> bool
     ensures { result ≡ ways.is_after_word (setting_of_haystack haystack.now) position }
 {
@@ -111,6 +112,7 @@ fn is_after_word(haystack: &Haystack, position: usize) -> bool
 }
 
 /// Whether the character at `position` is a word character.
+#[inline(always)]
 fn is_before_word(haystack: &Haystack, position: usize) -> bool
     ensures { result ≡ ways.is_before_word (setting_of_haystack haystack.now) position }
 {

@@ -1,5 +1,6 @@
 //! The memory that runs share.
 
+use fancy_regex_runner::SearchMemory;
 use fancy_regex_slots::slots::Slots;
 use std::alloc::Global;
 
@@ -10,6 +11,8 @@ use std::alloc::Global;
 pub struct RunMemory {
     /// The slots of the thread that runs, and the backtrack stack.
     pub(crate) slots: Slots,
+    /// What the searches of delegated parts need.
+    pub(crate) delegates: SearchMemory,
 }
 
 impl RunMemory {
@@ -17,6 +20,7 @@ impl RunMemory {
     pub fn new(alloc: Global) -> RunMemory {
         RunMemory {
             slots: Slots::empty(alloc),
+            delegates: SearchMemory::new(alloc),
         }
     }
 }

@@ -3,6 +3,7 @@
 
 ghost use Rattle.std.specs.Prelude.{◌≡◌, ◌+◌, ◌^◌, ◌<◌, ◌≤◌, Some, IfSome, chars, length};
 ghost use Rattle.std.specs.Char.{len_utf8};
+ghost use Rattle.std.specs.Str.{IsCharBoundary};
 ghost use Rattle.regex_hir.specs.Text as sight;
 ghost use Rattle.fancy_regex_meaning.specs.Positions as places;
 ghost use Rattle.fancy_regex_meaning.specs.Ways.{is_any};
@@ -34,6 +35,17 @@ pub(crate) fn ascii_at(text: &str, position: usize) -> Option<char>
         return None;
     }
     Some(byte as char)
+}
+
+/// The ASCII character at the byte offset `position`, if there is one. The text may be cut behind it.
+#[inline(always)]
+pub(crate) fn one_byte_char(text: &str, position: usize) -> Option<char>
+    ensures char { IfSome result (λ c. sight.char_at text.now position ≡ Some c) }
+    ensures ascii { IfSome result (λ c. c < 128) }
+    ensures cut { IfSome result (λ _. IsCharBoundary text.now (position + 1)) }
+{
+    let c = ascii_at(text, position)?;
+    Some(c)
 }
 
 /// The ASCII character that ends at the byte offset `position`, if there is one.

@@ -41,7 +41,7 @@ pub(crate) fn has_valid_slots(
         }
         Insn::Backref { slot, casei: _ } => has_pair(slots, *slot)
             && has_ends(&config.haystack, slots, *slot),
-        Insn::AbsentRepeater(part) => has_part(*part, slots),
+        Insn::AbsentRepeater(part) => has_part(**part, slots),
         Insn::Any
         | Insn::AnyNoNL
         | Insn::AnyNoCRLF
@@ -55,7 +55,8 @@ pub(crate) fn has_valid_slots(
         | Insn::Jmp(_)
         | Insn::GoBack(_)
         | Insn::ContinueFromPreviousMatchEnd
-        | Insn::Fail => true,
+        | Insn::Fail
+        | Insn::Delegate(_) => true,
     }
 }
 

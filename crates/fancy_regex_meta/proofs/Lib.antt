@@ -5,3 +5,4 @@ pub mod MatchOffsetLemmas
 pub mod RefusalLemmas
 pub mod SeekLemmas
 pub mod SeekTableLemmas
+pub mod Sending

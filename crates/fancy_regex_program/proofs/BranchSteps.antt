@@ -1,14 +1,16 @@
 -- Steps to rows, branches, conditionals and calls.
-use Rattle.std.proofs.Common.{◌≡◌, ℕ, zero, suc, ◌+◌, ◌-◌, ◌<◌, ◌≤◌, Bool, true, false, List, [], ◌∷◌, ◌++◌, length, map, take, Option, Some, None, refl, sym, ap, ap₂, ◌∙◌, subst, arith, length-append}
+use Rattle.std.proofs.Common.{◌≡◌, ℕ, zero, suc, ◌+◌, ◌-◌, ◌≤◌, Bool, false, List, [], ◌∷◌, ◌++◌, length, map, take, Some, refl, sym, ap, ap₂, ◌∙◌, subst, arith, length-append}
 use Rattle.std.proofs.Math.Seq.{take-append_seam}
 use Rattle.std.specs.Prelude.{slice_get, unwrap_or}
 use Rattle.std.proofs.lemmas.Option.{none-some}
 use Rattle.std.specs.Borrow.{Bor}
+use Rattle.fancy_regex_tree.specs.Tree.{tree_of}
+use Rattle.fancy_regex_tree.specs.declared.expr.Expr.{Expr}
 use Rattle.fancy_regex_meaning.specs.Ways.{is_at_call_limit}
-use Rattle.fancy_regex_desugar.specs.CorePatterns.{CorePattern, nothing, fail, cat, alt, back, conditional}
+use Rattle.fancy_regex_desugar.specs.CorePatterns.{CorePattern, nothing, fail, cat, alt, conditional}
 use Rattle.fancy_regex_desugar.specs.ProgramSizes.{room}
-use Rattle.fancy_regex_desugar.specs.Unfolded.{cat_all, alt_all}
-use Rattle.fancy_regex_info.specs.Infos.{InfoTree, info_of}
+use Rattle.fancy_regex_desugar.specs.Unfolded.{alt_all}
+use Rattle.fancy_regex_info.specs.Infos.{info_of}
 use Rattle.fancy_regex_info.specs.declared.info.Info.{Info}
 use Rattle.fancy_regex_program.specs.Ops as op
 use Rattle.fancy_regex_program.specs.Code.{slots_in}
@@ -16,15 +18,14 @@ use Rattle.fancy_regex_program.specs.Extents.{extent}
 use Rattle.fancy_regex_program.specs.Known.{info_written, info_call}
 use Rattle.fancy_regex_program.specs.Refusals.{TreeContext, IsExpandedPart, AreExpandedParts, IsExpandedConditional, IsExpandedTarget}
 use Rattle.fancy_regex_program.specs.Shapes.{IsAllowed}
-use Rattle.fancy_regex_program.specs.Tasks.{Progress, progress, closed_by, closing_room, at_others, listed, node_pattern, row_pattern, branches_pattern, past_pattern, past_closing, past_others, past, Leads, LeadsTo}
-use Rattle.fancy_regex_program.specs.Writing.{Draft, draft_of, with_op, closed_draft, added, patched, with_pat, side, infos_of}
+use Rattle.fancy_regex_program.specs.Tasks.{Progress, progress, closed_by, closing_room, at_others, listed, node_pattern, body_pattern, row_pattern, branches_pattern, past_pattern, past_closing, past_others, past, Leads, LeadsTo}
+use Rattle.fancy_regex_program.specs.Writing.{Draft, draft_of, with_op, closed_draft, added, patched, with_pat, infos_of}
 use Rattle.fancy_regex_program.specs.declared.closing.Closing.{Closing}
 use Rattle.fancy_regex_program.specs.declared.closing.Closing.TheVariants as ends
 use Rattle.fancy_regex_program.specs.declared.emitter.CompileContext.{CompileContext}
 use Rattle.fancy_regex_program.specs.declared.emitter.Emitter.{Emitter}
 use Rattle.fancy_regex_program.specs.declared.emitter.Scope.{Scope}
 use Rattle.fancy_regex_program.specs.declared.program_builder.ProgramBuilder.{ProgramBuilder}
-use Rattle.fancy_regex_program.specs.declared.task.Task.{Task}
 use Rattle.fancy_regex_program.specs.declared.task.Task.TheVariants as task
 use Rattle.fancy_regex_program.specs.declared.task.Tasks.TheVariants as tasks
 use Rattle.fancy_regex_program.specs.declared.task.Step.{Step}
@@ -75,9 +76,9 @@ leads_no_row context e slot parts scope is =
 -- what fails
 pub leads_fail : (context : CompileContext) (old : Emitter) (body : ProgramBuilder) (slot : ℕ) (keeps : Bool) (p : CorePattern) (S : TreeContext → Type 0) (step : Step) → p ≡ fail →
     step ≡ record { slot = slot; tasks = tasks.Nothing } → draft_of body ≡ added op.fail (draft_of old.body) → extent (draft_of body) ≡ extent (draft_of old.body) + 1 →
-    LeadsTo context p keeps S old (record { body = body; opened = old.opened }) slot step
+    LeadsTo context p keeps S old (record { body = body; classes = old.classes; opened = old.opened; parts = old.parts }) slot step
 leads_fail context old body slot keeps p S step fails step_is drew long =
-    let new : Emitter = record { body = body; opened = old.opened } in
+    let new : Emitter = record { body = body; classes = old.classes; opened = old.opened; parts = old.parts } in
     subst (λ r. LeadsTo context p keeps S old new slot r) (sym step_is)
     (leads_nowhere context old new slot keeps p S (wrote_fail context.unicode context.whole old new slot p fails drew refl)
     (let rooms = ap room fails in omega (arith, long, rooms, room_fail)) (subst (IsAllowed context.unicode keeps) (sym fails) tt))
@@ -86,7 +87,7 @@ leads_fail context old body slot keeps p S step fails step_is drew long =
 pub leads_no_branch : (context : CompileContext) (old : Emitter) (body : ProgramBuilder) (slot : ℕ) (branches : List Info) (behind : Bool) (scope : Scope) (step : Step) → branches ≡ [] →
     step ≡ record { slot = slot; tasks = tasks.Nothing } → draft_of body ≡ added op.fail (draft_of old.body) → extent (draft_of body) ≡ extent (draft_of old.body) + 1 →
     LeadsTo context (branches_pattern context branches behind scope old.opened.items) scope.may_keep
-    (λ tree_context. AreExpandedParts tree_context scope.may_keep scope.may_be_absent behind branches) old (record { body = body; opened = old.opened }) slot step
+    (λ tree_context. AreExpandedParts tree_context scope.may_keep scope.may_be_absent behind branches) old (record { body = body; classes = old.classes; opened = old.opened; parts = old.parts }) slot step
 leads_no_branch context old body slot branches behind scope step is step_is drew long =
     leads_fail context old body slot scope.may_keep (branches_pattern context branches behind scope old.opened.items)
     (λ tree_context. AreExpandedParts tree_context scope.may_keep scope.may_be_absent behind branches) step
@@ -116,9 +117,9 @@ pub leads_alternatives : (context : CompileContext) (old : Emitter) (body : Prog
     d ≡ closed_draft (draft_of old.body) → split ≡ length d.ops → draft_of body ≡ with_op (op.split 0 0) d → first ≡ length (draft_of body).ops →
     extent (draft_of body) ≤ extent (draft_of old.body) + 1 →
     LeadsTo context (branches_pattern context branches behind scope old.opened.items) scope.may_keep
-    (λ tree_context. AreExpandedParts tree_context scope.may_keep scope.may_be_absent behind branches) old (record { body = body; opened = old.opened }) slot step
+    (λ tree_context. AreExpandedParts tree_context scope.may_keep scope.may_be_absent behind branches) old (record { body = body; classes = old.classes; opened = old.opened; parts = old.parts }) slot step
 leads_alternatives context old body slot branches behind scope step split first x rest d is some step_is closes at begun at_first long =
-    let new : Emitter = record { body = body; opened = old.opened } in
+    let new : Emitter = record { body = body; classes = old.classes; opened = old.opened; parts = old.parts } in
     let u = context.unicode in
     let w = context.whole in
     let f = λ (y : Info). node_pattern context y behind scope old.opened.items in
@@ -158,13 +159,13 @@ pub leads_otherwise : (context : CompileContext) (old : Emitter) (body : Program
     step ≡ record { slot = slot; tasks = tasks.Two (task.Branches branches behind scope) (task.Close (ends.Alternatives jump)) } →
     d1 ≡ closed_draft (draft_of old.body) → jump ≡ length d1.ops → d2 ≡ with_op (op.jump 0) d1 → second ≡ length d2.ops →
     draft_of body ≡ patched split (op.split first second) d2 → extent (draft_of body) ≤ extent (draft_of old.body) + 1 →
-    Leads context old (record { body = body; opened = old.opened }) slot step.slot (listed step.tasks)
+    Leads context old (record { body = body; classes = old.classes; opened = old.opened; parts = old.parts }) slot step.slot (listed step.tasks)
     (past_others context split first (branches_pattern context branches.now behind scope old.opened.items) (progress old slot))
     (IsAllowed context.unicode scope.may_keep (branches_pattern context branches.now behind scope old.opened.items))
     (1 + room (branches_pattern context branches.now behind scope old.opened.items))
     (λ tree_context. AreExpandedParts tree_context scope.may_keep scope.may_be_absent behind branches.now)
 leads_otherwise context old body slot branches behind scope step split first second jump d1 d2 step_is closes at jumps at_second patches long =
-    let new : Emitter = record { body = body; opened = old.opened } in
+    let new : Emitter = record { body = body; classes = old.classes; opened = old.opened; parts = old.parts } in
     let b = branches_pattern context branches.now behind scope old.opened.items in
     let end = past_others context split first b (progress old slot) in
     let drawn : draft_of body ≡ at_others split first (draft_of old.body) =
@@ -185,7 +186,7 @@ pub leads_tested : (context : CompileContext) (old : Emitter) (body : ProgramBui
     (rest : Bor (List Info)) → rest.now ≡ miss.now ∷ [] →
     step ≡ record { slot = slot; tasks = tasks.Two (task.Node hit false scope) (task.Otherwise split first rest false scope) } →
     draft_of body ≡ added (op.end_atomic kept) (draft_of old.body) → extent (draft_of body) ≤ extent (draft_of old.body) + 1 →
-    Leads context old (record { body = body; opened = old.opened }) slot step.slot (listed step.tasks)
+    Leads context old (record { body = body; classes = old.classes; opened = old.opened; parts = old.parts }) slot step.slot (listed step.tasks)
     (past_others context split first (node_pattern context miss.now false scope old.opened.items) (past_pattern context (node_pattern context hit.now false scope old.opened.items)
     (record { draft = with_op (op.end_atomic kept) (closed_draft (draft_of old.body)); slot = slot; opened = old.opened.items })))
     (IsAllowed context.unicode scope.may_keep (node_pattern context hit.now false scope old.opened.items)
@@ -194,7 +195,7 @@ pub leads_tested : (context : CompileContext) (old : Emitter) (body : ProgramBui
     (λ tree_context. IsExpandedPart tree_context scope.may_keep scope.may_be_absent false (info_of hit.now)
     × IsExpandedPart tree_context scope.may_keep scope.may_be_absent false (info_of miss.now))
 leads_tested context old body slot kept scope step split first hit miss rest one step_is drawn long =
-    let new : Emitter = record { body = body; opened = old.opened } in
+    let new : Emitter = record { body = body; classes = old.classes; opened = old.opened; parts = old.parts } in
     let y = node_pattern context hit.now false scope old.opened.items in
     let n = node_pattern context miss.now false scope old.opened.items in
     let r = branches_pattern context rest.now false scope old.opened.items in
@@ -218,25 +219,26 @@ leads_tested context old body slot kept scope step split first hit miss rest one
     alone tree_context keeps absents x h zero y at = subst (λ i. IsExpandedPart tree_context keeps absents false (info_of i)) (ap (λ o. unwrap_or o x) at) h
     alone tree_context keeps absents x h (suc k) y at = absurd (none-some _ at)
 
-pub leads_condition : (context : CompileContext) (old : Emitter) (body : ProgramBuilder) (slot inside : ℕ) (scope : Scope) (step : Step) (split first : ℕ) (x y z : Bor Info) (d : Draft) →
-    step ≡ record { slot = inside; tasks = tasks.Two (task.Node x false scope) (task.Tested slot split first y z scope) } →
+pub leads_condition : (context : CompileContext) (old : Emitter) (body : ProgramBuilder) (slot inside : ℕ) (scope : Scope) (step : Step) (split first : ℕ) (t : Bor Expr) (x y z : Bor Info) (d : Draft) →
+    step ≡ record { slot = inside; tasks = tasks.Two (task.Body t false x scope) (task.Tested slot split first y z scope) } →
     inside ≡ slot + 1 → d ≡ added (op.begin_atomic slot) (draft_of old.body) → split ≡ length d.ops → draft_of body ≡ with_op (op.split 0 0) d →
     first ≡ length (draft_of body).ops → extent (draft_of body) ≤ extent (draft_of old.body) + 2 →
-    LeadsTo context (conditional (node_pattern context x.now false scope old.opened.items) (node_pattern context y.now false scope old.opened.items)
+    LeadsTo context (conditional (body_pattern context false t.now x.now scope old.opened.items) (node_pattern context y.now false scope old.opened.items)
     (node_pattern context z.now false scope old.opened.items)) scope.may_keep
-    (λ tree_context. IsExpandedConditional tree_context scope.may_keep scope.may_be_absent (info_of x.now) (info_of y.now) (info_of z.now))
-    old (record { body = body; opened = old.opened }) slot step
-leads_condition context old body slot inside scope step split first x y z d step_is one begun at splits at_first long =
-    let new : Emitter = record { body = body; opened = old.opened } in
+    (λ tree_context. IsExpandedConditional tree_context scope.may_keep scope.may_be_absent (tree_of t.now) (info_of x.now) (info_of y.now) (info_of z.now))
+    old (record { body = body; classes = old.classes; opened = old.opened; parts = old.parts }) slot step
+leads_condition context old body slot inside scope step split first t x y z d step_is one begun at splits at_first long =
+    let new : Emitter = record { body = body; classes = old.classes; opened = old.opened; parts = old.parts } in
     let f = λ (i : Info). node_pattern context i false scope old.opened.items in
-    let p = conditional (f x.now) (f y.now) (f z.now) in
-    let drew = drew_tested context.unicode context.whole (f x.now) (f y.now) (f z.now) slot inside split first (draft_of old.body) d (draft_of body) one begun at splits at_first in
+    let q = body_pattern context false t.now x.now scope old.opened.items in
+    let p = conditional q (f y.now) (f z.now) in
+    let drew = drew_tested context.unicode context.whole q (f y.now) (f z.now) slot inside split first (draft_of old.body) d (draft_of body) one begun at splits at_first in
     subst (λ r. LeadsTo context p scope.may_keep
-    (λ tree_context. IsExpandedConditional tree_context scope.may_keep scope.may_be_absent (info_of x.now) (info_of y.now) (info_of z.now)) old new slot r) (sym step_is)
+    (λ tree_context. IsExpandedConditional tree_context scope.may_keep scope.may_be_absent (tree_of t.now) (info_of x.now) (info_of y.now) (info_of z.now)) old new slot r) (sym step_is)
     (record {
       ends = same_progress drew (omega (arith, one)) refl;
       allowed = λ h. (h.1.0, h.0.0, h.0.1);
-      fits = omega (arith, long, room_conditional (f x.now) (f y.now) (f z.now));
+      fits = omega (arith, long, room_conditional q (f y.now) (f z.now));
       stands = λ tree_context s stand. ((stand.yes, stand.no), (stand.condition, tt));
     })
 
@@ -271,9 +273,9 @@ leads_call context old new slot m k scope called x more less keeps absents at fr
 -- the end of a construct
 pub leads_close : (context : CompileContext) (old : Emitter) (body : ProgramBuilder) (slot : ℕ) (c : Closing) (S : TreeContext → Type 0) (step : Step) →
     step ≡ record { slot = slot; tasks = tasks.Nothing } → draft_of body ≡ closed_by c (draft_of old.body) →
-    Leads context old (record { body = body; opened = old.opened }) slot step.slot (listed step.tasks) (past context (task.Close c) (progress old slot)) (Unit {0}) (closing_room c) S
+    Leads context old (record { body = body; classes = old.classes; opened = old.opened; parts = old.parts }) slot step.slot (listed step.tasks) (past context (task.Close c) (progress old slot)) (Unit {0}) (closing_room c) S
 leads_close context old body slot c S step step_is drew =
-    let new : Emitter = record { body = body; opened = old.opened } in
+    let new : Emitter = record { body = body; classes = old.classes; opened = old.opened; parts = old.parts } in
     subst (λ r. Leads context old new slot r.slot (listed r.tasks) (past context (task.Close c) (progress old slot)) (Unit {0}) (closing_room c) S) (sym step_is) (record {
       ends = same_progress drew refl refl;
       allowed = λ h. tt;

@@ -1,6 +1,6 @@
 -- Each class that is written out stands in the pattern, so the grammar of `regex` reads it.
 use Rattle.std.proofs.Common.{◌≡◌, ℕ, zero, suc, ◌+◌, ◌<◌, ◌≤◌, ◌⊎◌, ⊎_elim, inl, inr, Bool, true, false, not, cond, true≢false, List, [], ◌∷◌, length, Some, refl, sym, ap, subst, ◌∙◌, arith}
-use Rattle.std.specs.Prelude.{IsTrue, count_by, bytes_eq, ◌==◌, ◌&&◌, nat_lt, nat_le}
+use Rattle.std.specs.Prelude.{IsTrue, All, count_by, bytes_eq, ◌==◌, ◌&&◌, nat_lt, nat_le}
 use Rattle.std.specs.List.{Contains}
 use Rattle.std.proofs.lemmas.Bool.{cases_eq}
 use Rattle.std.proofs.lemmas.Bool.Decides.{nat_tests}
@@ -16,8 +16,9 @@ use Rattle.fancy_regex_meaning.specs.Groups.{group_count}
 use Rattle.fancy_regex_meaning.specs.Sizes.{size, target}
 use Rattle.fancy_regex_meaning.specs.Ways.{is_at_call_limit, max_open_calls}
 use Rattle.fancy_regex_class.specs.Classes.{class_text, is_read}
-use Rattle.fancy_regex_desugar.specs.CorePatterns.{class, CorePattern, nothing, read, general_newline, check, continue, keep_out, fail, cat, alt, group, ahead, never, back, atomic, repeat, backref, exists, conditional, absent}
-use Rattle.fancy_regex_desugar.specs.Unfolded.{Written, pat_for, cat_all, alt_all, fronts, behinds, repeated, look, node, branches, written, written_all, written_call, core_pattern_of}
+use Rattle.fancy_regex_desugar.specs.CorePatterns.{class, CorePattern, nothing, read, general_newline, check, continue, keep_out, fail, cat, alt, group, ahead, never, back, atomic, delegate, repeat, backref, exists, conditional, absent}
+use Rattle.fancy_regex_desugar.specs.Delegates.{searched, is_delegated}
+use Rattle.fancy_regex_desugar.specs.Unfolded.{Written, pat_for, cat_all, alt_all, fronts, behinds, body_of, first_way_of, repeated, look, node, branches, written, written_all, written_call, core_pattern_of}
 use Rattle.fancy_regex_sizes.specs.NodeErrors.{is_invalid_node}
 use Rattle.fancy_regex_sizes.specs.UnsupportedParts.{is_unsupported}
 use Rattle.fancy_regex_info.specs.Views.{pattern_in}
@@ -25,6 +26,14 @@ use Rattle.fancy_regex_sizes.specs.EmittedParts.{skips_children, IsEmitted, the_
 use Rattle.fancy_regex_program.specs.Refusals.{Inside, is_class, IsClear, ReadsClasses}
 use Rattle.fancy_regex_program.specs.Shapes.{IsReadable, IsAllowed}
 use Rattle.fancy_regex_program.proofs.ClearLemmas.{part_node}
+use Rattle.fancy_regex_program.proofs.LazyLemmas.{searched_easy, searched_classes}
+use Rattle.std.proofs.lemmas.List.Elements.{All-contains, Contains-append_left, Contains-append_right}
+use Rattle.fancy_regex_meaning.specs.Groups.{pattern_of}
+use Rattle.fancy_regex_info.specs.Easy.{is_easy, all_easy}
+use Rattle.fancy_regex_info.specs.References.{is_read as is_read_group}
+use Rattle.fancy_regex_runner.specs.Plain.{has_no_iteration, classes, row_classes}
+use Rattle.fancy_regex_runner.specs.Refusals.{IsRead}
+use Rattle.fancy_regex_desugar.proofs.DelegateProofs.{part_of, searched_can_be}
 
 none_there : {X : Type 0} (x : X) → Contains [] x → ⊥
 none_there x c = let low : c.0 < 0 = c.1 in omega arith
@@ -63,6 +72,7 @@ module _ (unicode : Bool) where
   Reads (ahead a) = Reads a
   Reads (never a) = Reads a
   Reads (atomic a) = Reads a
+  Reads (delegate t a) = All (IsRead unicode) (classes t)
   Reads (repeat a lo hi greedy) = Reads a
   Reads (conditional c a b) = Reads c × Reads a × Reads b
   Reads (absent a) = Reads a
@@ -83,6 +93,7 @@ module _ (unicode : Bool) where
   allowed_reads keeps (never a) h = allowed_reads false a h
   allowed_reads keeps (back n) h = tt
   allowed_reads keeps (atomic a) h = allowed_reads keeps a h
+  allowed_reads keeps (delegate t a) h = h
   allowed_reads keeps (repeat a lo hi greedy) h = allowed_reads keeps a h.1
   allowed_reads keeps (backref k casei) h = tt
   allowed_reads keeps (exists k) h = tt
@@ -105,16 +116,96 @@ module _ (unicode : Bool) where
   either_reads true n p q h = inl h.1
   either_reads false n p q h = inr h
 
-  look_reads : (how : LookAround) (u : Written) → Reads (look how u) → HasSide u
-  look_reads LookAhead u h = inl h
-  look_reads LookAheadNeg u h = inl h
-  look_reads LookBehind u h = inr h
-  look_reads LookBehindNeg u h = inr h
-
   repeated_reads : (p : CorePattern) (lo hi : ℕ) (greedy : Bool) → (hi == 0) ≡ false → Reads (repeated p lo hi greedy) → Reads p
   repeated_reads p zero zero greedy seen h = absurd (true≢false seen)
   repeated_reads p zero (suc hi) greedy seen h = h
   repeated_reads p (suc lo) hi greedy seen h = h
+
+  no_iteration_if : (p : CorePattern) (lo hi : ℕ) (greedy : Bool) → (has_no_iteration lo hi ≡ false → Reads p) → Reads (repeated p lo hi greedy)
+  no_iteration_if p zero zero greedy h = tt
+  no_iteration_if p zero (suc hi) greedy h = h (grind (arith, nat_tests))
+  no_iteration_if p (suc lo) hi greedy h = h (grind (arith, nat_tests))
+
+  module _ (groups : List Tree) (call : ℕ → CorePattern) where
+    module _ (reads : ℕ → Bool) where
+      abbrev AreRead : List (Text × Bool) → Type 0
+      AreRead cs = (c : Text × Bool) → Contains cs c → IsRead unicode c
+
+      -- where each class of an easy part is read, so it is where the part is written out
+      mutual
+        unfolding is_easy all_easy written classes row_classes
+
+        easy_reads : (k n : ℕ) (t : Tree) → is_easy reads k t ≡ true → AreRead (classes t) → Reads (written groups call n t).front
+        easy_reads k n (tree.concat ts) e h = easy_row k n ts e h
+        easy_reads k n (tree.alt no_trees) e h = absurd (true≢false (sym e))
+        easy_reads k n (tree.alt (more_trees t ts)) e h = easy_branches k n (more_trees t ts) e h
+        easy_reads k n tree.empty e h = tt
+        easy_reads k n (tree.any newline crlf) e h = tt
+        easy_reads k n (tree.literal val casei) e h = tt
+        easy_reads k n (tree.delegate text casei) e h = h (text, casei) (zero, omega arith, refl)
+        easy_reads k n (tree.assertion a) e h = tt
+        easy_reads k n (tree.group t) e h = easy_reads (k + 1) (n + 1) t (both_true (is_easy reads (k + 1) t) (not (reads k)) e).0 h
+        easy_reads k n (tree.repeat t lo hi greedy) e h =
+            no_iteration_if (written groups call n t).front lo hi greedy
+            (λ some. easy_reads k n t e (λ c m. h c (subst (λ b. Contains (cond b [] (classes t)) c) (sym some) m)))
+        easy_reads k n (tree.general_newline uni) e h = absurd (true≢false (sym e))
+        easy_reads k n (tree.look_around t how) e h = absurd (true≢false (sym e))
+        easy_reads k n (tree.atomic_group t) e h = absurd (true≢false (sym e))
+        easy_reads k n (tree.backref j casei) e h = absurd (true≢false (sym e))
+        easy_reads k n (tree.backref_exists j level) e h = absurd (true≢false (sym e))
+        easy_reads k n (tree.conditional x y z) e h = absurd (true≢false (sym e))
+        easy_reads k n (tree.subroutine_call j) e h = absurd (true≢false (sym e))
+        easy_reads k n tree.keep_out e h = absurd (true≢false (sym e))
+        easy_reads k n tree.continue e h = absurd (true≢false (sym e))
+        easy_reads k n (tree.verb v) e h = absurd (true≢false (sym e))
+        easy_reads k n (tree.absent_repeater t) e h = absurd (true≢false (sym e))
+        easy_reads k n (tree.define_group t) e h = absurd (true≢false (sym e))
+        easy_reads k n (tree.literal_bytes bytes) e h = absurd (true≢false (sym e))
+        easy_reads k n (tree.backref_with_level j level casei) e h = absurd (true≢false (sym e))
+        easy_reads k n (tree.absent_expression a t) e h = absurd (true≢false (sym e))
+        easy_reads k n (tree.absent_stopper t) e h = absurd (true≢false (sym e))
+        easy_reads k n tree.absent_clear e h = absurd (true≢false (sym e))
+        easy_reads k n (tree.ast_group name t position) e h = absurd (true≢false (sym e))
+        easy_reads k n (tree.ast_backref goal casei level position) e h = absurd (true≢false (sym e))
+        easy_reads k n (tree.ast_call goal position) e h = absurd (true≢false (sym e))
+        easy_reads k n (tree.ast_condition goal level position) e h = absurd (true≢false (sym e))
+
+        easy_row : (k n : ℕ) (ts : Trees) → all_easy reads k ts ≡ true → AreRead (row_classes ts) → Reads (cat_all (written_all groups call n ts))
+        easy_row k n no_trees e h = tt
+        easy_row k n (more_trees t ts) e h =
+            let both = both_true (is_easy reads k t) (all_easy reads (k + group_count t) ts) e in (
+              easy_reads k n t both.0 (λ c m. h c (Contains-append_left (classes t) (row_classes ts) c m)),
+              easy_row (k + group_count t) (n + group_count t) ts both.1 (λ c m. h c (Contains-append_right (classes t) (row_classes ts) c m)),
+            )
+
+        easy_branches : (k n : ℕ) (ts : Trees) → all_easy reads k ts ≡ true → AreRead (row_classes ts) →
+            Reads (alt_all (fronts (written_all groups call n ts)))
+        easy_branches k n no_trees e h = tt
+        easy_branches k n (more_trees t no_trees) e h =
+            easy_reads k n t (both_true (is_easy reads k t) (all_easy reads (k + group_count t) no_trees) e).0 (λ c m. h c (Contains-append_left (classes t) [] c m))
+        easy_branches k n (more_trees t (more_trees u us)) e h =
+            let both = both_true (is_easy reads k t) (all_easy reads (k + group_count t) (more_trees u us)) e in (
+              easy_reads k n t both.0 (λ c m. h c (Contains-append_left (classes t) (row_classes (more_trees u us)) c m)),
+              easy_branches (k + group_count t) (n + group_count t) (more_trees u us) both.1 (λ c m. h c (Contains-append_right (classes t) (row_classes (more_trees u us)) c m)),
+            )
+
+    body_reads : (n : ℕ) (for_any : Bool) (t : Tree) → Reads (body_of for_any t (written groups call n t).front) → Reads (written groups call n t).front
+    body_reads n for_any t =
+        let p = (written groups call n t).front in
+        let sought = searched for_any t in
+        let reads = is_read_group (length (pattern_of sought).groups) sought in
+        elim (is_delegated for_any t) as (λ b. is_delegated for_any t ≡ b → Reads (cond b (delegate sought p) p) → Reads p) [
+          | true ↦ λ e h.
+              easy_reads reads 1 n t (sym (searched_easy for_any reads 1 t) ∙ (part_of sought (searched_can_be for_any t e)).easy)
+              (λ c m. All-contains (IsRead unicode) (classes t) c (subst (All (IsRead unicode)) (searched_classes for_any t) h) m)
+          | false ↦ λ e h. h
+        ] refl
+
+    look_reads : (n : ℕ) (t : Tree) (how : LookAround) → Reads (look t how (written groups call n t)) → HasSide (written groups call n t)
+    look_reads n t LookAhead h = inl (body_reads n true t h)
+    look_reads n t LookAheadNeg h = inl (body_reads n true t h)
+    look_reads n t LookBehind h = inr h
+    look_reads n t LookBehindNeg h = inr h
 
   module _ (groups : List Tree) where
     node_reads : (t : Tree) (p : CorePattern) → HasSide (node groups t p) → Reads p
@@ -176,17 +267,18 @@ module _ (unicode : Bool) where
           from_front (n + 1) t u (only_child t u m) (node_reads (tree.group t) (group n (written groups call (n + 1) t).front) h)
       child_at n (tree.look_around t how) u h seen built m =
           let w = written groups call n t in
-          from_side n t u (only_child t u m) (look_reads how w (node_reads (tree.look_around t how) (look how w) h))
+          from_side n t u (only_child t u m) (look_reads groups call n t how (node_reads (tree.look_around t how) (look t how w) h))
       child_at n (tree.repeat t lo hi greedy) u h seen built m =
           let p = (written groups call n t).front in
           from_front n t u (only_child t u m)
           (repeated_reads p lo hi greedy seen (node_reads (tree.repeat t lo hi greedy) (repeated p lo hi greedy) h))
       child_at n (tree.atomic_group t) u h seen built m =
-          from_front n t u (only_child t u m) (node_reads (tree.atomic_group t) (atomic (written groups call n t).front) h)
+          from_front n t u (only_child t u m)
+          (body_reads groups call n false t (node_reads (tree.atomic_group t) (atomic (first_way_of t (written groups call n t).front)) h))
       child_at n (tree.conditional c a b) u h seen built m =
-          let parts = node_reads (tree.conditional c a b) (conditional (written groups call n c).front (written groups call (n + group_count c) a).front
+          let parts = node_reads (tree.conditional c a b) (conditional (first_way_of c (written groups call n c).front) (written groups call (n + group_count c) a).front
           (written groups call (n + group_count c + group_count a) b).front) h in
-          ⊎_elim (λ e. from_front n c u e parts.0)
+          ⊎_elim (λ e. from_front n c u e (body_reads groups call n false c parts.0))
           (λ e. ⊎_elim (λ f. from_front (n + group_count c) a u f parts.1)
           (λ f. from_front (n + group_count c + group_count a) b u (only_child b u f) parts.2)
           (first_or_later a (b ∷ []) u e))

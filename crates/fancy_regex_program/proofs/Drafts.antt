@@ -1,9 +1,9 @@
 -- What is written for each kind of pattern.
 use Rattle.std.proofs.Common.{◌≡◌, ℕ, ◌+◌, ◌*◌, ◌-◌, ◌<◌, Bool, true, false, cond, List, [], ◌∷◌, ◌++◌, length, drop, set, Option, Some, None, refl, sym, ap, ap₂, ◌∙◌, arith, append_assoc, append-nil, length-append}
 use Rattle.std.proofs.Math.Seq.{set-append_seam, drop-append_seam}
-use Rattle.fancy_regex_tree.specs.Tree.{Text}
+use Rattle.fancy_regex_tree.specs.Tree.{Text, Tree}
 use Rattle.fancy_regex_class.specs.Classes.{in_class, folded}
-use Rattle.fancy_regex_desugar.specs.CorePatterns.{CorePattern, literal, nothing, read, keep_out, fail, cat, alt, group, ahead, never, back, atomic, repeat, conditional, absent}
+use Rattle.fancy_regex_desugar.specs.CorePatterns.{CorePattern, literal, nothing, read, keep_out, fail, cat, alt, group, ahead, never, back, atomic, delegate, repeat, conditional, absent}
 use Rattle.fancy_regex_program.specs.Ops as op
 use Rattle.fancy_regex_program.specs.Ops.{Op}
 use Rattle.fancy_regex_program.specs.Code.{waits, flushed, slots_in, is_uncounted, loop_entry, loop_head, code_of}
@@ -78,6 +78,10 @@ module _ (u w : Bool) where
   pub pat_back : (n slot : ℕ) (d : Draft) → P (back n) slot d ≡ added (op.go_back n) d
   unfolding with_pat code_of
   pat_back n slot d = alone (op.go_back n) d
+
+  pub pat_delegate : (t : Tree) (a : CorePattern) (slot : ℕ) (d : Draft) → P (delegate t a) slot d ≡ added (op.delegate (in_class u) (folded u) t) d
+  unfolding with_pat code_of
+  pat_delegate t a slot d = alone (op.delegate (in_class u) (folded u) t) d
 
   kept : (b : Bool) (d : Draft) → ◌≡◌ {A = Draft} (record { ops = d.ops ++ (flushed d.text ++ cond b (op.save 0 ∷ []) []); text = [] })
       (cond b (added (op.save 0) d) (closed_draft d))

@@ -9,7 +9,7 @@ use Rattle.fancy_regex_meaning.specs.Groups.{Pattern, bodies, row_bodies, group_
 use Rattle.fancy_regex_meaning.specs.Sizes.{size, target}
 use Rattle.fancy_regex_meaning.specs.Ways.{is_at_call_limit, max_open_calls_per_group, max_open_calls}
 use Rattle.fancy_regex_desugar.specs.CorePatterns.{CorePattern, any, literal, class, nothing, read, general_newline, check, continue, keep_out, fail, group, atomic, repeat, backref, exists, conditional, absent}
-use Rattle.fancy_regex_desugar.specs.Unfolded.{Written, pat_for, cat_all, alt_all, look, node, branches, written, written_all, written_call, core_pattern_of}
+use Rattle.fancy_regex_desugar.specs.Unfolded.{Written, pat_for, cat_all, alt_all, first_way_of, look, node, branches, written, written_all, written_call, core_pattern_of}
 use Rattle.fancy_regex_info.specs.Analysis.{analysis}
 use Rattle.fancy_regex_info.specs.References.{is_read}
 use Rattle.fancy_regex_info.specs.Infos.{NodeProperties, InfoTree, InfoTrees, known, no_infos, more_infos, properties_in, properties, expected_info, expected_infos}
@@ -20,7 +20,7 @@ module _ (groups : List Tree) (reads : ℕ → Bool) where
   abbrev D : ℕ → Tree → InfoTree
   D = expected_info groups reads
 
-  own : (n : ℕ) (t : Tree) → properties_in (D n t) ≡ properties groups reads n t
+  pub own : (n : ℕ) (t : Tree) → properties_in (D n t) ≡ properties groups reads n t
   unfolding expected_info
   own n (tree.concat ts) = refl
   own n _ = refl
@@ -33,13 +33,13 @@ module _ (groups : List Tree) (reads : ℕ → Bool) where
       known_is n (tree.alt ts) = ap (branches groups (tree.alt ts)) (known_all n ts)
       known_is n (tree.concat ts) = ap (λ us. node groups (tree.concat ts) (cat_all us)) (known_all n ts)
       known_is n (tree.group t) = ap (λ v. node groups (tree.group t) (group n v.front)) (known_is (n + 1) t)
-      known_is n (tree.look_around t how) = ap (λ v. node groups (tree.look_around t how) (look how v)) (known_is n t)
+      known_is n (tree.look_around t how) = ap (λ v. node groups (tree.look_around t how) (look t how v)) (known_is n t)
       known_is n (tree.repeat t lo hi greedy) = ap (λ v. node groups (tree.repeat t lo hi greedy) (front_of call n (tree.repeat t lo hi greedy) (v ∷ []))) (known_is n t)
-      known_is n (tree.atomic_group t) = ap (λ v. node groups (tree.atomic_group t) (atomic v.front)) (known_is n t)
+      known_is n (tree.atomic_group t) = ap (λ v. node groups (tree.atomic_group t) (atomic (first_way_of t v.front))) (known_is n t)
       known_is n (tree.conditional c a b) =
-          ap₂ (λ x y. node groups (tree.conditional c a b) (conditional x.front y.front (info_written call (D (n + group_count c + group_count a) b)).front))
+          ap₂ (λ x y. node groups (tree.conditional c a b) (conditional (first_way_of c x.front) y.front (info_written call (D (n + group_count c + group_count a) b)).front))
           (known_is n c) (known_is (n + group_count c) a)
-          ∙ ap (λ z. node groups (tree.conditional c a b) (conditional (written groups call n c).front (written groups call (n + group_count c) a).front z.front))
+          ∙ ap (λ z. node groups (tree.conditional c a b) (conditional (first_way_of c (written groups call n c).front) (written groups call (n + group_count c) a).front z.front))
           (known_is (n + group_count c + group_count a) b)
       known_is n (tree.absent_repeater t) = ap (λ v. node groups (tree.absent_repeater t) (absent v.front)) (known_is n t)
       known_is n (tree.backref_exists k None) = refl

@@ -2,6 +2,8 @@
 use Rattle.std.proofs.Common.{◌≡◌, ℕ, ◌*◌, Bool, true, false, not, ◌&&◌, List, None, IsTrue, refl, sym, ap, subst, ◌∙◌, arith, chars, string_bytes}
 use Rattle.std.specs.Prelude.{slice_index, ◌==◌}
 use Rattle.std.specs.Char.{IsScalar}
+use Rattle.std.specs.declared.sync.Arc.{Arc}
+use Rattle.std.specs.declared.alloc.Global.{Global}
 use Rattle.std.proofs.Math.Path.{fun_ext}
 use Rattle.std.proofs.lemmas.Bool.Decides.{nat_tests}
 use Rattle.std.proofs.lemmas.Slice.Eq.{bytes_eq-Decides}
@@ -99,12 +101,12 @@ module _ (u : Bool) where
       at c true e = same c (scalar_of c e)
       at c false e = refl
 
-  pub leaf_class : (m : CharClassMatcher) (t : Tree) (name : Text) (casei : Bool) → t ≡ tree.delegate name casei → IsMatcherOf m u name casei →
+  pub leaf_class : (m : Arc CharClassMatcher Global) (t : Tree) (name : Text) (casei : Bool) → t ≡ tree.delegate name casei → IsMatcherOf m.value u name casei →
       IsTrue (is_class u name casei) → IsInsn u (insn.CharClass m) t
   unfolding front_of with_pat code_of
   leaf_class m t name casei is members readable =
       let o = op.test (among_scalars (in_class u name casei)) in
-      is_insn (insn.CharClass m) t o (read (class name casei)) (ap op.test (among_same (has m) (in_class u name casei) members))
+      is_insn (insn.CharClass m) t o (read (class name casei)) (ap op.test (among_same (has m.value) (in_class u name casei) members))
       (λ call n us. ap (λ x. front_of call n x us) is) (λ w slot d. alone u w o d) refl (λ _. readable)
 
 -- a node that is made nowhere, said of a node without children

@@ -1,3 +1,7 @@
+mod LazyLemmas
+mod DelegateLemmas
+mod PartLemmas
+mod DelegateSteps
 mod ReadingLemmas
 mod Drafts
 mod Branches
@@ -25,3 +29,4 @@ mod WorkLemmas
 mod StepLemmas
 mod StartLemmas
 mod BranchSteps
+pub mod Sending

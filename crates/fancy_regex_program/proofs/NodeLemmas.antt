@@ -10,7 +10,7 @@ use Rattle.fancy_regex_tree.specs.declared.expr.Absent.{Absent}
 use Rattle.fancy_regex_tree.specs.Tree as tree
 use Rattle.fancy_regex_tree.specs.Tree.{Tree, tree_of, trees}
 use Rattle.fancy_regex_desugar.specs.CorePatterns.{CorePattern, nothing, cat, group, back, atomic, conditional, absent}
-use Rattle.fancy_regex_desugar.specs.Unfolded.{Written, cat_all, alt_all, repeated, look, fronts, behinds}
+use Rattle.fancy_regex_desugar.specs.Unfolded.{Written, cat_all, alt_all, first_way_of, repeated, look, fronts, behinds}
 use Rattle.fancy_regex_info.specs.Infos.{NodeProperties, InfoTree, InfoTrees, known, infos, info_of, info_layer, properties_in}
 use Rattle.fancy_regex_info.specs.declared.info.Info.{Info}
 use Rattle.fancy_regex_info.specs.declared.info.Info.TheFolds.{fold_out-Info}
@@ -91,10 +91,10 @@ module _ (call : ℕ → CorePattern) where
       ∙ ap (λ v. group (out-Info i).start_group v.front) (child_is (out-Info i).children.items 0 x at)
 
   pub front_look : (i : Info) (t : Box Expr Global) (how : LookAround) (x : Info) → (out-Info i).expr.now ≡ view.LookAround t how → slice_get (out-Info i).children.items 0 ≡ Some x →
-      (W i).front ≡ look how (W x)
+      (W i).front ≡ look (tree_of t.value) how (W x)
   unfolding front_of
   front_look i t how x is at =
-      front_is i (tree.look_around (tree_of t.value) how) (ap tree_of is ∙ tree_look_around t how) ∙ ap (look how) (child_is (out-Info i).children.items 0 x at)
+      front_is i (tree.look_around (tree_of t.value) how) (ap tree_of is ∙ tree_look_around t how) ∙ ap (look (tree_of t.value) how) (child_is (out-Info i).children.items 0 x at)
 
   pub front_repeat : (i : Info) (t : Box Expr Global) (lo hi : ℕ) (greedy : Bool) (x : Info) → (out-Info i).expr.now ≡ view.Repeat t lo hi greedy →
       slice_get (out-Info i).children.items 0 ≡ Some x → (W i).front ≡ repeated (W x).front lo hi greedy
@@ -104,18 +104,18 @@ module _ (call : ℕ → CorePattern) where
       ∙ ap (λ v. repeated v.front lo hi greedy) (child_is (out-Info i).children.items 0 x at)
 
   pub front_atomic : (i : Info) (t : Box Expr Global) (x : Info) → (out-Info i).expr.now ≡ view.AtomicGroup t → slice_get (out-Info i).children.items 0 ≡ Some x →
-      (W i).front ≡ atomic (W x).front
+      (W i).front ≡ atomic (first_way_of (tree_of t.value) (W x).front)
   unfolding front_of
   front_atomic i t x is at =
-      front_is i (tree.atomic_group (tree_of t.value)) (ap tree_of is ∙ tree_atomic t) ∙ ap (λ v. atomic v.front) (child_is (out-Info i).children.items 0 x at)
+      front_is i (tree.atomic_group (tree_of t.value)) (ap tree_of is ∙ tree_atomic t) ∙ ap (λ v. atomic (first_way_of (tree_of t.value) v.front)) (child_is (out-Info i).children.items 0 x at)
 
   pub front_conditional : (i : Info) (c a b : Box Expr Global) (x y z : Info) → (out-Info i).expr.now ≡ view.Conditional c a b → slice_get (out-Info i).children.items 0 ≡ Some x →
-      slice_get (out-Info i).children.items 1 ≡ Some y → slice_get (out-Info i).children.items 2 ≡ Some z → (W i).front ≡ conditional (W x).front (W y).front (W z).front
+      slice_get (out-Info i).children.items 1 ≡ Some y → slice_get (out-Info i).children.items 2 ≡ Some z → (W i).front ≡ conditional (first_way_of (tree_of c.value) (W x).front) (W y).front (W z).front
   unfolding front_of
   front_conditional i c a b x y z is one two three =
       front_is i (tree.conditional (tree_of c.value) (tree_of a.value) (tree_of b.value)) (ap tree_of is ∙ tree_conditional c a b)
-      ∙ ap₂ (λ v k. conditional v.front k.front (child (map W (out-Info i).children.items) 2).front) (child_is (out-Info i).children.items 0 x one) (child_is (out-Info i).children.items 1 y two)
-      ∙ ap (λ v. conditional (W x).front (W y).front v.front) (child_is (out-Info i).children.items 2 z three)
+      ∙ ap₂ (λ v k. conditional (first_way_of (tree_of c.value) v.front) k.front (child (map W (out-Info i).children.items) 2).front) (child_is (out-Info i).children.items 0 x one) (child_is (out-Info i).children.items 1 y two)
+      ∙ ap (λ v. conditional (first_way_of (tree_of c.value) (W x).front) (W y).front v.front) (child_is (out-Info i).children.items 2 z three)
 
   pub front_call : (i : Info) (k : ℕ) → tree_of (out-Info i).expr.now ≡ tree.subroutine_call k → (W i).front ≡ call k
   unfolding front_of

@@ -32,7 +32,7 @@ use Rattle.fancy_regex_info.specs.declared.error.CompileError.TheVariants.{Inner
 use Rattle.fancy_regex_info.specs.declared.info.Info.{Info}
 use Rattle.fancy_regex_info.specs.declared.info.Info.TheViews.{out-Info}
 use Rattle.fancy_regex_program.specs.Known.{listed}
-use Rattle.fancy_regex_program.specs.Refusals.{Inside, Call, is_class, IsMissing, KeepsNone, NoneAbsent, IsNoLeaf, IsReason, TreeContext, IsAnalyzed, ExpandedPart, tree_in, IsExpandedPart, AreExpandedParts, IsExpandedRepeat, IsExpandedAbsent, IsExpandedConditional, IsExpandedTarget, looks_behind, IsReasonWhere}
+use Rattle.fancy_regex_program.specs.Refusals.{Inside, Call, is_class, IsMissing, KeepsNone, NoneAbsent, IsNoLeaf, IsReason, TreeContext, IsAnalyzed, ExpandedPart, tree_in, IsExpandedPart, AreExpandedParts, IsExpandedBody, IsExpandedRepeat, IsExpandedAbsent, IsExpandedConditional, IsExpandedTarget, looks_behind, IsReasonWhere}
 use Rattle.fancy_regex_program.proofs.KindLemmas.{NoParts, faulty}
 use Rattle.fancy_regex_program.proofs.NodeLemmas.{info_known}
 use Rattle.fancy_regex_program.proofs.GroupLemmas.{listed_infos}
@@ -308,6 +308,22 @@ module _ (tree_context : TreeContext) (keeps absents : Bool) where
       (λ test j some. or_right (test j (tree.atomic_group u)) (some_emitted test j u) some) (λ j call has. has)
       (sit false i (tree.atomic_group u) (ap tree_of is ∙ tree_atomic t) h) (wrong _)
 
+  -- the tree of the first child
+  first_tree : (i x : Info) (t u : Tree) → ((n : ℕ) → slice_get (listed (row_in (D n t))) 0 ≡ Some (D n u)) → tree_of (out-Info i).expr.now ≡ t →
+      slice_get (out-Info i).children.items 0 ≡ Some x → IsExpandedPart tree_context keeps absents false (info_of i) → tree_in (info_of x) ≡ u
+  first_tree i x t u kid is at h =
+      let seat = sit false i t is h in
+      let found : Some (info_of x) ≡ Some (D seat.first u) = sym (kid_at i x 0 at) ∙ ap (λ y. slice_get (listed (row_in y)) 0) seat.is ∙ kid seat.first in
+      ap (λ y. tree_in (unwrap_or y (info_of x))) found ∙ own_tree seat.first u
+
+  pub body_atomic : (i x : Info) (t : Box Expr Global) → (out-Info i).expr.now ≡ view.AtomicGroup t → slice_get (out-Info i).children.items 0 ≡ Some x →
+      IsExpandedPart tree_context keeps absents false (info_of i) → IsExpandedBody tree_context keeps absents false (tree_of t.value) (info_of x)
+  unfolding expected_info
+  body_atomic i x t is at h = record {
+    part = kid_atomic i x t is at h;
+    is = first_tree i x (tree.atomic_group (tree_of t.value)) (tree_of t.value) (λ n. refl) (ap tree_of is ∙ tree_atomic t) at h;
+  }
+
   pub kid_absent : (gs : List InfoTree) (i x : Info) (a : Absent) (t : Box Expr Global) → (out-Info i).expr.now ≡ view.Absent a → a ≡ variants.Repeater t →
       slice_get (out-Info i).children.items 0 ≡ Some x → IsAnalyzed tree_context gs → IsExpandedPart tree_context keeps absents false (info_of i) → IsExpandedAbsent tree_context absents (info_of x)
   unfolding expected_info some_descendant emitted_calls
@@ -342,6 +358,15 @@ module _ (tree_context : TreeContext) (keeps absents : Bool) where
       (λ test j some. or_right (test j root) (some_emitted test (in_look_around j) u) some) (λ j call has. has) seat
       (steady_of how u (λ bad. made gs false (info_of i) root s seat (unsteady_stops S seat.inside root bad)))
 
+  pub body_look : (gs : List InfoTree) (i x : Info) (t : Box Expr Global) (how : LookAround) → (out-Info i).expr.now ≡ view.LookAround t how →
+      slice_get (out-Info i).children.items 0 ≡ Some x → IsAnalyzed tree_context gs → IsExpandedPart tree_context keeps absents false (info_of i) →
+      IsExpandedBody tree_context false absents (looks_behind how) (tree_of t.value) (info_of x)
+  unfolding expected_info
+  body_look gs i x t how is at s h = record {
+    part = kid_look gs i x t how is at s h;
+    is = first_tree i x (tree.look_around (tree_of t.value) how) (tree_of t.value) (λ n. refl) (ap tree_of is ∙ tree_look_around t how) at h;
+  }
+
   pub kid_repeat : (gs : List InfoTree) (i x : Info) (t : Box Expr Global) (lo hi : ℕ) (greedy : Bool) → (out-Info i).expr.now ≡ view.Repeat t lo hi greedy →
       slice_get (out-Info i).children.items 0 ≡ Some x → IsAnalyzed tree_context gs → IsExpandedPart tree_context keeps absents false (info_of i) → IsExpandedRepeat tree_context keeps absents lo hi (info_of x)
   unfolding expected_info some_descendant emitted_calls
@@ -360,7 +385,7 @@ module _ (tree_context : TreeContext) (keeps absents : Bool) where
 
   pub kids_conditional : (i x y z : Info) (c a b : Box Expr Global) → (out-Info i).expr.now ≡ view.Conditional c a b → slice_get (out-Info i).children.items 0 ≡ Some x →
       slice_get (out-Info i).children.items 1 ≡ Some y → slice_get (out-Info i).children.items 2 ≡ Some z → IsExpandedPart tree_context keeps absents false (info_of i) →
-      IsExpandedConditional tree_context keeps absents (info_of x) (info_of y) (info_of z)
+      IsExpandedConditional tree_context keeps absents (tree_of c.value) (info_of x) (info_of y) (info_of z)
   unfolding expected_info some_descendant emitted_calls
   kids_conditional i x y z c a b is one two three h =
       let p = tree_of c.value in
@@ -369,9 +394,12 @@ module _ (tree_context : TreeContext) (keeps absents : Bool) where
       let root = tree.conditional p q r in
       let seat = sit false i root (ap tree_of is ∙ tree_conditional c a b) h in
       record {
-        condition = below keeps absents false false i x 0 root p (λ j. j) (λ n. n) (λ j h. h) (λ j h. h) one (λ n. refl)
-            (λ test j some. or_right (test j root) _ (or_left (some_emitted test j p) (some_emitted test j q || some_emitted test j r) some))
-            (λ j call has. Contains-append_left (emitted_calls j p) (emitted_calls j q ++ emitted_calls j r) call has) seat (wrong _);
+        condition = record {
+          part = below keeps absents false false i x 0 root p (λ j. j) (λ n. n) (λ j h. h) (λ j h. h) one (λ n. refl)
+              (λ test j some. or_right (test j root) _ (or_left (some_emitted test j p) (some_emitted test j q || some_emitted test j r) some))
+              (λ j call has. Contains-append_left (emitted_calls j p) (emitted_calls j q ++ emitted_calls j r) call has) seat (wrong _);
+          is = first_tree i x root p (λ n. refl) (ap tree_of is ∙ tree_conditional c a b) one h;
+        };
         yes = below keeps absents false false i y 1 root q (λ j. j) (λ n. n + group_count p) (λ j h. h) (λ j h. h) two (λ n. refl)
             (λ test j some. or_right (test j root) _ (or_right (some_emitted test j p) (some_emitted test j q || some_emitted test j r)
             (or_left (some_emitted test j q) (some_emitted test j r) some)))

@@ -7,7 +7,7 @@ use Rattle.std.proofs.lemmas.Result.{IfErr-weaker}
 use Rattle.fancy_regex_tree.specs.Tree.{Text, Tree}
 use Rattle.fancy_regex_class.specs.Classes.{in_class, folded}
 use Rattle.fancy_regex_meaning.specs.Ways.{is_at_call_limit}
-use Rattle.fancy_regex_desugar.specs.CorePatterns.{CorePattern, any, literal, class, nothing, read, general_newline, check, continue, keep_out, fail, cat, alt, group, ahead, never, back, atomic, repeat, backref, exists, conditional, absent}
+use Rattle.fancy_regex_desugar.specs.CorePatterns.{CorePattern, any, literal, class, nothing, read, general_newline, check, continue, keep_out, fail, cat, alt, group, ahead, never, back, atomic, delegate, repeat, backref, exists, conditional, absent}
 use Rattle.fancy_regex_desugar.specs.ProgramSizes.{room}
 use Rattle.fancy_regex_desugar.specs.Unfolded.{Written, cat_all, alt_all, look}
 use Rattle.fancy_regex_tree.specs.declared.expr.LookAround.{LookAround}
@@ -154,6 +154,7 @@ module _ (u w : Bool) where
       let n = pc + length (flushed text) in
       behind_long text (atomic_code (shut a)) pc slot (12 + room a)
       (atomic_long (shut a) n slot (room a) (shut_long a (code_fits a []) (n + 1) (slot + 1)))
+  code_fits (delegate t a) text pc slot = alone_long text (op.delegate (in_class u) (folded u) t) pc slot 12 (omega arith)
   code_fits (repeat a lo None greedy) text pc slot =
       let n = pc + length (flushed text) in
       behind_long text (loop_code lo greedy (shut a)) pc slot (12 + room a)
@@ -335,6 +336,10 @@ pub room_never : (p : CorePattern) → room (never p) ≡ 12 + room p
 unfolding room
 room_never p = refl
 
+pub room_delegate : (t : Tree) (p : CorePattern) → room (delegate t p) ≡ 12
+unfolding room
+room_delegate t p = refl
+
 pub room_atomic : (p : CorePattern) → room (atomic p) ≡ 12 + room p
 unfolding room
 room_atomic p = refl
@@ -343,12 +348,12 @@ pub room_repeat : (p : CorePattern) (lo : ℕ) (hi : Option ℕ) (greedy : Bool)
 unfolding room
 room_repeat p lo hi greedy = refl
 
-pub room_look : (how : LookAround) (u : Written) → 12 ≤ room (look how u)
+pub room_look : (t : Tree) (how : LookAround) (u : Written) → 12 ≤ room (look t how u)
 unfolding room
-room_look LookAhead u = omega arith
-room_look LookAheadNeg u = omega arith
-room_look LookBehind u = omega arith
-room_look LookBehindNeg u = omega arith
+room_look t LookAhead u = omega arith
+room_look t LookAheadNeg u = omega arith
+room_look t LookBehind u = omega arith
+room_look t LookBehindNeg u = omega arith
 
 pub room_conditional : (c a b : CorePattern) → room (conditional c a b) ≡ 12 + (room c + (room a + room b))
 unfolding room

@@ -1,13 +1,13 @@
 -- Steps over a stack of tasks.
-use Rattle.std.proofs.Common.{◌≡◌, ℕ, zero, suc, ◌+◌, ◌-◌, ◌*◌, ◌<◌, ◌≤◌, Bool, true, false, List, [], ◌∷◌, ◌++◌, length, map, take, drop, set, Option, Some, None, Result, Ok, Err, IfOk, IfErr, refl, sym, ap, ap₂, ◌∙◌, subst, arith, append_assoc, length-append}
-use Rattle.std.proofs.Math.Seq.{set-append_left, take-append_seam}
+use Rattle.std.proofs.Common.{◌≡◌, ℕ, ◌+◌, ◌-◌, ◌<◌, ◌≤◌, Bool, false, List, [], ◌∷◌, ◌++◌, length, drop, set, Result, Ok, IfOk, IfErr, refl, sym, ap, ap₂, ◌∙◌, subst, arith, append_assoc, length-append}
+use Rattle.std.proofs.Math.Seq.{set-append_left}
 use Rattle.std.proofs.lemmas.List.{length-set}
 use Rattle.std.proofs.lemmas.Result.{IfOk-weaker, IfErr-weaker}
 use Rattle.std.specs.Borrow.{Bor}
+use Rattle.fancy_regex_tree.specs.declared.expr.Expr.{Expr}
 use Rattle.fancy_regex_class.specs.Classes.{in_class, folded}
-use Rattle.fancy_regex_desugar.specs.CorePatterns.{CorePattern, nothing, fail, cat, alt, back, conditional}
+use Rattle.fancy_regex_desugar.specs.CorePatterns.{CorePattern, cat, alt, back, conditional}
 use Rattle.fancy_regex_desugar.specs.ProgramSizes.{room}
-use Rattle.fancy_regex_desugar.specs.Unfolded.{Written, cat_all, alt_all}
 use Rattle.fancy_regex_info.specs.Infos.{InfoTree, info_of}
 use Rattle.fancy_regex_info.specs.declared.error.CompileError.{CompileError}
 use Rattle.fancy_regex_info.specs.declared.error.CompileError.TheVariants.{PatternTooComplex, Memory}
@@ -18,7 +18,7 @@ use Rattle.fancy_regex_program.specs.Code.{waits, flushed, slots_in, is_uncounte
 use Rattle.fancy_regex_program.specs.Extents.{extent, IsFull}
 use Rattle.fancy_regex_program.specs.Refusals.{TreeContext, IsAnalyzed, IsExpandedPart, IsReasonWhere, IsMemoryOrTooComplex}
 use Rattle.fancy_regex_program.specs.Shapes.{IsAllowed}
-use Rattle.fancy_regex_program.specs.Tasks.{Progress, progress, closed_by, closing_room, at_others, listed, opened_after, opened_behind, node_pattern, row_pattern, branches_pattern, past_pattern, past_closing, past_others, past, past_all, task_room, tasks_room, IsAllowedTask, AreAllowedTasks, IsExpandedTask, AreExpandedTasks, Leads, LeadsTo, LeadsOn, task_work, tasks_work}
+use Rattle.fancy_regex_program.specs.Tasks.{Progress, progress, closed_by, closing_room, at_others, listed, opened_after, opened_behind, node_pattern, body_pattern, row_pattern, past_pattern, past, past_all, task_room, tasks_room, IsAllowedTask, AreAllowedTasks, IsExpandedTask, AreExpandedTasks, Leads, LeadsTo, LeadsOn, tasks_work}
 use Rattle.fancy_regex_program.specs.Writing.{Draft, draft_of, with_op, closed_draft, added, patched, with_pat, with_choice, Wrote, infos_of}
 use Rattle.fancy_regex_program.specs.declared.closing.Closing.{Closing}
 use Rattle.fancy_regex_program.specs.declared.closing.Closing.TheVariants as ends
@@ -87,6 +87,7 @@ behind_both (t ∷ ts) us o = ap (opened_after t) (behind_both ts us o)
 module _ (context : CompileContext) where
   past_one : (t : Task) (s : Progress) → (past context t s).opened ≡ opened_after t s.opened
   past_one (task.Node info behind scope) s = refl
+  past_one (task.Body body for_any info scope) s = refl
   past_one (task.Row parts scope) s = refl
   past_one (task.Branches branches behind scope) s = refl
   past_one (task.Otherwise split first branches behind scope) s = refl
@@ -289,6 +290,26 @@ pub leads_around : (context : CompileContext) (old new : Emitter) (slot : ℕ) (
     ((tree_context : TreeContext) → IsAnalyzed tree_context (infos_of context) → S tree_context → IsExpandedTask tree_context (task.Node info behind scope)) →
     LeadsTo context p keeps S old new slot step
 leads_around context old new slot keeps p S step inside c info behind scope is at drew slots opened allowed fits stands =
+    let end = past_pattern context p (progress old slot) in
+    subst (λ k. Leads context old new slot k (listed step.tasks) end (IsAllowed context.unicode keeps p) (room p) S) (sym at)
+    (subst (λ ts. Leads context old new slot inside ts end (IsAllowed context.unicode keeps p) (room p) S) (sym is) (record {
+      ends = same_progress drew slots opened;
+      allowed = λ h. allowed h.1.0;
+      fits = omega (arith, fits);
+      stands = λ tree_context s stand. (tt, (stands tree_context s stand, tt));
+    }))
+
+-- the same of a body of which only the first way counts
+pub leads_around_body : (context : CompileContext) (old new : Emitter) (slot : ℕ) (keeps : Bool) (p : CorePattern) (S : TreeContext → Type 0) (step : Step) (inside : ℕ) (c : Closing)
+    (for_any : Bool) (body : Bor Expr) (info : Bor Info) (scope : Scope) → listed step.tasks ≡ task.Close c ∷ task.Body body for_any info scope ∷ [] → step.slot ≡ inside →
+    closed_by c (with_pat context.unicode context.whole (body_pattern context for_any body.now info.now scope new.opened.items) inside (draft_of new.body))
+    ≡ with_pat context.unicode context.whole p slot (draft_of old.body) →
+    inside + slots_in (body_pattern context for_any body.now info.now scope new.opened.items) ≡ slot + slots_in p → new.opened.items ≡ old.opened.items →
+    (IsAllowed context.unicode scope.may_keep (body_pattern context for_any body.now info.now scope new.opened.items) → IsAllowed context.unicode keeps p) →
+    extent (draft_of new.body) + (closing_room c + room (body_pattern context for_any body.now info.now scope new.opened.items)) ≤ extent (draft_of old.body) + room p →
+    ((tree_context : TreeContext) → IsAnalyzed tree_context (infos_of context) → S tree_context → IsExpandedTask tree_context (task.Body body for_any info scope)) →
+    LeadsTo context p keeps S old new slot step
+leads_around_body context old new slot keeps p S step inside c for_any body info scope is at drew slots opened allowed fits stands =
     let end = past_pattern context p (progress old slot) in
     subst (λ k. Leads context old new slot k (listed step.tasks) end (IsAllowed context.unicode keeps p) (room p) S) (sym at)
     (subst (λ ts. Leads context old new slot inside ts end (IsAllowed context.unicode keeps p) (room p) S) (sym is) (record {

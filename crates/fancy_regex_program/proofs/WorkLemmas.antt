@@ -95,3 +95,10 @@ pub less_call_work : (r : Result Step CompileError) (groups : List InfoTree) (m 
     IfOk r (λ step. tasks_work groups (listed step.tasks) ≤ m) → IfOk r (λ step. tasks_work groups (listed step.tasks) < n)
 less_call_work r groups m n less h =
     IfOk-weaker r (λ step. tasks_work groups (listed step.tasks) ≤ m) (λ step. tasks_work groups (listed step.tasks) < n) (λ step k. omega (arith, k, less)) h
+
+-- the same, against one more
+pub one_more_work : (r : Result Step CompileError) (m : List InfoTree → ℕ) → IfOk r (λ step. (any : List InfoTree) → tasks_work any (listed step.tasks) ≤ 1 + m any) →
+    IfOk r (λ step. (any : List InfoTree) → tasks_work any (listed step.tasks) ≤ 2 + m any)
+one_more_work r m h =
+    IfOk-weaker r (λ step. (any : List InfoTree) → tasks_work any (listed step.tasks) ≤ 1 + m any) (λ step. (any : List InfoTree) → tasks_work any (listed step.tasks) ≤ 2 + m any)
+    (λ step k any. omega (arith, k any)) h

@@ -1,5 +1,5 @@
 -- A tree's pattern that the compiler lets through can be written, where the tree refers to groups alone.
-use Rattle.std.proofs.Common.{◌≡◌, ℕ, zero, suc, ◌+◌, ◌<◌, ◌≤◌, Bool, true, false, not, cond, true≢false, List, [], ◌∷◌, ◌++◌, length, map, Option, Some, None, refl, sym, ap, ◌∙◌, arith, slice_index, subst}
+use Rattle.std.proofs.Common.{◌≡◌, ℕ, zero, suc, ◌+◌, ◌<◌, ◌≤◌, Bool, true, false, not, cond, true≢false, List, [], ◌∷◌, ◌++◌, length, map, Option, Some, None, refl, sym, arith, slice_index, subst}
 use Rattle.std.specs.Prelude.{slice_get, ◌==◌, ◌&&◌, ◌||◌, nat_lt}
 use Rattle.std.proofs.lemmas.Bool.Decides.{nat_tests}
 use Rattle.std.proofs.lemmas.Option.{same_Some, none-some}
@@ -10,9 +10,10 @@ use Rattle.fancy_regex_tree.specs.Tree.{Tree, Trees, no_trees, more_trees}
 use Rattle.fancy_regex_meaning.specs.Groups.{Pattern, bodies, row_bodies, group_count}
 use Rattle.fancy_regex_meaning.specs.Sizes.{size, target}
 use Rattle.fancy_regex_meaning.specs.Ways.{is_at_call_limit, max_open_calls}
-use Rattle.fancy_regex_desugar.specs.CorePatterns.{any, literal, class, CorePattern, nothing, read, general_newline, check, continue, keep_out, fail, cat, alt, group, ahead, never, back, atomic, repeat, backref, exists, conditional, absent}
+use Rattle.fancy_regex_desugar.specs.CorePatterns.{any, literal, class, CorePattern, nothing, read, general_newline, check, continue, keep_out, fail, cat, alt, group, ahead, never, back, atomic, delegate, repeat, backref, exists, conditional, absent}
+use Rattle.fancy_regex_desugar.specs.Delegates.{searched, is_delegated}
 use Rattle.fancy_regex_desugar.specs.Shapes.{StepsBackOnlyFirst, HasGroups}
-use Rattle.fancy_regex_desugar.specs.Unfolded.{Written, pat_for, cat_all, alt_all, repeated, look, node, branches, written, written_all, written_call, core_pattern_of}
+use Rattle.fancy_regex_desugar.specs.Unfolded.{Written, pat_for, cat_all, alt_all, body_of, repeated, look, node, branches, written, written_all, written_call, core_pattern_of}
 use Rattle.fancy_regex_desugar.proofs.GroupProofs.{pattern_groups_are_in_range}
 use Rattle.fancy_regex_desugar.proofs.StepBackProofs.{unfolded_steps_back_only_first}
 use Rattle.fancy_regex_sizes.specs.NodeErrors.{some_node, some_node_of, shows, is_no_group}
@@ -37,6 +38,7 @@ keeps_nothing unicode (ahead a) h = tt
 keeps_nothing unicode (never a) h = tt
 keeps_nothing unicode (back n) h = tt
 keeps_nothing unicode (atomic a) h = keeps_nothing unicode a h
+keeps_nothing unicode (delegate t a) h = tt
 keeps_nothing unicode (repeat a lo hi greedy) h = keeps_nothing unicode a h.1
 keeps_nothing unicode (backref k casei) h = tt
 keeps_nothing unicode (exists k) h = tt
@@ -74,6 +76,7 @@ module _ (first end : ℕ) where
   can_write unicode keeps free (never p) g r a l = can_write unicode false true p g r a l
   can_write unicode keeps free (back n) g r a l = tt
   can_write unicode keeps free (atomic p) g r a l = can_write unicode keeps false p g r a l
+  can_write unicode keeps free (delegate t p) g r a l = tt
   can_write unicode keeps free (repeat p lo hi greedy) g r a l = (a.0, can_write unicode keeps false p g r a.1 l)
   can_write unicode keeps free (backref k casei) g r a l = r
   can_write unicode keeps free (exists k) g r a l = r
@@ -105,11 +108,14 @@ module _ (first end : ℕ) where
   either_read true p q h k = h
   either_read false p q h k = k
 
-  read_look : (how : LookAround) (u : Written) → BothRead u → Read (look how u)
-  read_look LookAhead u h = record { is = h.front }
-  read_look LookAheadNeg u h = record { is = h.front }
-  read_look LookBehind u h = record { is = h.behind }
-  read_look LookBehindNeg u h = record { is = h.behind }
+  read_body : (for_any : Bool) (t : Tree) (p : CorePattern) → ReadsGroups p → ReadsGroups (body_of for_any t p)
+  read_body for_any t p h = either_read (is_delegated for_any t) (delegate (searched for_any t) p) p tt h
+
+  read_look : (t : Tree) (how : LookAround) (u : Written) → BothRead u → Read (look t how u)
+  read_look t LookAhead u h = record { is = read_body true t u.front h.front }
+  read_look t LookAheadNeg u h = record { is = read_body true t u.front h.front }
+  read_look t LookBehind u h = record { is = h.behind }
+  read_look t LookBehindNeg u h = record { is = h.behind }
 
   read_repeated : (p : CorePattern) (lo hi : ℕ) (greedy : Bool) → ReadsGroups p → ReadsGroups (repeated p lo hi greedy)
   read_repeated p zero zero greedy h = tt
@@ -219,15 +225,16 @@ module _ (count : ℕ) where
         reads n (tree.literal val casei) h = read_node (tree.literal val casei) (read (literal (slice_index val 0) casei)) tt
         reads n (tree.delegate text casei) h = read_node (tree.delegate text casei) (read (class text casei)) tt
         reads n (tree.group t) h = read_node (tree.group t) (group n (written groups pat (n + 1) t).front) (reads (n + 1) t h).front
-        reads n (tree.look_around t how) h = read_node (tree.look_around t how) _ (read_look first count how _ (reads n t h)).is
+        reads n (tree.look_around t how) h = read_node (tree.look_around t how) _ (read_look first count t how _ (reads n t h)).is
         reads n (tree.repeat t lo hi greedy) h =
             read_node (tree.repeat t lo hi greedy) _ (read_repeated first count _ lo hi greedy (reads n t (λ k e. h k (or_right _ _ e))).front)
-        reads n (tree.atomic_group t) h = read_node (tree.atomic_group t) (atomic (written groups pat n t).front) (reads n t h).front
+        reads n (tree.atomic_group t) h =
+            read_node (tree.atomic_group t) _ (read_body first count false t (written groups pat n t).front (reads n t h).front)
         reads n (tree.backref k casei) h = read_node (tree.backref k casei) (backref k casei) (named first k low (h k))
         reads n (tree.backref_exists k None) h = read_node (tree.backref_exists k None) (exists k) (named first k low (h k))
         reads n (tree.backref_exists k (Some level)) h = read_node (tree.backref_exists k (Some level)) fail tt
         reads n (tree.conditional c a b) h = read_node (tree.conditional c a b) _ (
-          (reads n c (λ k e. h k (or_left _ _ e))).front,
+          read_body first count false c (written groups pat n c).front (reads n c (λ k e. h k (or_left _ _ e))).front,
           (reads (n + group_count c) a (λ k e. h k (or_right (some_node (shows count (InvalidBackref k)) c) _ (or_left _ _ e)))).front,
           (reads (n + group_count c + group_count a) b
               (λ k e. h k (or_right (some_node (shows count (InvalidBackref k)) c) _ (or_right (some_node (shows count (InvalidBackref k)) a) _ e)))).front,

@@ -1,7 +1,7 @@
 -- The program of a pattern.
 use Rattle.std.specs.Prelude.{ℕ, ◌+◌, ◌*◌, nat_le, Bool, true, false, not, ◌&&◌, List, [], ◌∷◌, ◌++◌, length, Some, None, ◌==◌, if◌then◌else◌}
 use Rattle.fancy_regex_tree.specs.Tree.{Text}
-use Rattle.fancy_regex_desugar.specs.CorePatterns.{CharacterTest, any, literal, class, CorePattern, nothing, read, general_newline, check, continue, keep_out, fail, cat, alt, group, ahead, never, back, atomic, repeat, backref, exists, conditional, absent}
+use Rattle.fancy_regex_desugar.specs.CorePatterns.{CharacterTest, any, literal, class, CorePattern, nothing, read, general_newline, check, continue, keep_out, fail, cat, alt, group, ahead, never, back, atomic, delegate, repeat, backref, exists, conditional, absent}
 use Rattle.fancy_regex_program.specs.Ops as op
 use Rattle.fancy_regex_program.specs.Ops.{Op, among_scalars}
 use Rattle.fancy_regex_program.specs.Reading.{always_reads}
@@ -147,6 +147,7 @@ module _ (has_member : Text → Bool → ℕ → Bool) (fold : ℕ → ℕ) (who
   code_of (never a) text = behind text (never_code (closed (code_of a []) (waits a [])))
   code_of (back n) text = behind text (one (op.go_back n))
   code_of (atomic a) text = behind text (atomic_code (closed (code_of a []) (waits a [])))
+  code_of (delegate t a) text = behind text (one (op.delegate has_member fold t))
   code_of (repeat a lo None greedy) text = behind text (loop_code lo greedy (closed (code_of a []) (waits a [])))
   code_of (repeat a lo (Some hi) greedy) text = behind text (repeat_code lo hi greedy (closed (code_of a []) (waits a [])))
   code_of (backref k casei) text = behind text (one (op.backref (2 * k) casei))

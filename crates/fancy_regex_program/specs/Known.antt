@@ -4,7 +4,7 @@ use Rattle.fancy_regex_tree.specs.Tree as tree
 use Rattle.fancy_regex_tree.specs.Tree.{Tree}
 use Rattle.fancy_regex_meaning.specs.Ways.{is_at_call_limit, max_open_calls_per_group}
 use Rattle.fancy_regex_desugar.specs.CorePatterns.{any, literal, class, CorePattern, nothing, read, general_newline, check, continue, keep_out, fail, cat, alt, group, ahead, never, back, atomic, backref, exists, conditional, absent}
-use Rattle.fancy_regex_desugar.specs.Unfolded.{Written, cat_all, alt_all, fronts, behinds, repeated, look, pat_for}
+use Rattle.fancy_regex_desugar.specs.Unfolded.{Written, cat_all, alt_all, fronts, behinds, first_way_of, repeated, look, pat_for}
 use Rattle.fancy_regex_info.specs.Infos.{NodeProperties, InfoTree, InfoTrees, known, no_infos, more_infos}
 
 -- what fails, from here and from as far back as it is long
@@ -31,13 +31,13 @@ front_of call n (tree.general_newline unicode) us = general_newline unicode
 front_of call n (tree.literal val casei) us = read (literal (slice_index val 0) casei)
 front_of call n (tree.delegate text casei) us = read (class text casei)
 front_of call n (tree.group t) us = group n (child us 0).front
-front_of call n (tree.look_around t how) us = look how (child us 0)
+front_of call n (tree.look_around t how) us = look t how (child us 0)
 front_of call n (tree.repeat t lo hi greedy) us = repeated (child us 0).front lo hi greedy
-front_of call n (tree.atomic_group t) us = atomic (child us 0).front
+front_of call n (tree.atomic_group t) us = atomic (first_way_of t (child us 0).front)
 front_of call n (tree.backref k casei) us = backref k casei
 front_of call n (tree.backref_exists k None) us = exists k
 front_of call n (tree.backref_exists k (Some level)) us = fail
-front_of call n (tree.conditional c a b) us = conditional (child us 0).front (child us 1).front (child us 2).front
+front_of call n (tree.conditional c a b) us = conditional (first_way_of c (child us 0).front) (child us 1).front (child us 2).front
 front_of call n (tree.subroutine_call k) us = call k
 front_of call n tree.keep_out us = keep_out
 front_of call n tree.continue us = continue

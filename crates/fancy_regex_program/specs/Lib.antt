@@ -8,6 +8,7 @@ pub mod Caps
 pub mod Known
 pub mod Writing
 pub mod Groups
+pub mod Parts
 pub mod Programs
 pub mod Extents
 pub mod Refusals

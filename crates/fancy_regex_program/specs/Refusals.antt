@@ -201,6 +201,11 @@ IsExpandedPart tree_context keeps absents behind x = ExpandedPart tree_context k
 abbrev pub AreExpandedParts : TreeContext → Bool → Bool → Bool → List Info → Type 0
 AreExpandedParts tree_context keeps absents behind xs = (k : ℕ) (x : Info) → slice_get xs k ≡ Some x → IsExpandedPart tree_context keeps absents behind (info_of x)
 
+-- the tree, which stands as such a part
+pub record IsExpandedBody (tree_context : TreeContext) (keeps absents behind : Bool) (t : Tree) (x : InfoTree) : Type 0 where
+  pub part : IsExpandedPart tree_context keeps absents behind x
+  pub is : tree_in x ≡ t
+
 -- a repeat with these counts, whose child stands where it is run at all
 pub record IsExpandedRepeat (tree_context : TreeContext) (keeps absents : Bool) (lo hi : ℕ) (x : InfoTree) : Type 0 where
   pub counts : lo ≤ hi
@@ -211,9 +216,9 @@ pub record IsExpandedAbsent (tree_context : TreeContext) (absents : Bool) (x : I
   pub fits : absents ≡ false → ⊥
   pub child : IsExpandedPart tree_context false false false x
 
--- a conditional's parts
-pub record IsExpandedConditional (tree_context : TreeContext) (keeps absents : Bool) (c a b : InfoTree) : Type 0 where
-  pub condition : IsExpandedPart tree_context keeps absents false c
+-- a conditional's parts; its condition is this tree
+pub record IsExpandedConditional (tree_context : TreeContext) (keeps absents : Bool) (t : Tree) (c a b : InfoTree) : Type 0 where
+  pub condition : IsExpandedBody tree_context keeps absents false t c
   pub yes : IsExpandedPart tree_context keeps absents false a
   pub no : IsExpandedPart tree_context keeps absents false b
 

@@ -1,8 +1,10 @@
 -- The shape of a pattern that programs are made of.
-use Rattle.std.specs.Prelude.{◌≡◌, ℕ, ◌<◌, ◌≤◌, Bool, true, false, IsTrue, Option, Some, None}
+use Rattle.std.specs.Prelude.{◌≡◌, ℕ, ◌<◌, ◌≤◌, Bool, true, false, IsTrue, All, Option, Some, None}
 use Rattle.fancy_regex_class.specs.Classes.{is_class}
-use Rattle.fancy_regex_desugar.specs.CorePatterns.{CharacterTest, class, CorePattern, read, keep_out, cat, alt, group, ahead, never, atomic, repeat, backref, exists, conditional, absent}
+use Rattle.fancy_regex_desugar.specs.CorePatterns.{CharacterTest, class, CorePattern, read, keep_out, cat, alt, group, ahead, never, atomic, delegate, repeat, backref, exists, conditional, absent}
 use Rattle.fancy_regex_desugar.specs.Shapes.{StepsBackOnlyFirst}
+use Rattle.fancy_regex_runner.specs.Plain.{classes}
+use Rattle.fancy_regex_runner.specs.Refusals.{IsRead}
 use Rattle.fancy_regex_program.specs.Machine.{unset}
 
 -- The kept start stays as it is.
@@ -54,6 +56,7 @@ IsAllowed unicode keeps (group k a) = IsAllowed unicode keeps a
 IsAllowed unicode keeps (ahead a) = IsAllowed unicode false a
 IsAllowed unicode keeps (never a) = IsAllowed unicode false a
 IsAllowed unicode keeps (atomic a) = IsAllowed unicode keeps a
+IsAllowed unicode keeps (delegate t a) = All (IsRead unicode) (classes t)
 IsAllowed unicode keeps (repeat a lo hi greedy) = IsCounted lo hi × IsAllowed unicode keeps a
 IsAllowed unicode keeps (conditional c a b) = IsAllowed unicode keeps c × IsAllowed unicode keeps a × IsAllowed unicode keeps b
 IsAllowed unicode keeps (absent a) = IsAllowed unicode false a

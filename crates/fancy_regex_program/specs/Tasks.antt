@@ -1,17 +1,17 @@
 -- What is left to emit: tasks on a stack, the next one at the end.
-use Rattle.std.specs.Prelude.{◌≡◌, ℕ, zero, suc, ◌+◌, ◌-◌, ◌≤◌, Bool, true, false, List, [], ◌∷◌, length, map, take, drop, slice_get, Option, Some, None}
-use Rattle.std.specs.Borrow.{Bor}
+use Rattle.std.specs.Prelude.{◌≡◌, ℕ, zero, suc, ◌+◌, ◌-◌, ◌≤◌, Bool, false, List, [], ◌∷◌, length, map, take, drop, slice_get, Option, Some, None}
+use Rattle.fancy_regex_tree.specs.declared.expr.Expr.{Expr}
 use Rattle.fancy_regex_tree.specs.Tree as tree
-use Rattle.fancy_regex_tree.specs.Tree.{Tree}
+use Rattle.fancy_regex_tree.specs.Tree.{Tree, tree_of}
 use Rattle.fancy_regex_desugar.specs.CorePatterns.{CorePattern}
 use Rattle.fancy_regex_desugar.specs.ProgramSizes.{room}
-use Rattle.fancy_regex_desugar.specs.Unfolded.{cat_all, alt_all}
+use Rattle.fancy_regex_desugar.specs.Unfolded.{cat_all, alt_all, body_of}
 use Rattle.fancy_regex_info.specs.Infos.{InfoTree, InfoTrees, known, no_infos, more_infos, infos, info_of}
 use Rattle.fancy_regex_info.specs.declared.info.Info.{Info}
 use Rattle.fancy_regex_program.specs.Ops as op
 use Rattle.fancy_regex_program.specs.Code.{slots_in, is_uncounted, loop_entry, loop_head}
 use Rattle.fancy_regex_program.specs.Extents.{extent}
-use Rattle.fancy_regex_program.specs.Refusals.{TreeContext, IsAnalyzed, IsExpandedPart, AreExpandedParts}
+use Rattle.fancy_regex_program.specs.Refusals.{TreeContext, IsAnalyzed, IsExpandedPart, AreExpandedParts, IsExpandedBody}
 use Rattle.fancy_regex_program.specs.Shapes.{IsAllowed}
 use Rattle.fancy_regex_program.specs.Writing.{Draft, draft_of, with_op, closed_draft, patched, with_pat, infos_of, part, side}
 use Rattle.fancy_regex_program.specs.declared.closing.Closing.{Closing}
@@ -88,6 +88,10 @@ module _ (context : CompileContext) where
   abbrev pub node_pattern : Info → Bool → Scope → List ℕ → CorePattern
   node_pattern info behind scope opened = side behind (part context scope opened info)
 
+  -- the same of a body of which only the first way matters, or with `for_any` only whether there is one
+  abbrev pub body_pattern : Bool → Expr → Info → Scope → List ℕ → CorePattern
+  body_pattern for_any body info scope opened = body_of for_any (tree_of body) (node_pattern info false scope opened)
+
   abbrev pub row_pattern : List Info → Scope → List ℕ → CorePattern
   row_pattern parts scope opened = cat_all (map (part context scope opened) parts)
 
@@ -114,6 +118,7 @@ module _ (context : CompileContext) where
   -- what a task comes to
   abbrev pub past : Task → Progress → Progress
   past (task.Node info behind scope) s = past_pattern (node_pattern info.now behind scope s.opened) s
+  past (task.Body body for_any info scope) s = past_pattern (body_pattern for_any body.now info.now scope s.opened) s
   past (task.Row parts scope) s = past_pattern (row_pattern parts.now scope s.opened) s
   past (task.Branches branches behind scope) s = past_pattern (branches_pattern branches.now behind scope s.opened) s
   past (task.Otherwise split first branches behind scope) s = past_others split first (branches_pattern branches.now behind scope s.opened) s
@@ -132,6 +137,7 @@ module _ (context : CompileContext) where
   -- the room of a task, and of a stack of them
   abbrev pub task_room : Task → List ℕ → ℕ
   task_room (task.Node info behind scope) opened = room (node_pattern info.now behind scope opened)
+  task_room (task.Body body for_any info scope) opened = room (body_pattern for_any body.now info.now scope opened)
   task_room (task.Row parts scope) opened = room (row_pattern parts.now scope opened)
   task_room (task.Branches branches behind scope) opened = room (branches_pattern branches.now behind scope opened)
   task_room (task.Otherwise split first branches behind scope) opened = 1 + room (branches_pattern branches.now behind scope opened)
@@ -147,6 +153,7 @@ module _ (context : CompileContext) where
   -- The compiler lets through what is left to emit.
   abbrev pub IsAllowedTask : Task → List ℕ → Type 0
   IsAllowedTask (task.Node info behind scope) opened = IsAllowed context.unicode scope.may_keep (node_pattern info.now behind scope opened)
+  IsAllowedTask (task.Body body for_any info scope) opened = IsAllowed context.unicode scope.may_keep (body_pattern for_any body.now info.now scope opened)
   IsAllowedTask (task.Row parts scope) opened = IsAllowed context.unicode scope.may_keep (row_pattern parts.now scope opened)
   IsAllowedTask (task.Branches branches behind scope) opened = IsAllowed context.unicode scope.may_keep (branches_pattern branches.now behind scope opened)
   IsAllowedTask (task.Otherwise split first branches behind scope) opened =
@@ -164,6 +171,7 @@ module _ (context : CompileContext) where
 -- the nodes of what is left to emit stand in a whole tree that is clear
 abbrev pub IsExpandedTask : TreeContext → Task → Type 0
 IsExpandedTask tree_context (task.Node info behind scope) = IsExpandedPart tree_context scope.may_keep scope.may_be_absent behind (info_of info.now)
+IsExpandedTask tree_context (task.Body body for_any info scope) = IsExpandedBody tree_context scope.may_keep scope.may_be_absent false (tree_of body.now) (info_of info.now)
 IsExpandedTask tree_context (task.Row parts scope) = AreExpandedParts tree_context scope.may_keep scope.may_be_absent false parts.now
 IsExpandedTask tree_context (task.Branches branches behind scope) = AreExpandedParts tree_context scope.may_keep scope.may_be_absent behind branches.now
 IsExpandedTask tree_context (task.Otherwise split first branches behind scope) =
@@ -229,6 +237,7 @@ infos_work groups scope xs = row_work (call_work groups scope.calls_left) (infos
 
 abbrev pub task_work : List InfoTree → Task → ℕ
 task_work groups (task.Node info behind scope) = info_work groups scope info.now
+task_work groups (task.Body body for_any info scope) = 1 + info_work groups scope info.now
 task_work groups (task.Row parts scope) = infos_work groups scope parts.now
 task_work groups (task.Branches branches behind scope) = infos_work groups scope branches.now
 task_work groups (task.Otherwise split first branches behind scope) = 2 + infos_work groups scope branches.now

@@ -1,6 +1,6 @@
 //! The ends of constructs: what is written behind their parts, and what is patched in front of them then.
 
-ghost use Rattle.std.specs.Prelude.{◌≡◌, ◌≤◌, ◌<◌, ◌+◌, true, OnOk, IfErr};
+ghost use Rattle.std.specs.Prelude.{◌≡◌, ◌≤◌, ◌<◌, ◌+◌, true, OnOk, IfOk, IfErr};
 ghost use Rattle.fancy_regex_program.specs.Code.{split_by, loop_entry, loop_head};
 ghost use Rattle.fancy_regex_program.specs.Extents.{IsFull};
 ghost use Rattle.fancy_regex_program.specs.Machine.{unset};
@@ -15,6 +15,7 @@ use crate::insn::{AbsentRepeater, Insn, Repeat, RepeatEpsilon};
 use crate::program_builder::ProgramBuilder;
 use crate::reading::is_uncounted;
 use fancy_regex_info::CompileError;
+use std::alloc::{AllocError, Global};
 
 /// A construct that ends behind the part that was emitted last.
 #[derive(Clone, Copy)]
@@ -175,18 +176,20 @@ fn close_bounded_repeat(
         next: body.len(),
         repeat: slot,
     };
-    body.patch(head, bounded_repeat_head(counted, greedy));
+    let head_insn = bounded_repeat_head(body.alloc, counted, greedy)?;
+    body.patch(head, head_insn);
     Ok(())
 }
 
 /// The head of a bounded repeat.
-fn bounded_repeat_head(repeat: Repeat, greedy: bool) -> Insn
-    ensures { op_of result ≡ op.repeat greedy repeat.lo repeat.hi repeat.next repeat.repeat }
+fn bounded_repeat_head(alloc: Global, repeat: Repeat, greedy: bool) -> Result<Insn, AllocError>
+    ensures { IfOk result (λ insn. op_of insn ≡ op.repeat greedy repeat.lo repeat.hi repeat.next repeat.repeat) }
 {
+    let operands = Box::new(alloc, repeat)?;
     if greedy {
-        Insn::RepeatGr(repeat)
+        Ok(Insn::RepeatGr(operands))
     } else {
-        Insn::RepeatNg(repeat)
+        Ok(Insn::RepeatNg(operands))
     }
 }
 
@@ -214,37 +217,49 @@ fn close_unbounded_repeat(
         repeat,
         check,
     };
-    let (entry_insn, head_insn) = opening(uncounted, endless, head, greedy);
+    let (entry_insn, head_insn) = opening(body.alloc, uncounted, endless, head, greedy)?;
     body.patch(head.saturating_sub(1), entry_insn);
     body.patch(head, head_insn);
     Ok(())
 }
 
 /// The entry and the head of an unbounded repeat. Without a counter at most one iteration is due.
-fn opening(uncounted: bool, repeat: RepeatEpsilon, head: usize, greedy: bool) -> (Insn, Insn)
+fn opening(
+    alloc: Global,
+    uncounted: bool,
+    repeat: RepeatEpsilon,
+    head: usize,
+    greedy: bool,
+) -> Result<(Insn, Insn), AllocError>
     requires few { uncounted ≡ true → repeat.lo ≤ 1 }
     requires inside { uncounted ≡ true → head < unset }
-    ensures entry { op_of result.0 ≡ loop_entry uncounted repeat.lo head repeat.repeat }
-    ensures head { op_of result.1 ≡ loop_head uncounted repeat.lo greedy (head + 1) repeat.next repeat.repeat repeat.check }
+    ensures entry { IfOk result (λ insns. op_of insns.0 ≡ loop_entry uncounted repeat.lo head repeat.repeat) }
+    ensures head { IfOk result (λ insns. op_of insns.1 ≡ loop_head uncounted repeat.lo greedy (head + 1) repeat.next repeat.repeat repeat.check) }
 {
     if uncounted {
-        uncounted_opening(repeat, head, greedy)
+        Ok(uncounted_opening(repeat, head, greedy))
     } else {
-        counted_opening(repeat, greedy)
+        let insns = counted_opening(alloc, repeat, greedy)?;
+        Ok(insns)
     }
 }
 
 /// The entry and the head of an unbounded repeat that counts its iterations.
-fn counted_opening(repeat: RepeatEpsilon, greedy: bool) -> (Insn, Insn)
-    ensures entry { op_of result.0 ≡ op.begin_repeat repeat.repeat }
-    ensures head { op_of result.1 ≡ op.repeat_epsilon greedy repeat.lo repeat.next repeat.repeat repeat.check }
+fn counted_opening(
+    alloc: Global,
+    repeat: RepeatEpsilon,
+    greedy: bool,
+) -> Result<(Insn, Insn), AllocError>
+    ensures entry { IfOk result (λ insns. op_of insns.0 ≡ op.begin_repeat repeat.repeat) }
+    ensures head { IfOk result (λ insns. op_of insns.1 ≡ op.repeat_epsilon greedy repeat.lo repeat.next repeat.repeat repeat.check) }
 {
+    let operands = Box::new(alloc, repeat)?;
     let head = if greedy {
-        Insn::RepeatEpsilonGr(repeat)
+        Insn::RepeatEpsilonGr(operands)
     } else {
-        Insn::RepeatEpsilonNg(repeat)
+        Insn::RepeatEpsilonNg(operands)
     };
-    (Insn::BeginRepeat(repeat.repeat), head)
+    Ok((Insn::BeginRepeat(repeat.repeat), head))
 }
 
 /// The entry and the head of an unbounded repeat that does not count its iterations, of which at most one is due.
@@ -275,13 +290,13 @@ fn close_absent(
     ensures full { IfErr result (IsFull body.old 2) }
     ensures refused { IfErr result IsMemoryOrTooComplex }
 {
-    let limits = AbsentRepeater::Limit { limit };
-    body.flush_and_push(Insn::AbsentRepeater(limits))?;
+    let limits = absent_step(body.alloc, AbsentRepeater::Limit { limit })?;
+    body.flush_and_push(limits)?;
     let end = body.len();
-    let ends = AbsentRepeater::End { start, limit };
-    body.push_insn(Insn::AbsentRepeater(ends))?;
-    let scans = AbsentRepeater::Scan { limit, end };
-    body.patch(scan, Insn::AbsentRepeater(scans));
+    let ends = absent_step(body.alloc, AbsentRepeater::End { start, limit })?;
+    body.push_insn(ends)?;
+    let scans = absent_step(body.alloc, AbsentRepeater::Scan { limit, end })?;
+    body.patch(scan, scans);
     Ok(())
 }
 
@@ -296,4 +311,12 @@ fn close_alternatives(body: &mut ProgramBuilder, jump: usize) -> Result<(), Comp
     let end = body.len();
     body.patch(jump, Insn::Jmp(end));
     Ok(())
+}
+
+/// The instruction of a step of an absent repeater.
+pub(crate) fn absent_step(alloc: Global, step: AbsentRepeater) -> Result<Insn, AllocError>
+    ensures { IfOk result (λ insn. op_of insn ≡ op.part_of step) }
+{
+    let step = Box::new(alloc, step)?;
+    Ok(Insn::AbsentRepeater(step))
 }

@@ -6,6 +6,7 @@ ghost use Rattle.fancy_regex_meaning.specs.Ways.{is_at_call_limit as is_full_of}
 ghost use Rattle.fancy_regex_desugar.specs.CorePatterns as pat;
 ghost use Rattle.fancy_regex_desugar.specs.ProgramSizes.{room};
 ghost use Rattle.fancy_regex_desugar.specs.Unfolded.{repeated, look};
+ghost use Rattle.fancy_regex_tree.specs.Tree.{tree_of};
 ghost use Rattle.fancy_regex_sizes.specs.AnalysisErrors.{is_too_complex};
 ghost use Rattle.fancy_regex_info.specs.Infos.{InfoTree, info_of};
 ghost use Rattle.fancy_regex_info.specs.declared.info.Info.TheViews.{out-Info};
@@ -13,17 +14,17 @@ ghost use Rattle.fancy_regex_program.specs.Extents.{IsFull};
 ghost use Rattle.fancy_regex_program.specs.Known.{info_call};
 ghost use Rattle.fancy_regex_program.specs.Machine.{unset};
 ghost use Rattle.fancy_regex_program.specs.Ops.{end_atomic};
-ghost use Rattle.fancy_regex_program.specs.Refusals.{IsMemoryOrTooComplex, IsReasonWhere, IsExpandedPart, AreExpandedParts, IsExpandedRepeat, IsExpandedAbsent};
+ghost use Rattle.fancy_regex_program.specs.Refusals.{IsMemoryOrTooComplex, IsReasonWhere, IsExpandedPart, AreExpandedParts, IsExpandedBody, IsExpandedRepeat, IsExpandedAbsent};
 ghost use Rattle.fancy_regex_program.specs.Refusals.{IsExpandedConditional, IsExpandedTarget, looks_behind};
 ghost use Rattle.fancy_regex_program.specs.Shapes.{IsAllowed};
-ghost use Rattle.fancy_regex_program.specs.Tasks.{listed, node_pattern, row_pattern, branches_pattern, past_pattern, past_others, progress, task_room, IsExpandedTask};
+ghost use Rattle.fancy_regex_program.specs.Tasks.{listed, node_pattern, body_pattern, row_pattern, branches_pattern, past_pattern, past_others, progress, task_room, IsExpandedTask};
 ghost use Rattle.fancy_regex_program.specs.Tasks.{Leads, LeadsTo, LeadsOn, call_work, info_work, infos_work, task_work, tasks_work};
 ghost use Rattle.fancy_regex_program.specs.Writing.{Wrote, draft_of, with_op, closed_draft, infos_of, part};
 ghost use Rattle.fancy_regex_program.specs.declared.emitter.CompileContext.{CompileContext as TheContext};
 ghost use Rattle.fancy_regex_program.specs.declared.emitter.Emitter.{Emitter as TheEmitter};
 ghost use Rattle.fancy_regex_program.specs.declared.task.Task.TheVariants as the_task;
 
-use crate::closing::{Closing, close};
+use crate::closing::{Closing, absent_step, close};
 use crate::emitter::{CompileContext, Emitter, Scope, first_slot, past_slots};
 use crate::insn::{AbsentRepeater, Insn};
 use crate::leaf::{emit_leaf, not_supported};
@@ -117,6 +118,12 @@ fn emit_task<'i, 'e>(
             behind,
             scope,
         } => emit_ahead_or_behind(context, emitter, info, behind, scope, slot),
+        Task::Body {
+            body,
+            for_any,
+            info,
+            scope,
+        } => emit_body(context, emitter, body, for_any, info, scope, slot),
         Task::Row { parts, scope } => Ok(leads_to(slot, row(parts, scope))),
         Task::Branches {
             branches,
@@ -393,22 +400,22 @@ fn emit_node<'i, 'e>(
             let child = child_at(info, 0)?;
             emit_group(emitter, child, info.start_group(), scope, slot)
         }
-        Expr::LookAround(_, how) => {
+        Expr::LookAround(body, how) => {
             let child = child_at(info, 0)?;
-            emit_look_around(emitter, child, *how, scope, slot)
+            emit_look_around(emitter, body, child, *how, scope, slot)
         }
         Expr::Repeat { lo, hi, greedy, .. } => {
             let child = child_at(info, 0)?;
             emit_repeat(emitter, child, (*lo, *hi), *greedy, scope, slot)
         }
-        Expr::AtomicGroup(_) => {
+        Expr::AtomicGroup(body) => {
             let child = child_at(info, 0)?;
-            emit_atomic(emitter, child, scope, slot)
+            emit_atomic(emitter, body, child, scope, slot)
         }
-        Expr::Conditional { .. } => {
-            let condition = child_at(info, 0)?;
+        Expr::Conditional { condition, .. } => {
+            let tested = child_at(info, 0)?;
             let branches = (child_at(info, 1)?, child_at(info, 2)?);
-            emit_conditional(emitter, condition, branches, scope, slot)
+            emit_conditional(emitter, condition, tested, branches, scope, slot)
         }
         Expr::SubroutineCall(target) => emit_call(context, emitter, *target, scope, slot),
         Expr::Absent(absent) => match absent {
@@ -490,9 +497,68 @@ fn around<'i, 'e>(
     }
 }
 
+/// A step to the body of a construct, of which only the first way matters, or with `for_any` only whether there is one, and then to the
+/// end of the construct.
+fn around_body<'i, 'e>(
+    body: &'e Expr,
+    for_any: bool,
+    info: &'i Info<'e>,
+    scope: Scope,
+    closing: Closing,
+    slot: usize,
+) -> Step<'i, 'e>
+    ensures tasks { listed result.tasks ≡ the_task.Close closing ∷ the_task.Body body.entry for_any info.entry scope ∷ [] }
+    ensures slot { result.slot ≡ slot }
+    ensures work { (groups : List InfoTree) → tasks_work groups (listed result.tasks) ≤ 2 + info_work groups scope info.now }
+{
+    let first = Task::Body {
+        body,
+        for_any,
+        info,
+        scope,
+    };
+    let then = Task::Close(closing);
+    Step {
+        slot,
+        tasks: Tasks::Two { first, then },
+    }
+}
+
+/// Emits a body of which only the first way matters, or with `for_any` only whether there is one: one instruction if it is delegated.
+fn emit_body<'i, 'e>(
+    context: &CompileContext<'_, 'i, 'e>,
+    emitter: &mut Emitter,
+    body: &'e Expr,
+    for_any: bool,
+    info: &'i Info<'e>,
+    scope: Scope,
+    slot: usize,
+) -> Result<Step<'i, 'e>, CompileError>
+    ensures cap { emitter.new.body.cap ≡ emitter.old.body.cap }
+    ensures full { IfErr result (IsFull emitter.old.body (room (body_pattern context.now for_any body.now info.now scope emitter.old.opened.items))) }
+    ensures leads { IfOk result (LeadsTo context.now
+        (body_pattern context.now for_any body.now info.now scope emitter.old.opened.items) scope.may_keep
+        (λ tree_context. IsExpandedBody tree_context scope.may_keep scope.may_be_absent false (tree_of body.now) (info_of info.now)) emitter.old emitter.new slot) }
+    ensures refused { IfErr result (IsReasonWhere context.now.unicode (infos_of context.now)
+        (λ tree_context. IsExpandedBody tree_context scope.may_keep scope.may_be_absent false (tree_of body.now) (info_of info.now))) }
+    ensures work { IfOk result (λ step. (groups : List InfoTree) → tasks_work groups (listed step.tasks) ≤ info_work groups scope info.now) }
+{
+    match emitter
+        .parts
+        .delegate(context.alloc, body, for_any, context.unicode)?
+    {
+        Some(part) => {
+            emitter.body.flush_and_push(Insn::Delegate(part))?;
+            Ok(leads_to(slot, Tasks::Nothing))
+        }
+        None => Ok(leads_to(slot, Tasks::One(node(info, scope)))),
+    }
+}
+
 /// Begins an atomic group.
 fn emit_atomic<'i, 'e>(
     emitter: &mut Emitter,
+    body: &'e Expr,
     child: &'i Info<'e>,
     scope: Scope,
     slot: usize,
@@ -500,20 +566,21 @@ fn emit_atomic<'i, 'e>(
     ensures cap { emitter.new.body.cap ≡ emitter.old.body.cap }
     ensures full { IfErr result (IsFull emitter.old.body 2) }
     ensures leads { IfOk result (λ step. (context : TheContext) → LeadsTo context
-        (pat.atomic (node_pattern context child.now false scope emitter.old.opened.items)) scope.may_keep
-        (λ tree_context. IsExpandedPart tree_context scope.may_keep scope.may_be_absent false (info_of child.now)) emitter.old emitter.new slot step) }
+        (pat.atomic (body_pattern context false body.now child.now scope emitter.old.opened.items)) scope.may_keep
+        (λ tree_context. IsExpandedBody tree_context scope.may_keep scope.may_be_absent false (tree_of body.now) (info_of child.now)) emitter.old emitter.new slot step) }
     ensures refused { IfErr result IsMemoryOrTooComplex }
-    ensures work { IfOk result (λ step. (groups : List InfoTree) → tasks_work groups (listed step.tasks) ≤ 1 + info_work groups scope child.now) }
+    ensures work { IfOk result (λ step. (groups : List InfoTree) → tasks_work groups (listed step.tasks) ≤ 2 + info_work groups scope child.now) }
 {
     let inside = past_slots(slot, 1)?;
     emitter.body.flush_and_push(Insn::BeginAtomic(slot))?;
     let closing = Closing::AtomicGroup { slot };
-    Ok(around(child, false, scope, closing, inside))
+    Ok(around_body(body, false, child, scope, closing, inside))
 }
 
 /// Begins a look-around.
 fn emit_look_around<'i, 'e>(
     emitter: &mut Emitter,
+    body: &'e Expr,
     child: &'i Info<'e>,
     how: LookAround,
     scope: Scope,
@@ -522,34 +589,34 @@ fn emit_look_around<'i, 'e>(
     ensures cap { emitter.new.body.cap ≡ emitter.old.body.cap }
     ensures full { IfErr result (IsFull emitter.old.body 2) }
     ensures leads { IfOk result (λ step. (context : TheContext) → LeadsTo context
-        (look how (part context scope emitter.old.opened.items child.now)) scope.may_keep
-        (λ tree_context. IsExpandedPart tree_context false scope.may_be_absent (looks_behind how) (info_of child.now)) emitter.old emitter.new slot step) }
+        (look (tree_of body.now) how (part context scope emitter.old.opened.items child.now)) scope.may_keep
+        (λ tree_context. IsExpandedBody tree_context false scope.may_be_absent (looks_behind how) (tree_of body.now) (info_of child.now)) emitter.old emitter.new slot step) }
     ensures refused { IfErr result IsMemoryOrTooComplex }
-    ensures work { IfOk result (λ step. (groups : List InfoTree) → tasks_work groups (listed step.tasks) ≤ 1 + info_work groups scope child.now) }
+    ensures work { IfOk result (λ step. (groups : List InfoTree) → tasks_work groups (listed step.tasks) ≤ 2 + info_work groups scope child.now) }
 {
     match how {
-        LookAround::LookAhead => emit_positive_look_around(emitter, child, false, scope, slot),
-        LookAround::LookAheadNeg => emit_negative_look_around(emitter, child, false, scope, slot),
-        LookAround::LookBehind => emit_positive_look_around(emitter, child, true, scope, slot),
-        LookAround::LookBehindNeg => emit_negative_look_around(emitter, child, true, scope, slot),
+        LookAround::LookAhead => emit_positive_look_ahead(emitter, body, child, scope, slot),
+        LookAround::LookAheadNeg => emit_negative_look_ahead(emitter, body, child, scope, slot),
+        LookAround::LookBehind => emit_positive_look_behind(emitter, child, scope, slot),
+        LookAround::LookBehindNeg => emit_negative_look_behind(emitter, child, scope, slot),
     }
 }
 
-/// Begins a positive look-around.
-fn emit_positive_look_around<'i, 'e>(
+/// Begins a positive look-ahead.
+fn emit_positive_look_ahead<'i, 'e>(
     emitter: &mut Emitter,
+    body: &'e Expr,
     info: &'i Info<'e>,
-    behind: bool,
     scope: Scope,
     slot: usize,
 ) -> Result<Step<'i, 'e>, CompileError>
     ensures cap { emitter.new.body.cap ≡ emitter.old.body.cap }
     ensures full { IfErr result (IsFull emitter.old.body 2) }
     ensures leads { IfOk result (λ step. (context : TheContext) → LeadsTo context
-        (pat.ahead (node_pattern context info.now behind scope emitter.old.opened.items)) scope.may_keep
-        (λ tree_context. IsExpandedPart tree_context false scope.may_be_absent behind (info_of info.now)) emitter.old emitter.new slot step) }
+        (pat.ahead (body_pattern context true body.now info.now scope emitter.old.opened.items)) scope.may_keep
+        (λ tree_context. IsExpandedBody tree_context false scope.may_be_absent false (tree_of body.now) (info_of info.now)) emitter.old emitter.new slot step) }
     ensures refused { IfErr result IsMemoryOrTooComplex }
-    ensures work { IfOk result (λ step. (groups : List InfoTree) → tasks_work groups (listed step.tasks) ≤ 1 + info_work groups scope info.now) }
+    ensures work { IfOk result (λ step. (groups : List InfoTree) → tasks_work groups (listed step.tasks) ≤ 2 + info_work groups scope info.now) }
 {
     let inside = past_slots(slot, 1)?;
     emitter.body.flush_and_push(Insn::Save(slot))?;
@@ -558,22 +625,80 @@ fn emit_positive_look_around<'i, 'e>(
         may_keep: false,
         ..scope
     };
-    Ok(around(info, behind, looking, closing, inside))
+    Ok(around_body(body, true, info, looking, closing, inside))
 }
 
-/// Begins a negative look-around.
-fn emit_negative_look_around<'i, 'e>(
+/// Begins a positive look-behind.
+fn emit_positive_look_behind<'i, 'e>(
     emitter: &mut Emitter,
     info: &'i Info<'e>,
-    behind: bool,
     scope: Scope,
     slot: usize,
 ) -> Result<Step<'i, 'e>, CompileError>
     ensures cap { emitter.new.body.cap ≡ emitter.old.body.cap }
     ensures full { IfErr result (IsFull emitter.old.body 2) }
     ensures leads { IfOk result (λ step. (context : TheContext) → LeadsTo context
-        (pat.never (node_pattern context info.now behind scope emitter.old.opened.items)) scope.may_keep
-        (λ tree_context. IsExpandedPart tree_context false scope.may_be_absent behind (info_of info.now)) emitter.old emitter.new slot step) }
+        (pat.ahead (node_pattern context info.now true scope emitter.old.opened.items)) scope.may_keep
+        (λ tree_context. IsExpandedPart tree_context false scope.may_be_absent true (info_of info.now)) emitter.old emitter.new slot step) }
+    ensures refused { IfErr result IsMemoryOrTooComplex }
+    ensures work { IfOk result (λ step. (groups : List InfoTree) → tasks_work groups (listed step.tasks) ≤ 1 + info_work groups scope info.now) }
+{
+    let inside = past_slots(slot, 1)?;
+    emitter.body.flush_and_push(Insn::Save(slot))?;
+    let looking = Scope {
+        may_keep: false,
+        ..scope
+    };
+    Ok(around(
+        info,
+        true,
+        looking,
+        Closing::PositiveLookAround { slot },
+        inside,
+    ))
+}
+
+/// Begins a negative look-ahead.
+fn emit_negative_look_ahead<'i, 'e>(
+    emitter: &mut Emitter,
+    body: &'e Expr,
+    info: &'i Info<'e>,
+    scope: Scope,
+    slot: usize,
+) -> Result<Step<'i, 'e>, CompileError>
+    ensures cap { emitter.new.body.cap ≡ emitter.old.body.cap }
+    ensures full { IfErr result (IsFull emitter.old.body 2) }
+    ensures leads { IfOk result (λ step. (context : TheContext) → LeadsTo context
+        (pat.never (body_pattern context true body.now info.now scope emitter.old.opened.items)) scope.may_keep
+        (λ tree_context. IsExpandedBody tree_context false scope.may_be_absent false (tree_of body.now) (info_of info.now)) emitter.old emitter.new slot step) }
+    ensures refused { IfErr result IsMemoryOrTooComplex }
+    ensures work { IfOk result (λ step. (groups : List InfoTree) → tasks_work groups (listed step.tasks) ≤ 2 + info_work groups scope info.now) }
+{
+    let inside = past_slots(slot, 1)?;
+    emitter.body.flush_and_push(Insn::BeginAtomic(slot))?;
+    let split = emitter.body.len();
+    emitter.body.push_insn(Insn::Split(0, 0))?;
+    let first = emitter.body.len();
+    let closing = Closing::NegativeLookAround { slot, split, first };
+    let looking = Scope {
+        may_keep: false,
+        ..scope
+    };
+    Ok(around_body(body, true, info, looking, closing, inside))
+}
+
+/// Begins a negative look-behind.
+fn emit_negative_look_behind<'i, 'e>(
+    emitter: &mut Emitter,
+    info: &'i Info<'e>,
+    scope: Scope,
+    slot: usize,
+) -> Result<Step<'i, 'e>, CompileError>
+    ensures cap { emitter.new.body.cap ≡ emitter.old.body.cap }
+    ensures full { IfErr result (IsFull emitter.old.body 2) }
+    ensures leads { IfOk result (λ step. (context : TheContext) → LeadsTo context
+        (pat.never (node_pattern context info.now true scope emitter.old.opened.items)) scope.may_keep
+        (λ tree_context. IsExpandedPart tree_context false scope.may_be_absent true (info_of info.now)) emitter.old emitter.new slot step) }
     ensures refused { IfErr result IsMemoryOrTooComplex }
     ensures work { IfOk result (λ step. (groups : List InfoTree) → tasks_work groups (listed step.tasks) ≤ 1 + info_work groups scope info.now) }
 {
@@ -587,7 +712,7 @@ fn emit_negative_look_around<'i, 'e>(
         may_keep: false,
         ..scope
     };
-    Ok(around(info, behind, looking, closing, inside))
+    Ok(around(info, true, looking, closing, inside))
 }
 
 /// Begins a quantifier; the greatest count `usize::MAX` is no bound. A body that is repeated zero times is left out. The error
@@ -690,9 +815,10 @@ fn emit_unbounded_repeat<'i, 'e>(
     Ok(around(child, false, scope, closing, inside))
 }
 
-/// Begins a conditional: the first branch if the condition matches, the second if it does not.
+/// Begins a conditional, whose condition has this body: the first branch if it matches, the second if it does not.
 fn emit_conditional<'i, 'e>(
     emitter: &mut Emitter,
+    body: &'e Expr,
     condition: &'i Info<'e>,
     branches: (&'i Info<'e>, &'i Info<'e>),
     scope: Scope,
@@ -701,13 +827,13 @@ fn emit_conditional<'i, 'e>(
     ensures cap { emitter.new.body.cap ≡ emitter.old.body.cap }
     ensures full { IfErr result (IsFull emitter.old.body 2) }
     ensures leads { IfOk result (λ step. (context : TheContext) → LeadsTo context
-        (pat.conditional (node_pattern context condition.now false scope emitter.old.opened.items) (node_pattern context branches.entry.0.now false scope emitter.old.opened.items)
+        (pat.conditional (body_pattern context false body.now condition.now scope emitter.old.opened.items) (node_pattern context branches.entry.0.now false scope emitter.old.opened.items)
         (node_pattern context branches.entry.1.now false scope emitter.old.opened.items)) scope.may_keep
-        (λ tree_context. IsExpandedConditional tree_context scope.may_keep scope.may_be_absent (info_of condition.now) (info_of branches.entry.0.now) (info_of branches.entry.1.now))
+        (λ tree_context. IsExpandedConditional tree_context scope.may_keep scope.may_be_absent (tree_of body.now) (info_of condition.now) (info_of branches.entry.0.now) (info_of branches.entry.1.now))
         emitter.old emitter.new slot step) }
     ensures refused { IfErr result IsMemoryOrTooComplex }
     ensures work { IfOk result (λ step. (groups : List InfoTree) → tasks_work groups (listed step.tasks) ≤
-        8 + (info_work groups scope condition.now + (info_work groups scope branches.entry.0.now + info_work groups scope branches.entry.1.now))) }
+        9 + (info_work groups scope condition.now + (info_work groups scope branches.entry.0.now + info_work groups scope branches.entry.1.now))) }
 {
     let (yes, no) = branches;
     let inside = past_slots(slot, 1)?;
@@ -725,7 +851,12 @@ fn emit_conditional<'i, 'e>(
     Ok(leads_to(
         inside,
         Tasks::Two {
-            first: node(condition, scope),
+            first: Task::Body {
+                body,
+                for_any: false,
+                info: condition,
+                scope,
+            },
             then: tested,
         },
     ))
@@ -807,8 +938,8 @@ fn emit_absent<'i, 'e>(
         may_be_absent: false,
         ..scope
     };
-    let begin = AbsentRepeater::Begin { start: slot, limit };
-    emitter.body.flush_and_push(Insn::AbsentRepeater(begin))?;
+    let begin = absent_step(context.alloc, AbsentRepeater::Begin { start: slot, limit })?;
+    emitter.body.flush_and_push(begin)?;
     let scan = emitter.body.len();
     emitter.body.push_insn(Insn::Fail)?;
     let closing = Closing::AbsentRepeater {

@@ -4,6 +4,8 @@ ghost use Rattle.std.specs.Prelude.{◌≡◌, ◌+◌, ◌*◌, false, IfOk, If
 ghost use Rattle.fancy_regex_sizes.specs.AnalysisErrors.{is_too_complex};
 ghost use Rattle.fancy_regex_program.specs.Refusals.{IsMemoryOrTooComplex};
 
+use crate::class_table::ClassTable;
+use crate::part_table::PartTable;
 use crate::program_builder::ProgramBuilder;
 use fancy_regex_info::{CompileError, Info};
 use std::alloc::Global;
@@ -26,6 +28,10 @@ pub(crate) struct CompileContext<'g, 'i, 'e> {
 pub(crate) struct Emitter {
     /// The instructions so far.
     pub body: ProgramBuilder,
+    /// The classes that were read so far.
+    pub classes: ClassTable,
+    /// The parts that were delegated so far.
+    pub parts: PartTable,
     /// The targets of the open calls, the innermost last.
     pub opened: Vec<usize>,
 }

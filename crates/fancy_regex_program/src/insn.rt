@@ -1,9 +1,14 @@
 //! The instructions of programs.
 
+use crate::delegate::Delegate;
 use fancy_regex_class::{CaseiLiteral, CharClassMatcher};
 use fancy_regex_tree::Assertion;
+use std::mem::size_of;
+use std::sync::Arc;
 
-/// One instruction of a program. Jump targets are indices of instructions. Slots are numbered from 0; each holds a byte
+const _: () = prove!(size_of::<Insn>() <= 24);
+
+/// One instruction of a program, of at most 24 bytes: operands that are larger lie behind a pointer. Jump targets are indices of instructions. Slots are numbered from 0; each holds a byte
 /// offset, a count, a height of the backtrack stack, or nothing. The slots 2k and 2k + 1 are the start and the end of group k.
 #[derive(Debug, Drop)]
 pub enum Insn {
@@ -17,12 +22,12 @@ pub enum Insn {
     AnyNoCRLF,
     /// Continues if the assertion holds here.
     Assertion(Assertion),
-    /// Matches this literal text.
-    Lit(String),
+    /// Matches this literal text. Instructions of equal literals share it.
+    Lit(Arc<String>),
     /// Matches one character that equals this one under case folding.
     LitCasei(CaseiLiteral),
-    /// Matches one character of the class.
-    CharClass(CharClassMatcher),
+    /// Matches one character of the class. Instructions of one class share its matcher.
+    CharClass(Arc<CharClassMatcher>),
     /// Matches `\r\n`, or one newline character.
     GeneralNewline {
         /// Whether the newlines of Unicode are included.
@@ -50,13 +55,13 @@ pub enum Insn {
     /// Writes the count 0 to the slot.
     BeginRepeat(usize),
     /// The head of a bounded greedy repeat.
-    RepeatGr(Repeat),
+    RepeatGr(Box<Repeat>),
     /// The head of a bounded lazy repeat.
-    RepeatNg(Repeat),
+    RepeatNg(Box<Repeat>),
     /// The head of an unbounded greedy repeat. An iteration that matched the empty string is the last.
-    RepeatEpsilonGr(RepeatEpsilon),
+    RepeatEpsilonGr(Box<RepeatEpsilon>),
     /// The head of an unbounded lazy repeat. An iteration that matched the empty string is the last.
-    RepeatEpsilonNg(RepeatEpsilon),
+    RepeatEpsilonNg(Box<RepeatEpsilon>),
     /// Drops the branches above the height in the slot, and fails.
     FailNegativeLookAround(usize),
     /// Moves so many characters back; fails if there are fewer.
@@ -78,8 +83,10 @@ pub enum Insn {
     BackrefExistsCondition(usize),
     /// Fails.
     Fail,
+    /// Continues behind what a part of the pattern matches first.
+    Delegate(Arc<Delegate>),
     /// A step of an absent repeater.
-    AbsentRepeater(AbsentRepeater),
+    AbsentRepeater(Box<AbsentRepeater>),
 }
 
 /// The operands of the head of a bounded repeat.

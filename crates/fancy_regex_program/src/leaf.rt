@@ -3,8 +3,6 @@
 ghost use Rattle.std.specs.Prelude.{◌≡◌, ◌*◌, ℕ, List, slice_index, chars, ◌&&◌, not, true, false, IfOk, IfErr, IsTrue, None, length};
 ghost use Rattle.fancy_regex_tree.specs.Tree as tree;
 ghost use Rattle.fancy_regex_tree.specs.Tree.{tree_of};
-ghost use Rattle.fancy_regex_class.specs.Classes.{is_class};
-ghost use Rattle.fancy_regex_class.specs.Matchers.{IsMatcherOf};
 ghost use Rattle.fancy_regex_sizes.specs.AnalysisErrors.{is_too_complex};
 ghost use Rattle.fancy_regex_desugar.specs.CorePatterns.{CorePattern, keep_out, read, literal};
 ghost use Rattle.fancy_regex_desugar.specs.ProgramSizes.{room};
@@ -13,13 +11,14 @@ ghost use Rattle.fancy_regex_program.specs.Extents.{IsFull};
 ghost use Rattle.fancy_regex_program.specs.Known.{front_of};
 ghost use Rattle.fancy_regex_program.specs.Ops as op;
 ghost use Rattle.fancy_regex_program.specs.Ops.{op_of};
-ghost use Rattle.fancy_regex_program.specs.Refusals.{IsMissing, IsMissingAs, IsMemoryOrTooComplex, IsNoVerb, IsNoGroup, IsNoClass, IsNoSingle, IsNoLeaf};
+ghost use Rattle.fancy_regex_program.specs.Refusals.{IsMissing, IsMissingAs, IsMemoryOrTooComplex, IsNoVerb, IsNoGroup, IsNoSingle, IsNoLeaf};
 ghost use Rattle.fancy_regex_program.specs.Shapes.{IsAllowed};
 ghost use Rattle.fancy_regex_program.specs.Writing.{Wrote, IsInsn};
 
+use crate::class_table::ClassTable;
 use crate::emitter::{CompileContext, Emitter, Scope, first_slot};
 use crate::insn::Insn;
-use fancy_regex_class::{CaseiLiteral, CharClassMatcher, ClassError};
+use fancy_regex_class::CaseiLiteral;
 use fancy_regex_info::CompileError;
 use fancy_regex_tree::{BacktrackingControlVerb, Expr};
 use std::alloc::Global;
@@ -50,7 +49,7 @@ pub(crate) fn emit_leaf(
             Ok(())
         }
         other => {
-            let insn = insn_of(context, other)?;
+            let insn = insn_of(context, &mut emitter.classes, other)?;
             emitter.body.flush_and_push(insn)?;
             Ok(())
         }
@@ -110,7 +109,11 @@ fn emit_keep_out(
 }
 
 /// The single instruction of a node.
-fn insn_of(context: &CompileContext<'_, '_, '_>, leaf: &Expr) -> Result<Insn, CompileError>
+fn insn_of(
+    context: &CompileContext<'_, '_, '_>,
+    classes: &mut ClassTable,
+    leaf: &Expr,
+) -> Result<Insn, CompileError>
     ensures insn { IfOk result (λ insn. IsInsn context.now.unicode insn (tree_of leaf.now)) }
     ensures full { IfErr result (λ e. is_too_complex e ≡ false) }
     ensures refused { IfErr result (IsNoSingle context.now.unicode (length context.now.groups.now.items) (tree_of leaf.now)) }
@@ -120,7 +123,7 @@ fn insn_of(context: &CompileContext<'_, '_, '_>, leaf: &Expr) -> Result<Insn, Co
         Expr::Assertion(assertion) => Ok(Insn::Assertion(*assertion)),
         Expr::GeneralNewline { unicode } => Ok(Insn::GeneralNewline { unicode: *unicode }),
         Expr::Delegate { inner, casei } => {
-            let matcher = matcher_of(context, inner, *casei)?;
+            let matcher = classes.matcher(context.alloc, inner, *casei, context.unicode)?;
             Ok(Insn::CharClass(matcher))
         }
         Expr::Backref { group, casei } => {
@@ -190,24 +193,6 @@ fn exists_of(
             Ok(Insn::BackrefExistsCondition(slot))
         }
         Some(_) => Err(not_supported(context.alloc, "recursion level")),
-    }
-}
-
-/// The matcher of a class. The error is `InnerError` with the text of a class that `regex` refuses, or `Memory`.
-fn matcher_of(
-    context: &CompileContext<'_, '_, '_>,
-    text: &str,
-    casei: bool,
-) -> Result<CharClassMatcher, CompileError>
-    ensures members { IfOk result (λ m. IsMatcherOf m context.now.unicode (chars text.now) casei) }
-    ensures read { IfOk result (λ _. IsTrue (is_class context.now.unicode (chars text.now) casei)) }
-    ensures full { IfErr result (λ e. is_too_complex e ≡ false) }
-    ensures refused { IfErr result (IsNoClass context.now.unicode (chars text.now) casei) }
-{
-    match CharClassMatcher::new(context.alloc, text, casei, context.unicode) {
-        Ok(matcher) => Ok(matcher),
-        Err(ClassError::InnerError(shown)) => Err(CompileError::InnerError(shown)),
-        Err(ClassError::Memory) => Err(CompileError::Memory),
     }
 }
 

@@ -3,13 +3,19 @@
 //! a cap on the length is kept.
 #![tactic(auto)]
 
+mod class_table;
 mod closing;
 mod compiler;
+mod delegate;
 mod emit;
 mod emitter;
 mod groups;
 mod insn;
+mod lazy;
 mod leaf;
+mod literal_table;
+mod part_table;
+mod parts;
 mod prog;
 mod program_builder;
 mod range;
@@ -19,6 +25,7 @@ mod task;
 mod writing;
 
 pub use compiler::compile;
+pub use delegate::Delegate;
 pub use insn::{AbsentRepeater, Insn, Repeat, RepeatEpsilon};
 pub use prog::Prog;
 pub use range::CaptureGroupRange;

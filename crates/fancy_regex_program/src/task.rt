@@ -3,6 +3,7 @@
 use crate::closing::Closing;
 use crate::emitter::Scope;
 use fancy_regex_info::Info;
+use fancy_regex_tree::Expr;
 
 /// A part of a program that is still to be emitted.
 #[derive(Clone, Copy)]
@@ -13,6 +14,17 @@ pub(crate) enum Task<'i, 'e> {
         info: &'i Info<'e>,
         /// Whether it goes back first.
         behind: bool,
+        /// Its context.
+        scope: Scope,
+    },
+    /// A body of which only the first way matters, or only whether there is one.
+    Body {
+        /// The body.
+        body: &'e Expr,
+        /// Whether it only matters that there is a way.
+        for_any: bool,
+        /// What the analysis says of it.
+        info: &'i Info<'e>,
         /// Its context.
         scope: Scope,
     },

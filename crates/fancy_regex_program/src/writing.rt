@@ -9,6 +9,7 @@ ghost use Rattle.fancy_regex_program.specs.Refusals.{IsMemoryOrTooComplex};
 ghost use Rattle.fancy_regex_program.specs.Writing.{draft_of, with_op, with_char, closed_draft, added, patched};
 
 use crate::insn::Insn;
+use crate::literal_table::LiteralTable;
 use crate::program_builder::ProgramBuilder;
 use fancy_regex_info::CompileError;
 use std::alloc::Global;
@@ -23,6 +24,7 @@ impl ProgramBuilder {
         ProgramBuilder {
             alloc,
             insns: Vec::new(alloc),
+            literals: LiteralTable::new(alloc),
             pending_literal: String::new(alloc),
             cap: max_prog_size.unwrap_or(usize::MAX),
         }
@@ -73,7 +75,8 @@ impl ProgramBuilder {
             return Ok(());
         }
         let text = mem::replace(&mut self.pending_literal, String::new(self.alloc));
-        self.push_insn(Insn::Lit(text))?;
+        let literal = self.literals.share(self.alloc, text)?;
+        self.push_insn(Insn::Lit(literal))?;
         Ok(())
     }
 

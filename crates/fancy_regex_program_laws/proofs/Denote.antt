@@ -6,7 +6,8 @@ use Rattle.regex_hir.specs.Text.{is_some_and}
 use Rattle.fancy_regex_tree.specs.Tree.{Text}
 use Rattle.fancy_regex_meaning.specs.Positions.{position_before, boundaries}
 use Rattle.fancy_regex_meaning.specs.Ways.{MatchState, Setting, with_position, set_pair, pair_of, holds}
-use Rattle.fancy_regex_desugar.specs.CorePatterns.{CorePattern, nothing, read, general_newline, check, continue, keep_out, fail, cat, alt, group, ahead, never, back, atomic, repeat, backref, exists, conditional, absent}
+use Rattle.fancy_regex_desugar.specs.CorePatterns.{CorePattern, nothing, read, general_newline, check, continue, keep_out, fail, cat, alt, group, ahead, never, back, atomic, delegate, repeat, backref, exists, conditional, absent}
+use Rattle.fancy_regex_desugar.specs.Delegates.{first_end}
 use Rattle.fancy_regex_desugar.specs.CoreWays.{passes}
 use Rattle.fancy_regex_program_laws.specs.ProgramLaws.{FoundMatch}
 use Rattle.fancy_regex_program.specs.Machine.{unset, lower, match_char, match_text, match_newline, match_backref}
@@ -131,6 +132,7 @@ module _ (s : Setting) where
   ending (never a) w k r = opens (ending a w (λ v x. r) (k w r))
   ending (back n) w k r = end_to (position_before s.text n w.position) w k r
   ending (atomic a) w k r = ending a w (λ v x. k v r) r
+  ending (delegate t a) w k r = end_to (first_end s t w.position) w k r
   ending (repeat a lo None greedy) w k r = end_times (ending a) lo (end_loop (ending a) greedy (length s.text + 1)) w k r
   ending (repeat a lo (Some hi) greedy) w k r = end_times (ending a) lo (end_upto (ending a) greedy (hi - lo)) w k r
   ending (backref n casei) w k r = end_again casei (pair_of w n) w k r

@@ -10,7 +10,8 @@ use Rattle.fancy_regex_tree.specs.Tree.{Text}
 use Rattle.fancy_regex_meaning.specs.Ways.{MatchState, Setting, with_position, is_any, holds}
 use Rattle.fancy_regex_meaning.specs.Positions.{position_before}
 use Rattle.fancy_regex_desugar.specs.CoreWays.{passes}
-use Rattle.fancy_regex_desugar.specs.CorePatterns.{any, literal, class, CorePattern, nothing, read, general_newline, check, continue, keep_out, fail, cat, alt, group, ahead, never, back, atomic, repeat, backref, exists, conditional, absent}
+use Rattle.fancy_regex_desugar.specs.CorePatterns.{any, literal, class, CorePattern, nothing, read, general_newline, check, continue, keep_out, fail, cat, alt, group, ahead, never, back, atomic, delegate, repeat, backref, exists, conditional, absent}
+use Rattle.fancy_regex_desugar.specs.Delegates.{first_end}
 use Rattle.fancy_regex_desugar.specs.Shapes.{StepsBackOnlyFirst}
 use Rattle.fancy_regex_slots.specs.Memory.{Thread}
 use Rattle.fancy_regex_program.specs.Ops as op
@@ -28,7 +29,7 @@ use Rattle.fancy_regex_program_laws.proofs.UncountedLoops.{GoesPast, does_endles
 use Rattle.fancy_regex_program_laws.proofs.TakesSome.{ending_past}
 use Rattle.fancy_regex_program_laws.proofs.ReadingCode.{few, body_takes}
 use Rattle.fancy_regex_program_laws.proofs.Absents.{does_absent}
-use Rattle.fancy_regex_program_laws.proofs.ReadingOperations.{good_char, good_text, good_newline, good_before, does_exists, does_backref}
+use Rattle.fancy_regex_program_laws.proofs.ReadingOperations.{good_char, good_text, good_newline, good_before, good_end, does_exists, does_backref}
 
 chosen_scalar : (c d : ℕ) (b x : Bool) → (is_scalar d && b) ≡ x → cond x (Some d) None ≡ Some c → is_scalar c ≡ true
 chosen_scalar c d b true both e = ap is_scalar (sym (same_Some d c e)) ∙ (and_parts (is_scalar d) b both).0
@@ -119,6 +120,7 @@ module _ (has_member : Text → Bool → ℕ → Bool) (fold : ℕ → ℕ) (who
   code_starts (never a) l pc slot = starts_node l _ _ refl refl
   code_starts (back n) l pc slot = starts_node l _ _ refl refl
   code_starts (atomic a) l pc slot = starts_node l _ _ refl refl
+  code_starts (delegate t a) l pc slot = starts_node l _ _ refl refl
   code_starts (repeat a lo None greedy) l pc slot =
       let p = pc + length (flushed l) in
       let uncounted = is_uncounted lo (p + 2) (closed (code_of has_member fold whole a []) (waits a []) (p + 2) (slot + 2)) in
@@ -367,6 +369,10 @@ module _ (code : List Op) (r : RunParameters) (whole : Bool) (count : ℕ) (utf8
         (does_atomic code r whole count utf8 p slot (slots_in a) free xs (ending r.setting a) h
         (does_any code r whole count (p + 1) (p + 1 + length xs) (slot + 1) (slots_in a) free (ending r.setting a)
         (closed_by a (p + 1) (slot + 1) false (λ f. runs a [] (p + 1) (slot + 1) false ok placed f) (has_front code (p + 1) xs _ h.1)))))
+    runs (delegate t a) l pc slot free ok placed at =
+        leads_one pc slot free l (op.delegate r.setting.has_member r.setting.fold t) (ending r.setting (delegate t a)) refl refl at
+        (λ here. does_move code r whole count (pc + length (flushed l)) slot free _ (first_end r.setting t) here (λ height u. refl)
+        (λ w q sound e. good_end r.setting utf8 count t free w q sound e))
     runs (repeat a lo None greedy) l pc slot free ok placed at =
         let p = pc + length (flushed l) in
         let xs = within a (p + 2) (slot + 2) in

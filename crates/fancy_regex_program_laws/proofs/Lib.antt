@@ -3,6 +3,7 @@ mod Runs
 mod PairsInSlots
 mod ProgramParts
 mod Loops
+mod DelegatedWays
 mod ReadingOperations
 mod TextPositions
 mod Absents

@@ -10,7 +10,7 @@ use Rattle.fancy_regex_meaning.specs.WayLaws.{Each}
 use Rattle.fancy_regex_meaning.specs.Ways as row
 use Rattle.fancy_regex_meaning.specs.Ways.{MatchState, Moves, Setting, with_position, set_pair, character, up_to, due, loop}
 use Rattle.fancy_regex_meaning.proofs.EachLemmas.{Each-weaker, Each-append, Each-map, Each-flat_map, Each-cond, Each-for_some}
-use Rattle.fancy_regex_desugar.specs.CorePatterns.{CorePattern, nothing, read, general_newline, check, continue, keep_out, fail, cat, alt, group, ahead, never, back, atomic, repeat, backref, exists, conditional, absent}
+use Rattle.fancy_regex_desugar.specs.CorePatterns.{CorePattern, nothing, read, general_newline, check, continue, keep_out, fail, cat, alt, group, ahead, never, back, atomic, delegate, repeat, backref, exists, conditional, absent}
 use Rattle.fancy_regex_desugar.specs.CoreWays.{passes, core_ways}
 use Rattle.fancy_regex_desugar.specs.Shapes.{StepsBackOnlyFirst}
 use Rattle.fancy_regex_program.specs.Machine.{unset}
@@ -66,6 +66,7 @@ module _ (s : Setting) where
   leads_past (ahead a) t k w = absurd t
   leads_past (never a) t k w = absurd t
   leads_past (back n) t k w = absurd t
+  leads_past (delegate u a) t k w = absurd t
   leads_past (repeat a zero hi greedy) t k w = absurd t
   leads_past (backref n casei) t k w = absurd t
   leads_past (exists n) t k w = absurd t

@@ -5,7 +5,8 @@ use Rattle.std.proofs.Math.Path.{fun_ext}
 use Rattle.regex_hir.specs.Text.{is_some_and}
 use Rattle.fancy_regex_meaning.specs.Positions.{position_before, boundaries}
 use Rattle.fancy_regex_meaning.specs.Ways.{MatchState, Setting, with_position, set_pair, pair_of, holds}
-use Rattle.fancy_regex_desugar.specs.CorePatterns.{CorePattern, nothing, read, general_newline, check, continue, keep_out, fail, cat, alt, group, ahead, never, back, atomic, repeat, backref, exists, conditional, absent}
+use Rattle.fancy_regex_desugar.specs.CorePatterns.{CorePattern, nothing, read, general_newline, check, continue, keep_out, fail, cat, alt, group, ahead, never, back, atomic, delegate, repeat, backref, exists, conditional, absent}
+use Rattle.fancy_regex_desugar.specs.Delegates.{first_end}
 use Rattle.fancy_regex_desugar.specs.CoreWays.{passes}
 use Rattle.fancy_regex_program.specs.Machine.{unset, lower, match_char, match_newline, match_backref}
 use Rattle.fancy_regex_program_laws.specs.ProgramLaws.{FoundMatch}
@@ -246,6 +247,7 @@ module _ (s : Setting) where
   trail (never a) w = Open ∷ cut_first (λ v. []) (At w ∷ []) (trail a w)
   trail (back n) w = trail_to (position_before s.text n w.position) w
   trail (atomic a) w = cut_first (λ v. At v ∷ []) [] (trail a w)
+  trail (delegate t a) w = trail_to (first_end s t w.position) w
   trail (repeat a lo None greedy) w = trail_times (trail a) lo (trail_loop (trail a) greedy (length s.text + 1)) w
   trail (repeat a lo (Some hi) greedy) w = trail_times (trail a) lo (trail_upto (trail a) greedy (hi - lo)) w
   trail (backref n casei) w = trail_again casei (pair_of w n) w
@@ -278,6 +280,7 @@ module _ (s : Setting) where
       ap opens (ending_trail a w (λ v x. r) (k w r) ∙ sym (folded_first k r (λ v. []) (At w ∷ []) (trail a w)))
   ending_trail (back n) w k r = to_trail (position_before s.text n w.position) w k r
   ending_trail (atomic a) w k r = ending_trail a w (λ v x. k v r) r ∙ sym (folded_first k r (λ v. At v ∷ []) [] (trail a w))
+  ending_trail (delegate t a) w k r = to_trail (first_end s t w.position) w k r
   ending_trail (repeat a lo None greedy) w k r =
       ap (λ (g : Run). end_times g lo (end_loop g greedy (length s.text + 1)) w k r) (fun_ext (λ v. fun_ext (λ f. fun_ext (λ x. ending_trail a v f x))))
       ∙ times_trail (trail a) lo (end_loop (run_of (trail a)) greedy (length s.text + 1)) (trail_loop (trail a) greedy (length s.text + 1)) (loop_trail (trail a) greedy (length s.text + 1)) w k r

@@ -12,13 +12,15 @@ use Rattle.fancy_regex_meaning.specs.Choices.{due_choices, up_to_choices, loop_c
 use Rattle.fancy_regex_meaning.specs.Ways as row
 use Rattle.fancy_regex_meaning.specs.Ways.{MatchState, Moves, Setting, with_position, set_pair, pair_of, for_some, first_only, match_empty_if, is_none_of, character, prefer, due, up_to, loop, keep_only_pairs, holds}
 use Rattle.fancy_regex_meaning.proofs.EachLemmas.{Each-weaker, Each-append, Each-map, Each-flat_map, Each-filter, Each-cond, Each-for_some, Each-reverse, boundaries_within}
-use Rattle.fancy_regex_desugar.specs.CorePatterns.{CorePattern, nothing, read, general_newline, check, continue, keep_out, fail, cat, alt, group, ahead, never, back, atomic, repeat, backref, exists, conditional, absent}
+use Rattle.fancy_regex_desugar.specs.CorePatterns.{CorePattern, nothing, read, general_newline, check, continue, keep_out, fail, cat, alt, group, ahead, never, back, atomic, delegate, repeat, backref, exists, conditional, absent}
+use Rattle.fancy_regex_desugar.specs.Delegates.{first_end}
 use Rattle.fancy_regex_desugar.specs.CoreWays.{passes, core_ways, core_choices}
 use Rattle.fancy_regex_program.specs.Machine.{unset, match_char, match_newline, match_backref}
 use Rattle.fancy_regex_desugar.specs.Shapes.{StepsBackOnlyFirst}
 use Rattle.fancy_regex_program.specs.Shapes.{KeepsNothing, IsWritable}
 use Rattle.fancy_regex_program_laws.proofs.ReadingOperations.{newline_way}
 use Rattle.fancy_regex_program_laws.proofs.Trail.{Open, Close, At, Trail, Trails, spliced, states, opened, cut_first, trail_to, trail_if, trail_pick, trail_upto, trail_loop, trail_times, trail_again, trail, states_append, opened_append}
+use Rattle.fancy_regex_program_laws.proofs.DelegatedWays.{ends_onward}
 use Rattle.fancy_regex_program_laws.proofs.AbsentWays.{states_absent, opened_absent}
 
 states_spliced : (g : Trails) (es : Trail) → states (spliced g es) ≡ flat_map (λ w. states (g w)) (states es)
@@ -232,6 +234,10 @@ module _ (s : Setting) where
   kept_again casei (Some pair) w =
       Each-cond (Kept w) (match_backref s casei pair.0 pair.1 w.position) (with_position w (w.position + (pair.1 - pair.0)) ∷ []) [] (refl, tt) tt
 
+  onward_to : (o : Option ℕ) (w : MatchState) → ((q : ℕ) → o ≡ Some q → w.position ≤ q) → Each (Onward w) (for_some (λ q. with_position w q ∷ []) o)
+  onward_to None w h = tt
+  onward_to (Some q) w h = (h q refl, tt)
+
   keeps : (p : CorePattern) → KeepsNothing p → AllKept (core_ways s p)
   unfolding core_ways
   keeps nothing k w = (refl, tt)
@@ -253,6 +259,7 @@ module _ (s : Setting) where
   keeps (never a) k w = keep_if Kept follows_kept (is_none_of (core_ways s a w)) w
   keeps (back n) k w = kept_to (position_before s.text n w.position) w
   keeps (atomic a) k w = first_kept (Kept w) (core_ways s a w) (keeps a k w)
+  keeps (delegate t a) k w = kept_to (first_end s t w.position) w
   keeps (repeat a lo None greedy) k w = keep_due Kept follows_kept lo (core_ways s a) (loop (length s.text + 1) greedy (core_ways s a)) (keeps a k) (keep_loop Kept follows_kept (length s.text + 1) greedy (core_ways s a) (keeps a k)) w
   keeps (repeat a lo (Some hi) greedy) k w = keep_due Kept follows_kept lo (core_ways s a) (up_to (hi - lo) greedy (core_ways s a)) (keeps a k) (keep_up_to Kept follows_kept (hi - lo) greedy (core_ways s a) (keeps a k)) w
   keeps (backref n casei) k w = kept_again casei (pair_of w n) w
@@ -296,6 +303,7 @@ module _ (s : Setting) where
   leads_onward (never a) k w = keep_if Onward follows_onward (is_none_of (core_ways s a w)) w
   leads_onward (back n) k w = absurd cc
   leads_onward (atomic a) k w = first_kept (Onward w) (core_ways s a w) (leads_onward a k w)
+  leads_onward (delegate t a) k w = onward_to (first_end s t w.position) w (λ q e. ends_onward s t w.position q e)
   leads_onward (repeat a lo None greedy) k w = keep_due Onward follows_onward lo (core_ways s a) (loop (length s.text + 1) greedy (core_ways s a)) (leads_onward a k) (keep_loop Onward follows_onward (length s.text + 1) greedy (core_ways s a) (leads_onward a k)) w
   leads_onward (repeat a lo (Some hi) greedy) k w = keep_due Onward follows_onward lo (core_ways s a) (up_to (hi - lo) greedy (core_ways s a)) (leads_onward a k) (keep_up_to Onward follows_onward (hi - lo) greedy (core_ways s a) (leads_onward a k)) w
   leads_onward (backref n casei) k w = onward_again casei (pair_of w n) w
@@ -351,6 +359,7 @@ module _ (s : Setting) (small : length s.text < unset) where
   states_trail first end (never a) ok w = states_never (trail s a w) w ∙ ap (λ l. match_empty_if (is_none_of l) w) (states_trail first end a ok w)
   states_trail first end (back n) ok w = states_to (position_before s.text n w.position) w
   states_trail first end (atomic a) ok w = states_atomic (trail s a w) ∙ ap first_only (states_trail first end a ok w)
+  states_trail first end (delegate t a) ok w = states_to (first_end s t w.position) w
   states_trail first end (repeat a lo None greedy) ok w =
       states_times (trail s a) (core_ways s a) (λ v. states_trail first end a ok.1 v) lo (trail_loop (trail s a) greedy (length s.text + 1)) (loop (length s.text + 1) greedy (core_ways s a))
       (λ v. states_loop (trail s a) (core_ways s a) (λ u. states_trail first end a ok.1 u) greedy (length s.text + 1) v) w
@@ -389,6 +398,7 @@ module _ (s : Setting) (small : length s.text < unset) where
   opened_trail first end (never a) ok w = omega (arith, opened_first (λ v. []) (At w ∷ []) 0 (trail s a w) (λ v. omega arith) (omega arith), opened_trail first end a ok w)
   opened_trail first end (back n) ok w = opened_to (position_before s.text n w.position) w
   opened_trail first end (atomic a) ok w = omega (arith, opened_first (λ v. At v ∷ []) [] 0 (trail s a w) (λ v. omega arith) (omega arith), opened_trail first end a ok w)
+  opened_trail first end (delegate t a) ok w = omega (arith, opened_to (first_end s t w.position) w)
   opened_trail first end (repeat a lo None greedy) ok w =
       opened_times (trail s a) (core_ways s a) (λ v. states_trail first end a ok.1 v) (core_choices s a) (λ v. opened_trail first end a ok.1 v) lo (trail_loop (trail s a) greedy (length s.text + 1))
       (loop_choices (length s.text + 1) (core_ways s a) (core_choices s a))

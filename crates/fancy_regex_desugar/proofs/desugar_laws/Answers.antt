@@ -6,7 +6,7 @@ use Rattle.fancy_regex_desugar.proofs.desugar_laws.Goals as goal
 
 pub returns : goal.returns
 returns c = record {
-  ways = WaysProofs.pattern_has_the_ways;
+  matches = WaysProofs.pattern_has_the_matches;
   choices = ChoiceProofs.pattern_has_the_choices;
   room = ProgramSizeProofs.pattern_size_is_bounded;
   groups = GroupProofs.pattern_groups_are_in_range;

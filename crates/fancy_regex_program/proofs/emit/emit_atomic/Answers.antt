@@ -1,19 +1,20 @@
-use Rattle.std.proofs.Common.{◌≡◌, ℕ, zero, suc, ◌+◌, ◌-◌, ◌*◌, ◌<◌, ◌≤◌, Bool, true, false, List, [], ◌∷◌, ◌++◌, length, map, option_map, refl, sym, ap, ap₂, ◌∙◌, subst, arith}
-use Rattle.fancy_regex_desugar.specs.CorePatterns.{group, ahead, never, atomic, repeat, absent, conditional}
-use Rattle.fancy_regex_info.specs.Infos.{InfoTree, info_of}
-use Rattle.fancy_regex_program.specs.Refusals.{TreeContext, IsExpandedPart, AreExpandedParts, IsExpandedConditional}
-use Rattle.fancy_regex_program.specs.Tasks.{node_pattern, row_pattern, branches_pattern, info_work, infos_work}
-use Rattle.fancy_regex_program.specs.Writing.{draft_of, infos_of, info_at}
-use Rattle.fancy_regex_program.proofs.EmitLemmas.{drew_group, drew_atomic, drew_ahead, drew_never, drew_counted, drew_loop, drew_absent}
-use Rattle.fancy_regex_program.proofs.RoomLemmas.{late, room_group, room_ahead, room_never, room_atomic, room_repeat, room_absent, room_conditional}
-use Rattle.fancy_regex_program.proofs.StepLemmas.{leads_around}
+use Rattle.std.proofs.Common.{false, refl, arith}
+use Rattle.fancy_regex_tree.specs.Tree.{tree_of}
+use Rattle.fancy_regex_desugar.specs.CorePatterns.{atomic}
+use Rattle.fancy_regex_info.specs.Infos.{info_of}
+use Rattle.fancy_regex_program.specs.Refusals.{IsExpandedBody}
+use Rattle.fancy_regex_program.specs.Tasks.{body_pattern}
+use Rattle.fancy_regex_program.specs.Writing.{draft_of}
+use Rattle.fancy_regex_program.proofs.EmitLemmas.{drew_atomic}
+use Rattle.fancy_regex_program.proofs.RoomLemmas.{late, room_atomic}
+use Rattle.fancy_regex_program.proofs.StepLemmas.{leads_around_body}
 use Rattle.fancy_regex_program.proofs.emit.emit_atomic.Goals as goal
 
 pub returns-clause-leads : goal.returns-clause-leads
 returns-clause-leads c context =
-    let a = node_pattern context c.args.child.now false c.args.scope c.args.emitter.now.opened.items in
-    leads_around context c.args.emitter.now (record { body = c.flush_and_push.new.self; opened = c.args.emitter.now.opened }) c.args.slot c.args.scope.may_keep (atomic a)
-    (λ tree_context. IsExpandedPart tree_context c.args.scope.may_keep c.args.scope.may_be_absent false (info_of c.args.child.now)) c.around.result c.in_ok-inside.inside _ _ _ _ c.around.ensures.tasks c.around.ensures.slot
+    let a = body_pattern context false c.args.body.now c.args.child.now c.args.scope c.args.emitter.now.opened.items in
+    leads_around_body context c.args.emitter.now (record { body = c.flush_and_push.new.self; classes = c.args.emitter.now.classes; opened = c.args.emitter.now.opened; parts = c.args.emitter.now.parts }) c.args.slot c.args.scope.may_keep (atomic a)
+    (λ tree_context. IsExpandedBody tree_context c.args.scope.may_keep c.args.scope.may_be_absent false (tree_of c.args.body.now) (info_of c.args.child.now)) c.around_body.result c.in_ok-inside.inside _ _ _ _ _ c.around_body.ensures.tasks c.around_body.ensures.slot
     (drew_atomic context.unicode context.whole a c.args.slot c.in_ok-inside.inside (draft_of c.args.emitter.now.body) (draft_of c.flush_and_push.new.self) _ _ c.in_ok-inside.ensures.value c.in_ok-flush_and_push.ensures.draft refl refl)
     (omega (arith, c.in_ok-inside.ensures.value)) refl (λ h. h) (omega (arith, c.in_ok-flush_and_push.ensures.long, room_atomic a)) (λ tree_context s h. h)
 
@@ -21,4 +22,4 @@ pub returns-in_err-flush_and_push-clause-full : goal.returns-in_err-flush_and_pu
 returns-in_err-flush_and_push-clause-full c = late c.from_residual-in_err-flush_and_push.result c.in_err-flush_and_push.field-0.0 _ _ c.from_residual-in_err-flush_and_push.ensures.1 c.in_err-flush_and_push.ensures.full (λ lt. omega (arith, lt))
 
 pub returns-clause-work : goal.returns-clause-work
-returns-clause-work c groups = c.around.ensures.work groups
+returns-clause-work c groups = c.around_body.ensures.work groups

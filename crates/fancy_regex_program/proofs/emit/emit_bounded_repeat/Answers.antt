@@ -1,18 +1,18 @@
-use Rattle.std.proofs.Common.{◌≡◌, ℕ, zero, suc, ◌+◌, ◌-◌, ◌*◌, ◌<◌, ◌≤◌, Bool, true, false, List, [], ◌∷◌, ◌++◌, length, map, option_map, Some, None, refl, sym, ap, ap₂, ◌∙◌, subst, arith}
-use Rattle.fancy_regex_desugar.specs.CorePatterns.{group, ahead, never, atomic, repeat, absent, conditional}
-use Rattle.fancy_regex_info.specs.Infos.{InfoTree, info_of}
-use Rattle.fancy_regex_program.specs.Refusals.{TreeContext, IsExpandedPart, AreExpandedParts, IsExpandedConditional}
-use Rattle.fancy_regex_program.specs.Tasks.{node_pattern, row_pattern, branches_pattern, info_work, infos_work}
-use Rattle.fancy_regex_program.specs.Writing.{draft_of, infos_of, info_at}
-use Rattle.fancy_regex_program.proofs.EmitLemmas.{drew_group, drew_atomic, drew_ahead, drew_never, drew_counted, drew_loop, drew_absent}
-use Rattle.fancy_regex_program.proofs.RoomLemmas.{late, room_group, room_ahead, room_never, room_atomic, room_repeat, room_absent, room_conditional}
+use Rattle.std.proofs.Common.{false, Some, refl, arith}
+use Rattle.fancy_regex_desugar.specs.CorePatterns.{repeat}
+use Rattle.fancy_regex_info.specs.Infos.{info_of}
+use Rattle.fancy_regex_program.specs.Refusals.{IsExpandedPart}
+use Rattle.fancy_regex_program.specs.Tasks.{node_pattern}
+use Rattle.fancy_regex_program.specs.Writing.{draft_of}
+use Rattle.fancy_regex_program.proofs.EmitLemmas.{drew_counted}
+use Rattle.fancy_regex_program.proofs.RoomLemmas.{late, room_repeat}
 use Rattle.fancy_regex_program.proofs.StepLemmas.{leads_around}
 use Rattle.fancy_regex_program.proofs.emit.emit_bounded_repeat.Goals as goal
 
 pub returns-clause-leads : goal.returns-clause-leads
 returns-clause-leads c context =
     let a = node_pattern context c.args.child.now false c.args.scope c.args.emitter.now.opened.items in
-    leads_around context c.args.emitter.now (record { body = c.push_insn.new.self; opened = c.args.emitter.now.opened }) c.args.slot c.args.scope.may_keep (repeat a c.args.bounds.0 (Some c.args.bounds.1) c.args.greedy)
+    leads_around context c.args.emitter.now (record { body = c.push_insn.new.self; classes = c.args.emitter.now.classes; opened = c.args.emitter.now.opened; parts = c.args.emitter.now.parts }) c.args.slot c.args.scope.may_keep (repeat a c.args.bounds.0 (Some c.args.bounds.1) c.args.greedy)
     (λ tree_context. IsExpandedPart tree_context c.args.scope.may_keep c.args.scope.may_be_absent false (info_of c.args.child.now)) c.around.result c.in_ok-inside.inside _ _ _ _ c.around.ensures.tasks c.around.ensures.slot
     (drew_counted context.unicode context.whole a c.args.bounds.0 c.args.bounds.1 c.args.greedy c.args.slot c.in_ok-inside.inside c.len-head.result _ (draft_of c.args.emitter.now.body) (draft_of c.flush_and_push.new.self) (draft_of c.push_insn.new.self) _ _ _ c.in_ok-inside.ensures.value c.in_ok-flush_and_push.ensures.draft c.len-head.ensures c.in_ok-push_insn.ensures.draft refl refl refl refl)
     (omega (arith, c.in_ok-inside.ensures.value)) refl (λ h. (tt, h)) (omega (arith, c.in_ok-flush_and_push.ensures.long, c.in_ok-push_insn.ensures.long, room_repeat a c.args.bounds.0 (Some c.args.bounds.1) c.args.greedy)) (λ tree_context s h. h)

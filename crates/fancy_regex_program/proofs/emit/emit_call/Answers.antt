@@ -1,9 +1,8 @@
-use Rattle.std.proofs.Common.{◌≡◌, ℕ, suc, ◌+◌, ◌-◌, ◌<◌, ◌≤◌, List, [], ◌∷◌, length, Some, option_map, refl, sym, ap, ◌∙◌, subst, arith}
+use Rattle.std.proofs.Common.{◌≡◌, suc, ◌-◌, option_map, refl, sym, ap, ◌∙◌, subst, arith}
 use Rattle.std.proofs.lemmas.Option.{slice_get-map, slice_get_read}
 use Rattle.fancy_regex_meaning.specs.Ways.{is_at_call_limit}
 use Rattle.fancy_regex_desugar.specs.CorePatterns.{fail}
 use Rattle.fancy_regex_desugar.specs.ProgramSizes.{room}
-use Rattle.fancy_regex_info.specs.Infos.{info_of}
 use Rattle.fancy_regex_program.specs.Known.{info_call}
 use Rattle.fancy_regex_program.specs.Refusals.{TreeContext, IsExpandedTarget}
 use Rattle.fancy_regex_program.specs.Tasks.{LeadsTo, tasks_work, listed}
@@ -54,7 +53,7 @@ returns-clause-leads c =
     let k = c.args.target in
     let x = c.index-body.result.now in
     let old = c.args.emitter.now in
-    let new : Emitter = record { body = old.body; opened = c.push.new.self } in
+    let new : Emitter = record { body = old.body; classes = old.classes; opened = c.push.new.self; parts = old.parts } in
     let p = info_call (infos_of context) c.args.scope.calls_left old.opened.items k in
     let called : Scope = record { calls_left = c.args.scope.calls_left - 1; may_keep = c.args.scope.may_keep; may_be_absent = c.args.scope.may_be_absent } in
     let some = c.if-scope-eq0.false in

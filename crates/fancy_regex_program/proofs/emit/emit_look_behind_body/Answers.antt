@@ -1,13 +1,12 @@
-use Rattle.std.proofs.Common.{◌≡◌, ℕ, ◌+◌, ◌<◌, ◌≤◌, Bool, true, false, List, map, refl, sym, ap, ◌∙◌, subst, arith}
+use Rattle.std.proofs.Common.{◌≡◌, true, false, map, refl, sym, ap, ◌∙◌, subst, arith}
 use Rattle.fancy_regex_desugar.specs.ProgramSizes.{room}
 use Rattle.fancy_regex_desugar.specs.Unfolded.{alt_all}
-use Rattle.fancy_regex_info.specs.Infos.{InfoTree, info_of}
-use Rattle.fancy_regex_info.specs.declared.info.Info.{Info}
+use Rattle.fancy_regex_info.specs.Infos.{info_of}
 use Rattle.fancy_regex_info.specs.declared.info.Info.TheViews.{out-Info}
 use Rattle.fancy_regex_program.specs.Known.{info_call}
-use Rattle.fancy_regex_program.specs.Refusals.{TreeContext, IsReasonWhere, IsExpandedPart, AreExpandedParts}
-use Rattle.fancy_regex_program.specs.Tasks.{node_pattern, branches_pattern, info_work, tasks_work, listed}
-use Rattle.fancy_regex_program.specs.Writing.{draft_of, infos_of, part}
+use Rattle.fancy_regex_program.specs.Refusals.{IsExpandedPart, AreExpandedParts}
+use Rattle.fancy_regex_program.specs.Tasks.{node_pattern, branches_pattern, tasks_work, listed}
+use Rattle.fancy_regex_program.specs.Writing.{infos_of, part}
 use Rattle.fancy_regex_program.specs.declared.task.Step.{Step}
 use Rattle.fancy_regex_program.specs.declared.task.Task.TheVariants as task
 use Rattle.fancy_regex_program.proofs.NodeLemmas.{behind_always, behind_alt}
@@ -20,7 +19,7 @@ use Rattle.fancy_regex_program.proofs.emit.emit_look_behind_body.Goals as goal
 pub returns-then-info-clause-leads : goal.returns-then-info-clause-leads
 returns-then-info-clause-leads c =
     let call = info_call (infos_of c.args.context.now) c.args.scope.calls_left c.args.emitter.now.opened.items in
-    leads_back c.emit_node.result c.args.context.now c.args.emitter.now (record { body = c.flush_and_push.new.self; opened = c.args.emitter.now.opened }) c.emit_node.new.emitter c.args.slot c.args.scope.may_keep (out-Info c.args.info.now).min_size
+    leads_back c.emit_node.result c.args.context.now c.args.emitter.now (record { body = c.flush_and_push.new.self; classes = c.args.emitter.now.classes; opened = c.args.emitter.now.opened; parts = c.args.emitter.now.parts }) c.emit_node.new.emitter c.args.slot c.args.scope.may_keep (out-Info c.args.info.now).min_size
     (node_pattern c.args.context.now c.args.info.now false c.args.scope c.args.emitter.now.opened.items) (node_pattern c.args.context.now c.args.info.now true c.args.scope c.args.emitter.now.opened.items)
     (λ tree_context. IsExpandedPart tree_context c.args.scope.may_keep c.args.scope.may_be_absent false (info_of c.args.info.now)) (λ tree_context. IsExpandedPart tree_context c.args.scope.may_keep c.args.scope.may_be_absent true (info_of c.args.info.now))
     (behind_always call c.args.info.now c.if-info.true) c.in_ok-flush_and_push.ensures.draft refl c.in_ok-flush_and_push.ensures.long

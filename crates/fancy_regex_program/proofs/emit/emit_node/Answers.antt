@@ -1,28 +1,28 @@
-use Rattle.std.proofs.Common.{◌≡◌, ℕ, ◌+◌, ◌*◌, ◌<◌, ◌≤◌, Bool, true, false, Some, List, map, length, refl, sym, ap, ◌∙◌, subst, arith}
+use Rattle.std.proofs.Common.{rules, IfOk, ◌≡◌, ℕ, ◌+◌, true, false, List, map, length, refl, sym, ap, ◌∙◌, subst, arith}
 use Rattle.std.proofs.lemmas.List.{length-map}
 use Rattle.fancy_regex_tree.specs.Tree.{tree_of}
 use Rattle.fancy_regex_tree.specs.declared.expr.Absent.TheVariants as absents
+use Rattle.fancy_regex_tree.specs.declared.expr.Expr.{Expr}
 use Rattle.fancy_regex_desugar.specs.CorePatterns.{nothing, group, atomic, conditional, absent, CorePattern}
 use Rattle.fancy_regex_desugar.specs.ProgramSizes.{room}
-use Rattle.fancy_regex_desugar.specs.Unfolded.{cat_all, alt_all, repeated, look}
+use Rattle.fancy_regex_desugar.specs.Unfolded.{repeated, look}
 use Rattle.fancy_regex_info.specs.Infos.{InfoTree, properties_in, info_of}
-use Rattle.fancy_regex_info.specs.declared.info.Info.{Info}
 use Rattle.fancy_regex_info.specs.declared.info.Info.TheViews.{out-Info}
 use Rattle.fancy_regex_program.specs.Known.{info_call}
-use Rattle.fancy_regex_program.specs.Refusals.{TreeContext, IsReasonWhere, IsExpandedPart, AreExpandedParts, IsExpandedRepeat, IsExpandedAbsent, IsExpandedConditional, IsExpandedTarget, looks_behind}
+use Rattle.fancy_regex_program.specs.Refusals.{IsReasonWhere, IsExpandedPart, AreExpandedParts, IsExpandedBody, IsExpandedRepeat, IsExpandedAbsent, IsExpandedConditional, IsExpandedTarget, looks_behind}
 use Rattle.fancy_regex_program.specs.Shapes.{IsAllowed}
-use Rattle.fancy_regex_program.specs.Tasks.{node_pattern, row_pattern, branches_pattern, past_pattern, progress, listed, tasks_work, info_work, call_work, LeadsTo}
-use Rattle.fancy_regex_program.specs.Writing.{Wrote, draft_of, infos_of, info_at, part}
+use Rattle.fancy_regex_program.specs.Tasks.{node_pattern, body_pattern, row_pattern, branches_pattern, listed, tasks_work, info_work, call_work, LeadsTo}
+use Rattle.fancy_regex_program.specs.Writing.{Wrote, infos_of, info_at, part}
 use Rattle.fancy_regex_program.specs.declared.emitter.CompileContext.{CompileContext}
 use Rattle.fancy_regex_program.specs.declared.emitter.Scope.{Scope}
 use Rattle.fancy_regex_program.specs.declared.task.Step.{Step}
 use Rattle.fancy_regex_program.specs.declared.task.Task.TheVariants as task
 use Rattle.fancy_regex_program.proofs.KindLemmas.{NoParts}
 use Rattle.fancy_regex_program.proofs.NodeLemmas.{info_known, front_leaf, front_empty, front_define, front_concat, front_alt, front_group, front_look, front_repeat, front_atomic, front_conditional, front_call, front_absent}
-use Rattle.fancy_regex_program.proofs.RefusalLemmas.{told_by, for_want, absent_stops, kid_group, kid_atomic, kid_absent, kid_look, kid_repeat, kids_conditional, kids_concat, kids_alt, target_stands, leaf_reason, hands, lacks_group, lacks_atomic, lacks_look, lacks_repeat, lacks_absent, lacks_condition, lacks_yes, lacks_no}
+use Rattle.fancy_regex_program.proofs.RefusalLemmas.{told_by, for_want, absent_stops, kid_group, body_atomic, kid_absent, body_look, kid_repeat, kids_conditional, kids_concat, kids_alt, target_stands, leaf_reason, hands, lacks_group, lacks_atomic, lacks_look, lacks_repeat, lacks_absent, lacks_condition, lacks_yes, lacks_no}
 use Rattle.fancy_regex_program.proofs.RoomLemmas.{took, late, full_same, room_group, room_atomic, room_conditional, room_absent, room_look}
 use Rattle.fancy_regex_program.proofs.RowLemmas.{wrote_nothing}
-use Rattle.fancy_regex_program.proofs.StepLemmas.{leads_as, leads_as_any, leads_nothing, leads_nowhere, leads_one_step, full_any, full_within, told_want, told_any}
+use Rattle.fancy_regex_program.proofs.StepLemmas.{leads_as, leads_as_any, leads_nothing, leads_one_step, full_any, full_within, told_want, told_any}
 use Rattle.fancy_regex_program.proofs.TreeLemmas.{tree_call, tree_empty}
 use Rattle.fancy_regex_program.proofs.WorkLemmas.{less_work, less_call_work, row_less, child_less, three_less, call_less, least_work}
 use Rattle.fancy_regex_program.proofs.emit.emit_node.Goals as goal
@@ -59,19 +59,24 @@ returns-in_ok-child-in-Group-clause-work c =
 
 pub returns-in_ok-child-in-AtomicGroup-clause-leads : goal.returns-in_ok-child-in-AtomicGroup-clause-leads
 returns-in_ok-child-in-AtomicGroup-clause-leads c =
+    let is_body : c.deref-in-AtomicGroup.result.now ≡ c.in-AtomicGroup.body.value = search rules in
     let call = calls_of c.args.context.now c.args.scope c.args.emitter.now.opened.items in
     let q = (node_pattern c.args.context.now c.args.info.now false c.args.scope c.args.emitter.now.opened.items) in
-    leads_as_any c.emit_atomic.result c.args.context.now c.args.emitter.now c.emit_atomic.new.emitter c.args.slot c.args.scope.may_keep (λ (context : CompileContext). atomic (node_pattern context c.in_ok-child-in-AtomicGroup.child.now false c.args.scope c.args.emitter.now.opened.items)) q
-    (λ tree_context. IsExpandedPart tree_context c.args.scope.may_keep c.args.scope.may_be_absent false (info_of c.in_ok-child-in-AtomicGroup.child.now)) (λ tree_context. IsExpandedPart tree_context c.args.scope.may_keep c.args.scope.may_be_absent false (info_of c.args.info.now))
-    (front_atomic call c.args.info.now c.in-AtomicGroup.field-0 c.in_ok-child-in-AtomicGroup.child.now c.in-AtomicGroup.is c.in_ok-child-in-AtomicGroup.ensures.value)
-    (λ tree_context s h. kid_atomic tree_context c.args.scope.may_keep c.args.scope.may_be_absent c.args.info.now c.in_ok-child-in-AtomicGroup.child.now c.in-AtomicGroup.field-0 c.in-AtomicGroup.is c.in_ok-child-in-AtomicGroup.ensures.value h) c.emit_atomic.ensures.leads
+    leads_as_any c.emit_atomic.result c.args.context.now c.args.emitter.now c.emit_atomic.new.emitter c.args.slot c.args.scope.may_keep
+    (λ (context : CompileContext). atomic (body_pattern context false c.in-AtomicGroup.body.value c.in_ok-child-in-AtomicGroup.child.now c.args.scope c.args.emitter.now.opened.items)) q
+    (λ tree_context. IsExpandedBody tree_context c.args.scope.may_keep c.args.scope.may_be_absent false (tree_of c.in-AtomicGroup.body.value) (info_of c.in_ok-child-in-AtomicGroup.child.now)) (λ tree_context. IsExpandedPart tree_context c.args.scope.may_keep c.args.scope.may_be_absent false (info_of c.args.info.now))
+    (front_atomic call c.args.info.now c.in-AtomicGroup.body c.in_ok-child-in-AtomicGroup.child.now c.in-AtomicGroup.is c.in_ok-child-in-AtomicGroup.ensures.value)
+    (λ tree_context s h. body_atomic tree_context c.args.scope.may_keep c.args.scope.may_be_absent c.args.info.now c.in_ok-child-in-AtomicGroup.child.now c.in-AtomicGroup.body c.in-AtomicGroup.is c.in_ok-child-in-AtomicGroup.ensures.value h)
+    (subst (λ (e : Expr). IfOk c.emit_atomic.result (λ step. (context : CompileContext) → LeadsTo context (atomic (body_pattern context false e c.in_ok-child-in-AtomicGroup.child.now c.args.scope c.args.emitter.now.opened.items)) c.args.scope.may_keep
+    (λ tree_context. IsExpandedBody tree_context c.args.scope.may_keep c.args.scope.may_be_absent false (tree_of e) (info_of c.in_ok-child-in-AtomicGroup.child.now)) c.args.emitter.now c.emit_atomic.new.emitter c.args.slot step))
+    is_body c.emit_atomic.ensures.leads)
 
 pub returns-in_ok-child-in-AtomicGroup-clause-full : goal.returns-in_ok-child-in-AtomicGroup-clause-full
 returns-in_ok-child-in-AtomicGroup-clause-full c =
     let call = calls_of c.args.context.now c.args.scope c.args.emitter.now.opened.items in
     let q = (node_pattern c.args.context.now c.args.info.now false c.args.scope c.args.emitter.now.opened.items) in
-    let rooms = ap room (front_atomic call c.args.info.now c.in-AtomicGroup.field-0 c.in_ok-child-in-AtomicGroup.child.now c.in-AtomicGroup.is c.in_ok-child-in-AtomicGroup.ensures.value) in
-    full_within c.emit_atomic.result c.args.emitter.now.body 2 (room q) (omega (arith, rooms, room_atomic (node_pattern c.args.context.now c.in_ok-child-in-AtomicGroup.child.now false c.args.scope c.args.emitter.now.opened.items))) c.emit_atomic.ensures.full
+    let rooms = ap room (front_atomic call c.args.info.now c.in-AtomicGroup.body c.in_ok-child-in-AtomicGroup.child.now c.in-AtomicGroup.is c.in_ok-child-in-AtomicGroup.ensures.value) in
+    full_within c.emit_atomic.result c.args.emitter.now.body 2 (room q) (omega (arith, rooms, room_atomic (body_pattern c.args.context.now false c.in-AtomicGroup.body.value c.in_ok-child-in-AtomicGroup.child.now c.args.scope c.args.emitter.now.opened.items))) c.emit_atomic.ensures.full
 
 pub returns-in_ok-child-in-AtomicGroup-clause-refused : goal.returns-in_ok-child-in-AtomicGroup-clause-refused
 returns-in_ok-child-in-AtomicGroup-clause-refused c =
@@ -79,23 +84,27 @@ returns-in_ok-child-in-AtomicGroup-clause-refused c =
 
 pub returns-in_ok-child-in-AtomicGroup-clause-work : goal.returns-in_ok-child-in-AtomicGroup-clause-work
 returns-in_ok-child-in-AtomicGroup-clause-work c =
-    less_work c.emit_atomic.result (infos_of c.args.context.now) (λ (groups : List InfoTree). 1 + info_work groups c.args.scope c.in_ok-child-in-AtomicGroup.child.now) (info_work (infos_of c.args.context.now) c.args.scope c.args.info.now) (omega (arith, child_less (infos_of c.args.context.now) c.args.scope c.args.info.now 0 c.in_ok-child-in-AtomicGroup.child.now c.in_ok-child-in-AtomicGroup.ensures.value)) c.emit_atomic.ensures.work
+    less_work c.emit_atomic.result (infos_of c.args.context.now) (λ (groups : List InfoTree). 2 + info_work groups c.args.scope c.in_ok-child-in-AtomicGroup.child.now) (info_work (infos_of c.args.context.now) c.args.scope c.args.info.now) (omega (arith, child_less (infos_of c.args.context.now) c.args.scope c.args.info.now 0 c.in_ok-child-in-AtomicGroup.child.now c.in_ok-child-in-AtomicGroup.ensures.value)) c.emit_atomic.ensures.work
 
 pub returns-in_ok-child-in-LookAround-clause-leads : goal.returns-in_ok-child-in-LookAround-clause-leads
 returns-in_ok-child-in-LookAround-clause-leads c =
+    let is_body : c.deref-in-LookAround.result.now ≡ c.in-LookAround.body.value = search rules in
     let call = calls_of c.args.context.now c.args.scope c.args.emitter.now.opened.items in
     let q = (node_pattern c.args.context.now c.args.info.now false c.args.scope c.args.emitter.now.opened.items) in
-    leads_as_any c.emit_look_around.result c.args.context.now c.args.emitter.now c.emit_look_around.new.emitter c.args.slot c.args.scope.may_keep (λ (context : CompileContext). look c.in-LookAround.how (part context c.args.scope c.args.emitter.now.opened.items c.in_ok-child-in-LookAround.child.now)) q
-    (λ tree_context. IsExpandedPart tree_context false c.args.scope.may_be_absent (looks_behind c.in-LookAround.how) (info_of c.in_ok-child-in-LookAround.child.now)) (λ tree_context. IsExpandedPart tree_context c.args.scope.may_keep c.args.scope.may_be_absent false (info_of c.args.info.now))
-    (front_look call c.args.info.now c.in-LookAround.field-0 c.in-LookAround.how c.in_ok-child-in-LookAround.child.now c.in-LookAround.is c.in_ok-child-in-LookAround.ensures.value)
-    (λ tree_context s h. kid_look tree_context c.args.scope.may_keep c.args.scope.may_be_absent (infos_of c.args.context.now) c.args.info.now c.in_ok-child-in-LookAround.child.now c.in-LookAround.field-0 c.in-LookAround.how c.in-LookAround.is c.in_ok-child-in-LookAround.ensures.value s h) c.emit_look_around.ensures.leads
+    leads_as_any c.emit_look_around.result c.args.context.now c.args.emitter.now c.emit_look_around.new.emitter c.args.slot c.args.scope.may_keep (λ (context : CompileContext). look (tree_of c.in-LookAround.body.value) c.in-LookAround.how (part context c.args.scope c.args.emitter.now.opened.items c.in_ok-child-in-LookAround.child.now)) q
+    (λ tree_context. IsExpandedBody tree_context false c.args.scope.may_be_absent (looks_behind c.in-LookAround.how) (tree_of c.in-LookAround.body.value) (info_of c.in_ok-child-in-LookAround.child.now)) (λ tree_context. IsExpandedPart tree_context c.args.scope.may_keep c.args.scope.may_be_absent false (info_of c.args.info.now))
+    (front_look call c.args.info.now c.in-LookAround.body c.in-LookAround.how c.in_ok-child-in-LookAround.child.now c.in-LookAround.is c.in_ok-child-in-LookAround.ensures.value)
+    (λ tree_context s h. body_look tree_context c.args.scope.may_keep c.args.scope.may_be_absent (infos_of c.args.context.now) c.args.info.now c.in_ok-child-in-LookAround.child.now c.in-LookAround.body c.in-LookAround.how c.in-LookAround.is c.in_ok-child-in-LookAround.ensures.value s h)
+    (subst (λ (e : Expr). IfOk c.emit_look_around.result (λ step. (context : CompileContext) → LeadsTo context (look (tree_of e) c.in-LookAround.how (part context c.args.scope c.args.emitter.now.opened.items c.in_ok-child-in-LookAround.child.now)) c.args.scope.may_keep
+    (λ tree_context. IsExpandedBody tree_context false c.args.scope.may_be_absent (looks_behind c.in-LookAround.how) (tree_of e) (info_of c.in_ok-child-in-LookAround.child.now)) c.args.emitter.now c.emit_look_around.new.emitter c.args.slot step))
+    is_body c.emit_look_around.ensures.leads)
 
 pub returns-in_ok-child-in-LookAround-clause-full : goal.returns-in_ok-child-in-LookAround-clause-full
 returns-in_ok-child-in-LookAround-clause-full c =
     let call = calls_of c.args.context.now c.args.scope c.args.emitter.now.opened.items in
     let q = (node_pattern c.args.context.now c.args.info.now false c.args.scope c.args.emitter.now.opened.items) in
-    let rooms = ap room (front_look call c.args.info.now c.in-LookAround.field-0 c.in-LookAround.how c.in_ok-child-in-LookAround.child.now c.in-LookAround.is c.in_ok-child-in-LookAround.ensures.value) in
-    full_within c.emit_look_around.result c.args.emitter.now.body 2 (room q) (omega (arith, rooms, room_look c.in-LookAround.how (part c.args.context.now c.args.scope c.args.emitter.now.opened.items c.in_ok-child-in-LookAround.child.now))) c.emit_look_around.ensures.full
+    let rooms = ap room (front_look call c.args.info.now c.in-LookAround.body c.in-LookAround.how c.in_ok-child-in-LookAround.child.now c.in-LookAround.is c.in_ok-child-in-LookAround.ensures.value) in
+    full_within c.emit_look_around.result c.args.emitter.now.body 2 (room q) (omega (arith, rooms, room_look (tree_of c.in-LookAround.body.value) c.in-LookAround.how (part c.args.context.now c.args.scope c.args.emitter.now.opened.items c.in_ok-child-in-LookAround.child.now))) c.emit_look_around.ensures.full
 
 pub returns-in_ok-child-in-LookAround-clause-refused : goal.returns-in_ok-child-in-LookAround-clause-refused
 returns-in_ok-child-in-LookAround-clause-refused c =
@@ -103,7 +112,7 @@ returns-in_ok-child-in-LookAround-clause-refused c =
 
 pub returns-in_ok-child-in-LookAround-clause-work : goal.returns-in_ok-child-in-LookAround-clause-work
 returns-in_ok-child-in-LookAround-clause-work c =
-    less_work c.emit_look_around.result (infos_of c.args.context.now) (λ (groups : List InfoTree). 1 + info_work groups c.args.scope c.in_ok-child-in-LookAround.child.now) (info_work (infos_of c.args.context.now) c.args.scope c.args.info.now) (omega (arith, child_less (infos_of c.args.context.now) c.args.scope c.args.info.now 0 c.in_ok-child-in-LookAround.child.now c.in_ok-child-in-LookAround.ensures.value)) c.emit_look_around.ensures.work
+    less_work c.emit_look_around.result (infos_of c.args.context.now) (λ (groups : List InfoTree). 2 + info_work groups c.args.scope c.in_ok-child-in-LookAround.child.now) (info_work (infos_of c.args.context.now) c.args.scope c.args.info.now) (omega (arith, child_less (infos_of c.args.context.now) c.args.scope c.args.info.now 0 c.in_ok-child-in-LookAround.child.now c.in_ok-child-in-LookAround.ensures.value)) c.emit_look_around.ensures.work
 
 pub returns-in_ok-child-in-Repeater-clause-leads : goal.returns-in_ok-child-in-Repeater-clause-leads
 returns-in_ok-child-in-Repeater-clause-leads c =
@@ -134,19 +143,24 @@ returns-in_ok-child-in-Repeater-clause-work c =
 
 pub returns-in_ok-child_at-in-Conditional-2-clause-leads : goal.returns-in_ok-child_at-in-Conditional-2-clause-leads
 returns-in_ok-child_at-in-Conditional-2-clause-leads c =
+    let is_body : c.deref-in-Conditional.result.now ≡ c.in-Conditional.condition.value = search rules in
     let call = calls_of c.args.context.now c.args.scope c.args.emitter.now.opened.items in
     let q = (node_pattern c.args.context.now c.args.info.now false c.args.scope c.args.emitter.now.opened.items) in
-    leads_as_any c.emit_conditional.result c.args.context.now c.args.emitter.now c.emit_conditional.new.emitter c.args.slot c.args.scope.may_keep (λ (context : CompileContext). conditional (node_pattern context c.in_ok-condition-in-Conditional.condition.now false c.args.scope c.args.emitter.now.opened.items) (node_pattern context c.in_ok-child_at-in-Conditional.field-0.now false c.args.scope c.args.emitter.now.opened.items) (node_pattern context c.in_ok-child_at-in-Conditional-2.field-0.now false c.args.scope c.args.emitter.now.opened.items)) q
-    (λ tree_context. IsExpandedConditional tree_context c.args.scope.may_keep c.args.scope.may_be_absent (info_of c.in_ok-condition-in-Conditional.condition.now) (info_of c.in_ok-child_at-in-Conditional.field-0.now) (info_of c.in_ok-child_at-in-Conditional-2.field-0.now)) (λ tree_context. IsExpandedPart tree_context c.args.scope.may_keep c.args.scope.may_be_absent false (info_of c.args.info.now))
-    (front_conditional call c.args.info.now c.in-Conditional.condition c.in-Conditional.true_branch c.in-Conditional.false_branch c.in_ok-condition-in-Conditional.condition.now c.in_ok-child_at-in-Conditional.field-0.now c.in_ok-child_at-in-Conditional-2.field-0.now c.in-Conditional.is c.in_ok-condition-in-Conditional.ensures.value c.in_ok-child_at-in-Conditional.ensures.value c.in_ok-child_at-in-Conditional-2.ensures.value)
-    (λ tree_context s h. kids_conditional tree_context c.args.scope.may_keep c.args.scope.may_be_absent c.args.info.now c.in_ok-condition-in-Conditional.condition.now c.in_ok-child_at-in-Conditional.field-0.now c.in_ok-child_at-in-Conditional-2.field-0.now c.in-Conditional.condition c.in-Conditional.true_branch c.in-Conditional.false_branch c.in-Conditional.is c.in_ok-condition-in-Conditional.ensures.value c.in_ok-child_at-in-Conditional.ensures.value c.in_ok-child_at-in-Conditional-2.ensures.value h) c.emit_conditional.ensures.leads
+    leads_as_any c.emit_conditional.result c.args.context.now c.args.emitter.now c.emit_conditional.new.emitter c.args.slot c.args.scope.may_keep (λ (context : CompileContext). conditional (body_pattern context false c.in-Conditional.condition.value c.in_ok-tested-in-Conditional.tested.now c.args.scope c.args.emitter.now.opened.items) (node_pattern context c.in_ok-child_at-in-Conditional.field-0.now false c.args.scope c.args.emitter.now.opened.items) (node_pattern context c.in_ok-child_at-in-Conditional-2.field-0.now false c.args.scope c.args.emitter.now.opened.items)) q
+    (λ tree_context. IsExpandedConditional tree_context c.args.scope.may_keep c.args.scope.may_be_absent (tree_of c.in-Conditional.condition.value) (info_of c.in_ok-tested-in-Conditional.tested.now) (info_of c.in_ok-child_at-in-Conditional.field-0.now) (info_of c.in_ok-child_at-in-Conditional-2.field-0.now)) (λ tree_context. IsExpandedPart tree_context c.args.scope.may_keep c.args.scope.may_be_absent false (info_of c.args.info.now))
+    (front_conditional call c.args.info.now c.in-Conditional.condition c.in-Conditional.true_branch c.in-Conditional.false_branch c.in_ok-tested-in-Conditional.tested.now c.in_ok-child_at-in-Conditional.field-0.now c.in_ok-child_at-in-Conditional-2.field-0.now c.in-Conditional.is c.in_ok-tested-in-Conditional.ensures.value c.in_ok-child_at-in-Conditional.ensures.value c.in_ok-child_at-in-Conditional-2.ensures.value)
+    (λ tree_context s h. kids_conditional tree_context c.args.scope.may_keep c.args.scope.may_be_absent c.args.info.now c.in_ok-tested-in-Conditional.tested.now c.in_ok-child_at-in-Conditional.field-0.now c.in_ok-child_at-in-Conditional-2.field-0.now c.in-Conditional.condition c.in-Conditional.true_branch c.in-Conditional.false_branch c.in-Conditional.is c.in_ok-tested-in-Conditional.ensures.value c.in_ok-child_at-in-Conditional.ensures.value c.in_ok-child_at-in-Conditional-2.ensures.value h)
+    (subst (λ (e : Expr). IfOk c.emit_conditional.result (λ step. (context : CompileContext) → LeadsTo context (conditional (body_pattern context false e c.in_ok-tested-in-Conditional.tested.now c.args.scope c.args.emitter.now.opened.items)
+    (node_pattern context c.in_ok-child_at-in-Conditional.field-0.now false c.args.scope c.args.emitter.now.opened.items) (node_pattern context c.in_ok-child_at-in-Conditional-2.field-0.now false c.args.scope c.args.emitter.now.opened.items)) c.args.scope.may_keep
+    (λ tree_context. IsExpandedConditional tree_context c.args.scope.may_keep c.args.scope.may_be_absent (tree_of e) (info_of c.in_ok-tested-in-Conditional.tested.now) (info_of c.in_ok-child_at-in-Conditional.field-0.now) (info_of c.in_ok-child_at-in-Conditional-2.field-0.now)) c.args.emitter.now c.emit_conditional.new.emitter c.args.slot step))
+    is_body c.emit_conditional.ensures.leads)
 
 pub returns-in_ok-child_at-in-Conditional-2-clause-full : goal.returns-in_ok-child_at-in-Conditional-2-clause-full
 returns-in_ok-child_at-in-Conditional-2-clause-full c =
     let call = calls_of c.args.context.now c.args.scope c.args.emitter.now.opened.items in
     let q = (node_pattern c.args.context.now c.args.info.now false c.args.scope c.args.emitter.now.opened.items) in
-    let rooms = ap room (front_conditional call c.args.info.now c.in-Conditional.condition c.in-Conditional.true_branch c.in-Conditional.false_branch c.in_ok-condition-in-Conditional.condition.now c.in_ok-child_at-in-Conditional.field-0.now c.in_ok-child_at-in-Conditional-2.field-0.now c.in-Conditional.is c.in_ok-condition-in-Conditional.ensures.value c.in_ok-child_at-in-Conditional.ensures.value c.in_ok-child_at-in-Conditional-2.ensures.value) in
-    full_within c.emit_conditional.result c.args.emitter.now.body 2 (room q) (omega (arith, rooms, room_conditional (node_pattern c.args.context.now c.in_ok-condition-in-Conditional.condition.now false c.args.scope c.args.emitter.now.opened.items) (node_pattern c.args.context.now c.in_ok-child_at-in-Conditional.field-0.now false c.args.scope c.args.emitter.now.opened.items) (node_pattern c.args.context.now c.in_ok-child_at-in-Conditional-2.field-0.now false c.args.scope c.args.emitter.now.opened.items))) c.emit_conditional.ensures.full
+    let rooms = ap room (front_conditional call c.args.info.now c.in-Conditional.condition c.in-Conditional.true_branch c.in-Conditional.false_branch c.in_ok-tested-in-Conditional.tested.now c.in_ok-child_at-in-Conditional.field-0.now c.in_ok-child_at-in-Conditional-2.field-0.now c.in-Conditional.is c.in_ok-tested-in-Conditional.ensures.value c.in_ok-child_at-in-Conditional.ensures.value c.in_ok-child_at-in-Conditional-2.ensures.value) in
+    full_within c.emit_conditional.result c.args.emitter.now.body 2 (room q) (omega (arith, rooms, room_conditional (body_pattern c.args.context.now false c.in-Conditional.condition.value c.in_ok-tested-in-Conditional.tested.now c.args.scope c.args.emitter.now.opened.items) (node_pattern c.args.context.now c.in_ok-child_at-in-Conditional.field-0.now false c.args.scope c.args.emitter.now.opened.items) (node_pattern c.args.context.now c.in_ok-child_at-in-Conditional-2.field-0.now false c.args.scope c.args.emitter.now.opened.items))) c.emit_conditional.ensures.full
 
 pub returns-in_ok-child_at-in-Conditional-2-clause-refused : goal.returns-in_ok-child_at-in-Conditional-2-clause-refused
 returns-in_ok-child_at-in-Conditional-2-clause-refused c =
@@ -154,7 +168,7 @@ returns-in_ok-child_at-in-Conditional-2-clause-refused c =
 
 pub returns-in_ok-child_at-in-Conditional-2-clause-work : goal.returns-in_ok-child_at-in-Conditional-2-clause-work
 returns-in_ok-child_at-in-Conditional-2-clause-work c =
-    less_work c.emit_conditional.result (infos_of c.args.context.now) (λ (groups : List InfoTree). 8 + (info_work groups c.args.scope c.in_ok-condition-in-Conditional.condition.now + (info_work groups c.args.scope c.in_ok-child_at-in-Conditional.field-0.now + info_work groups c.args.scope c.in_ok-child_at-in-Conditional-2.field-0.now))) (info_work (infos_of c.args.context.now) c.args.scope c.args.info.now) (omega (arith, three_less (infos_of c.args.context.now) c.args.scope c.args.info.now c.in_ok-condition-in-Conditional.condition.now c.in_ok-child_at-in-Conditional.field-0.now c.in_ok-child_at-in-Conditional-2.field-0.now c.in_ok-condition-in-Conditional.ensures.value c.in_ok-child_at-in-Conditional.ensures.value c.in_ok-child_at-in-Conditional-2.ensures.value)) c.emit_conditional.ensures.work
+    less_work c.emit_conditional.result (infos_of c.args.context.now) (λ (groups : List InfoTree). 9 + (info_work groups c.args.scope c.in_ok-tested-in-Conditional.tested.now + (info_work groups c.args.scope c.in_ok-child_at-in-Conditional.field-0.now + info_work groups c.args.scope c.in_ok-child_at-in-Conditional-2.field-0.now))) (info_work (infos_of c.args.context.now) c.args.scope c.args.info.now) (omega (arith, three_less (infos_of c.args.context.now) c.args.scope c.args.info.now c.in_ok-tested-in-Conditional.tested.now c.in_ok-child_at-in-Conditional.field-0.now c.in_ok-child_at-in-Conditional-2.field-0.now c.in_ok-tested-in-Conditional.ensures.value c.in_ok-child_at-in-Conditional.ensures.value c.in_ok-child_at-in-Conditional-2.ensures.value)) c.emit_conditional.ensures.work
 
 pub returns-in_ok-child-in-Repeat-clause-leads : goal.returns-in_ok-child-in-Repeat-clause-leads
 returns-in_ok-child-in-Repeat-clause-leads c =
@@ -267,7 +281,7 @@ returns-in_err-child-in-AtomicGroup-clause-refused c =
     let r = c.from_residual-in_err-child-in-AtomicGroup in
     let e = c.in_err-child-in-AtomicGroup in
     hands r.result e.field-0.0 (IsReasonWhere c.args.context.now.unicode (infos_of c.args.context.now) (λ tree_context. IsExpandedPart tree_context keeps absents false (info_of i))) r.ensures.1
-    (λ tree_context s h. absurd (lacks_atomic tree_context keeps absents i c.in-AtomicGroup.field-0 c.in-AtomicGroup.is h e.ensures.refused))
+    (λ tree_context s h. absurd (lacks_atomic tree_context keeps absents i c.in-AtomicGroup.body c.in-AtomicGroup.is h e.ensures.refused))
 
 pub returns-in_err-child-in-LookAround-clause-refused : goal.returns-in_err-child-in-LookAround-clause-refused
 returns-in_err-child-in-LookAround-clause-refused c =
@@ -277,7 +291,7 @@ returns-in_err-child-in-LookAround-clause-refused c =
     let r = c.from_residual-in_err-child-in-LookAround in
     let e = c.in_err-child-in-LookAround in
     hands r.result e.field-0.0 (IsReasonWhere c.args.context.now.unicode (infos_of c.args.context.now) (λ tree_context. IsExpandedPart tree_context keeps absents false (info_of i))) r.ensures.1
-    (λ tree_context s h. absurd (lacks_look tree_context keeps absents i c.in-LookAround.field-0 c.in-LookAround.how c.in-LookAround.is h e.ensures.refused))
+    (λ tree_context s h. absurd (lacks_look tree_context keeps absents i c.in-LookAround.body c.in-LookAround.how c.in-LookAround.is h e.ensures.refused))
 
 pub returns-in_err-child-in-Repeat-clause-refused : goal.returns-in_err-child-in-Repeat-clause-refused
 returns-in_err-child-in-Repeat-clause-refused c =
@@ -299,13 +313,13 @@ returns-in_err-child-in-Repeater-clause-refused c =
     hands r.result e.field-0.0 (IsReasonWhere c.args.context.now.unicode (infos_of c.args.context.now) (λ tree_context. IsExpandedPart tree_context keeps absents false (info_of i))) r.ensures.1
     (λ tree_context s h. absurd (lacks_absent tree_context keeps absents i c.in-Absent.absent c.in-Repeater.field-0 c.in-Absent.is c.in-Repeater.is h e.ensures.refused))
 
-pub returns-in_err-condition-in-Conditional-clause-refused : goal.returns-in_err-condition-in-Conditional-clause-refused
-returns-in_err-condition-in-Conditional-clause-refused c =
+pub returns-in_err-tested-in-Conditional-clause-refused : goal.returns-in_err-tested-in-Conditional-clause-refused
+returns-in_err-tested-in-Conditional-clause-refused c =
     let i = c.args.info.now in
     let keeps = c.args.scope.may_keep in
     let absents = c.args.scope.may_be_absent in
-    let r = c.from_residual-in_err-condition-in-Conditional in
-    let e = c.in_err-condition-in-Conditional in
+    let r = c.from_residual-in_err-tested-in-Conditional in
+    let e = c.in_err-tested-in-Conditional in
     hands r.result e.field-0.0 (IsReasonWhere c.args.context.now.unicode (infos_of c.args.context.now) (λ tree_context. IsExpandedPart tree_context keeps absents false (info_of i))) r.ensures.1
     (λ tree_context s h. absurd (lacks_condition tree_context keeps absents i c.in-Conditional.condition c.in-Conditional.true_branch c.in-Conditional.false_branch c.in-Conditional.is h e.ensures.refused))
 

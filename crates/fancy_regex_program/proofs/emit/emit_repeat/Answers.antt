@@ -1,11 +1,11 @@
-use Rattle.std.proofs.Common.{◌≡◌, ℕ, ◌+◌, ◌<◌, ◌≤◌, Bool, true, false, List, Some, None, refl, sym, ap, ◌∙◌, subst, arith}
+use Rattle.std.proofs.Common.{◌≡◌, false, Some, None, sym, ap, subst, arith}
 use Rattle.fancy_regex_desugar.specs.CorePatterns.{nothing, repeat}
 use Rattle.fancy_regex_desugar.specs.ProgramSizes.{room}
 use Rattle.fancy_regex_desugar.specs.Unfolded.{repeated}
-use Rattle.fancy_regex_info.specs.Infos.{InfoTree, info_of}
-use Rattle.fancy_regex_program.specs.Refusals.{TreeContext, IsExpandedPart, IsExpandedRepeat}
+use Rattle.fancy_regex_info.specs.Infos.{info_of}
+use Rattle.fancy_regex_program.specs.Refusals.{IsExpandedPart, IsExpandedRepeat}
 use Rattle.fancy_regex_program.specs.Shapes.{IsAllowed}
-use Rattle.fancy_regex_program.specs.Tasks.{node_pattern, info_work, tasks_work, listed}
+use Rattle.fancy_regex_program.specs.Tasks.{node_pattern, tasks_work, listed}
 use Rattle.fancy_regex_program.specs.declared.emitter.CompileContext.{CompileContext}
 use Rattle.fancy_regex_program.specs.declared.task.Step.{Step}
 use Rattle.fancy_regex_program.proofs.RoomLemmas.{room_repeat}

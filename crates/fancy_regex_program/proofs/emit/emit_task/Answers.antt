@@ -1,15 +1,13 @@
-use Rattle.std.proofs.Common.{◌≡◌, ℕ, ◌+◌, ◌-◌, ◌<◌, ◌≤◌, List, [], ◌∷◌, length, take, vec_len, Result, IfOk, IfErr, refl, sym, ap, ◌∙◌, subst, arith}
+use Rattle.std.proofs.Common.{◌≡◌, ◌+◌, ◌-◌, ◌<◌, List, length, take, vec_len, IfOk, IfErr, refl, sym, ap, ◌∙◌, subst, arith}
 use Rattle.std.proofs.lemmas.Result.{IfOk-weaker, IfErr-weaker}
 use Rattle.fancy_regex_info.specs.Infos.{InfoTree}
-use Rattle.fancy_regex_info.specs.declared.error.CompileError.{CompileError}
 use Rattle.fancy_regex_program.specs.Extents.{IsFull}
-use Rattle.fancy_regex_program.specs.Refusals.{TreeContext, IsReasonWhere}
-use Rattle.fancy_regex_program.specs.Tasks.{Leads, LeadsOn, past, progress, IsAllowedTask, IsExpandedTask, task_room, task_work, tasks_work, infos_work, info_work, listed}
+use Rattle.fancy_regex_program.specs.Refusals.{IsReasonWhere}
+use Rattle.fancy_regex_program.specs.Tasks.{LeadsOn, IsExpandedTask, task_room, task_work, tasks_work, infos_work, info_work, listed}
 use Rattle.fancy_regex_program.specs.Writing.{infos_of}
 use Rattle.fancy_regex_program.specs.declared.emitter.CompileContext.{CompileContext}
 use Rattle.fancy_regex_program.specs.declared.emitter.Emitter.{Emitter}
 use Rattle.fancy_regex_program.specs.declared.task.Step.{Step}
-use Rattle.fancy_regex_program.specs.declared.task.Task.{Task}
 use Rattle.fancy_regex_program.specs.declared.task.Task.TheVariants as task
 use Rattle.fancy_regex_program.proofs.BranchSteps.{leads_close, leads_end_call}
 use Rattle.fancy_regex_program.proofs.RoomLemmas.{late}
@@ -35,6 +33,23 @@ pub returns-in-Node-clause-work : goal.returns-in-Node-clause-work
 returns-in-Node-clause-work c =
     subst (λ t. IfOk c.emit_ahead_or_behind.result (λ step. tasks_work (infos_of c.args.context.now) (listed step.tasks) < task_work (infos_of c.args.context.now) t)) (sym c.in-Node.is)
     c.emit_ahead_or_behind.ensures.work
+
+pub returns-in-Body-clause-leads : goal.returns-in-Body-clause-leads
+returns-in-Body-clause-leads c =
+    subst (λ t. IfOk c.emit_body.result (LeadsOn c.args.context.now t c.args.emitter.now c.emit_body.new.emitter c.args.slot)) (sym c.in-Body.is) c.emit_body.ensures.leads
+
+pub returns-in-Body-clause-full : goal.returns-in-Body-clause-full
+returns-in-Body-clause-full c =
+    subst (λ t. IfErr c.emit_body.result (IsFull c.args.emitter.now.body (task_room c.args.context.now t c.args.emitter.now.opened.items))) (sym c.in-Body.is) c.emit_body.ensures.full
+
+pub returns-in-Body-clause-refused : goal.returns-in-Body-clause-refused
+returns-in-Body-clause-refused c =
+    subst (λ t. IfErr c.emit_body.result (IsReasonWhere c.args.context.now.unicode (infos_of c.args.context.now) (λ tree_context. IsExpandedTask tree_context t))) (sym c.in-Body.is) c.emit_body.ensures.refused
+
+pub returns-in-Body-clause-work : goal.returns-in-Body-clause-work
+returns-in-Body-clause-work c =
+    subst (λ t. IfOk c.emit_body.result (λ step. tasks_work (infos_of c.args.context.now) (listed step.tasks) < task_work (infos_of c.args.context.now) t)) (sym c.in-Body.is)
+    (less_work c.emit_body.result (infos_of c.args.context.now) (λ (groups : List InfoTree). info_work groups c.in-Body.scope c.in-Body.info.now) (task_work (infos_of c.args.context.now) (task.Body c.in-Body.body c.in-Body.for_any c.in-Body.info c.in-Body.scope)) (omega arith) c.emit_body.ensures.work)
 
 pub returns-in-Branches-clause-leads : goal.returns-in-Branches-clause-leads
 returns-in-Branches-clause-leads c =
@@ -106,7 +121,7 @@ returns-in-Row-clause-work c =
 
 pub returns-in_ok-close-in-Close-clause-leads : goal.returns-in_ok-close-in-Close-clause-leads
 returns-in_ok-close-in-Close-clause-leads c =
-    subst (λ t. LeadsOn c.args.context.now t c.args.emitter.now (record { body = c.close.new.body; opened = c.args.emitter.now.opened }) c.args.slot c.leads_to-in-Close.result) (sym c.in-Close.is)
+    subst (λ t. LeadsOn c.args.context.now t c.args.emitter.now (record { body = c.close.new.body; classes = c.args.emitter.now.classes; opened = c.args.emitter.now.opened; parts = c.args.emitter.now.parts }) c.args.slot c.leads_to-in-Close.result) (sym c.in-Close.is)
     (leads_close c.args.context.now c.args.emitter.now c.close.new.body c.args.slot c.in-Close.closing (λ tree_context. Unit {0}) c.leads_to-in-Close.result c.leads_to-in-Close.ensures c.in_ok-close-in-Close.ensures.draft)
 
 pub returns-in_ok-close-in-Close-clause-work : goal.returns-in_ok-close-in-Close-clause-work
@@ -125,7 +140,7 @@ pub returns-in-EndCall-clause-leads : goal.returns-in-EndCall-clause-leads
 returns-in-EndCall-clause-leads c =
     let opened = c.args.emitter.now.opened in
     let long : vec_len opened ≡ length opened.items = omega (arith, opened.ok.0) in
-    let new : Emitter = record { body = c.args.emitter.now.body; opened = c.pop.new.self } in
+    let new : Emitter = record { body = c.args.emitter.now.body; classes = c.args.emitter.now.classes; opened = c.pop.new.self; parts = c.args.emitter.now.parts } in
     subst (λ t. LeadsOn c.args.context.now t c.args.emitter.now new c.args.slot c.leads_to-in-EndCall.result) (sym c.in-EndCall.is)
     (leads_end_call c.args.context.now c.args.emitter.now new c.args.slot (λ tree_context. Unit {0}) c.leads_to-in-EndCall.result c.leads_to-in-EndCall.ensures refl
     (c.pop.ensures.rest ∙ ap (λ n. take (n - 1) opened.items) long))

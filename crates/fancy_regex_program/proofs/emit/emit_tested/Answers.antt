@@ -1,5 +1,5 @@
-use Rattle.std.proofs.Common.{◌≡◌, ℕ, ◌+◌, ◌≤◌, List, [], ◌∷◌, refl, sym, ap, ◌∙◌, arith}
-use Rattle.fancy_regex_program.specs.Tasks.{tasks_work, task_work, listed}
+use Rattle.std.proofs.Common.{[], ap, arith}
+use Rattle.fancy_regex_program.specs.Tasks.{tasks_work, listed}
 use Rattle.fancy_regex_program.specs.declared.task.Step.{Step}
 use Rattle.fancy_regex_program.proofs.BranchSteps.{leads_tested}
 use Rattle.fancy_regex_program.proofs.StepLemmas.{with_node}

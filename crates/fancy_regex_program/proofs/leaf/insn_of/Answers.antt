@@ -32,7 +32,7 @@ returns-in_ok-matcher-in-Delegate-clause-insn c =
     let inner = c.in-Delegate.inner in
     let casei = c.in-Delegate.casei in
     let m = c.in_ok-matcher-in-Delegate.matcher in
-    let is : IsMatcherOf m c.args.context.now.unicode (chars (string_bytes inner)) casei =
+    let is : IsMatcherOf m.value c.args.context.now.unicode (chars (string_bytes inner)) casei =
     rw c.deref.ensures at c.in_ok-matcher-in-Delegate.ensures.members in
     let readable : IsTrue (is_class c.args.context.now.unicode (chars (string_bytes inner)) casei) =
     rw c.deref.ensures at c.in_ok-matcher-in-Delegate.ensures.read in

@@ -11,10 +11,15 @@ use Rattle.std.proofs.Crossing as heap
 use Rattle.core.specs.declared.option.Option.{Option}
 use Rattle.core.specs.declared.option.Option.TheVariants.{None, Some}
 use Rattle.std_alloc.proofs.SendSync.{quiet, lies}
+use Rattle.fancy_regex_meta.proofs.Sending.{regex_send}
 use Rattle.fancy_regex_ffi.specs.Handles.{owns_if_live, token}
 use Rattle.fancy_regex_ffi.specs.contracts.held.Held.{the_row as held_row}
-use Rattle.fancy_regex_ffi.proofs.held.Held.TheSendSync.{the_send as held_send}
+use Rattle.fancy_regex_ffi.proofs.fault.Fault.TheSendSync as fault
 use Rattle.fancy_regex_ffi.specs.contracts.handle.Handle.{the_row, the_type}
+
+-- what a handle holds, of which the toolchain writes no such proof, since a program may hold a tree
+held_send : IsSend held_row
+held_send = search (regex_send, fault.the_field_send, heap.crosses, sendable) depth 60 fits 20000
 
 owned : (p : Ptr) (b : Bool) (o : Option held_row.Denot) → Keyless (owns_if_live token held_row p b o)
 unfolding owns_if_live

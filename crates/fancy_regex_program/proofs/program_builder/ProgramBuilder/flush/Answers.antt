@@ -27,7 +27,7 @@ returns-clause-draft c =
     let bytes = string_bytes b.pending_literal in
     c.in_ok-push_insn.ensures.draft
     ∙ same_draft
-    (ap (λ s. ops_of b.insns.items ++ op.lit (chars (string_bytes s)) ∷ []) c.replace-text.ensures.value
+    (ap (λ bytes. ops_of b.insns.items ++ op.lit (chars bytes) ∷ []) (c.in_ok-literal.ensures ∙ ap string_bytes c.replace-text.ensures.value)
     ∙ ap (λ l. ops_of b.insns.items ++ l) (sym (some_text bytes (string_len b.pending_literal) long (IsUtf8-string_bytes b.pending_literal) (sym c.if-is_empty.ensures))))
     (ap (λ s. chars (string_bytes s)) c.replace-text.ensures.after ∙ ap chars c.new.ensures.bytes ∙ chars-nil)
 
@@ -41,4 +41,4 @@ returns-in_err-push_insn-clause-full c =
     let some = some_text (string_bytes b.pending_literal) (string_len b.pending_literal) long (IsUtf8-string_bytes b.pending_literal) (sym c.if-is_empty.ensures) in
     let none = ap (λ s. chars (string_bytes s)) c.replace-text.ensures.after ∙ ap chars c.new.ensures.bytes ∙ chars-nil in
     let full = flushed_full (ops_of b.insns.items) (chars (string_bytes b.pending_literal)) _ none some in
-    late c.from_residual.result c.in_err-push_insn.field-0.0 _ _ c.from_residual.ensures.1 c.in_err-push_insn.ensures.full (λ lt. omega (arith, lt, full))
+    late c.from_residual-in_err-push_insn.result c.in_err-push_insn.field-0.0 _ _ c.from_residual-in_err-push_insn.ensures.1 c.in_err-push_insn.ensures.full (λ lt. omega (arith, lt, full))

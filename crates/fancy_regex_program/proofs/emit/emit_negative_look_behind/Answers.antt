@@ -1,19 +1,19 @@
-use Rattle.std.proofs.Common.{◌≡◌, ℕ, zero, suc, ◌+◌, ◌-◌, ◌*◌, ◌<◌, ◌≤◌, Bool, true, false, List, [], ◌∷◌, ◌++◌, length, map, option_map, refl, sym, ap, ap₂, ◌∙◌, subst, arith}
-use Rattle.fancy_regex_desugar.specs.CorePatterns.{group, ahead, never, atomic, repeat, absent, conditional}
-use Rattle.fancy_regex_info.specs.Infos.{InfoTree, info_of}
-use Rattle.fancy_regex_program.specs.Refusals.{TreeContext, IsExpandedPart, AreExpandedParts, IsExpandedConditional}
-use Rattle.fancy_regex_program.specs.Tasks.{node_pattern, row_pattern, branches_pattern, info_work, infos_work}
-use Rattle.fancy_regex_program.specs.Writing.{draft_of, infos_of, info_at}
-use Rattle.fancy_regex_program.proofs.EmitLemmas.{drew_group, drew_atomic, drew_ahead, drew_never, drew_counted, drew_loop, drew_absent}
-use Rattle.fancy_regex_program.proofs.RoomLemmas.{late, room_group, room_ahead, room_never, room_atomic, room_repeat, room_absent, room_conditional}
+use Rattle.std.proofs.Common.{true, false, refl, arith}
+use Rattle.fancy_regex_desugar.specs.CorePatterns.{never}
+use Rattle.fancy_regex_info.specs.Infos.{info_of}
+use Rattle.fancy_regex_program.specs.Refusals.{IsExpandedPart}
+use Rattle.fancy_regex_program.specs.Tasks.{node_pattern}
+use Rattle.fancy_regex_program.specs.Writing.{draft_of}
+use Rattle.fancy_regex_program.proofs.EmitLemmas.{drew_never}
+use Rattle.fancy_regex_program.proofs.RoomLemmas.{late, room_never}
 use Rattle.fancy_regex_program.proofs.StepLemmas.{leads_around}
-use Rattle.fancy_regex_program.proofs.emit.emit_negative_look_around.Goals as goal
+use Rattle.fancy_regex_program.proofs.emit.emit_negative_look_behind.Goals as goal
 
 pub returns-clause-leads : goal.returns-clause-leads
 returns-clause-leads c context =
-    let a = node_pattern context c.args.info.now c.args.behind c.args.scope c.args.emitter.now.opened.items in
-    leads_around context c.args.emitter.now (record { body = c.push_insn.new.self; opened = c.args.emitter.now.opened }) c.args.slot c.args.scope.may_keep (never a)
-    (λ tree_context. IsExpandedPart tree_context false c.args.scope.may_be_absent c.args.behind (info_of c.args.info.now)) c.around.result c.in_ok-inside.inside _ _ _ _ c.around.ensures.tasks c.around.ensures.slot
+    let a = node_pattern context c.args.info.now true c.args.scope c.args.emitter.now.opened.items in
+    leads_around context c.args.emitter.now (record { body = c.push_insn.new.self; classes = c.args.emitter.now.classes; opened = c.args.emitter.now.opened; parts = c.args.emitter.now.parts }) c.args.slot c.args.scope.may_keep (never a)
+    (λ tree_context. IsExpandedPart tree_context false c.args.scope.may_be_absent true (info_of c.args.info.now)) c.around.result c.in_ok-inside.inside _ _ _ _ c.around.ensures.tasks c.around.ensures.slot
     (drew_never context.unicode context.whole a c.args.slot c.in_ok-inside.inside c.len-split.result c.len-first.result _ (draft_of c.args.emitter.now.body) (draft_of c.flush_and_push.new.self) (draft_of c.push_insn.new.self) _ _ _ c.in_ok-inside.ensures.value c.in_ok-flush_and_push.ensures.draft c.len-split.ensures c.in_ok-push_insn.ensures.draft c.len-first.ensures refl refl refl refl)
     (omega (arith, c.in_ok-inside.ensures.value)) refl (λ h. h) (omega (arith, c.in_ok-flush_and_push.ensures.long, c.in_ok-push_insn.ensures.long, room_never a)) (λ tree_context s h. h)
 
