@@ -35,7 +35,8 @@ The answer of a call that fails is the text of its error in brackets. Other answ
     capture_names       the name of each group in brackets, `-` for one without
     start_bytes         the runs of bytes in brackets, or none; required_bytes: the same
     sizes               least, greatest (`-` for unbounded), and whether all sizes are the same
-    reprinted           the answer of captures_iter by a regex of the printed text, with the options that it keeps
+    reprinted           alike, if a regex of the printed text, with the options that it keeps, has the answers of the regex on the text:
+                        of searches from each position, anchored there and not, iterations, splits and replacements
     layout              the instructions of the program, each in brackets; repeats: how many begin a greedy repeat, and how many fail
     set                 MEMBER:START..END or the text of an error, with a blank between, or none
 """
@@ -219,8 +220,10 @@ def row_calls(row):
             return [(f"name {row['name']}", found)]
         case "find_iter":
             return [("find_iter" + given, lambda expected: " ".join(map(span, expected)))]
-        case "captures_iter" | "reprinted":
+        case "captures_iter":
             return [(kind + given, lambda expected: " / ".join(map(groups, expected)))]
+        case "reprinted":
+            return [("captures_iter", lambda expected: " / ".join(map(groups, expected))), (kind, lambda _: "alike")]
         case "split":
             return [("split", pieces)]
         case "splitn":
@@ -323,6 +326,8 @@ def library_questions(case):
         questions.append(("start_bytes", starts))
     if causes:
         return questions + [("build", " | ".join(causes))]
+    if case["reprint"] is not None:
+        questions.append(("reprinted", "alike"))
     return questions + analysis_questions(case) + search_questions(case) + text_questions(case)
 
 

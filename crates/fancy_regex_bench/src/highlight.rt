@@ -1,11 +1,8 @@
 //! A highlighter: the tokens of a source text, found by a set of thirty patterns, and by the same thirty asked one by one.
 
-use crate::clock::Pace;
 use crate::fault::Fault;
-use crate::source;
 use fancy_regex::{Regex, RegexInput, RegexSet};
 use std::alloc::Global;
-use std::time::Instant;
 
 /// Comments, strings, numbers, keywords, names and operators. Where several match at one place, the first of them counts.
 const TOKENS: [&str; 30] = [
@@ -41,39 +38,16 @@ const TOKENS: [&str; 30] = [
     "[(){}\\[\\],;:.?@]",
 ];
 
-/// Times both over a source text of this size in bytes.
-pub fn measure_all(rt: &HostRuntime, size: usize) -> Result<(), Fault> {
-    let text = source::make(rt.alloc(), size)?;
-    measure_set(rt, &text)?;
-    measure_members(rt, &text)
+/// The number of tokens that a set of the thirty patterns finds.
+pub fn tokens_by_set(alloc: Global, text: &str) -> Result<u64, Fault> {
+    let set = RegexSet::new(alloc, &TOKENS)?;
+    count_by_set(alloc, &set, text)
 }
 
-/// Prints the time of the set, and the number of tokens.
-fn measure_set(rt: &HostRuntime, text: &str) -> Result<(), Fault> {
-    let set = RegexSet::new(rt.alloc(), &TOKENS)?;
-    let start = Instant::now(rt)?;
-    let count = count_by_set(rt.alloc(), &set, text)?;
-    let pace = Pace::since(rt, &start, text.len())?;
-    eprintln!(rt;
-        "highlight, a set over {} bytes: {} ms, {count} tokens",
-        text.len(),
-        pace.millis()
-    )?;
-    Ok(())
-}
-
-/// Prints the time of the members, and the number of tokens.
-fn measure_members(rt: &HostRuntime, text: &str) -> Result<(), Fault> {
-    let members = build_members(rt.alloc())?;
-    let start = Instant::now(rt)?;
-    let count = count_by_members(rt.alloc(), &members, text)?;
-    let pace = Pace::since(rt, &start, text.len())?;
-    eprintln!(rt;
-        "highlight, one by one over {} bytes: {} ms, {count} tokens",
-        text.len(),
-        pace.millis()
-    )?;
-    Ok(())
+/// The number of tokens that the members find.
+pub fn tokens_by_members(alloc: Global, text: &str) -> Result<u64, Fault> {
+    let members = build_members(alloc)?;
+    count_by_members(alloc, &members, text)
 }
 
 /// A regex for each of the thirty patterns.
@@ -122,13 +96,13 @@ fn next_end(
 fn count_by_members(alloc: Global, members: &[Regex], text: &str) -> Result<u64, Fault> {
     let mut count: u64 = 0;
     let mut place = 0;
-    while place < text.len() {
+    for _ in 0..text.len() {
         match first_end(alloc, members, text, place)? {
             Some(end) if end > place => {
                 count = count.saturating_add(1);
                 place = end;
             }
-            _ => place += 1,
+            _ => place = place.saturating_add(1),
         }
     }
     Ok(count)

@@ -1,24 +1,70 @@
-//! A benchmark: measures searches and iteration over generated haystacks. The first word, if given, is the size of the largest
-//! haystack in bytes. If the second word is `highlight`, it measures the highlighter alone, on the whole size. Each measurement
-//! is a line on standard error. Exit status: 0, or 2 if a measurement failed.
+//! A benchmark: measures searches, iterations, splits, replacements and sets over generated haystacks. The first word, if given, is
+//! the size of the largest haystack in bytes. Each measurement is a line on standard error. Exit status: 0, or 2 if a measurement
+//! failed.
 #![tactic(auto)]
 
 use fault::Fault;
 use std::env;
 use std::process::ExitCode;
+use std::time::Instant;
+use text::text_of;
+use work::{Work, done};
 
-mod clock;
 mod fault;
-mod hard;
 mod highlight;
-mod iterate;
-mod plain;
-mod source;
 mod text;
-mod words;
+mod work;
 
 /// The default size of the haystack, in bytes.
 const SMALL: usize = 2000;
+
+/// What is done once, and on which part of the whole size. No pattern but the highlighter's has a match.
+static SINGLE: [(Work, usize); 32] = [
+    (Work::Looks("abaX"), 1),
+    (Work::Looks("(?i)ABX"), 1),
+    (Work::Looks("[0-9]+"), 1),
+    (Work::Looks("\\bfoob\\b"), 1),
+    (Work::Looks("(?m)^X"), 1),
+    (Work::Looks("foo1|bar1|the1"), 1),
+    (Work::Looks("[a-z]+X"), 1),
+    (Work::Looks("(a|b|ab)*X"), 1),
+    (Work::Looks("(?:a?){8}X"), 1),
+    (Work::Looks(".*X"), 1),
+    (Work::Search("foo(?=X)"), 10),
+    (Work::Search("(?<=foo)X"), 10),
+    (Work::Search("foo(?! |f)"), 10),
+    (Work::Search("(?<!o)X"), 10),
+    (Work::Search("(\\w)\\1X"), 10),
+    (Work::Search("(?>a|ab)X"), 10),
+    (Work::Search("a++X"), 10),
+    (Work::Search("(f)?(?(1)X|Y)"), 10),
+    (Work::Search("(a\\g<1>?b)X"), 10),
+    (Work::Search("(?~the)X"), 10),
+    (Work::Backtracks("foo(?=X)"), 10),
+    (Work::Backtracks("(?<=foo)X"), 10),
+    (Work::Backtracks("foo(?! |f)"), 10),
+    (Work::Backtracks("(?<!o)X"), 10),
+    (Work::Backtracks("(\\w)\\1X"), 10),
+    (Work::Backtracks("(?>a|ab)X"), 10),
+    (Work::Backtracks("a++X"), 10),
+    (Work::Backtracks("(f)?(?(1)X|Y)"), 10),
+    (Work::Backtracks("(a\\g<1>?b)X"), 10),
+    (Work::Backtracks("(?~the)X"), 10),
+    (Work::TokensBySet, 10),
+    (Work::TokensByMembers, 10),
+];
+
+/// What is done on a tenth, a fifth, a half and the whole: a match at every character, at every word and none, and the words found,
+/// split by and replaced.
+static GROWING: [Work; 7] = [
+    Work::Matches("(?s)."),
+    Work::Matches("[a-z]+"),
+    Work::Matches("[0-9]+"),
+    Work::Matches("\\w+"),
+    Work::Pieces("\\w+"),
+    Work::Replaced("word"),
+    Work::Replaced("<$0>"),
+];
 
 fn main(rt: HostRuntime) -> ExitCode {
     match measure_all(&rt) {
@@ -27,19 +73,16 @@ fn main(rt: HostRuntime) -> ExitCode {
     }
 }
 
-/// Plain patterns on the whole size, hard ones and the highlighter on a tenth of it, iterations and replacements on a tenth, a
-/// fifth, a half and the whole.
+/// Measures all works on the size that the first word gives.
 fn measure_all(rt: &HostRuntime) -> Result<(), Fault> {
     let size = asked_size(rt)?;
-    if is_highlighter_asked(rt)? {
-        return highlight::measure_all(rt, size);
+    for (work, part) in SINGLE.iter() {
+        measure(rt, *work, size / (*part).max(1))?;
     }
-    plain::measure_all(rt, size)?;
-    hard::measure_all(rt, size / 10)?;
-    highlight::measure_all(rt, size / 10)?;
     for part in [10, 5, 2, 1] {
-        iterate::measure_all(rt, size / part)?;
-        words::measure_all(rt, size / part)?;
+        for work in GROWING.iter() {
+            measure(rt, *work, size / part)?;
+        }
     }
     Ok(())
 }
@@ -52,10 +95,31 @@ fn asked_size(rt: &HostRuntime) -> Result<usize, Fault> {
     }
 }
 
-/// Whether the second word asks for the highlighter alone.
-fn is_highlighter_asked(rt: &HostRuntime) -> Result<bool, Fault> {
-    match env::args(rt)?.nth(2) {
-        Some(word) => Ok(word.as_str() == "highlight"),
-        None => Ok(false),
-    }
+/// Makes a haystack of this size in bytes, and measures a work on it.
+fn measure(rt: &HostRuntime, work: Work, size: usize) -> Result<(), Fault> {
+    let text = text_of(rt.alloc(), work, size)?;
+    measure_on(rt, work, &text)
+}
+
+/// Does a work on a haystack, the building of its regex included, and prints the time, the throughput and what it counts.
+fn measure_on(rt: &HostRuntime, work: Work, text: &str) -> Result<(), Fault> {
+    let start = Instant::now(rt)?;
+    let count = done(rt.alloc(), work, text)?;
+    let micros = micros_since(rt, &start)?;
+    let bytes = text.len() as u64;
+    let (name, counted) = work.names();
+    let pattern = work.pattern();
+    let tenths = bytes.saturating_mul(10) / micros.max(1);
+    eprintln!(rt;
+        "{name} {pattern}: {bytes} bytes in {} ms, {}.{} MB/s, {count} {counted}",
+        micros / 1000,
+        tenths / 10,
+        tenths % 10
+    )?;
+    Ok(())
+}
+
+/// The microseconds since a time; `Fault::System` if the clock fails.
+fn micros_since(rt: &HostRuntime, start: &Instant) -> Result<u64, Fault> {
+    Ok(u64::try_from(start.elapsed(rt)?.as_micros()).unwrap_or(u64::MAX))
 }

@@ -1,14 +1,39 @@
-//! The generated haystack.
+//! The generated haystacks.
 
+use crate::work::Work;
 use std::alloc::{AllocError, Global};
 
-/// The words of the haystack, without digits and upper-case letters.
-const WORDS: [&str; 8] = [
+/// The words of a haystack, without digits and upper-case letters.
+static WORDS: [&str; 8] = [
     "abab ", "foo ", "bar\n", "aab ", "zebra ", "the ", "quick ", "é ",
 ];
 
-/// A haystack of about this many bytes: the words in a pseudorandom order, the same in each run.
-pub fn make(alloc: Global, size: usize) -> Result<String, AllocError> {
+/// The lines of a source text.
+static LINES: [&str; 12] = [
+    "// Counts the words of a line, and says which of them is the longest.\n",
+    "pub fn longest_word(line: &str) -> Option<&str> {\n",
+    "    let mut best: Option<&str> = None;\n",
+    "    for word in line.split(' ') {\n",
+    "        if best.map_or(true, |b| b.len() < word.len()) {\n",
+    "            best = Some(word); /* the first of equals stays */\n",
+    "    println!(\"{}:\\t\\\"{}\\\"\", 0x1F + index * 10_000, name);\n",
+    "const LIMIT: u64 = 1_000_000; static RATIO: f64 = 2.5e-3;\n",
+    "    match self.state { State::Open(n) if n >= 3 => n << 2, _ => 0b1010 }\n",
+    "#[derive(Clone, Debug)]\nstruct Reader<'a, T> { buffer: Vec<T>, place: usize, name: &'a str }\n",
+    "        }\n    }\n    best\n}\n\n",
+    "    while i != end && !is_done { i += 1; total -= price[i] % 7; }\n",
+];
+
+/// The haystack of a work, of about this many bytes: a source text for the highlighter, else words.
+pub fn text_of(alloc: Global, work: Work, size: usize) -> Result<String, AllocError> {
+    match work {
+        Work::TokensBySet | Work::TokensByMembers => made(alloc, &LINES, size),
+        _ => made(alloc, &WORDS, size),
+    }
+}
+
+/// A text of about this many bytes: the pieces in a pseudorandom order, the same in each run.
+fn made(alloc: Global, pieces: &[&str], size: usize) -> Result<String, AllocError> {
     let mut text = String::new(alloc);
     text.reserve(size)?;
     let mut number: u32 = 1;
@@ -17,7 +42,8 @@ pub fn make(alloc: Global, size: usize) -> Result<String, AllocError> {
             break;
         }
         number = number.wrapping_mul(1_103_515_245).wrapping_add(12_345);
-        text.push_str(WORDS[(number >> 16) as usize % 8])?;
+        let index = (number >> 16) as usize % pieces.len().max(1);
+        text.push_str(pieces.get(index).copied().unwrap_or(" "))?;
     }
     Ok(text)
 }

@@ -1,6 +1,6 @@
-//! A fuzzer of `fancy_regex` and of the program over it: makes patterns, texts, templates, options and inputs at random, runs the
-//! public calls on them and checks what has to hold between their answers. The words are the seed and the number of cases, 1 and
-//! 5,000 if they are not given. It stops at the first contradiction and prints the smallest pattern and text that it finds for it.
+//! A fuzzer of `fancy_regex`: makes patterns, texts, templates, options and inputs at random, runs the public calls on them and
+//! checks what has to hold between their answers. The words are the seed and the number of cases, 1 and
+//! 5,000 if they are not given. It stops at the first contradiction and prints the shortest pattern that it finds for it.
 //! It tells how the cases ended, counted by the kind of their patterns. Exit status: 0 without a contradiction, 1 with one, 2 if it
 //! cannot run or runs out of memory.
 #![tactic(auto)]
@@ -15,7 +15,7 @@ use fancy_regex_fuzz_checks::case::Case;
 use fancy_regex_fuzz_checks::ending::{Ending, ending_of};
 use fancy_regex_fuzz_checks::part::Part;
 use fancy_regex_fuzz_checks::setting::Setting;
-use fancy_regex_fuzz_checks::shrink::shrunk;
+use fancy_regex_fuzz_checks::shrink::shortest_pattern;
 use fault::Fault;
 use report::{Report, print_contradiction};
 use std::env;
@@ -86,8 +86,12 @@ fn runs_well(
     report.count(kind, ending);
     match ending {
         Ending::Contradicts(check) => {
-            let least = shrunk(rt.alloc(), case, check)?;
-            print_contradiction(rt, least.borrowed(), check)?;
+            let shortest = shortest_pattern(rt.alloc(), case, check)?;
+            let case = Case {
+                pattern: &shortest,
+                ..case
+            };
+            print_contradiction(rt, case, check)?;
             Ok(false)
         }
         Ending::Memory => Err(Fault::Memory),

@@ -5,95 +5,69 @@
 pub enum Check {
     /// All calls that need the pattern refuse it with the same error, and so do the inner calls, one after the other.
     Refused,
-    /// `find` and `captures` find what they found before all other checks.
-    Again,
-    /// `captures` has the match of `find` as its group 0.
-    Captures,
-    /// `is_match` is true exactly where `find` finds.
-    IsMatch,
-    /// The searches of a part of the text find the same, inside the part.
-    Input,
-    /// What an anchored search finds is found without the anchor too.
-    Anchored,
+    /// A search with a count of looks finds what `find` finds. A plain pattern is built, and a search of it keeps its bound on looks and
+    /// meets no limit.
+    Plain,
+    /// `is_match`, `find` and `captures` find the same.
+    Whole,
+    /// The searches of a part of the text, anchored there or not, find the same, inside the part.
+    Part,
     /// The searches from a byte offset on find the same.
     From,
     /// A group's name gives the last group of that name, and each group that is set lies in the text.
     Groups,
-    /// Reading, analysis, compiler and machine, and the runner for what it runs, give the groups that the regex gives.
-    Engines,
+    /// Reading, analysis, and the engine that the regex runs on give the groups that the regex gives.
+    Engine,
+    /// So does the machine, which runs every pattern.
+    Machine,
     /// The ends of an iteration's matches increase, and its first match is that of `find`.
     Ends,
+    /// Behind a match that is not empty the iteration finds what `find_from_pos` finds from its end.
+    Next,
     /// The iteration over the groups in a part of the text has the matches of the iteration over its matches.
     Items,
     /// Pieces and matches in turn are the text.
     Pieces,
-    /// The pieces up to a limit are the first pieces and the rest.
-    Limited,
-    /// What replaces each match by itself changes nothing.
-    Replaced,
-    /// Behind a match that is not empty the iteration finds what `find_from_pos` finds from its end.
-    Next,
     /// A replacement by a template has the template's expansion for each match.
     Template,
-    /// A replacement by a fixed text has it between the pieces, whatever tells the text.
+    /// A replacement of the first matches by a fixed text has it between the pieces.
     Fixed,
-    /// A replacement of the first matches alone has the text between the first pieces and the rest.
-    First,
-    /// The calls that expand a template make the same of it.
+    /// The calls that expand a template make the same of it; escaped, it has no fault and expands to what it was.
     Expansion,
-    /// An escaped template has no fault and expands to what it was.
-    Escaped,
-    /// A set of this pattern alone finds in a part of the text what `find_input` finds there, and nothing else.
+    /// A set that has the pattern twice finds in a part of the text what `find_input` finds there, twice.
     Set,
-    /// A set that has the pattern twice finds the same match twice.
-    Twice,
-    /// With start bytes and without, a search finds the same groups.
+    /// With start bytes and without, and by both builders, all searches have the same answers.
     Seek,
-    /// A match starts with a start byte where it takes any, and the text has all required bytes.
-    Bytes,
-    /// The printed pattern finds the same groups.
+    /// So they have by the printed pattern.
     Reprint,
-    /// A builder that keeps the pattern builds a regex that finds the same groups.
-    Builder,
     /// The longest match ends where the first match ends, or behind it.
     Longest,
-    /// A plain pattern is built, and a search of it keeps its bound on looks and meets no limit.
-    Plain,
+    /// A match starts with a start byte where it takes any, and the text has all required bytes.
+    Bytes,
     /// The escaped text finds the whole text.
     Escape,
-    /// The program writes the spans of the iteration's matches for the words `find` and the pattern.
-    Words,
 }
 
 /// All checks of a pattern that is built.
-pub static CHECKS: [Check; 29] = [
-    Check::Captures,
-    Check::IsMatch,
-    Check::Input,
-    Check::Anchored,
+pub static CHECKS: [Check; 20] = [
+    Check::Plain,
+    Check::Whole,
+    Check::Part,
     Check::From,
     Check::Groups,
-    Check::Engines,
+    Check::Engine,
+    Check::Machine,
     Check::Ends,
+    Check::Next,
     Check::Items,
     Check::Pieces,
-    Check::Limited,
-    Check::Replaced,
-    Check::Next,
     Check::Template,
     Check::Fixed,
-    Check::First,
     Check::Expansion,
-    Check::Escaped,
     Check::Set,
-    Check::Twice,
     Check::Seek,
-    Check::Bytes,
     Check::Reprint,
-    Check::Builder,
     Check::Longest,
-    Check::Plain,
+    Check::Bytes,
     Check::Escape,
-    Check::Words,
-    Check::Again,
 ];

@@ -1,108 +1,110 @@
 //! Checks of iterations and splits.
 
-use crate::ending::found_span;
-use fancy_regex::{Regex, Result};
+use crate::case::Case;
+use crate::part::input_of;
+use crate::searches::{Place, found_span, span};
+use fancy_regex::{CaptureMatches, Matches, Regex, Result, Split};
 use std::alloc::Global;
 
-/// Whether the ends of the matches increase, from the match that `find` finds on.
-pub fn ends_increase(alloc: Global, regex: &Regex, text: &str) -> Result<bool> {
-    let mut last = None;
-    let mut matches = regex.find_iter(alloc, text);
+/// The spans of all matches.
+fn all_places(alloc: Global, mut matches: Matches<'_, &str>) -> Result<Vec<Place>> {
+    let mut places = Vec::new(alloc);
     while let Some(item) = matches.next() {
         let found = item?;
-        let is_due = match last {
-            None => found_span(alloc, regex, text)? == Some((found.start(), found.end())),
-            Some(end) => end <= found.start() && end < found.end(),
-        };
-        if !is_due {
-            return Ok(false);
-        }
-        last = Some(found.end());
+        places.push((found.start(), found.end()))?;
     }
-    Ok(last.is_some() || found_span(alloc, regex, text)?.is_none())
+    Ok(places)
 }
 
-/// Whether pieces and matches in turn are the text.
-pub fn pieces_are_the_text(alloc: Global, regex: &Regex, text: &str) -> Result<bool> {
-    let mut at = 0;
-    let mut pieces = regex.split(alloc, text);
-    let mut matches = regex.find_iter(alloc, text);
-    while let Some(piece) = pieces.next() {
-        let Some(end) = end_of(text, at, piece?) else {
-            return Ok(false);
-        };
-        let Some(found) = matches.next() else {
-            return Ok(end == text.len() && pieces.next().is_none());
-        };
-        match end_of(text, end, found?.as_str()) {
-            Some(next) => at = next,
-            None => return Ok(false),
+/// The spans of group 0 of all matches.
+fn all_group_places(alloc: Global, mut matches: CaptureMatches<'_, &str>) -> Result<Vec<Place>> {
+    let mut places = Vec::new(alloc);
+    while let Some(item) = matches.next() {
+        if let Some(place) = span(item?.get(0)) {
+            places.push(place)?;
         }
     }
-    Ok(false)
+    Ok(places)
 }
 
-/// The end of a part that stands in the text at this byte offset, if it stands there.
-fn end_of(text: &str, at: usize, part: &str) -> Option<usize> {
-    let rest = text.get(at..)?;
-    if rest.starts_with(part) {
-        Some(at.saturating_add(part.len()))
-    } else {
-        None
-    }
+/// Whether the iteration over the groups in the case's part has the matches of the iteration over matches there.
+pub fn items_alike(alloc: Global, case: Case<'_>, regex: &Regex) -> Result<bool> {
+    let places = all_places(
+        alloc,
+        regex.find_iter_input(alloc, input_of(case.text, case.part)),
+    )?;
+    let all = regex.captures_iter_input(alloc, input_of(case.text, case.part));
+    Ok(all_group_places(alloc, all)? == places)
 }
 
-/// Whether the pieces up to each small limit are the first pieces and the rest.
-pub fn limited_pieces_agree(alloc: Global, regex: &Regex, text: &str) -> Result<bool> {
-    for limit in 0..4 {
-        if !limited_to_agree(alloc, regex, text, limit)? {
-            return Ok(false);
+/// Whether the ends of the matches increase, from the match that `find` finds on.
+pub fn ends_increase(alloc: Global, case: Case<'_>, regex: &Regex) -> Result<bool> {
+    let first = found_span(alloc, regex, case.text)?;
+    let places = all_places(alloc, regex.find_iter(alloc, case.text))?;
+    Ok(places.first().copied() == first && increase(&places))
+}
+
+/// Whether each place begins at the end of the one before or behind it, and ends behind it.
+fn increase(places: &[Place]) -> bool {
+    let mut last: Option<usize> = None;
+    for (start, end) in places.iter() {
+        if let Some(before) = last {
+            if *start < before || *end <= before {
+                return false;
+            }
         }
+        last = Some(*end);
     }
-    Ok(true)
-}
-
-/// Whether the pieces up to a limit are the first pieces, and a rest that is the text's end.
-fn limited_to_agree(alloc: Global, regex: &Regex, text: &str, limit: usize) -> Result<bool> {
-    let mut pieces = regex.split(alloc, text);
-    let mut count = 0usize;
-    for item in regex.splitn(alloc, text, limit) {
-        let item = item?;
-        count = count.saturating_add(1);
-        let is_due = match pieces.next() {
-            Some(piece) if count < limit => piece? == item,
-            Some(_) => text.ends_with(item),
-            None => false,
-        };
-        if !is_due {
-            return Ok(false);
-        }
-    }
-    Ok(count <= limit && (count == limit || pieces.next().is_none()))
+    true
 }
 
 /// Whether the iteration's second match is what a search from the end of the first finds, where the first is not empty and that
 /// search finds no empty match at its start.
-pub fn next_is_found(alloc: Global, regex: &Regex, text: &str) -> Result<bool> {
-    let mut matches = regex.find_iter(alloc, text);
-    let Some(first) = matches.next() else {
-        return Ok(true);
-    };
-    let first = first?;
-    let from = first.end();
-    if first.start() == from || !text.is_char_boundary(from) {
-        return Ok(true);
-    }
-    let next = match matches.next() {
-        Some(item) => {
-            let found = item?;
-            Some(found.range())
+pub fn next_is_found(alloc: Global, case: Case<'_>, regex: &Regex) -> Result<bool> {
+    let places = all_places(alloc, regex.find_iter(alloc, case.text))?;
+    match places.first() {
+        Some((start, end)) if start < end => {
+            follows(alloc, case, regex, *end, places.get(1).copied())
         }
-        None => None,
-    };
-    match regex.find_from_pos(alloc, text, from)? {
-        Some(found) if found.end() == from => Ok(true),
-        Some(found) => Ok(next == Some(found.range())),
-        None => Ok(next.is_none()),
+        _ => Ok(true),
     }
+}
+
+/// Whether this is what a search from a byte offset on finds, where that is no empty match there.
+fn follows(
+    alloc: Global,
+    case: Case<'_>,
+    regex: &Regex,
+    from: usize,
+    next: Option<Place>,
+) -> Result<bool> {
+    if !case.text.is_char_boundary(from) {
+        return Ok(false);
+    }
+    let found = span(regex.find_from_pos(alloc, case.text, from)?);
+    Ok(found == Some((from, from)) || found == next)
+}
+
+/// Whether pieces and matches in turn are the text.
+pub fn pieces_are_the_text(alloc: Global, case: Case<'_>, regex: &Regex) -> Result<bool> {
+    let places = all_places(alloc, regex.find_iter(alloc, case.text))?;
+    lie_between(regex.split(alloc, case.text), case.text, &places)
+}
+
+/// Whether the pieces lie before, between and behind these places, as the text has it.
+fn lie_between(pieces: Split<'_, '_>, text: &str, places: &[Place]) -> Result<bool> {
+    let mut count = 0usize;
+    let mut from = 0;
+    for piece in pieces {
+        let (start, end) = match places.get(count) {
+            Some(place) => *place,
+            None => (text.len(), text.len()),
+        };
+        if text.get(from..start) != Some(piece?) {
+            return Ok(false);
+        }
+        from = end;
+        count = count.saturating_add(1);
+    }
+    Ok(count == places.len().saturating_add(1))
 }

@@ -15,6 +15,7 @@ pub struct Part {
     start_text: bool,
     end_text: bool,
     continues: bool,
+    anchored: bool,
 }
 
 /// The greatest byte offset of a part, and its greatest length.
@@ -30,6 +31,7 @@ impl Part {
             start_text: !random.one_in(6),
             end_text: !random.one_in(6),
             continues: !random.one_in(6),
+            anchored: random.one_in(4),
         }
     }
 }
@@ -61,10 +63,10 @@ fn placed(text: &str, part: Part) -> RegexInput<&str> {
 }
 
 /// The input of a search of a part of the text.
-pub fn input_of(text: &str, part: Part, anchored: bool) -> RegexInput<&str> {
+pub fn input_of(text: &str, part: Part) -> RegexInput<&str> {
     placed(text, part)
         .start_text(part.start_text)
         .end_text(part.end_text)
         .continue_from_previous_match_end(part.continues)
-        .anchored(anchored)
+        .anchored(part.anchored)
 }

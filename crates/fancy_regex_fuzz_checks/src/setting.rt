@@ -14,9 +14,6 @@ use std::alloc::Global;
 /// The limit on backtracks of each search.
 const BACKTRACKS: usize = 2000;
 
-/// The same as a word of the program.
-pub const BACKTRACKS_WORD: &str = "2000";
-
 /// The cap on each program.
 const INSTRUCTIONS: usize = 2000;
 
@@ -61,7 +58,8 @@ impl Setting {
             .case_insensitive(self.case_insensitive)
             .multi_line(self.multi_line)
             .dot_matches_new_line(self.dot_matches_new_line)
-            .ignore_whitespace(self.ignore_whitespace)
+            .ignore_whitespace(self.ignore_whitespace);
+        options
             .crlf(self.crlf)
             .oniguruma_mode(self.oniguruma)
             .ignore_numbered_groups_when_named_groups_exist(self.named_groups_alone);
@@ -75,11 +73,13 @@ impl Setting {
             .case_insensitive(self.case_insensitive)
             .multi_line(self.multi_line)
             .dot_matches_new_line(self.dot_matches_new_line)
-            .verbose_mode(self.ignore_whitespace)
+            .verbose_mode(self.ignore_whitespace);
+        builder
             .crlf(self.crlf)
             .unicode_mode(self.unicode)
             .oniguruma_mode(self.oniguruma)
-            .find_not_empty(self.not_empty)
+            .find_not_empty(self.not_empty);
+        builder
             .ignore_numbered_groups_when_named_groups_exist(self.named_groups_alone)
             .backtrack_limit(BACKTRACKS)
             .max_prog_size(INSTRUCTIONS);

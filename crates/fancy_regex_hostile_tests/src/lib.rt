@@ -8,8 +8,6 @@
 #[cfg(test)]
 mod exploding;
 #[cfg(test)]
-mod odd_inputs;
-#[cfg(test)]
 mod outcome;
 #[cfg(test)]
 mod refused_buffers;

@@ -8,10 +8,10 @@ use fancy_regex::{
 use std::alloc::Global;
 
 /// The byte offsets of a match.
-pub type Place = (usize, usize);
+type Place = (usize, usize);
 
 /// The span of a match.
-pub fn span(found: Option<Match<'_>>) -> Option<Place> {
+fn span(found: Option<Match<'_>>) -> Option<Place> {
     match found {
         Some(found) => Some((found.start(), found.end())),
         None => None,
@@ -225,12 +225,7 @@ fn are_at(groups: &Captures<'_, &str>, wanted: &[Option<Place>]) -> bool {
 }
 
 /// Whether the spans of all groups of the first match are these; there is no match where there are none.
-pub fn has_groups(
-    alloc: Global,
-    regex: &Regex,
-    text: &str,
-    wanted: &[Option<Place>],
-) -> Result<bool> {
+fn has_groups(alloc: Global, regex: &Regex, text: &str, wanted: &[Option<Place>]) -> Result<bool> {
     match regex.captures(alloc, text)? {
         Some(groups) => Ok(are_at(&groups, wanted)),
         None => Ok(wanted.is_empty()),

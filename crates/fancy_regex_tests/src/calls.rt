@@ -1,7 +1,6 @@
-//! Iterators over matches, and conversions of pairs.
+//! Iterators over matches.
 
 use fancy_regex::Regex;
-use std::test::Fail;
 
 #[test]
 fn an_input_moves_to_the_end_of_its_item(rt: HostRuntime) {
@@ -22,21 +21,4 @@ fn an_input_moves_to_the_end_of_its_item(rt: HostRuntime) {
         panic!(rt; "third");
     };
     assert!(rt; matches.input().start() == 1);
-}
-
-#[test]
-fn pairs_with_an_allocator_convert(rt: HostRuntime) -> Result<(), Fail> {
-    let alloc = rt.alloc();
-    let Ok(borrowed) = Regex::try_from(("(?<=é)x", alloc)) else {
-        panic!(rt; "text");
-    };
-    assert!(rt; borrowed.as_str() == "(?<=é)x");
-    let Ok(owned) = Regex::try_from((String::from_str(alloc, "a(?=b)")?, alloc)) else {
-        panic!(rt; "string");
-    };
-    let Ok(Some(found)) = owned.find(alloc, "ab") else {
-        panic!(rt; "find");
-    };
-    assert!(rt; found.range() == (0..1));
-    Ok(())
 }

@@ -3,8 +3,6 @@
 #![tactic(auto)]
 
 #[cfg(test)]
-mod builders;
-#[cfg(test)]
 mod byte_sets;
 #[cfg(test)]
 mod calls;

@@ -1,4 +1,4 @@
-//! Templates of other types than texts, and expansion into buffers.
+//! Templates of other types than texts, and expansion into a writer.
 
 use fancy_regex::{Expander, Regex};
 use std::borrow::CowStr;
@@ -32,7 +32,7 @@ fn replaces_by_owned_templates(rt: HostRuntime) -> Result<(), Fail> {
 }
 
 #[test]
-fn expands_into_buffers(rt: HostRuntime) -> Result<(), Fail> {
+fn expands_into_a_writer(rt: HostRuntime) {
     let alloc = rt.alloc();
     let Ok(regex) = Regex::new(alloc, "(a)") else {
         panic!(rt; "build");
@@ -40,19 +40,9 @@ fn expands_into_buffers(rt: HostRuntime) -> Result<(), Fail> {
     let Ok(Some(captures)) = regex.captures(alloc, "a") else {
         panic!(rt; "captures");
     };
-    let mut text = String::from_str(alloc, "is: ")?;
-    let Ok(()) = captures.expand(alloc, "$1$0", &mut text) else {
-        panic!(rt; "expand");
-    };
-    assert_eq!(rt; text.as_str(), "is: aa");
     let mut bytes: Vec<u8> = Vec::new(alloc);
-    let expander = Expander::default();
-    let Ok(()) = expander.write_expansion_vec(alloc, &mut bytes, "<$1>", &captures) else {
-        panic!(rt; "into a vector");
-    };
-    let Ok(()) = expander.write_expansion(&mut bytes, "${1}!", &captures) else {
+    let Ok(()) = Expander::default().write_expansion(&mut bytes, "${1}!", &captures) else {
         panic!(rt; "into a writer");
     };
-    assert!(rt; bytes.as_slice() == b"<a>a!".as_slice());
-    Ok(())
+    assert!(rt; bytes.as_slice() == b"a!".as_slice());
 }

@@ -5,7 +5,7 @@ use crate::call::{Call, call_named};
 use crate::case::{Case, Question};
 use crate::fault::Fault;
 use crate::groups::append_groups_call;
-use crate::patterns::append_pattern_call;
+use crate::patterns::{append_pattern_call, append_reprinted_answers};
 use crate::quoted::append_quoted;
 use crate::sets::append_set;
 use crate::spans::append_span_call;
@@ -67,6 +67,7 @@ fn append_searched(
         Call::Span(call) => append_span_call(alloc, out, case, regex, call, argument),
         Call::Group(call) => append_groups_call(alloc, out, case, regex, call, argument),
         Call::Text(call) => append_text_call(alloc, out, case, regex, call, argument),
+        Call::Reprinted => append_reprinted_answers(alloc, out, case, regex),
         _ => {
             out.push_str("built")?;
             Ok(())

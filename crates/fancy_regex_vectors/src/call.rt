@@ -49,8 +49,6 @@ pub enum PatternCall {
     StartBytes,
     RequiredBytes,
     Reprint,
-    /// The groups of all matches by a regex of the printed text.
-    Reprinted,
     Escape,
     ExpanderEscape,
 }
@@ -78,6 +76,8 @@ pub enum Call {
     Group(GroupCall),
     Text(TextCall),
     Pattern(PatternCall),
+    /// Whether a regex of the printed text has the same answers.
+    Reprinted,
     Analysis(AnalysisCall),
     /// The members of a set that match at the earliest place.
     Set,
@@ -113,7 +113,7 @@ static CALLS: [(&str, Call); 36] = [
     ("start_bytes", Call::Pattern(PatternCall::StartBytes)),
     ("required_bytes", Call::Pattern(PatternCall::RequiredBytes)),
     ("reprint", Call::Pattern(PatternCall::Reprint)),
-    ("reprinted", Call::Pattern(PatternCall::Reprinted)),
+    ("reprinted", Call::Reprinted),
     ("escape", Call::Pattern(PatternCall::Escape)),
     (
         "expander_escape",

@@ -60,13 +60,14 @@ pub fn question_of(field: &str) -> Result<Question<'_>, Fault> {
     })
 }
 
-/// A case: a row with its texts decoded.
+/// A case: a row with its texts decoded, asked with the option `seek` or without.
 #[derive(Clone, Copy)]
 pub struct Case<'c> {
     pub row: Row<'c>,
     pub pattern: &'c str,
     pub text: &'c str,
     pub template: &'c str,
+    pub seek: bool,
 }
 
 /// The number of these digits. Fails with `Fault::Table` if they are none.

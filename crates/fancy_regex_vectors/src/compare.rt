@@ -24,12 +24,14 @@ pub fn compare_line<'t>(
         pattern: &pattern,
         text: &text,
         template: &template,
+        seek: false,
     };
     if !has_option(row, 'k') {
-        compare_questions(rt, &case, row.questions, false, totals)?;
+        compare_questions(rt, &case, row.questions, totals)?;
     }
     if !has_option(row, 'p') {
-        compare_questions(rt, &case, row.questions, true, totals)?;
+        let case = Case { seek: true, ..case };
+        compare_questions(rt, &case, row.questions, totals)?;
     }
     Ok(())
 }
@@ -39,10 +41,9 @@ fn compare_questions<'t>(
     rt: &HostRuntime,
     case: &Case<'_>,
     questions: &'t str,
-    seek: bool,
     totals: &mut Totals<'t>,
 ) -> Result<(), Fault> {
-    let options = options_of(case.row, seek)?;
+    let options = options_of(case.row, case.seek)?;
     let pattern = String::from_str(rt.alloc(), case.pattern)?;
     let built = options.build(rt.alloc(), pattern);
     for field in questions.split('\t') {

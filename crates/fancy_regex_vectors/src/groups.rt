@@ -79,7 +79,7 @@ fn append_captured_from(
 }
 
 /// Appends the groups of all matches, with ` / ` between.
-pub fn append_all(out: &mut String, mut matches: CaptureMatches<'_, &str>) -> Result<(), Fault> {
+fn append_all(out: &mut String, mut matches: CaptureMatches<'_, &str>) -> Result<(), Fault> {
     while let Some(groups) = matches.next() {
         if !out.is_empty() {
             out.push_str(" / ")?;

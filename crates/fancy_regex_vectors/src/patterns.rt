@@ -4,10 +4,11 @@ use crate::byte_sets::append_bytes;
 use crate::call::PatternCall;
 use crate::case::{Case, kept_options, options_of};
 use crate::fault::Fault;
-use crate::groups::append_all;
 use crate::quoted::append_quoted;
-use fancy_regex::{Expander, RegexOptionsBuilder, escape};
+use fancy_regex::{Expander, Regex, RegexOptionsBuilder, escape};
+use fancy_regex_answers::answers;
 use std::alloc::Global;
+use std::fmt::Write;
 
 /// Appends the answer of a call on a pattern.
 pub fn append_pattern_call(
@@ -24,10 +25,6 @@ pub fn append_pattern_call(
             Ok(())
         }
         PatternCall::Reprint => append_reprinted(alloc, out, options, case.pattern),
-        PatternCall::Reprinted => match options.reprint(alloc, case.pattern)? {
-            Some(text) => append_reprinted_search(alloc, out, case, text),
-            None => Err(Fault::Table),
-        },
         PatternCall::Escape => {
             append_quoted(out, escape(alloc, case.text)?.as_str())?;
             Ok(())
@@ -67,13 +64,36 @@ fn append_reprinted(
     Ok(())
 }
 
-/// Appends the groups of all matches by a regex of the printed text.
-fn append_reprinted_search(
+/// Appends `alike` if all searches by a regex of the printed text have the answers that they have by the regex, else the answers of
+/// both. Fails with `Fault::Table` if the pattern does not reprint.
+pub fn append_reprinted_answers(
     alloc: Global,
     out: &mut String,
     case: &Case<'_>,
-    printed: String,
+    regex: &Regex,
 ) -> Result<(), Fault> {
-    let regex = kept_options(case.row).build(alloc, printed)?;
-    append_all(out, regex.captures_iter(alloc, case.text))
+    let wanted = answers(alloc, regex, case.text)?;
+    let found = reprinted_answers(alloc, case)?;
+    if found == wanted {
+        out.push_str("alike")?;
+    } else {
+        write!(out, "{wanted}\nprinted:{found}")?;
+    }
+    Ok(())
+}
+
+/// The answers of all searches by a regex of the printed text.
+fn reprinted_answers(alloc: Global, case: &Case<'_>) -> Result<String, Fault> {
+    match options_of(case.row, case.seek)?.reprint(alloc, case.pattern)? {
+        Some(printed) => kept_answers(alloc, case, printed),
+        None => Err(Fault::Table),
+    }
+}
+
+/// The answers of all searches by a regex of this pattern, with the options that a printed text keeps.
+fn kept_answers(alloc: Global, case: &Case<'_>, pattern: String) -> Result<String, Fault> {
+    let regex = kept_options(case.row)
+        .seek(case.seek)
+        .build(alloc, pattern)?;
+    Ok(answers(alloc, &regex, case.text)?)
 }
