@@ -332,6 +332,15 @@ no_pairs n k =
 starts_well : (text : List ℕ) (pattern : Pattern) (p : ℕ) → IsCharBoundary text p → HasCharBoundaries text (start_way pattern p)
 starts_well text pattern p h = (h, λ k a b e. absurd (none-some (a, b) (sym (no_pairs (length pattern.groups) k) ∙ e)), h)
 
+-- each way of the whole pattern from a place begins at a byte of the set
+pub ways_begin : (s : Setting) (t : Tree) (set : Bytes) → start_bytes_by s.has_member s.fold t ≡ Some set → IsUtf8 s.text → IsInOrder t → (p : ℕ) → IsCharBoundary s.text p →
+    Each (λ v. is_some_and (slice_get s.text p) set ≡ true) (ways s (pattern_of t).groups (pattern_of t).first_group t (start_way (pattern_of t) p))
+ways_begin s t set known utf8 order p at =
+    let outer = known_if (may_be_empty (pattern_of t).groups t || has_keep_out t) _ set known in
+    let tests = or_parts (may_be_empty (pattern_of t).groups t) (has_keep_out t) outer.0 in
+    let pattern = pattern_of t in
+    ways_start s utf8 pattern.groups pattern.first_group t set tests.0 outer.1 order (start_way pattern p) (starts_well s.text pattern p at)
+
 pub matches_start : (s : Setting) (t : Tree) (set : Bytes) → start_bytes_by s.has_member s.fold t ≡ Some set → MatchesStartIn s t set
 unfolding match_at
 matches_start s t set known utf8 order find p m at e =
@@ -339,7 +348,7 @@ matches_start s t set known utf8 order find p m at e =
     let tests = or_parts (may_be_empty (pattern_of t).groups t) (has_keep_out t) outer.0 in
     let pattern = pattern_of t in
     let found = found_in_list match_of _ m e in
-    let begins = Each-filter _ (is_admitted find) _ (ways_start s utf8 pattern.groups pattern.first_group t set tests.0 outer.1 order (start_way pattern p) (starts_well s.text pattern p at)) in
+    let begins = Each-filter _ (is_admitted find) _ (ways_begin s t set known utf8 order p at) in
     let same = Each-filter _ (is_admitted find) _ (pattern_keeps_start s t tests.1 (start_way pattern p)) in
     let kept : found.0.kept ≡ p = chosen_holds (SameStart (start_way pattern p)) find.options.longest _ same found.0 found.1 in
     let here = chosen_holds (λ v. is_some_and (slice_get s.text p) set ≡ true) find.options.longest _ begins found.0 found.1 in

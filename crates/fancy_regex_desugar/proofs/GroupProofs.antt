@@ -11,9 +11,9 @@ use Rattle.fancy_regex_meaning.specs.GroupLaws.{AreSame, OccursAt, OccursInRowAt
 use Rattle.fancy_regex_meaning.proofs.GroupProofs.{groups_are_counted, bodies_stand}
 use Rattle.fancy_regex_meaning.specs.Sizes.{size, target}
 use Rattle.fancy_regex_meaning.specs.Ways.{is_at_call_limit, max_open_calls}
-use Rattle.fancy_regex_desugar.specs.CorePatterns.{any, literal, class, CorePattern, nothing, read, general_newline, check, continue, keep_out, fail, cat, group, back, delegate, backref, exists, absent}
-use Rattle.fancy_regex_desugar.specs.Delegates.{searched, is_delegated}
-use Rattle.fancy_regex_desugar.specs.Unfolded.{repeated, Written, pat_for, cat_all, alt_all, body_of, look, node, branches, written, written_all, written_call, core_pattern_of}
+use Rattle.fancy_regex_desugar.specs.CorePatterns.{any, literal, class, CorePattern, nothing, read, general_newline, check, continue, keep_out, fail, cat, group, back, delegate, tail, backref, exists, absent}
+use Rattle.fancy_regex_desugar.specs.Delegates.{searched, is_delegated, begins_tail}
+use Rattle.fancy_regex_desugar.specs.Unfolded.{repeated, Written, pat_for, cat_all, alt_all, body_of, look, node, branches, written, written_all, written_call, written_plain, written_tail, written_whole, core_pattern_of}
 use Rattle.fancy_regex_desugar.specs.Shapes.{HasGroups}
 use Rattle.fancy_regex_desugar.specs.DesugarLaws.{PatternGroupsAreInRange}
 
@@ -213,6 +213,24 @@ module _ (first end : ℕ) where
             all_held_more (written groups pat n t) (written_all groups pat (n + group_count t) ts)
             (hold n t le (omega arith)) (hold_all (n + group_count t) ts (omega arith) (omega arith))
 
+      hold_plain : (n : ℕ) (ts : Trees) → first ≤ n → n + row_group_count ts ≤ end → HasGroups first end (written_plain groups pat n ts)
+      hold_plain n ts le room =
+          let row : CorePattern = cat_all (written_all groups pat n ts) in
+          either_held (is_delegated false (tree.concat ts)) (tail (tree.concat ts) row) row (hold_all n ts le room).row (hold_all n ts le room).row
+
+      hold_tail : (n : ℕ) (ts : Trees) → first ≤ n → n + row_group_count ts ≤ end → Held (written_tail groups pat n ts)
+      unfolding written group_count written_tail
+      hold_tail n no_trees le room = record { is = tt }
+      hold_tail n (more_trees t ts) le room = record {
+        is = either_held (begins_tail (more_trees t ts)) _ _ (hold_plain n (more_trees t ts) le room)
+            ((hold n t le (omega arith)).front, (hold_tail (n + group_count t) ts (omega arith) (omega arith)).is);
+      }
+
+      hold_whole : (n : ℕ) (t : Tree) → first ≤ n → n + group_count t ≤ end → Held (written_whole groups pat n t)
+      unfolding written group_count written_whole
+      hold_whole n (tree.concat ts) le room = hold_tail n ts le room
+      hold_whole n t le room = record { is = (hold n t le room).front }
+
     module _ (room : (k : ℕ) (body : Tree) → target groups k ≡ Some body → (first ≤ k + 1) × (k + 1 + group_count body ≤ end)) where
       hold_target : (b : Bool) (o : Option Tree) (p : Tree → CorePattern) → ((t : Tree) → o ≡ Some t → Held (p t)) →
           Held (cond b fail (pat_for p o))
@@ -242,10 +260,10 @@ room_from_zero t k body e = (omega arith, omega (arith, groups_are_counted t, ro
 pub pattern_groups_are_in_range : PatternGroupsAreInRange
 unfolding core_pattern_of
 pattern_groups_are_in_range t = (
-  (hold 1 (length (t ∷ bodies t)) (t ∷ bodies t) _
+  (hold_whole 1 (length (t ∷ bodies t)) (t ∷ bodies t) _
       (hold_calls 1 (length (t ∷ bodies t)) (t ∷ bodies t) (room_from_one t) (max_open_calls (t ∷ bodies t)) []) 1 t
-      (omega arith) (omega (arith, groups_are_counted t))).front,
-  (hold 0 (length (bodies t)) (bodies t) _
+      (omega arith) (omega (arith, groups_are_counted t))).is,
+  (hold_whole 0 (length (bodies t)) (bodies t) _
       (hold_calls 0 (length (bodies t)) (bodies t) (room_from_zero t) (max_open_calls (bodies t)) []) 0 t
-      (omega arith) (omega (arith, groups_are_counted t))).front,
+      (omega arith) (omega (arith, groups_are_counted t))).is,
 )

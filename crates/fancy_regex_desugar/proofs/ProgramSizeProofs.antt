@@ -8,9 +8,9 @@ use Rattle.fancy_regex_meaning.specs.Groups.{group_count}
 use Rattle.fancy_regex_meaning.specs.Sizes.{size, target}
 use Rattle.fancy_regex_meaning.specs.Ways.{is_at_call_limit, max_open_calls}
 use Rattle.fancy_regex_meaning.specs.Choices.{nodes_with, row_nodes_with, nodes_of_call, sum_some, program_nodes}
-use Rattle.fancy_regex_desugar.specs.CorePatterns.{any, literal, class, CorePattern, nothing, read, general_newline, check, continue, keep_out, fail, delegate, backref, exists}
-use Rattle.fancy_regex_desugar.specs.Delegates.{searched, is_delegated}
-use Rattle.fancy_regex_desugar.specs.Unfolded.{repeated, Written, pat_for, cat_all, alt_all, body_of, look, node, branches, written, written_all, written_call, core_pattern_of}
+use Rattle.fancy_regex_desugar.specs.CorePatterns.{any, literal, class, CorePattern, nothing, read, general_newline, check, continue, keep_out, fail, delegate, tail, backref, exists}
+use Rattle.fancy_regex_desugar.specs.Delegates.{searched, is_delegated, begins_tail}
+use Rattle.fancy_regex_desugar.specs.Unfolded.{repeated, Written, pat_for, cat_all, alt_all, body_of, look, node, branches, written, written_all, written_call, written_plain, written_tail, written_whole, core_pattern_of}
 use Rattle.fancy_regex_desugar.specs.ProgramSizes.{room}
 use Rattle.fancy_regex_desugar.specs.DesugarLaws.{UnfoldedSizeIsBounded, PatternSizeIsBounded}
 
@@ -121,6 +121,31 @@ module _ (groups : List Tree) where
           all_fit_more (written groups pat n t) (written_all groups pat (n + group_count t) ts) _ _ (fit n t)
           (fit_all (n + group_count t) ts)
 
+    -- a tail begins with one instruction
+    room_plain : (n : ℕ) (ts : Trees) → room (written_plain groups pat n ts) ≤ 16 * row_nodes_with call ts + 1
+    unfolding room
+    room_plain n ts =
+        let row : CorePattern = cat_all (written_all groups pat n ts) in
+        elim (is_delegated false (tree.concat ts)) as (λ b. room (cond b (tail (tree.concat ts) row) row) ≤ 16 * row_nodes_with call ts + 1) [
+          | true ↦ omega (arith, (fit_all n ts).row)
+          | false ↦ omega (arith, (fit_all n ts).row)
+        ]
+
+    either_at_most : (b : Bool) (p q : CorePattern) (most : ℕ) → room p ≤ most → room q ≤ most → room (cond b p q) ≤ most
+    either_at_most true p q most h k = h
+    either_at_most false p q most h k = k
+
+    room_tail : (n : ℕ) (ts : Trees) → room (written_tail groups pat n ts) ≤ 16 * row_nodes_with call ts + 1
+    unfolding room written written_tail nodes_with
+    room_tail n no_trees = omega arith
+    room_tail n (more_trees t ts) = either_at_most (begins_tail (more_trees t ts)) _ _ _ (room_plain n (more_trees t ts))
+        (omega (arith, (fit n t).front, room_tail (n + group_count t) ts))
+
+    fit_whole : (n : ℕ) (t : Tree) → Fits (written_whole groups pat n t) (nodes_with call t)
+    unfolding room written nodes_with written_whole
+    fit_whole n (tree.concat ts) = record { is = omega (arith, room_tail n ts) }
+    fit_whole n t = record { is = (fit n t).front }
+
   fits_target : (b : Bool) (o : Option Tree) (p : Tree → CorePattern) (nodes : Tree → ℕ) → ((t : Tree) → Fits (p t) (nodes t)) →
       Fits (cond b fail (pat_for p o)) (cond b 1 (sum_some nodes o))
   unfolding room
@@ -145,4 +170,4 @@ unfolded_has_room groups m opened n t =
 pub pattern_size_is_bounded : PatternSizeIsBounded
 unfolding core_pattern_of program_nodes
 pattern_size_is_bounded pattern =
-    (unfolded_has_room pattern.groups (max_open_calls pattern.groups) [] pattern.first_group pattern.tree).0
+    (fit_whole pattern.groups _ _ (fit_calls pattern.groups (max_open_calls pattern.groups) []) pattern.first_group pattern.tree).is

@@ -6,12 +6,12 @@ use Rattle.fancy_regex_tree.specs.Tree as tree
 use Rattle.fancy_regex_tree.specs.Tree.{Tree, Trees, no_trees, more_trees}
 use Rattle.fancy_regex_meaning.specs.Groups.{group_count}
 use Rattle.fancy_regex_meaning.specs.Sizes.{size, target}
-use Rattle.fancy_regex_meaning.specs.Ways.{is_at_call_limit}
-use Rattle.fancy_regex_desugar.specs.CorePatterns.{any, literal, class, CorePattern, nothing, read, general_newline, check, continue, keep_out, fail, cat, alt, group, ahead, never, back, atomic, delegate, repeat, backref, exists, conditional, absent}
-use Rattle.fancy_regex_desugar.specs.Delegates.{searched, is_delegated}
-use Rattle.fancy_regex_desugar.specs.Unfolded.{repeated, Written, pat_for, cat_all, alt_all, body_of, look, node, branches, written, written_all, written_call}
+use Rattle.fancy_regex_meaning.specs.Ways.{is_at_call_limit, max_open_calls}
+use Rattle.fancy_regex_desugar.specs.CorePatterns.{any, literal, class, CorePattern, nothing, read, general_newline, check, continue, keep_out, fail, cat, alt, group, ahead, never, back, atomic, delegate, tail, repeat, backref, exists, conditional, absent}
+use Rattle.fancy_regex_desugar.specs.Delegates.{searched, is_delegated, begins_tail}
+use Rattle.fancy_regex_desugar.specs.Unfolded.{repeated, Written, pat_for, cat_all, alt_all, body_of, look, node, branches, written, written_all, written_call, written_plain, written_tail, written_whole, core_pattern_of}
 use Rattle.fancy_regex_desugar.specs.Shapes.{StepsBackOnlyFirst}
-use Rattle.fancy_regex_desugar.specs.DesugarLaws.{UnfoldedStepsBackOnlyFirst}
+use Rattle.fancy_regex_desugar.specs.DesugarLaws.{UnfoldedStepsBackOnlyFirst, PatternStepsBackOnlyFirst}
 
 -- It goes back only where a look-around begins.
 pub record Placed (free : Bool) (p : CorePattern) : Type 0 where
@@ -34,6 +34,7 @@ freely true (never a) h = h
 freely true (back n) h = refl
 freely true (atomic a) h = h
 freely true (delegate t a) h = tt
+freely true (tail t a) h = h
 freely true (repeat a lo hi greedy) h = h
 freely true (backref k casei) h = tt
 freely true (exists k) h = tt
@@ -129,6 +130,29 @@ module _ (groups : List Tree) where
           all_placed_more (written groups pat n t) (written_all groups pat (n + group_count t) ts) (place n t)
           (place_all (n + group_count t) ts)
 
+    place_plain : (n : ℕ) (ts : Trees) → StepsBackOnlyFirst false (written_plain groups pat n ts)
+    place_plain n ts =
+        let row : CorePattern = cat_all (written_all groups pat n ts) in
+        elim (is_delegated false (tree.concat ts)) as (λ b. StepsBackOnlyFirst false (cond b (tail (tree.concat ts) row) row)) [
+          | true ↦ (place_all n ts).row
+          | false ↦ (place_all n ts).row
+        ]
+
+    place_either : (b : Bool) (p q : CorePattern) → StepsBackOnlyFirst false p → StepsBackOnlyFirst false q → Placed false (cond b p q)
+    place_either true p q h k = record { is = h }
+    place_either false p q h k = record { is = k }
+
+    place_tail : (n : ℕ) (ts : Trees) → Placed false (written_tail groups pat n ts)
+    unfolding written written_tail
+    place_tail n no_trees = record { is = tt }
+    place_tail n (more_trees t ts) = place_either (begins_tail (more_trees t ts)) _ _ (place_plain n (more_trees t ts))
+        ((place n t).front, (place_tail (n + group_count t) ts).is)
+
+    place_whole : (n : ℕ) (t : Tree) → Placed false (written_whole groups pat n t)
+    unfolding written written_whole
+    place_whole n (tree.concat ts) = place_tail n ts
+    place_whole n t = record { is = (place n t).front }
+
   place_target : (b : Bool) (o : Option Tree) (p : Tree → CorePattern) → ((t : Tree) → Placed false (p t)) →
       Placed false (cond b fail (pat_for p o))
   place_target true o p h = record { is = tt }
@@ -147,3 +171,8 @@ pub unfolded_steps_back_only_first : UnfoldedStepsBackOnlyFirst
 unfolded_steps_back_only_first groups m opened n t =
     let h = place groups _ (place_calls groups m opened) n t in
     (h.front, h.behind)
+
+pub pattern_steps_back_only_first : PatternStepsBackOnlyFirst
+unfolding core_pattern_of
+pattern_steps_back_only_first pattern =
+    (place_whole pattern.groups _ (place_calls pattern.groups (max_open_calls pattern.groups) []) pattern.first_group pattern.tree).is

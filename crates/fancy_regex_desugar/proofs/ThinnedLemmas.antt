@@ -60,13 +60,18 @@ sum_by-flat_map weight f [] = refl
 sum_by-flat_map weight f (w ∷ ws) =
     omega (arith, sum_by-append weight (f w) (flat_map f ws), sum_by-cons (λ v. sum_by weight (f v)) w ws, sum_by-flat_map weight f ws)
 
+-- what is found behind the ways of a thinned list, where the same is found behind each way
+pub same_found : (test : MatchState → Bool) (f g : Moves) → ((w : MatchState) → find test (f w) ≡ find test (g w)) → (vs ws : List MatchState) → Thinned vs ws →
+    find test (flat_map f vs) ≡ find test (flat_map g ws)
+same_found test f g h vs ws k =
+    let first : Moves → MatchState → Option MatchState = λ m w. find test (m w) in
+    find-flat_map test f vs ∙ ap (λ v. first_some v vs) (fun_ext {f = first f} {g = first g} h)
+    ∙ first_is_found (first g) vs ∙ ap (value_at (first g)) (k.firsts (λ w. is_some (first g w)))
+    ∙ sym (first_is_found (first g) ws) ∙ sym (find-flat_map test g ws)
+
 pub thin_flat_map : (f g : Moves) → Thins f g → (vs ws : List MatchState) → Thinned vs ws → Thinned (flat_map f vs) (flat_map g ws)
 thin_flat_map f g h vs ws k = record {
-  firsts = λ test.
-      let first : Moves → MatchState → Option MatchState = λ m w. find test (m w) in
-      find-flat_map test f vs ∙ ap (λ v. first_some v vs) (fun_ext {f = first f} {g = first g} (λ w. (h w).firsts test))
-      ∙ first_is_found (first g) vs ∙ ap (value_at (first g)) (k.firsts (λ w. is_some (first g w)))
-      ∙ sym (first_is_found (first g) ws) ∙ sym (find-flat_map test g ws);
+  firsts = λ test. same_found test f g (λ w. (h w).firsts test) vs ws k;
   fewer = λ weight. omega (
     arith,
     sum_by-flat_map weight f vs,

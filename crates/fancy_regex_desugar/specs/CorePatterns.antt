@@ -44,6 +44,9 @@ pub data CorePattern : Type 0 where
   atomic : CorePattern → CorePattern
   -- The first match of this tree alone, found by a search in linear time. The pattern has the same matches, or in another order.
   delegate : Tree → CorePattern → CorePattern
+  -- The end of a whole pattern. Where only the first match counts, the first match of this tree alone that ends in range, found by a search
+  -- in linear time; elsewhere the pattern.
+  tail : Tree → CorePattern → CorePattern
   -- body, lower bound, upper bound (None: unbounded), greedy
   repeat : CorePattern → ℕ → Option ℕ → Bool → CorePattern
   -- back reference: group number, case-insensitive

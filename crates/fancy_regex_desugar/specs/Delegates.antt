@@ -1,11 +1,13 @@
 -- The parts of a pattern that a search in linear time takes over.
-use Rattle.std.specs.Prelude.{ℕ, Bool, true, false, not, ◌&&◌, ◌||◌, ◌==◌, nat_le, length, count_by, Option, option_map, if◌then◌else◌}
+use Rattle.std.specs.Prelude.{ℕ, Bool, true, false, not, ◌&&◌, ◌||◌, ◌==◌, nat_le, length, count_by, Option, Some, None, option_map, if◌then◌else◌}
+use Rattle.std.specs.List.{filter, list_any}
 use Rattle.fancy_regex_tree.specs.Tree.{Tree, Trees, concat, alt, group, repeat, no_trees, more_trees}
 use Rattle.fancy_regex_tree.specs.Printable.{is_printable}
 use Rattle.fancy_regex_tree.specs.Traversal.{nodes}
-use Rattle.fancy_regex_meaning.specs.Groups.{pattern_of}
-use Rattle.fancy_regex_meaning.specs.Ways.{Setting, ways}
-use Rattle.fancy_regex_meaning.specs.Searches.{first_item, start_way}
+use Rattle.fancy_regex_meaning.specs.Groups.{pattern_of, group_count}
+use Rattle.fancy_regex_meaning.specs.Ways.{MatchState, Setting, ways}
+use Rattle.fancy_regex_meaning.specs.Searches.{Search, first_item, start_way}
+use Rattle.fancy_regex_info.specs.Easy.{is_easy}
 use Rattle.fancy_regex_info.specs.Infos.{NodeProperties, properties}
 use Rattle.fancy_regex_info.specs.References.{is_read}
 
@@ -77,3 +79,40 @@ is_delegated for_any t = offers_choices for_any t && is_searchable (searched for
 unfoldable pub first_end : Setting → Tree → ℕ → Option ℕ
 first_end s t p =
     option_map (λ w. w.position) (first_item (ways s (pattern_of t).groups (pattern_of t).first_group t (start_way (pattern_of t) p)))
+
+-- a repetition of a body that offers a choice each time
+abbrev pub repeats_choices : Tree → Bool
+repeats_choices (repeat t lo hi greedy) = nat_le 2 hi && nat_le 1 (count_by is_choice (nodes t))
+repeats_choices _ = false
+
+-- The ways of the tree may be many more than the text is long: a repetition has choices in it.
+unfoldable pub may_explode : Tree → Bool
+may_explode t = list_any repeats_choices (nodes t)
+
+-- A row's last trees from which a tail is made are plain: easy, and without a capture group.
+abbrev pub is_plain : Tree → Bool
+is_plain t = is_easy (λ k. false) 0 t && group_count t == 0
+
+abbrev pub are_plain : Trees → Bool
+are_plain no_trees = true
+are_plain (more_trees t ts) = is_plain t && are_plain ts
+
+-- The tail of the row begins at its first tree, if at none before: all of its trees are plain, and the ways of the first may be many. The trees
+-- before it keep instructions of their own.
+abbrev pub begins_tail : Trees → Bool
+begins_tail no_trees = false
+begins_tail (more_trees t ts) = are_plain (more_trees t ts) && may_explode t
+
+-- the way does not end after this position
+abbrev pub ends_until : ℕ → MatchState → Bool
+ends_until stop w = nat_le w.position stop
+
+-- the end of the first way of the tree as a pattern of its own that does not end after `stop`, from that position
+unfoldable pub first_end_until : Setting → Tree → ℕ → ℕ → Option ℕ
+first_end_until s t stop p =
+    option_map (λ w. w.position)
+    (first_item (filter (ends_until stop) (ways s (pattern_of t).groups (pattern_of t).first_group t (start_way (pattern_of t) p))))
+
+-- Where only the first match of a search counts, the greatest position at which it may end.
+abbrev pub tail_bound : Search → Option ℕ
+tail_bound find = if find.options.longest || find.options.find_not_empty then None else Some find.stop

@@ -1,5 +1,5 @@
 -- A desugared pattern has the same matches as its tree, and no more choices.
-use Rattle.std.specs.Prelude.{◌≡◌, ◌≤◌, ◌+◌, ◌*◌, ℕ, true, false, List, length}
+use Rattle.std.specs.Prelude.{◌≡◌, ◌≤◌, ◌+◌, ◌*◌, ℕ, true, false, List, length, Option}
 use Rattle.std.specs.List.{filter}
 use Rattle.fancy_regex_tree.specs.Tree.{Tree}
 use Rattle.fancy_regex_meaning.specs.Groups.{Pattern, pattern_of, explicit_pattern_of}
@@ -7,36 +7,37 @@ use Rattle.fancy_regex_meaning.specs.Ways.{MatchState, Setting, meaning, call_wa
 use Rattle.fancy_regex_meaning.specs.Choices.{count, call_choices, choices_at, nodes_with, nodes_of_call, program_nodes}
 use Rattle.fancy_regex_meaning.specs.Searches.{Search, chosen, is_admitted, start_way}
 use Rattle.fancy_regex_desugar.specs.CoreWays.{core_ways, core_choices}
+use Rattle.fancy_regex_desugar.specs.Delegates.{tail_bound}
 use Rattle.fancy_regex_desugar.specs.ProgramSizes.{room}
 use Rattle.fancy_regex_desugar.specs.Shapes.{StepsBackOnlyFirst, HasGroups}
 use Rattle.fancy_regex_desugar.specs.Thinned.{Thinned}
 use Rattle.fancy_regex_desugar.specs.Unfolded.{unfolded, unfolded_behind, core_pattern_of}
 
 -- A desugared part has the ordered matches of its tree, both forwards from a position and, for look-behind, ending at it. Of equal ones,
--- which a look-ahead may leave, it may have the first alone.
+-- which a look-ahead may leave, it may have the first alone. It has no tail, so this holds for every bound.
 abbrev pub UnfoldedKeepsWays : Type 0
-UnfoldedKeepsWays = (s : Setting) (groups : List Tree) (m : ℕ) (opened : List ℕ) (n : ℕ) (t : Tree) (w : MatchState) →
-    Thinned ((meaning s groups (call_ways s groups m opened) n t).from w) (core_ways s (unfolded groups m opened n t) w)
-    × Thinned ((meaning s groups (call_ways s groups m opened) n t).behind w) (core_ways s (unfolded_behind groups m opened n t) w)
+UnfoldedKeepsWays = (s : Setting) (bound : Option ℕ) (groups : List Tree) (m : ℕ) (opened : List ℕ) (n : ℕ) (t : Tree) (w : MatchState) →
+    Thinned ((meaning s groups (call_ways s groups m opened) n t).from w) (core_ways s bound (unfolded groups m opened n t) w)
+    × Thinned ((meaning s groups (call_ways s groups m opened) n t).behind w) (core_ways s bound (unfolded_behind groups m opened n t) w)
 
 -- It has at most as many choices as its tree, in both directions.
 abbrev pub UnfoldedKeepsChoices : Type 0
-UnfoldedKeepsChoices = (s : Setting) (groups : List Tree) (m : ℕ) (opened : List ℕ) (n : ℕ) (t : Tree) (w : MatchState) →
-    (core_choices s (unfolded groups m opened n t) w
+UnfoldedKeepsChoices = (s : Setting) (bound : Option ℕ) (groups : List Tree) (m : ℕ) (opened : List ℕ) (n : ℕ) (t : Tree) (w : MatchState) →
+    (core_choices s bound (unfolded groups m opened n t) w
     ≤ (count s groups (call_ways s groups m opened) (call_choices s groups m opened) n t).from w)
-    × (core_choices s (unfolded_behind groups m opened n t) w
+    × (core_choices s bound (unfolded_behind groups m opened n t) w
     ≤ (count s groups (call_ways s groups m opened) (call_choices s groups m opened) n t).behind w)
 
 -- Each search reports the same match of the whole pattern as of its tree.
 abbrev pub PatternKeepsMatches : Type 0
 PatternKeepsMatches = (s : Setting) (pattern : Pattern) (find : Search) (w : MatchState) →
     chosen find.options.longest (filter (is_admitted find) (ways s pattern.groups pattern.first_group pattern.tree w))
-    ≡ chosen find.options.longest (filter (is_admitted find) (core_ways s (core_pattern_of pattern) w))
+    ≡ chosen find.options.longest (filter (is_admitted find) (core_ways s (tail_bound find) (core_pattern_of pattern) w))
 
 -- The whole pattern has at most as many choices as its tree from each position.
 abbrev pub PatternKeepsChoices : Type 0
-PatternKeepsChoices = (s : Setting) (pattern : Pattern) (p : ℕ) →
-    core_choices s (core_pattern_of pattern) (start_way pattern p) ≤ choices_at s pattern p
+PatternKeepsChoices = (s : Setting) (bound : Option ℕ) (pattern : Pattern) (p : ℕ) →
+    core_choices s bound (core_pattern_of pattern) (start_way pattern p) ≤ choices_at s pattern p
 
 -- A program has at most 16 instructions for each node of the tree; a call counts the nodes of its target's body.
 abbrev pub UnfoldedSizeIsBounded : Type 0
@@ -52,6 +53,10 @@ PatternSizeIsBounded = (pattern : Pattern) → room (core_pattern_of pattern) + 
 abbrev pub UnfoldedStepsBackOnlyFirst : Type 0
 UnfoldedStepsBackOnlyFirst = (groups : List Tree) (m : ℕ) (opened : List ℕ) (n : ℕ) (t : Tree) →
     StepsBackOnlyFirst false (unfolded groups m opened n t) × StepsBackOnlyFirst true (unfolded_behind groups m opened n t)
+
+-- The same for a whole pattern.
+abbrev pub PatternStepsBackOnlyFirst : Type 0
+PatternStepsBackOnlyFirst = (pattern : Pattern) → StepsBackOnlyFirst false (core_pattern_of pattern)
 
 -- Each of its group numbers is one of the pattern's, for patterns whose groups count from 1 and for those whose groups count from 0.
 abbrev pub PatternGroupsAreInRange : Type 0

@@ -7,8 +7,8 @@ use Rattle.fancy_regex_tree.specs.Tree.{Tree, Trees, no_trees, more_trees}
 use Rattle.fancy_regex_meaning.specs.Groups.{Pattern, group_count}
 use Rattle.fancy_regex_meaning.specs.Sizes.{size, target, bound_of}
 use Rattle.fancy_regex_meaning.specs.Ways.{is_at_call_limit, max_open_calls}
-use Rattle.fancy_regex_desugar.specs.CorePatterns.{any, literal, class, CorePattern, nothing, read, general_newline, check, continue, keep_out, fail, cat, alt, group, ahead, never, back, atomic, delegate, repeat, backref, exists, conditional, absent}
-use Rattle.fancy_regex_desugar.specs.Delegates.{searched, is_delegated}
+use Rattle.fancy_regex_desugar.specs.CorePatterns.{any, literal, class, CorePattern, nothing, read, general_newline, check, continue, keep_out, fail, cat, alt, group, ahead, never, back, atomic, delegate, tail, repeat, backref, exists, conditional, absent}
+use Rattle.fancy_regex_desugar.specs.Delegates.{searched, is_delegated, begins_tail}
 
 -- The two forms of a node: `front` matches forwards from a position, `behind` steps back first, to end at the position (for look-behind).
 pub record Written : Type 0 where
@@ -136,6 +136,26 @@ module _ (groups : List Tree) where
   abbrev pub unfolded_behind : ℕ → List ℕ → ℕ → Tree → CorePattern
   unfolded_behind m opened n t = (written (written_call m opened) n t).behind
 
+  -- a row at the end of a whole pattern with which its tail begins: a tail where it can be delegated
+  abbrev pub written_plain : (ℕ → CorePattern) → ℕ → Trees → CorePattern
+  written_plain call n ts =
+      let row = cat_all (written_all call n ts) in
+      if is_delegated false (tree.concat ts) then tail (tree.concat ts) row else row
+
+  -- A row at the end of a whole pattern. Its last trees, as far as they are all plain, from the first on whose ways may be many, are a tail
+  -- where they can be delegated.
+  unfoldable pub written_tail : (ℕ → CorePattern) → ℕ → Trees → CorePattern
+  written_tail call n no_trees = nothing
+  written_tail call n (more_trees t ts) =
+      let rest = cat (written call n t).front (written_tail call (n + group_count t) ts) in
+      if begins_tail (more_trees t ts) then written_plain call n (more_trees t ts) else rest
+
+  -- a whole pattern
+  unfoldable pub written_whole : (ℕ → CorePattern) → ℕ → Tree → CorePattern
+  written_whole call n (tree.concat ts) = written_tail call n ts
+  written_whole call n t = (written call n t).front
+
 -- the desugared whole pattern
 unfoldable pub core_pattern_of : Pattern → CorePattern
-core_pattern_of pattern = unfolded pattern.groups (max_open_calls pattern.groups) [] pattern.first_group pattern.tree
+core_pattern_of pattern =
+    written_whole pattern.groups (written_call pattern.groups (max_open_calls pattern.groups) []) pattern.first_group pattern.tree

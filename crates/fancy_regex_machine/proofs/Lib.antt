@@ -19,3 +19,7 @@ mod AheadLemmas
 mod StretchLemmas
 mod FirstTestLemmas
 mod DoubledLemmas
+mod SpanThreads
+mod SpanMoves
+mod SpanRuns
+mod SpanAnswers

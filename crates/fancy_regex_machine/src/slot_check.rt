@@ -56,7 +56,8 @@ pub(crate) fn has_valid_slots(
         | Insn::GoBack(_)
         | Insn::ContinueFromPreviousMatchEnd
         | Insn::Fail
-        | Insn::Delegate(_) => true,
+        | Insn::Delegate(_)
+        | Insn::DelegateTail { .. } => true,
     }
 }
 

@@ -16,9 +16,9 @@ use Rattle.fancy_regex_meaning.specs.Groups.{group_count}
 use Rattle.fancy_regex_meaning.specs.Sizes.{size, target}
 use Rattle.fancy_regex_meaning.specs.Ways.{is_at_call_limit, max_open_calls}
 use Rattle.fancy_regex_class.specs.Classes.{class_text, is_read}
-use Rattle.fancy_regex_desugar.specs.CorePatterns.{class, CorePattern, nothing, read, general_newline, check, continue, keep_out, fail, cat, alt, group, ahead, never, back, atomic, delegate, repeat, backref, exists, conditional, absent}
-use Rattle.fancy_regex_desugar.specs.Delegates.{searched, is_delegated}
-use Rattle.fancy_regex_desugar.specs.Unfolded.{Written, pat_for, cat_all, alt_all, fronts, behinds, body_of, first_way_of, repeated, look, node, branches, written, written_all, written_call, core_pattern_of}
+use Rattle.fancy_regex_desugar.specs.CorePatterns.{class, CorePattern, nothing, read, general_newline, check, continue, keep_out, fail, cat, alt, group, ahead, never, back, atomic, delegate, tail, repeat, backref, exists, conditional, absent}
+use Rattle.fancy_regex_desugar.specs.Delegates.{searched, is_delegated, begins_tail}
+use Rattle.fancy_regex_desugar.specs.Unfolded.{Written, pat_for, cat_all, alt_all, fronts, behinds, body_of, first_way_of, repeated, look, node, branches, written, written_all, written_call, written_plain, written_tail, written_whole, core_pattern_of}
 use Rattle.fancy_regex_sizes.specs.NodeErrors.{is_invalid_node}
 use Rattle.fancy_regex_sizes.specs.UnsupportedParts.{is_unsupported}
 use Rattle.fancy_regex_info.specs.Views.{pattern_in}
@@ -73,6 +73,7 @@ module _ (unicode : Bool) where
   Reads (never a) = Reads a
   Reads (atomic a) = Reads a
   Reads (delegate t a) = All (IsRead unicode) (classes t)
+  Reads (tail t a) = Reads a
   Reads (repeat a lo hi greedy) = Reads a
   Reads (conditional c a b) = Reads c × Reads a × Reads b
   Reads (absent a) = Reads a
@@ -94,6 +95,7 @@ module _ (unicode : Bool) where
   allowed_reads keeps (back n) h = tt
   allowed_reads keeps (atomic a) h = allowed_reads keeps a h
   allowed_reads keeps (delegate t a) h = h
+  allowed_reads keeps (tail t a) h = allowed_reads keeps a h.1
   allowed_reads keeps (repeat a lo hi greedy) h = allowed_reads keeps a h.1
   allowed_reads keeps (backref k casei) h = tt
   allowed_reads keeps (exists k) h = tt
@@ -417,11 +419,43 @@ module _ (groups : List Tree) (root : Tree) where
         let w = walked whole opened (tree.subroutine_call k) r in
         walk_body opened k u w.calls w.enough found none w.place
 
+-- what is read of a whole pattern is read of its tree as a part
+module _ (unicode : Bool) (groups : List Tree) (call : ℕ → CorePattern) where
+  plain_reads : (b : Bool) (t : Tree) (p : CorePattern) → Reads unicode (cond b (tail t p) p) → Reads unicode p
+  plain_reads true t p h = h
+  plain_reads false t p h = h
+
+  row_reads : (b : Bool) (p q row : CorePattern) → (Reads unicode p → Reads unicode row) → (Reads unicode q → Reads unicode row) → Reads unicode (cond b p q) → Reads unicode row
+  row_reads true p q row f g h = f h
+  row_reads false p q row f g h = g h
+
+  tail_reads : (n : ℕ) (ts : Trees) → Reads unicode (written_tail groups call n ts) → Reads unicode (cat_all (written_all groups call n ts))
+  unfolding written_tail written_all
+  tail_reads n no_trees h = tt
+  tail_reads n (more_trees t ts) h =
+      let row = cat_all (written_all groups call n (more_trees t ts)) in
+      row_reads (begins_tail (more_trees t ts)) (written_plain groups call n (more_trees t ts)) (cat (written groups call n t).front (written_tail groups call (n + group_count t) ts)) row
+      (plain_reads (is_delegated false (tree.concat (more_trees t ts))) (tree.concat (more_trees t ts)) row)
+      (λ k. (k.0, tail_reads (n + group_count t) ts k.1)) h
+
+  whole_reads : (n : ℕ) (t : Tree) → Reads unicode (written_whole groups call n t) → Reads unicode (written groups call n t).front
+  unfolding written_whole written
+  whole_reads n (tree.concat ts) h = tail_reads n ts h
+  whole_reads n t h = h
+
 whole_at : (unicode explicit : Bool) (t : Tree) → IsAllowed unicode true (core_pattern_of (pattern_in explicit t)) →
     At unicode (pattern_in explicit t).groups (written_call (pattern_in explicit t).groups (max_open_calls (pattern_in explicit t).groups) []) t
 unfolding core_pattern_of
-whole_at unicode true t h = record { first = 0; side = inl (allowed_reads unicode true (core_pattern_of (pattern_in true t)) h) }
-whole_at unicode false t h = record { first = 1; side = inl (allowed_reads unicode true (core_pattern_of (pattern_in false t)) h) }
+whole_at unicode true t h = record {
+  first = 0;
+  side = inl (whole_reads unicode (pattern_in true t).groups (written_call (pattern_in true t).groups (max_open_calls (pattern_in true t).groups) []) 0 t
+      (allowed_reads unicode true (core_pattern_of (pattern_in true t)) h));
+}
+whole_at unicode false t h = record {
+  first = 1;
+  side = inl (whole_reads unicode (pattern_in false t).groups (written_call (pattern_in false t).groups (max_open_calls (pattern_in false t).groups) []) 1 t
+      (allowed_reads unicode true (core_pattern_of (pattern_in false t)) h));
+}
 
 pub classes_are_read : (unicode explicit : Bool) (t : Tree) → IsClear (pattern_in explicit t).groups t →
     IsAllowed unicode true (core_pattern_of (pattern_in explicit t)) → ReadsClasses unicode (pattern_in explicit t).groups t

@@ -1,5 +1,5 @@
 -- What the search of a delegated part finds.
-use Rattle.std.proofs.Common.{◌≡◌, ℕ, ◌≤◌, Bool, true, false, not, cond, List, [], ◌∷◌, length, map, Option, Some, None, Vec, Global, refl, sym, ap, ◌∙◌, arith}
+use Rattle.std.proofs.Common.{◌≡◌, ℕ, ◌<◌, ◌≤◌, Bool, true, false, not, cond, List, [], ◌∷◌, length, map, Option, Some, None, Vec, Global, refl, sym, ap, ap₂, subst, ◌∙◌, arith}
 use Rattle.std.specs.Prelude.{◌==◌, ◌&&◌, nat_le, nat_lt, option_map, slice_get}
 use Rattle.std.specs.List.{filter}
 use Rattle.std.proofs.lemmas.Bool.Decides.{nat_tests}
@@ -9,11 +9,11 @@ use Rattle.fancy_regex_meaning.specs.Groups.{pattern_of}
 use Rattle.fancy_regex_meaning.specs.Positions.{boundaries}
 use Rattle.fancy_regex_meaning.specs.Ways.{MatchState, Setting, with_position}
 use Rattle.fancy_regex_meaning.specs.WayLaws.{Each}
-use Rattle.fancy_regex_meaning.specs.Searches.{Search, first_item, first_some, is_admitted, match_of, start_way, match_at, first_match, ways_at}
+use Rattle.fancy_regex_meaning.specs.Searches.{Match, Search, first_item, first_some, is_admitted, match_of, start_way, match_at, first_match, ways_at}
 use Rattle.fancy_regex_meaning.proofs.ForwardProofs.{ways_go_onward}
 use Rattle.fancy_regex_class.specs.RunInputs.{search_for, match_slots}
 use Rattle.fancy_regex_class.specs.declared.input.RunInput.{RunInput}
-use Rattle.fancy_regex_desugar.specs.Delegates.{is_searchable, first_end}
+use Rattle.fancy_regex_desugar.specs.Delegates.{is_searchable, first_end, ends_until, first_end_until}
 use Rattle.fancy_regex_desugar.proofs.DelegateProofs.{tree_ends, own_ways}
 
 -- where all end in range, none is left out
@@ -36,38 +36,10 @@ only_some {A} f p = at (f p)
 not_below : (a b : ℕ) → a ≤ b → nat_lt b a ≡ false
 not_below a b le = grind (arith, nat_tests)
 
-module _ (s : Setting) (t : Tree) (d : is_searchable t ≡ true) (input : RunInput) (whole : input.range.end ≡ length s.text) (anchored : input.anchored ≡ true)
-    (inside : input.first ≤ length s.text) where
-  abbrev find : Search
-  find = search_for false input
-
+-- what the slots of an answer say of its end
+module _ (t : Tree) (p : ℕ) where
   abbrev alone : MatchState
-  alone = start_way (pattern_of t) input.first
-
-  abbrev ends : List ℕ
-  ends = tree_ends s t input.first
-
-  forward : Each (λ v. v.position ≤ find.stop) (ways_at s (pattern_of t) find input.first)
-  forward =
-      weaker (ways_at s (pattern_of t) find input.first) (ways_go_onward s (pattern_of t).groups 1 t alone inside)
-    where
-      weaker : (ws : List MatchState) → Each (λ v. (input.first ≤ v.position) × (v.position ≤ length s.text)) ws → Each (λ v. v.position ≤ find.stop) ws
-      weaker [] h = tt
-      weaker (v ∷ vs) h = (omega (arith, h.0.1, whole), weaker vs h.1)
-
-  matched : match_at s (pattern_of t) find input.first ≡ option_map match_of (first_item (map (with_position alone) ends))
-  unfolding match_at
-  matched =
-      ap (λ ws. option_map match_of (first_item ws))
-      (all_admitted find refl (ways_at s (pattern_of t) find input.first) forward ∙ own_ways s t d input.first)
-
-  found_first : first_match s (pattern_of t) find ≡ option_map match_of (first_item (map (with_position alone) ends))
-  unfolding first_match
-  found_first =
-      let f = match_at s (pattern_of t) find in
-      ap (λ b. first_some f (cond b [] (cond find.anchored (input.first ∷ []) (boundaries s.text find.first find.stop)))) (not_below input.first find.stop (omega (arith, whole, inside)))
-      ∙ ap (λ b. first_some f (cond b (input.first ∷ []) (boundaries s.text find.first find.stop))) anchored
-      ∙ only_some f input.first ∙ matched
+  alone = start_way (pattern_of t) p
 
   slots_end : (q : ℕ) → slice_get (match_slots (pattern_of t) (match_of (with_position alone q))) 1 ≡ Some q
   slots_end q = refl
@@ -80,13 +52,46 @@ module _ (s : Setting) (t : Tree) (d : is_searchable t ≡ true) (input : RunInp
   end_found (Some v) [] e = absurd (none-some _ (sym e))
   end_found (Some v) (q ∷ qs) e = ap (λ l. slice_get l 1) (same_Some _ _ e) ∙ slots_end q
 
+module _ (s : Setting) (t : Tree) (d : is_searchable t ≡ true) (input : RunInput) (whole : input.range.end ≡ length s.text) (anchored : input.anchored ≡ true)
+    (inside : input.first ≤ length s.text) where
+  abbrev find : Search
+  find = search_for false input
+
+  abbrev one : MatchState
+  one = alone t input.first
+
+  abbrev ends : List ℕ
+  ends = tree_ends s t input.first
+
+  forward : Each (λ v. v.position ≤ find.stop) (ways_at s (pattern_of t) find input.first)
+  forward =
+      weaker (ways_at s (pattern_of t) find input.first) (ways_go_onward s (pattern_of t).groups 1 t one inside)
+    where
+      weaker : (ws : List MatchState) → Each (λ v. (input.first ≤ v.position) × (v.position ≤ length s.text)) ws → Each (λ v. v.position ≤ find.stop) ws
+      weaker [] h = tt
+      weaker (v ∷ vs) h = (omega (arith, h.0.1, whole), weaker vs h.1)
+
+  matched : match_at s (pattern_of t) find input.first ≡ option_map match_of (first_item (map (with_position one) ends))
+  unfolding match_at
+  matched =
+      ap (λ ws. option_map match_of (first_item ws))
+      (all_admitted find refl (ways_at s (pattern_of t) find input.first) forward ∙ own_ways s t d input.first)
+
+  found_first : first_match s (pattern_of t) find ≡ option_map match_of (first_item (map (with_position one) ends))
+  unfolding first_match
+  found_first =
+      let f = match_at s (pattern_of t) find in
+      ap (λ b. first_some f (cond b [] (cond find.anchored (input.first ∷ []) (boundaries s.text find.first find.stop)))) (not_below input.first find.stop (omega (arith, whole, inside)))
+      ∙ ap (λ b. first_some f (cond b (input.first ∷ []) (boundaries s.text find.first find.stop))) anchored
+      ∙ only_some f input.first ∙ matched
+
   -- the second slot of the answer of an anchored search over the whole text
   pub second_slot : (found : Option (Vec ℕ Global)) →
       option_map (λ (v : Vec ℕ Global). v.items) found ≡ option_map (match_slots (pattern_of t)) (first_match s (pattern_of t) find) →
       (elim found as (λ _. Option ℕ) [ None ↦ None | Some v ↦ slice_get v.items 1 ]) ≡ first_end s t input.first
   unfolding first_end
   second_slot found e =
-      end_found found ends (e ∙ ap (option_map (match_slots (pattern_of t))) found_first)
+      end_found t input.first found ends (e ∙ ap (option_map (match_slots (pattern_of t))) found_first)
       ∙ ap (λ ws. option_map (λ w. w.position) (first_item ws)) (sym (own_ways s t d input.first))
 
 -- the same, of a search for the first match
@@ -96,4 +101,85 @@ pub end_of_search : (s : Setting) (t : Tree) → is_searchable t ≡ true → (i
     (elim found as (λ _. Option ℕ) [ None ↦ None | Some v ↦ slice_get v.items 1 ]) ≡ first_end s t input.first
 end_of_search s t d input whole anchored inside longest first found e =
     second_slot s t d input whole anchored inside found
+    (e ∙ ap (λ b. option_map (match_slots (pattern_of t)) (first_match s (pattern_of t) (search_for b input))) first)
+
+and_true : (b : Bool) → (b && true) ≡ b
+and_true true = refl
+and_true false = refl
+
+too_far : (first stop q : ℕ) → stop < first → first ≤ q → nat_le q stop ≡ false
+too_far first stop q far le = grind (arith, nat_tests)
+
+-- any range
+module _ (s : Setting) (t : Tree) (d : is_searchable t ≡ true) (input : RunInput) (anchored : input.anchored ≡ true) (inside : input.first ≤ length s.text) where
+  abbrev sought : Search
+  sought = search_for false input
+
+  abbrev begin : MatchState
+  begin = alone t input.first
+
+  abbrev stop : ℕ
+  stop = input.range.end
+
+  abbrev all_ends : List ℕ
+  all_ends = tree_ends s t input.first
+
+  abbrev near : List ℕ → List ℕ
+  near qs = filter (λ q. nat_le q stop) qs
+
+  kept_or_not : (b : Bool) (q : ℕ) (ws : List MatchState) (qs : List ℕ) → ws ≡ map (with_position begin) qs →
+      cond b (with_position begin q ∷ ws) ws ≡ map (with_position begin) (cond b (q ∷ qs) qs)
+  kept_or_not true q ws qs e = ap (λ l. with_position begin q ∷ l) e
+  kept_or_not false q ws qs e = e
+
+  ends_near : (qs : List ℕ) → filter (ends_until stop) (map (with_position begin) qs) ≡ map (with_position begin) (near qs)
+  ends_near [] = refl
+  ends_near (q ∷ qs) = kept_or_not (nat_le q stop) q (filter (ends_until stop) (map (with_position begin) qs)) (near qs) (ends_near qs)
+
+  admitted_until : (ws : List MatchState) → filter (is_admitted sought) ws ≡ filter (ends_until stop) ws
+  admitted_until [] = refl
+  admitted_until (w ∷ ws) = ap₂ (λ b l. cond b (w ∷ l) l) (and_true (nat_le w.position stop)) (admitted_until ws)
+
+  matched_near : match_at s (pattern_of t) sought input.first ≡ option_map match_of (first_item (map (with_position begin) (near all_ends)))
+  unfolding match_at
+  matched_near =
+      ap (λ ws. option_map match_of (first_item ws))
+      (admitted_until (ways_at s (pattern_of t) sought input.first) ∙ ap (filter (ends_until stop)) (own_ways s t d input.first) ∙ ends_near all_ends)
+
+  none_near : stop < input.first → (qs : List ℕ) → Each (λ v. (input.first ≤ v.position) × (v.position ≤ length s.text)) (map (with_position begin) qs) → near qs ≡ []
+  none_near far [] h = refl
+  none_near far (q ∷ qs) h = ap (λ b. cond b (q ∷ near qs) (near qs)) (too_far input.first stop q far h.0.0) ∙ none_near far qs h.1
+
+  found_near : first_match s (pattern_of t) sought ≡ option_map match_of (first_item (map (with_position begin) (near all_ends)))
+  unfolding first_match
+  found_near = at (nat_lt stop input.first) refl
+    where
+      f : ℕ → Option Match
+      f = match_at s (pattern_of t) sought
+
+      at : (b : Bool) → nat_lt stop input.first ≡ b → first_some f (cond b [] (cond sought.anchored (input.first ∷ []) (boundaries s.text sought.first sought.stop)))
+          ≡ option_map match_of (first_item (map (with_position begin) (near all_ends)))
+      at true e =
+          let far : stop < input.first = grind (arith, nat_tests, e) in
+          sym (ap (λ l. option_map match_of (first_item (map (with_position begin) l)))
+          (none_near far all_ends (subst (Each (λ v. (input.first ≤ v.position) × (v.position ≤ length s.text))) (own_ways s t d input.first) (ways_go_onward s (pattern_of t).groups 1 t begin inside))))
+      at false e =
+          ap (λ b. first_some f (cond b (input.first ∷ []) (boundaries s.text sought.first sought.stop))) anchored
+          ∙ only_some f input.first ∙ matched_near
+
+  slot_until : (found : Option (Vec ℕ Global)) →
+      option_map (λ (v : Vec ℕ Global). v.items) found ≡ option_map (match_slots (pattern_of t)) (first_match s (pattern_of t) sought) →
+      (elim found as (λ _. Option ℕ) [ None ↦ None | Some v ↦ slice_get v.items 1 ]) ≡ first_end_until s t stop input.first
+  unfolding first_end_until
+  slot_until found e =
+      end_found t input.first found (near all_ends) (e ∙ ap (option_map (match_slots (pattern_of t))) found_near)
+      ∙ ap (λ ws. option_map (λ w. w.position) (first_item ws)) (sym (ap (filter (ends_until stop)) (own_ways s t d input.first) ∙ ends_near all_ends))
+
+-- the second slot of the answer of an anchored search for the first match that ends in range
+pub end_of_search_until : (s : Setting) (t : Tree) → is_searchable t ≡ true → (input : RunInput) → input.anchored ≡ true →
+    input.first ≤ length s.text → (longest : Bool) → longest ≡ false → (found : Option (Vec ℕ Global)) →
+    option_map (λ (v : Vec ℕ Global). v.items) found ≡ option_map (match_slots (pattern_of t)) (first_match s (pattern_of t) (search_for longest input)) →
+    (elim found as (λ _. Option ℕ) [ None ↦ None | Some v ↦ slice_get v.items 1 ]) ≡ first_end_until s t input.range.end input.first
+end_of_search_until s t d input anchored inside longest first found e =
+    slot_until s t d input anchored inside found
     (e ∙ ap (λ b. option_map (match_slots (pattern_of t)) (first_match s (pattern_of t) (search_for b input))) first)

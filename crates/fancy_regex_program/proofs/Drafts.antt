@@ -1,13 +1,14 @@
 -- What is written for each kind of pattern.
 use Rattle.std.proofs.Common.{◌≡◌, ℕ, ◌+◌, ◌*◌, ◌-◌, ◌<◌, Bool, true, false, cond, List, [], ◌∷◌, ◌++◌, length, drop, set, Option, Some, None, refl, sym, ap, ap₂, ◌∙◌, arith, append_assoc, append-nil, length-append}
+use Rattle.std.specs.Prelude.{slice_get}
 use Rattle.std.proofs.Math.Seq.{set-append_seam, drop-append_seam}
 use Rattle.fancy_regex_tree.specs.Tree.{Text, Tree}
 use Rattle.fancy_regex_class.specs.Classes.{in_class, folded}
-use Rattle.fancy_regex_desugar.specs.CorePatterns.{CorePattern, literal, nothing, read, keep_out, fail, cat, alt, group, ahead, never, back, atomic, delegate, repeat, conditional, absent}
+use Rattle.fancy_regex_desugar.specs.CorePatterns.{CorePattern, literal, nothing, read, keep_out, fail, cat, alt, group, ahead, never, back, atomic, delegate, tail, repeat, conditional, absent}
 use Rattle.fancy_regex_program.specs.Ops as op
 use Rattle.fancy_regex_program.specs.Ops.{Op}
 use Rattle.fancy_regex_program.specs.Code.{waits, flushed, slots_in, is_uncounted, loop_entry, loop_head, code_of}
-use Rattle.fancy_regex_program.specs.Writing.{Draft, with_op, with_char, closed_draft, added, patched, with_pat, with_choice}
+use Rattle.fancy_regex_program.specs.Writing.{Draft, with_op, with_char, closed_draft, added, patched, ended_by, ended, with_pat, with_choice}
 
 pub same_draft : {a b : List Op} {s t : Text} → a ≡ b → s ≡ t → ◌≡◌ {A = Draft} (record { ops = a; text = s }) (record { ops = b; text = t })
 same_draft e f = ap₂ (λ o x. let d : Draft = record { ops = o; text = x } in d) e f
@@ -28,6 +29,13 @@ flat_pair q o x rest = simp append_assoc
 
 flat_two : (xs f : List Op) (o1 o2 : Op) (rest : List Op) → ((xs ++ f) ++ o1 ∷ []) ++ o2 ∷ rest ≡ xs ++ (f ++ (o1 ∷ o2 ∷ rest))
 flat_two xs f o1 o2 rest = simp append_assoc
+
+flat_end : (p : List Op) (x : Op) (c g : List Op) → ((p ++ x ∷ []) ++ c) ++ g ≡ p ++ x ∷ (c ++ g)
+flat_end p x c g = simp append_assoc
+
+get_seam : (p : List Op) (x : Op) (rest : List Op) → slice_get (p ++ x ∷ rest) (length p) ≡ Some x
+get_seam [] x rest = refl
+get_seam (o ∷ p) x rest = get_seam p x rest
 
 -- an operation is written over a hole
 fill : (p : List Op) (x y : Op) (c g rest : List Op) → set ((((p ++ x ∷ []) ++ c) ++ g) ++ rest) (length p) y ≡ p ++ y ∷ ((c ++ g) ++ rest)
@@ -191,6 +199,33 @@ module _ (u w : Bool) where
       let at : length q ≡ pc d o x a s = length-append d.ops (flushed d.text) in
       spread d y x a s rest
       ∙ sym (ap₂ (λ l n. set l n y) (spread d o x a s rest) (sym at) ∙ set-append_seam q o tail y)
+
+  -- a tail, whose own operation is told where it ends
+  pub pat_tail : (t : Tree) (a : CorePattern) (slot : ℕ) (d : Draft) → P (tail t a) slot d
+      ≡ (let b = closed_draft d in
+      let e = closed_draft (P a slot (with_op (op.tail (in_class u) (folded u) t 0) b)) in
+      ended (length b.ops) (length e.ops) e)
+  unfolding with_pat code_of patched with_op closed_draft ended
+  pat_tail t a slot d =
+      let o : ℕ → Op = op.tail (in_class u) (folded u) t in
+      let q = d.ops ++ flushed d.text in
+      let g = flushed (waits a []) in
+      let l = length (q ++ o 0 ∷ []) in
+      let n = length d.ops + length (flushed d.text) in
+      let c = C a [] l slot in
+      let e = ((q ++ o 0 ∷ []) ++ c) ++ g in
+      let here : n + 1 ≡ l = omega (arith, length-append q (o 0 ∷ []), length-append d.ops (flushed d.text)) in
+      let flat : e ≡ q ++ o 0 ∷ (c ++ g) = flat_end q (o 0) c g in
+      let long : l + length (c ++ g) ≡ length e = omega (arith, length-append ((q ++ o 0 ∷ []) ++ c) g, length-append (q ++ o 0 ∷ []) c, length-append c g) in
+      let got : slice_get e (length q) ≡ Some (o 0) = ap (λ x. slice_get x (length q)) flat ∙ get_seam q (o 0) (c ++ g) in
+      let whole : Draft = record { ops = e; text = [] } in
+      same_draft
+      (sym (append_assoc d.ops (flushed d.text) (o (n + 1 + length (C a [] (n + 1) slot ++ g)) ∷ (C a [] (n + 1) slot ++ g)))
+      ∙ ap (λ k. q ++ (o (k + length (C a [] k slot ++ g)) ∷ (C a [] k slot ++ g))) here
+      ∙ ap (λ k. q ++ (o k ∷ (c ++ g))) long
+      ∙ sym (ap (λ x. set x (length q) (o (length e))) flat ∙ set-append_seam q (o 0) (c ++ g) (o (length e))))
+      refl
+      ∙ sym (ap (λ x. ended_by (length q) (length e) x whole) got)
 
   pub pat_never : (a : CorePattern) (slot : ℕ) (d : Draft) → P (never a) slot d
       ≡ (let b = added (op.begin_atomic slot) d in

@@ -1,6 +1,7 @@
 -- What the analysis says of a tree gives the pattern of the definitions.
 use Rattle.std.proofs.Common.{◌≡◌, ℕ, zero, suc, ◌+◌, ◌*◌, Bool, true, false, cond, not, List, [], ◌∷◌, ◌++◌, map, length, count_by, sum_by, Option, Some, None, option_map, refl, sym, ap, ap₂, ◌∙◌, arith, append_assoc, append-nil, length-append}
-use Rattle.std.specs.Prelude.{slice_get, slice_index, ◌==◌, nat_le}
+use Rattle.std.specs.Prelude.{slice_get, slice_index, ◌==◌, ◌&&◌, nat_le}
+use Rattle.std.proofs.lemmas.Bool.Decides.{nat_tests}
 use Rattle.std.proofs.lemmas.List.Sums.{sum_by-append, sum_by-cons}
 use Rattle.std.proofs.Math.Path.{fun_ext}
 use Rattle.fancy_regex_tree.specs.Tree as tree
@@ -8,13 +9,45 @@ use Rattle.fancy_regex_tree.specs.Tree.{Tree, Trees, no_trees, more_trees}
 use Rattle.fancy_regex_meaning.specs.Groups.{Pattern, bodies, row_bodies, group_count, row_group_count, pattern_of, explicit_pattern_of}
 use Rattle.fancy_regex_meaning.specs.Sizes.{size, target}
 use Rattle.fancy_regex_meaning.specs.Ways.{is_at_call_limit, max_open_calls_per_group, max_open_calls}
-use Rattle.fancy_regex_desugar.specs.CorePatterns.{CorePattern, any, literal, class, nothing, read, general_newline, check, continue, keep_out, fail, group, atomic, repeat, backref, exists, conditional, absent}
-use Rattle.fancy_regex_desugar.specs.Unfolded.{Written, pat_for, cat_all, alt_all, first_way_of, look, node, branches, written, written_all, written_call, core_pattern_of}
+use Rattle.fancy_regex_desugar.specs.CorePatterns.{CorePattern, any, literal, class, nothing, read, general_newline, check, continue, keep_out, fail, cat, group, atomic, repeat, backref, exists, conditional, absent}
+use Rattle.fancy_regex_desugar.specs.Delegates.{may_explode, is_plain, are_plain, begins_tail}
+use Rattle.fancy_regex_desugar.specs.Unfolded.{Written, pat_for, cat_all, alt_all, first_way_of, look, node, branches, written, written_all, written_call, written_plain, written_tail, written_whole, core_pattern_of}
 use Rattle.fancy_regex_info.specs.Analysis.{analysis}
+use Rattle.fancy_regex_info.specs.Easy.{is_easy, all_easy}
 use Rattle.fancy_regex_info.specs.References.{is_read}
 use Rattle.fancy_regex_info.specs.Infos.{NodeProperties, InfoTree, InfoTrees, known, no_infos, more_infos, properties_in, properties, expected_info, expected_infos}
 use Rattle.fancy_regex_info.specs.Views.{pattern_in}
-use Rattle.fancy_regex_program.specs.Known.{front_of, behind_of, layer, info_written, info_written_all, info_call, listed, bodies_in, row_bodies_in, groups_in, most_calls_in, pat_in}
+use Rattle.fancy_regex_program.specs.Known.{front_of, behind_of, layer, info_written, info_written_all, is_plain_info, are_plain_infos, info_begins_tail, tree_in, trees_in, plain_row, info_tail, info_whole, info_call, listed, bodies_in, row_bodies_in, groups_in, most_calls_in, pat_in}
+
+-- Whether a tree without groups is easy does not depend on which groups are read.
+module _ (reads others : ℕ → Bool) where
+  mutual
+    unfolding is_easy all_easy group_count row_group_count
+
+    same_easy : (n m : ℕ) (t : Tree) → group_count t ≡ 0 → is_easy reads n t ≡ is_easy others m t
+    same_easy n m (tree.concat ts) e = all_same_easy n m ts e
+    same_easy n m (tree.alt no_trees) e = refl
+    same_easy n m (tree.alt (more_trees t ts)) e =
+        ap₂ (λ a b. a && b) (same_easy n m t (omega (arith, e))) (all_same_easy (n + group_count t) (m + group_count t) ts (omega (arith, e)))
+    same_easy n m (tree.group t) e = absurd (omega (arith, e))
+    same_easy n m (tree.repeat t lo hi greedy) e = same_easy n m t e
+    same_easy n m _ e = refl
+
+    all_same_easy : (n m : ℕ) (ts : Trees) → row_group_count ts ≡ 0 → all_easy reads n ts ≡ all_easy others m ts
+    all_same_easy n m no_trees e = refl
+    all_same_easy n m (more_trees t ts) e =
+        ap₂ (λ a b. a && b) (same_easy n m t (omega (arith, e))) (all_same_easy (n + group_count t) (m + group_count t) ts (omega (arith, e)))
+
+not_not : (b : Bool) → not (not b) ≡ b
+not_not true = refl
+not_not false = refl
+
+and_none : (b c : Bool) → c ≡ false → (b && c) ≡ false
+and_none true c e = e
+and_none false c e = refl
+
+choice_same : {b c : Bool} {p q r s : CorePattern} → b ≡ c → p ≡ q → r ≡ s → cond b p r ≡ cond c q s
+choice_same {b = b} {c = c} {p = p} {q = q} {r = r} {s = s} x y z = ap₂ (λ d v. cond d v r) x y ∙ ap (λ v. cond c q v) z
 
 module _ (groups : List Tree) (reads : ℕ → Bool) where
   abbrev D : ℕ → Tree → InfoTree
@@ -49,6 +82,54 @@ module _ (groups : List Tree) (reads : ℕ → Bool) where
       known_all : (n : ℕ) (ts : Trees) → info_written_all call (expected_infos groups reads n ts) ≡ written_all groups call n ts
       known_all n no_trees = refl
       known_all n (more_trees t ts) = ap₂ (λ v vs. v ∷ vs) (known_is n t) (known_all (n + group_count t) ts)
+
+  tree_known : (n : ℕ) (t : Tree) → tree_in (D n t) ≡ t
+  unfolding expected_info
+  tree_known n (tree.concat ts) = refl
+  tree_known n _ = refl
+
+  plain_is : (n : ℕ) (t : Tree) → is_plain_info (D n t) ≡ is_plain t
+  plain_is n t = ap (λ f. not f.hard && f.start == f.end) (own n t) ∙ at (group_count t) refl
+    where
+      at : (c : ℕ) → group_count t ≡ c → (not (not (is_easy reads n t)) && n == n + group_count t) ≡ (is_easy (λ k. false) 0 t && group_count t == 0)
+      at zero e =
+          ap₂ (λ a b. a && b) (not_not (is_easy reads n t) ∙ same_easy reads (λ k. false) n 0 t e)
+          (let here : (n == n + group_count t) ≡ true = grind (arith, nat_tests, e) in let there : (group_count t == 0) ≡ true = grind (arith, nat_tests, e) in here ∙ sym there)
+      at (suc c) e =
+          and_none (not (not (is_easy reads n t))) (n == n + group_count t) (grind (arith, nat_tests, e))
+          ∙ sym (and_none (is_easy (λ k. false) 0 t) (group_count t == 0) (grind (arith, nat_tests, e)))
+
+  trees_are : (n : ℕ) (ts : Trees) → trees_in (expected_infos groups reads n ts) ≡ ts
+  unfolding expected_infos
+  trees_are n no_trees = refl
+  trees_are n (more_trees t ts) = ap₂ more_trees (tree_known n t) (trees_are (n + group_count t) ts)
+
+  all_plain_is : (n : ℕ) (ts : Trees) → are_plain_infos (expected_infos groups reads n ts) ≡ are_plain ts
+  unfolding expected_infos
+  all_plain_is n no_trees = refl
+  all_plain_is n (more_trees t ts) = ap₂ (λ a b. a && b) (plain_is n t) (all_plain_is (n + group_count t) ts)
+
+  begins_is : (n : ℕ) (ts : Trees) → info_begins_tail (expected_infos groups reads n ts) ≡ begins_tail ts
+  unfolding expected_infos
+  begins_is n no_trees = refl
+  begins_is n (more_trees t ts) = ap₂ (λ a u. a && may_explode u) (all_plain_is n (more_trees t ts)) (tree_known n t)
+
+  module _ (call : ℕ → CorePattern) where
+    row_is : (n : ℕ) (ts : Trees) →
+        plain_row (trees_in (expected_infos groups reads n ts)) (info_written_all call (expected_infos groups reads n ts)) ≡ written_plain groups call n ts
+    row_is n ts = ap₂ plain_row (trees_are n ts) (known_all call n ts)
+
+    tail_is : (n : ℕ) (ts : Trees) → info_tail call (expected_infos groups reads n ts) ≡ written_tail groups call n ts
+    unfolding info_tail written_tail expected_infos
+    tail_is n no_trees = refl
+    tail_is n (more_trees t ts) =
+        choice_same (begins_is n (more_trees t ts)) (row_is n (more_trees t ts))
+        (ap₂ (λ v p. cat v.front p) (known_is call n t) (tail_is (n + group_count t) ts))
+
+    whole_is : (n : ℕ) (t : Tree) → info_whole call (D n t) ≡ written_whole groups call n t
+    unfolding info_whole written_whole expected_info
+    whole_is n (tree.concat ts) = tail_is n ts
+    whole_is n t = ap (λ v. v.front) (known_is call n t)
 
   -- the bodies of groups, of which the first has that number
   abbrev pub bodies_from : ℕ → List Tree → List InfoTree
@@ -173,11 +254,11 @@ count_is explicit t =
     ap length (groups_are explicit t) ∙ length_from pattern.groups (is_read (length pattern.groups) t) 0 pattern.groups
 
 pat_of_groups : (whole : Bool) (x : InfoTree) →
-    pat_in whole x ≡ (info_written (info_call (groups_in whole x) (max_open_calls_per_group * length (groups_in whole x)) []) x).front
+    pat_in whole x ≡ info_whole (info_call (groups_in whole x) (max_open_calls_per_group * length (groups_in whole x)) []) x
 unfolding pat_in
 pat_of_groups whole x = refl
 
-pat_of_written : (p : Pattern) → (written p.groups (written_call p.groups (max_open_calls p.groups) []) p.first_group p.tree).front ≡ core_pattern_of p
+pat_of_written : (p : Pattern) → written_whole p.groups (written_call p.groups (max_open_calls p.groups) []) p.first_group p.tree ≡ core_pattern_of p
 unfolding core_pattern_of
 pat_of_written p = refl
 
@@ -192,10 +273,10 @@ pat_is explicit t =
     let reads = is_read (length pattern.groups) t in
     let n = max_open_calls pattern.groups in
     let x = analysis explicit t in
-    let front : List InfoTree → ℕ → CorePattern = λ gs m. (info_written (info_call gs (max_open_calls_per_group * m) []) x).front in
+    let front : List InfoTree → ℕ → CorePattern = λ gs m. info_whole (info_call gs (max_open_calls_per_group * m) []) x in
     pat_of_groups (not explicit) x
     ∙ ap₂ front (groups_are explicit t) (count_is explicit t)
-    ∙ ap (λ (c : ℕ → CorePattern). (info_written c x).front) (fun_ext (call_is pattern.groups reads n [] [] (λ j. refl)))
-    ∙ ap (λ (v : Written). v.front) (known_is pattern.groups reads (written_call pattern.groups n []) pattern.first_group t)
-    ∙ ap (λ r. (written pattern.groups (written_call pattern.groups n []) pattern.first_group r).front) (sym (tree_is explicit t))
+    ∙ ap (λ (c : ℕ → CorePattern). info_whole c x) (fun_ext (call_is pattern.groups reads n [] [] (λ j. refl)))
+    ∙ whole_is pattern.groups reads (written_call pattern.groups n []) pattern.first_group t
+    ∙ ap (λ r. written_whole pattern.groups (written_call pattern.groups n []) pattern.first_group r) (sym (tree_is explicit t))
     ∙ pat_of_written pattern

@@ -2,6 +2,8 @@ mod LazyLemmas
 mod DelegateLemmas
 mod PartLemmas
 mod DelegateSteps
+mod TailSteps
+mod TailEnds
 mod ReadingLemmas
 mod Drafts
 mod Branches
@@ -28,5 +30,8 @@ mod CapLemmas
 mod WorkLemmas
 mod StepLemmas
 mod StartLemmas
+pub mod BodyStartLemmas
+mod SpanLemmas
+pub mod SpanPlaces
 mod BranchSteps
 pub mod Sending

@@ -35,7 +35,7 @@ module _ (call : ℕ → CorePattern) where
   abbrev pub W : Info → Written
   W i = info_written call (info_of i)
 
-  written_listed : (xs : List Info) → info_written_all call (infos (map info_of xs)) ≡ map W xs
+  pub written_listed : (xs : List Info) → info_written_all call (infos (map info_of xs)) ≡ map W xs
   unfolding info_written info_written_all
   written_listed [] = refl
   written_listed (x ∷ xs) = ap (λ us. W x ∷ us) (written_listed xs)

@@ -45,7 +45,7 @@ or_right : (a b : Bool) → b ≡ true → (a || b) ≡ true
 or_right true b h = refl
 or_right false b h = h
 
-both_true : (a b : Bool) → (a && b) ≡ true → (a ≡ true) × (b ≡ true)
+pub both_true : (a b : Bool) → (a && b) ≡ true → (a ≡ true) × (b ≡ true)
 both_true true b h = (refl, h)
 both_true false b h = absurd (true≢false (sym h))
 
@@ -53,7 +53,7 @@ same_case : (casei : Bool) → cond casei casei (not casei) ≡ true
 same_case true = refl
 same_case false = refl
 
-none_there : {X : Type 0} (x : X) → Contains [] x → ⊥
+pub none_there : {X : Type 0} (x : X) → Contains [] x → ⊥
 none_there x c = let low : c.0 < 0 = c.1 in omega arith
 
 only_one : {X : Type 0} (y x : X) → Contains (y ∷ []) x → y ≡ x

@@ -32,7 +32,8 @@ use Rattle.fancy_regex_info.specs.declared.error.CompileError.TheVariants.{Inner
 use Rattle.fancy_regex_info.specs.declared.info.Info.{Info}
 use Rattle.fancy_regex_info.specs.declared.info.Info.TheViews.{out-Info}
 use Rattle.fancy_regex_program.specs.Known.{listed}
-use Rattle.fancy_regex_program.specs.Refusals.{Inside, Call, is_class, IsMissing, KeepsNone, NoneAbsent, IsNoLeaf, IsReason, TreeContext, IsAnalyzed, ExpandedPart, tree_in, IsExpandedPart, AreExpandedParts, IsExpandedBody, IsExpandedRepeat, IsExpandedAbsent, IsExpandedConditional, IsExpandedTarget, looks_behind, IsReasonWhere}
+use Rattle.fancy_regex_program.specs.Known.{tree_in}
+use Rattle.fancy_regex_program.specs.Refusals.{Inside, Call, is_class, IsMissing, KeepsNone, NoneAbsent, IsNoLeaf, IsReason, TreeContext, IsAnalyzed, ExpandedPart, IsExpandedPart, AreExpandedParts, IsExpandedBody, IsExpandedRepeat, IsExpandedAbsent, IsExpandedConditional, IsExpandedTarget, looks_behind, IsReasonWhere}
 use Rattle.fancy_regex_program.proofs.KindLemmas.{NoParts, faulty}
 use Rattle.fancy_regex_program.proofs.NodeLemmas.{info_known}
 use Rattle.fancy_regex_program.proofs.GroupLemmas.{listed_infos}

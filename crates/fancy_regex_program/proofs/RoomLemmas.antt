@@ -7,7 +7,7 @@ use Rattle.std.proofs.lemmas.Result.{IfErr-weaker}
 use Rattle.fancy_regex_tree.specs.Tree.{Text, Tree}
 use Rattle.fancy_regex_class.specs.Classes.{in_class, folded}
 use Rattle.fancy_regex_meaning.specs.Ways.{is_at_call_limit}
-use Rattle.fancy_regex_desugar.specs.CorePatterns.{CorePattern, any, literal, class, nothing, read, general_newline, check, continue, keep_out, fail, cat, alt, group, ahead, never, back, atomic, delegate, repeat, backref, exists, conditional, absent}
+use Rattle.fancy_regex_desugar.specs.CorePatterns.{CorePattern, any, literal, class, nothing, read, general_newline, check, continue, keep_out, fail, cat, alt, group, ahead, never, back, atomic, delegate, tail, repeat, backref, exists, conditional, absent}
 use Rattle.fancy_regex_desugar.specs.ProgramSizes.{room}
 use Rattle.fancy_regex_desugar.specs.Unfolded.{Written, cat_all, alt_all, look}
 use Rattle.fancy_regex_tree.specs.declared.expr.LookAround.{LookAround}
@@ -19,10 +19,10 @@ use Rattle.fancy_regex_info.specs.declared.info.Info.{Info}
 use Rattle.fancy_regex_sizes.proofs.PartErrorLemmas.{gives}
 use Rattle.fancy_regex_program.specs.Ops as op
 use Rattle.fancy_regex_program.specs.Ops.{Op, op_of}
-use Rattle.fancy_regex_program.specs.Code.{Code, waits, flushed, slots_in, one, behind, closed, alt_code, group_code, ahead_code, never_code, atomic_code, repeat_code, loop_code, conditional_code, absent_code, leaf_op, code_of}
+use Rattle.fancy_regex_program.specs.Code.{Code, waits, flushed, slots_in, one, behind, closed, alt_code, group_code, ahead_code, never_code, atomic_code, tail_code, repeat_code, loop_code, conditional_code, absent_code, leaf_op, code_of}
 use Rattle.fancy_regex_program.specs.Extents.{extent, IsFull}
 use Rattle.fancy_regex_program.specs.Known.{front_of, info_written, info_call}
-use Rattle.fancy_regex_program.specs.Writing.{Draft, draft_of, with_op, closed_draft, added, patched, with_pat, with_choice, Wrote, WroteClosed, WroteChoice, IsInsn}
+use Rattle.fancy_regex_program.specs.Writing.{Draft, draft_of, with_op, closed_draft, added, patched, ended_by, ended, with_pat, with_choice, Wrote, WroteClosed, WroteChoice, IsInsn}
 use Rattle.fancy_regex_program.specs.declared.program_builder.ProgramBuilder.{ProgramBuilder}
 use Rattle.fancy_regex_program.specs.declared.emitter.Emitter.{Emitter}
 use Rattle.fancy_regex_program.specs.declared.insn.Insn.{Insn}
@@ -63,6 +63,9 @@ never_long body pc slot n h = omega (arith, h, length-append (body (pc + 2) (slo
 
 atomic_long : (body : Code) (pc slot n : ℕ) → length (body (pc + 1) (slot + 1)) ≤ n → length (atomic_code body pc slot) ≤ 12 + n
 atomic_long body pc slot n h = omega (arith, h, length-append (body (pc + 1) (slot + 1)) (op.end_atomic slot ∷ []))
+
+tail_long : (begin : ℕ → Op) (body : Code) (pc slot n : ℕ) → length (body (pc + 1) slot) ≤ n → length (tail_code begin body pc slot) ≤ 1 + n
+tail_long begin body pc slot n h = omega (arith, h)
 
 repeat_long : (lo hi : ℕ) (greedy : Bool) (body : Code) (pc slot n : ℕ) → length (body (pc + 2) (slot + 1)) ≤ n →
     length (repeat_code lo hi greedy body pc slot) ≤ 12 + n
@@ -155,6 +158,10 @@ module _ (u w : Bool) where
       behind_long text (atomic_code (shut a)) pc slot (12 + room a)
       (atomic_long (shut a) n slot (room a) (shut_long a (code_fits a []) (n + 1) (slot + 1)))
   code_fits (delegate t a) text pc slot = alone_long text (op.delegate (in_class u) (folded u) t) pc slot 12 (omega arith)
+  code_fits (tail t a) text pc slot =
+      let n = pc + length (flushed text) in
+      behind_long text (tail_code (op.tail (in_class u) (folded u) t) (shut a)) pc slot (1 + room a)
+      (tail_long (op.tail (in_class u) (folded u) t) (shut a) n slot (room a) (shut_long a (code_fits a []) (n + 1) slot))
   code_fits (repeat a lo None greedy) text pc slot =
       let n = pc + length (flushed text) in
       behind_long text (loop_code lo greedy (shut a)) pc slot (12 + room a)
@@ -186,6 +193,14 @@ extent_added o d = extent_op o (closed_draft d) ∙ ap (λ n. n + 1) (extent_clo
 pub extent_patched : (at : ℕ) (o : Op) (d : Draft) → extent (patched at o d) ≡ extent d
 unfolding extent patched
 extent_patched at o d = ap (λ n. n + length (flushed d.text)) (length-set d.ops at o)
+
+extent_ended_by : (at end : ℕ) (o : Option Op) (d : Draft) → extent (ended_by at end o d) ≡ extent d
+extent_ended_by at end None d = refl
+extent_ended_by at end (Some o) d = extent_patched at _ d
+
+pub extent_ended : (at end : ℕ) (d : Draft) → extent (ended at end d) ≡ extent d
+unfolding ended
+extent_ended at end d = extent_ended_by at end (slice_get d.ops at) d
 
 pub extent_bare : (d : Draft) → length d.ops ≤ extent d
 unfolding extent
@@ -339,6 +354,10 @@ room_never p = refl
 pub room_delegate : (t : Tree) (p : CorePattern) → room (delegate t p) ≡ 12
 unfolding room
 room_delegate t p = refl
+
+pub room_tail : (t : Tree) (p : CorePattern) → room (tail t p) ≡ 1 + room p
+unfolding room
+room_tail t p = refl
 
 pub room_atomic : (p : CorePattern) → room (atomic p) ≡ 12 + room p
 unfolding room

@@ -9,6 +9,7 @@ use Rattle.fancy_regex_tree.proofs.expr.LookAround.TheSendSync as look_around
 use Rattle.fancy_regex_tree.specs.contracts.expr.Expr as expr
 use Rattle.fancy_regex_class.proofs.class.CharClassMatcher.TheSendSync as matcher
 use Rattle.fancy_regex_class.proofs.folding.CaseiLiteral.TheSendSync as literal
+use Rattle.fancy_regex_bytes.proofs.byte_set.ByteSet.TheSendSync as byte_set
 use Rattle.fancy_regex_runner.proofs.easy.Easy.TheSendSync as easy
 use Rattle.fancy_regex_program.specs.contracts.delegate.Delegate as delegate
 use Rattle.fancy_regex_program.specs.contracts.insn.Insn as insn
@@ -26,10 +27,10 @@ expr_sync =
     search (assertion.the_field_sync, verb.the_field_sync, target.the_field_sync, look_around.the_field_sync, crosses, tree.crosses, sendable) depth 60 fits 20000
 
 delegate_send : IsSend delegate.the_row
-delegate_send = search (expr_send, easy.the_field_send, crosses, sendable) depth 60 fits 20000
+delegate_send = search (expr_send, byte_set.the_field_send, easy.the_field_send, crosses, sendable) depth 60 fits 20000
 
 delegate_sync : IsSync delegate.the_row
-delegate_sync = search (expr_sync, easy.the_field_sync, crosses, sendable) depth 60 fits 20000
+delegate_sync = search (expr_sync, byte_set.the_field_sync, easy.the_field_sync, crosses, sendable) depth 60 fits 20000
 
 insn_send : IsSend insn.the_row
 insn_send =

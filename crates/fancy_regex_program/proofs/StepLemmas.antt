@@ -18,7 +18,7 @@ use Rattle.fancy_regex_program.specs.Code.{waits, flushed, slots_in, is_uncounte
 use Rattle.fancy_regex_program.specs.Extents.{extent, IsFull}
 use Rattle.fancy_regex_program.specs.Refusals.{TreeContext, IsAnalyzed, IsExpandedPart, IsReasonWhere, IsMemoryOrTooComplex}
 use Rattle.fancy_regex_program.specs.Shapes.{IsAllowed}
-use Rattle.fancy_regex_program.specs.Tasks.{Progress, progress, closed_by, closing_room, at_others, listed, opened_after, opened_behind, node_pattern, body_pattern, row_pattern, past_pattern, past, past_all, task_room, tasks_room, IsAllowedTask, AreAllowedTasks, IsExpandedTask, AreExpandedTasks, Leads, LeadsTo, LeadsOn, tasks_work}
+use Rattle.fancy_regex_program.specs.Tasks.{Progress, progress, closed_by, closing_room, at_others, listed, opened_after, opened_behind, node_pattern, body_pattern, row_pattern, whole_pattern, past_pattern, past, past_all, task_room, tasks_room, IsAllowedTask, AreAllowedTasks, IsExpandedTask, AreExpandedTasks, Leads, LeadsTo, LeadsOn, tasks_work}
 use Rattle.fancy_regex_program.specs.Writing.{Draft, draft_of, with_op, closed_draft, added, patched, with_pat, with_choice, Wrote, infos_of}
 use Rattle.fancy_regex_program.specs.declared.closing.Closing.{Closing}
 use Rattle.fancy_regex_program.specs.declared.closing.Closing.TheVariants as ends
@@ -33,7 +33,7 @@ use Rattle.fancy_regex_program.specs.declared.task.Step.{Step}
 use Rattle.fancy_regex_program.proofs.Drafts.{same_draft, pat_cat, pat_back, length_with_op}
 use Rattle.fancy_regex_program.proofs.Branches.{bare, pat_alt, choice_goes_on}
 use Rattle.fancy_regex_program.proofs.EmitLemmas.{drew_conditional}
-use Rattle.fancy_regex_program.proofs.RoomLemmas.{room_behind, extent_op, extent_closed, extent_patched}
+use Rattle.fancy_regex_program.proofs.RoomLemmas.{room_behind, extent_op, extent_closed, extent_patched, extent_ended}
 
 pub same_progress : {d e : Draft} {s t : ℕ} {o p : List ℕ} → d ≡ e → s ≡ t → o ≡ p →
     ◌≡◌ {A = Progress} (record { draft = d; slot = s; opened = o }) (record { draft = e; slot = t; opened = p })
@@ -78,6 +78,7 @@ closing_fits (ends.AbsentRepeater scan start limit) d =
     )
 closing_fits (ends.Alternatives jump) d =
     omega (arith, extent_patched jump (op.jump (length (closed_draft d).ops)) (closed_draft d), extent_closed d)
+closing_fits (ends.Tail begin) d = omega (arith, extent_ended begin (length (closed_draft d).ops) (closed_draft d), extent_closed d)
 
 -- tasks above others
 behind_both : (ts us : List Task) (o : List ℕ) → opened_behind (ts ++ us) o ≡ opened_behind ts (opened_behind us o)
@@ -88,6 +89,8 @@ module _ (context : CompileContext) where
   past_one : (t : Task) (s : Progress) → (past context t s).opened ≡ opened_after t s.opened
   past_one (task.Node info behind scope) s = refl
   past_one (task.Body body for_any info scope) s = refl
+  past_one (task.Whole info scope) s = refl
+  past_one (task.Tail parts scope) s = refl
   past_one (task.Row parts scope) s = refl
   past_one (task.Branches branches behind scope) s = refl
   past_one (task.Otherwise split first branches behind scope) s = refl
@@ -248,15 +251,15 @@ leads_one_step context e slot keeps p q t S step is step_is ends allowed opened 
     subst (λ r. LeadsTo context q keeps S e e slot r) (sym step_is) (leads_one context e slot keeps p q t S is ends allowed opened fits stands)
 
 -- where all is left
-pub leads_begin : (context : CompileContext) (e : Emitter) (slot : ℕ) (info : Bor Info) (scope : Scope) (left : List Task) → left ≡ task.Node info false scope ∷ [] →
-    (let p = node_pattern context info.now false scope e.opened.items in
+pub leads_begin : (context : CompileContext) (e : Emitter) (slot : ℕ) (info : Bor Info) (scope : Scope) (left : List Task) → left ≡ task.Whole info scope ∷ [] →
+    (let p = whole_pattern context info.now scope e.opened.items in
     Leads context e e slot slot left (past_pattern context p (progress e slot)) (IsAllowed context.unicode scope.may_keep p) (room p)
     (λ tree_context. IsExpandedPart tree_context scope.may_keep scope.may_be_absent false (info_of info.now)))
 leads_begin context e slot info scope left is =
-    let p = node_pattern context info.now false scope e.opened.items in
+    let p = whole_pattern context info.now scope e.opened.items in
     let S = λ (tree_context : TreeContext). IsExpandedPart tree_context scope.may_keep scope.may_be_absent false (info_of info.now) in
     subst (λ xs. Leads context e e slot slot xs (past_pattern context p (progress e slot)) (IsAllowed context.unicode scope.may_keep p) (room p) S) (sym is)
-    (leads_one context e slot scope.may_keep p p (task.Node info false scope) S refl refl (λ h. h) refl (omega arith) (λ tree_context s stand. stand))
+    (leads_one context e slot scope.may_keep p p (task.Whole info scope) S refl refl (λ h. h) refl (omega arith) (λ tree_context s stand. stand))
 
 -- the same step, from as far back as it is long
 pub leads_back : (r : Result Step CompileError) (context : CompileContext) (old mid new : Emitter) (slot : ℕ) (keeps : Bool) (n : ℕ) (p q : CorePattern) (A B : TreeContext → Type 0) →

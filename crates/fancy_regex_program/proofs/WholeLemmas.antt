@@ -9,7 +9,7 @@ use Rattle.fancy_regex_info.specs.Infos.{InfoTree}
 use Rattle.fancy_regex_program.specs.Ops.{Op}
 use Rattle.fancy_regex_program.specs.Code.{flushed, waits, code_of, opening, closing, program_of}
 use Rattle.fancy_regex_info.specs.Views.{pattern_in}
-use Rattle.fancy_regex_program.specs.Known.{info_written, info_call, most_calls_in, groups_in, pat_with, pat_in}
+use Rattle.fancy_regex_program.specs.Known.{info_whole, info_call, most_calls_in, groups_in, pat_with, pat_in}
 use Rattle.fancy_regex_program.specs.Programs.{IsWhole, IsMadeFrom}
 use Rattle.fancy_regex_program.specs.Shapes.{IsAllowed}
 use Rattle.fancy_regex_program.specs.Writing.{Draft, closed_draft, with_pat}
@@ -34,8 +34,8 @@ program_is u w anchored p groups slot d1 d2 ops es e1 e2 e3 =
 
 -- the pattern of the body, where no call is open
 pub body_is : (groups : List InfoTree) (x : InfoTree) (calls : ℕ) (opened : List ℕ) → calls ≡ most_calls_in groups → opened ≡ [] →
-    (info_written (info_call groups calls opened) x).front ≡ pat_with groups x
-body_is groups x calls opened ec eo = ap₂ (λ m o. (info_written (info_call groups m o) x).front) ec eo
+    info_whole (info_call groups calls opened) x ≡ pat_with groups x
+body_is groups x calls opened ec eo = ap₂ (λ m o. info_whole (info_call groups m o) x) ec eo
 
 in_is_with : (whole : Bool) (x : InfoTree) → pat_in whole x ≡ pat_with (groups_in whole x) x
 unfolding pat_in

@@ -1,5 +1,5 @@
 -- Each step leaves less to do.
-use Rattle.std.proofs.Common.{◌≡◌, ℕ, zero, suc, ◌+◌, ◌-◌, ◌<◌, ◌≤◌, List, [], ◌∷◌, length, map, Option, Some, None, Result, IfOk, refl, sym, ap, ◌∙◌, subst, arith}
+use Rattle.std.proofs.Common.{◌≡◌, ℕ, zero, suc, ◌+◌, ◌-◌, ◌<◌, ◌≤◌, List, [], ◌∷◌, length, map, take, drop, Option, Some, None, Result, IfOk, refl, sym, ap, ◌∙◌, subst, arith}
 use Rattle.std.specs.Prelude.{slice_get, unwrap_or}
 use Rattle.std.proofs.lemmas.Option.{none-some}
 use Rattle.fancy_regex_tree.specs.Tree as tree
@@ -36,6 +36,13 @@ module _ (groups : List InfoTree) (scope : Scope) where
   pub none_work : row [] ≡ 1
   unfolding row_work
   none_work = refl
+
+  -- a row in two parts
+  pub split_work : (k : ℕ) (xs : List Info) → row (take k xs) + row (drop k xs) ≡ row xs + 1
+  split_work zero [] = omega (arith, none_work)
+  split_work zero (x ∷ xs) = omega (arith, none_work)
+  split_work (suc k) [] = omega (arith, none_work)
+  split_work (suc k) (x ∷ xs) = omega (arith, more x (take k xs), more x xs, split_work k xs)
 
   node_is : (i : Info) → one i ≡ 3 + (called_work (call_work groups scope.calls_left) (tree_of (out-Info i).expr.now) + row (out-Info i).children.items)
   unfolding node_work row_work

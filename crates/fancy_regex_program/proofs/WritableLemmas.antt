@@ -10,12 +10,12 @@ use Rattle.fancy_regex_tree.specs.Tree.{Tree, Trees, no_trees, more_trees}
 use Rattle.fancy_regex_meaning.specs.Groups.{Pattern, bodies, row_bodies, group_count}
 use Rattle.fancy_regex_meaning.specs.Sizes.{size, target}
 use Rattle.fancy_regex_meaning.specs.Ways.{is_at_call_limit, max_open_calls}
-use Rattle.fancy_regex_desugar.specs.CorePatterns.{any, literal, class, CorePattern, nothing, read, general_newline, check, continue, keep_out, fail, cat, alt, group, ahead, never, back, atomic, delegate, repeat, backref, exists, conditional, absent}
-use Rattle.fancy_regex_desugar.specs.Delegates.{searched, is_delegated}
+use Rattle.fancy_regex_desugar.specs.CorePatterns.{any, literal, class, CorePattern, nothing, read, general_newline, check, continue, keep_out, fail, cat, alt, group, ahead, never, back, atomic, delegate, tail, repeat, backref, exists, conditional, absent}
+use Rattle.fancy_regex_desugar.specs.Delegates.{searched, is_delegated, begins_tail}
 use Rattle.fancy_regex_desugar.specs.Shapes.{StepsBackOnlyFirst, HasGroups}
-use Rattle.fancy_regex_desugar.specs.Unfolded.{Written, pat_for, cat_all, alt_all, body_of, repeated, look, node, branches, written, written_all, written_call, core_pattern_of}
+use Rattle.fancy_regex_desugar.specs.Unfolded.{Written, pat_for, cat_all, alt_all, body_of, repeated, look, node, branches, written, written_all, written_call, written_plain, written_tail, written_whole, core_pattern_of}
 use Rattle.fancy_regex_desugar.proofs.GroupProofs.{pattern_groups_are_in_range}
-use Rattle.fancy_regex_desugar.proofs.StepBackProofs.{unfolded_steps_back_only_first}
+use Rattle.fancy_regex_desugar.proofs.StepBackProofs.{pattern_steps_back_only_first}
 use Rattle.fancy_regex_sizes.specs.NodeErrors.{some_node, some_node_of, shows, is_no_group}
 use Rattle.fancy_regex_info.specs.Views.{pattern_in}
 use Rattle.fancy_regex_info.specs.declared.error.CompileError.TheVariants.{InvalidBackref}
@@ -39,6 +39,7 @@ keeps_nothing unicode (never a) h = tt
 keeps_nothing unicode (back n) h = tt
 keeps_nothing unicode (atomic a) h = keeps_nothing unicode a h
 keeps_nothing unicode (delegate t a) h = tt
+keeps_nothing unicode (tail t a) h = keeps_nothing unicode a h.1
 keeps_nothing unicode (repeat a lo hi greedy) h = keeps_nothing unicode a h.1
 keeps_nothing unicode (backref k casei) h = tt
 keeps_nothing unicode (exists k) h = tt
@@ -56,6 +57,7 @@ module _ (first end : ℕ) where
   ReadsGroups (ahead a) = ReadsGroups a
   ReadsGroups (never a) = ReadsGroups a
   ReadsGroups (atomic a) = ReadsGroups a
+  ReadsGroups (tail t a) = ReadsGroups a
   ReadsGroups (repeat a lo hi greedy) = ReadsGroups a
   ReadsGroups (conditional c a b) = ReadsGroups c × ReadsGroups a × ReadsGroups b
   ReadsGroups (absent a) = ReadsGroups a
@@ -77,6 +79,7 @@ module _ (first end : ℕ) where
   can_write unicode keeps free (back n) g r a l = tt
   can_write unicode keeps free (atomic p) g r a l = can_write unicode keeps false p g r a l
   can_write unicode keeps free (delegate t p) g r a l = tt
+  can_write unicode keeps free (tail t p) g r a l = can_write unicode keeps false p g r a.1 l
   can_write unicode keeps free (repeat p lo hi greedy) g r a l = (a.0, can_write unicode keeps false p g r a.1 l)
   can_write unicode keeps free (backref k casei) g r a l = r
   can_write unicode keeps free (exists k) g r a l = r
@@ -263,6 +266,26 @@ module _ (count : ℕ) where
             (reads n t (λ k e. h k (or_left _ _ e)))
             (reads_all (n + group_count t) ts (λ k e. h k (or_right (some_node (shows count (InvalidBackref k)) t) _ e)))
 
+      read_plain : (n : ℕ) (ts : Trees) → RefersInRow ts → ReadsGroups first count (written_plain groups pat n ts)
+      read_plain n ts h =
+          let row = (reads_all n ts h).row in
+          either_read first count (is_delegated false (tree.concat ts)) (tail (tree.concat ts) (cat_all (written_all groups pat n ts))) (cat_all (written_all groups pat n ts)) row row
+
+      read_tail : (n : ℕ) (ts : Trees) → RefersInRow ts → ReadsGroups first count (written_tail groups pat n ts)
+      unfolding written_tail some_node_of
+      read_tail n no_trees h = tt
+      read_tail n (more_trees t ts) h =
+          either_read first count (begins_tail (more_trees t ts)) (written_plain groups pat n (more_trees t ts)) (cat (written groups pat n t).front (written_tail groups pat (n + group_count t) ts))
+          (read_plain n (more_trees t ts) h) (
+            (reads n t (λ k e. h k (or_left _ _ e))).front,
+            read_tail (n + group_count t) ts (λ k e. h k (or_right (some_node (shows count (InvalidBackref k)) t) _ e)),
+          )
+
+      read_whole : (n : ℕ) (t : Tree) → Refers t → ReadsGroups first count (written_whole groups pat n t)
+      unfolding written_whole some_node
+      read_whole n (tree.concat ts) h = read_tail n ts h
+      read_whole n t h = (reads n t h).front
+
     module _ (refer : AllRefer groups) where
       reads_target : (b : Bool) (o : Option Tree) (p : Tree → CorePattern) → ((t : Tree) → o ≡ Some t → Read first count (p t)) →
           Read first count (cond b fail (pat_for p o))
@@ -278,21 +301,17 @@ module _ (count : ℕ) where
           (λ body. (written groups (written_call groups m (k ∷ opened)) (k + 1) body).front)
           (λ body e. record { is = (reads _ (reads_calls m (k ∷ opened)) (k + 1) body (one_refers groups k body refer e)).front })
 
-pattern_is_placed : (p : Pattern) → StepsBackOnlyFirst false (core_pattern_of p)
-unfolding core_pattern_of
-pattern_is_placed p = (unfolded_steps_back_only_first p.groups (max_open_calls p.groups) [] p.first_group p.tree).0
-
 pattern_reads : (explicit : Bool) (t : Tree) → RefersToGroups explicit t →
     ReadsGroups (pattern_in explicit t).first_group (length (pattern_in explicit t).groups) (core_pattern_of (pattern_in explicit t))
 unfolding core_pattern_of
 pattern_reads true t h =
     let gs = bodies t in
     let count = length gs in
-    (reads count 0 (omega arith) gs _ (reads_calls count 0 (omega arith) gs (bodies_refer count t h) (max_open_calls gs) []) 0 t h).front
+    read_whole count 0 (omega arith) gs _ (reads_calls count 0 (omega arith) gs (bodies_refer count t h) (max_open_calls gs) []) 0 t h
 pattern_reads false t h =
     let gs = t ∷ bodies t in
     let count = length gs in
-    (reads count 1 (omega arith) gs _ (reads_calls count 1 (omega arith) gs (h, bodies_refer count t h) (max_open_calls gs) []) 1 t h).front
+    read_whole count 1 (omega arith) gs _ (reads_calls count 1 (omega arith) gs (h, bodies_refer count t h) (max_open_calls gs) []) 1 t h
 
 pattern_has_groups : (explicit : Bool) (t : Tree) →
     HasGroups (pattern_in explicit t).first_group (length (pattern_in explicit t).groups) (core_pattern_of (pattern_in explicit t))
@@ -303,7 +322,7 @@ pub can_be_written : (unicode explicit : Bool) (t : Tree) → IsAllowed unicode 
 can_be_written unicode explicit t allowed =
     let p = pattern_in explicit t in
     record {
-      placed = pattern_is_placed p;
+      placed = pattern_steps_back_only_first p;
       writable = λ refers. can_write p.first_group (length p.groups) unicode true false (core_pattern_of p) (pattern_has_groups explicit t)
-          (pattern_reads explicit t refers) allowed (pattern_is_placed p);
+          (pattern_reads explicit t refers) allowed (pattern_steps_back_only_first p);
     }

@@ -1,7 +1,7 @@
 -- The program of a pattern.
 use Rattle.std.specs.Prelude.{ℕ, ◌+◌, ◌*◌, nat_le, Bool, true, false, not, ◌&&◌, List, [], ◌∷◌, ◌++◌, length, Some, None, ◌==◌, if◌then◌else◌}
 use Rattle.fancy_regex_tree.specs.Tree.{Text}
-use Rattle.fancy_regex_desugar.specs.CorePatterns.{CharacterTest, any, literal, class, CorePattern, nothing, read, general_newline, check, continue, keep_out, fail, cat, alt, group, ahead, never, back, atomic, delegate, repeat, backref, exists, conditional, absent}
+use Rattle.fancy_regex_desugar.specs.CorePatterns.{CharacterTest, any, literal, class, CorePattern, nothing, read, general_newline, check, continue, keep_out, fail, cat, alt, group, ahead, never, back, atomic, delegate, tail, repeat, backref, exists, conditional, absent}
 use Rattle.fancy_regex_program.specs.Ops as op
 use Rattle.fancy_regex_program.specs.Ops.{Op, among_scalars}
 use Rattle.fancy_regex_program.specs.Reading.{always_reads}
@@ -14,6 +14,7 @@ slots_in (group k a) = 1 + slots_in a
 slots_in (ahead a) = 1 + slots_in a
 slots_in (never a) = 1 + slots_in a
 slots_in (atomic a) = 1 + slots_in a
+slots_in (tail t a) = slots_in a
 slots_in (repeat a lo None greedy) = 2 + slots_in a
 slots_in (repeat a lo (Some hi) greedy) = 1 + slots_in a
 slots_in (conditional c a b) = 1 + (slots_in c + (slots_in a + slots_in b))
@@ -76,6 +77,12 @@ never_code body pc slot =
 
 abbrev pub atomic_code : Code → Code
 atomic_code body pc slot = op.begin_atomic slot ∷ (body (pc + 1) (slot + 1) ++ op.end_atomic slot ∷ [])
+
+-- the operations of a tail, given what begins it by where they end
+abbrev pub tail_code : (ℕ → Op) → Code → Code
+tail_code begin body pc slot =
+    let inside = body (pc + 1) slot in
+    begin (pc + 1 + length inside) ∷ inside
 
 abbrev pub repeat_code : ℕ → ℕ → Bool → Code → Code
 repeat_code lo hi greedy body pc slot =
@@ -148,6 +155,7 @@ module _ (has_member : Text → Bool → ℕ → Bool) (fold : ℕ → ℕ) (who
   code_of (back n) text = behind text (one (op.go_back n))
   code_of (atomic a) text = behind text (atomic_code (closed (code_of a []) (waits a [])))
   code_of (delegate t a) text = behind text (one (op.delegate has_member fold t))
+  code_of (tail t a) text = behind text (tail_code (op.tail has_member fold t) (closed (code_of a []) (waits a [])))
   code_of (repeat a lo None greedy) text = behind text (loop_code lo greedy (closed (code_of a []) (waits a [])))
   code_of (repeat a lo (Some hi) greedy) text = behind text (repeat_code lo hi greedy (closed (code_of a []) (waits a [])))
   code_of (backref k casei) text = behind text (one (op.backref (2 * k) casei))

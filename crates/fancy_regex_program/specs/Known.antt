@@ -1,11 +1,12 @@
 -- The pattern of a node, by what the analysis says of it and of its children.
-use Rattle.std.specs.Prelude.{ℕ, zero, suc, ◌*◌, length, Bool, true, false, List, [], ◌∷◌, ◌++◌, slice_index, slice_get, Option, Some, None, map, if◌then◌else◌}
+use Rattle.std.specs.Prelude.{ℕ, zero, suc, ◌*◌, length, Bool, true, false, not, ◌&&◌, ◌==◌, List, [], ◌∷◌, ◌++◌, slice_index, slice_get, Option, Some, None, map, if◌then◌else◌}
 use Rattle.fancy_regex_tree.specs.Tree as tree
-use Rattle.fancy_regex_tree.specs.Tree.{Tree}
+use Rattle.fancy_regex_tree.specs.Tree.{Tree, Trees, no_trees, more_trees}
 use Rattle.fancy_regex_meaning.specs.Ways.{is_at_call_limit, max_open_calls_per_group}
-use Rattle.fancy_regex_desugar.specs.CorePatterns.{any, literal, class, CorePattern, nothing, read, general_newline, check, continue, keep_out, fail, cat, alt, group, ahead, never, back, atomic, backref, exists, conditional, absent}
+use Rattle.fancy_regex_desugar.specs.CorePatterns.{any, literal, class, CorePattern, nothing, read, general_newline, check, continue, keep_out, fail, cat, alt, group, ahead, never, back, atomic, tail, backref, exists, conditional, absent}
+use Rattle.fancy_regex_desugar.specs.Delegates.{is_delegated, may_explode}
 use Rattle.fancy_regex_desugar.specs.Unfolded.{Written, cat_all, alt_all, fronts, behinds, first_way_of, repeated, look, pat_for}
-use Rattle.fancy_regex_info.specs.Infos.{NodeProperties, InfoTree, InfoTrees, known, no_infos, more_infos}
+use Rattle.fancy_regex_info.specs.Infos.{NodeProperties, InfoTree, InfoTrees, known, no_infos, more_infos, properties_in}
 
 -- what fails, from here and from as far back as it is long
 abbrev pub fails : Written
@@ -63,6 +64,42 @@ unfoldable mutual
   info_written_all call no_infos = []
   info_written_all call (more_infos x xs) = info_written call x ∷ info_written_all call xs
 
+-- easy, and without a capture group
+abbrev pub is_plain_info : InfoTree → Bool
+is_plain_info x = let f = properties_in x in not f.hard && f.start == f.end
+
+abbrev pub are_plain_infos : InfoTrees → Bool
+are_plain_infos no_infos = true
+are_plain_infos (more_infos x xs) = is_plain_info x && are_plain_infos xs
+
+abbrev pub tree_in : InfoTree → Tree
+tree_in (known f t xs) = t
+
+abbrev pub trees_in : InfoTrees → Trees
+trees_in no_infos = no_trees
+trees_in (more_infos x xs) = more_trees (tree_in x) (trees_in xs)
+
+-- the tail of the row may begin at its first tree
+abbrev pub info_begins_tail : InfoTrees → Bool
+info_begins_tail no_infos = false
+info_begins_tail (more_infos x xs) = are_plain_infos (more_infos x xs) && may_explode (tree_in x)
+
+-- a row at the end of a whole pattern with which its tail begins, with the patterns of its trees: a tail where it can be delegated
+abbrev pub plain_row : Trees → List Written → CorePattern
+plain_row ts us = if is_delegated false (tree.concat ts) then tail (tree.concat ts) (cat_all us) else cat_all us
+
+-- a row at the end of a whole pattern
+unfoldable pub info_tail : (ℕ → CorePattern) → InfoTrees → CorePattern
+info_tail call no_infos = nothing
+info_tail call (more_infos x xs) =
+    let rest = cat (info_written call x).front (info_tail call xs) in
+    if info_begins_tail (more_infos x xs) then plain_row (trees_in (more_infos x xs)) (info_written_all call (more_infos x xs)) else rest
+
+-- a whole pattern
+unfoldable pub info_whole : (ℕ → CorePattern) → InfoTree → CorePattern
+info_whole call (known f (tree.concat ts) xs) = info_tail call xs
+info_whole call x = (info_written call x).front
+
 -- a call of the target k, where those targets are open, the last of them at the end, and m more calls may open
 unfoldable pub info_call : List InfoTree → ℕ → List ℕ → ℕ → CorePattern
 info_call groups zero opened k = fail
@@ -100,7 +137,7 @@ most_calls_in groups = max_open_calls_per_group * length groups
 
 -- the whole pattern, where these are its groups
 abbrev pub pat_with : List InfoTree → InfoTree → CorePattern
-pat_with groups x = (info_written (info_call groups (most_calls_in groups) []) x).front
+pat_with groups x = info_whole (info_call groups (most_calls_in groups) []) x
 
 -- the whole pattern
 unfoldable pub pat_in : Bool → InfoTree → CorePattern

@@ -8,10 +8,14 @@ pub mod Caps
 pub mod Known
 pub mod Writing
 pub mod Groups
+pub mod BodyStarts
 pub mod Parts
 pub mod Programs
 pub mod Extents
 pub mod Refusals
 pub mod Tasks
 pub mod Starts
+pub mod Tails
 pub mod StartPaths
+pub mod SpanCode
+pub mod SlotReads

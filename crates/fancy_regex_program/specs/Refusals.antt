@@ -17,6 +17,7 @@ use Rattle.fancy_regex_info.specs.declared.options.BytesMode.TheVariants.{Unicod
 use Rattle.fancy_regex_info.specs.declared.error.CompileError.{CompileError}
 use Rattle.fancy_regex_info.specs.declared.error.CompileError.TheVariants.{InnerError, InvalidBackref, FeatureNotYetSupported, PatternTooComplex, UnresolvedAstNode, Memory}
 use Rattle.fancy_regex_info.specs.declared.info.Info.{Info}
+use Rattle.fancy_regex_program.specs.Known.{tree_in}
 
 -- what a function takes, and of what it answers lists
 abbrev pub TakenBy : {A B : Type 0} → (A → B) → Type 0
@@ -191,9 +192,6 @@ pub record ExpandedPart (tree_context : TreeContext) (keeps absents behind : Boo
   pub calls : (call : Call) (body : Tree) → Contains (emitted_calls inside t) call → target tree_context.groups call.group ≡ Some body →
       IsWhole tree_context.groups tree_context.root call.inside body
   pub steady : behind ≡ true → is_fixed_length (size tree_context.groups) t ≡ true
-
-abbrev pub tree_in : InfoTree → Tree
-tree_in (known f t xs) = t
 
 abbrev pub IsExpandedPart : TreeContext → Bool → Bool → Bool → InfoTree → Type 0
 IsExpandedPart tree_context keeps absents behind x = ExpandedPart tree_context keeps absents behind x (tree_in x)

@@ -1,7 +1,7 @@
 -- The shape of a pattern that programs are made of.
 use Rattle.std.specs.Prelude.{◌≡◌, ℕ, ◌<◌, ◌≤◌, Bool, true, false, IsTrue, All, Option, Some, None}
 use Rattle.fancy_regex_class.specs.Classes.{is_class}
-use Rattle.fancy_regex_desugar.specs.CorePatterns.{CharacterTest, class, CorePattern, read, keep_out, cat, alt, group, ahead, never, atomic, delegate, repeat, backref, exists, conditional, absent}
+use Rattle.fancy_regex_desugar.specs.CorePatterns.{CharacterTest, class, CorePattern, read, keep_out, cat, alt, group, ahead, never, atomic, delegate, tail, repeat, backref, exists, conditional, absent}
 use Rattle.fancy_regex_desugar.specs.Shapes.{StepsBackOnlyFirst}
 use Rattle.fancy_regex_runner.specs.Plain.{classes}
 use Rattle.fancy_regex_runner.specs.Refusals.{IsRead}
@@ -14,6 +14,7 @@ KeepsNothing (cat a b) = KeepsNothing a × KeepsNothing b
 KeepsNothing (alt a b) = KeepsNothing a × KeepsNothing b
 KeepsNothing (group k a) = KeepsNothing a
 KeepsNothing (atomic a) = KeepsNothing a
+KeepsNothing (tail t a) = KeepsNothing a
 KeepsNothing (repeat a lo hi greedy) = KeepsNothing a
 KeepsNothing (conditional c a b) = KeepsNothing c × KeepsNothing a × KeepsNothing b
 KeepsNothing _ = Unit {0}
@@ -32,6 +33,7 @@ IsWritable first end (group k a) = (first ≤ k) × (k < end) × IsWritable firs
 IsWritable first end (ahead a) = KeepsNothing a × IsWritable first end a
 IsWritable first end (never a) = IsWritable first end a
 IsWritable first end (atomic a) = IsWritable first end a
+IsWritable first end (tail t a) = IsWritable first end a
 IsWritable first end (repeat a lo hi greedy) = IsCounted lo hi × IsWritable first end a
 IsWritable first end (backref k casei) = (first ≤ k) × (k < end)
 IsWritable first end (exists k) = (first ≤ k) × (k < end)
@@ -57,6 +59,7 @@ IsAllowed unicode keeps (ahead a) = IsAllowed unicode false a
 IsAllowed unicode keeps (never a) = IsAllowed unicode false a
 IsAllowed unicode keeps (atomic a) = IsAllowed unicode keeps a
 IsAllowed unicode keeps (delegate t a) = All (IsRead unicode) (classes t)
+IsAllowed unicode keeps (tail t a) = All (IsRead unicode) (classes t) × IsAllowed unicode keeps a
 IsAllowed unicode keeps (repeat a lo hi greedy) = IsCounted lo hi × IsAllowed unicode keeps a
 IsAllowed unicode keeps (conditional c a b) = IsAllowed unicode keeps c × IsAllowed unicode keeps a × IsAllowed unicode keeps b
 IsAllowed unicode keeps (absent a) = IsAllowed unicode false a

@@ -11,9 +11,11 @@ use Rattle.fancy_regex_info.specs.declared.info.Info.{Info}
 use Rattle.fancy_regex_program.specs.Ops as op
 use Rattle.fancy_regex_program.specs.Code.{slots_in, is_uncounted, loop_entry, loop_head}
 use Rattle.fancy_regex_program.specs.Extents.{extent}
+use Rattle.fancy_regex_program.specs.Known.{plain_row, info_call, info_whole}
+use Rattle.fancy_regex_program.specs.Tails.{row_trees}
 use Rattle.fancy_regex_program.specs.Refusals.{TreeContext, IsAnalyzed, IsExpandedPart, AreExpandedParts, IsExpandedBody}
 use Rattle.fancy_regex_program.specs.Shapes.{IsAllowed}
-use Rattle.fancy_regex_program.specs.Writing.{Draft, draft_of, with_op, closed_draft, patched, with_pat, infos_of, part, side}
+use Rattle.fancy_regex_program.specs.Writing.{Draft, draft_of, with_op, closed_draft, patched, ended, with_pat, infos_of, part, side}
 use Rattle.fancy_regex_program.specs.declared.closing.Closing.{Closing}
 use Rattle.fancy_regex_program.specs.declared.closing.Closing.TheVariants as closing
 use Rattle.fancy_regex_program.specs.declared.emitter.CompileContext.{CompileContext}
@@ -56,10 +58,14 @@ closed_by (closing.AbsentRepeater scan start limit) d =
 closed_by (closing.Alternatives jump) d =
     let e = closed_draft d in
     patched jump (op.jump (length e.ops)) e
+closed_by (closing.Tail begin) d =
+    let e = closed_draft d in
+    ended begin (length e.ops) e
 
 -- at most so many instructions
 abbrev pub closing_room : Closing → ℕ
 closing_room (closing.Alternatives jump) = 0
+closing_room (closing.Tail begin) = 0
 closing_room _ = 2
 
 -- with the jump behind a branch, where the split in front of it leads to this branch and past the jump
@@ -95,6 +101,14 @@ module _ (context : CompileContext) where
   abbrev pub row_pattern : List Info → Scope → List ℕ → CorePattern
   row_pattern parts scope opened = cat_all (map (part context scope opened) parts)
 
+  -- the plain end of a whole pattern
+  abbrev pub tail_pattern : List Info → Scope → List ℕ → CorePattern
+  tail_pattern parts scope opened = plain_row (row_trees parts) (map (part context scope opened) parts)
+
+  -- a whole pattern
+  abbrev pub whole_pattern : Info → Scope → List ℕ → CorePattern
+  whole_pattern info scope opened = info_whole (info_call (infos_of context) scope.calls_left opened) (info_of info)
+
   abbrev pub branches_pattern : List Info → Bool → Scope → List ℕ → CorePattern
   branches_pattern branches behind scope opened = alt_all (map (λ x. side behind (part context scope opened x)) branches)
 
@@ -119,6 +133,8 @@ module _ (context : CompileContext) where
   abbrev pub past : Task → Progress → Progress
   past (task.Node info behind scope) s = past_pattern (node_pattern info.now behind scope s.opened) s
   past (task.Body body for_any info scope) s = past_pattern (body_pattern for_any body.now info.now scope s.opened) s
+  past (task.Whole info scope) s = past_pattern (whole_pattern info.now scope s.opened) s
+  past (task.Tail parts scope) s = past_pattern (tail_pattern parts.now scope s.opened) s
   past (task.Row parts scope) s = past_pattern (row_pattern parts.now scope s.opened) s
   past (task.Branches branches behind scope) s = past_pattern (branches_pattern branches.now behind scope s.opened) s
   past (task.Otherwise split first branches behind scope) s = past_others split first (branches_pattern branches.now behind scope s.opened) s
@@ -138,6 +154,8 @@ module _ (context : CompileContext) where
   abbrev pub task_room : Task → List ℕ → ℕ
   task_room (task.Node info behind scope) opened = room (node_pattern info.now behind scope opened)
   task_room (task.Body body for_any info scope) opened = room (body_pattern for_any body.now info.now scope opened)
+  task_room (task.Whole info scope) opened = room (whole_pattern info.now scope opened)
+  task_room (task.Tail parts scope) opened = room (tail_pattern parts.now scope opened)
   task_room (task.Row parts scope) opened = room (row_pattern parts.now scope opened)
   task_room (task.Branches branches behind scope) opened = room (branches_pattern branches.now behind scope opened)
   task_room (task.Otherwise split first branches behind scope) opened = 1 + room (branches_pattern branches.now behind scope opened)
@@ -154,6 +172,8 @@ module _ (context : CompileContext) where
   abbrev pub IsAllowedTask : Task → List ℕ → Type 0
   IsAllowedTask (task.Node info behind scope) opened = IsAllowed context.unicode scope.may_keep (node_pattern info.now behind scope opened)
   IsAllowedTask (task.Body body for_any info scope) opened = IsAllowed context.unicode scope.may_keep (body_pattern for_any body.now info.now scope opened)
+  IsAllowedTask (task.Whole info scope) opened = IsAllowed context.unicode scope.may_keep (whole_pattern info.now scope opened)
+  IsAllowedTask (task.Tail parts scope) opened = IsAllowed context.unicode scope.may_keep (tail_pattern parts.now scope opened)
   IsAllowedTask (task.Row parts scope) opened = IsAllowed context.unicode scope.may_keep (row_pattern parts.now scope opened)
   IsAllowedTask (task.Branches branches behind scope) opened = IsAllowed context.unicode scope.may_keep (branches_pattern branches.now behind scope opened)
   IsAllowedTask (task.Otherwise split first branches behind scope) opened =
@@ -172,6 +192,8 @@ module _ (context : CompileContext) where
 abbrev pub IsExpandedTask : TreeContext → Task → Type 0
 IsExpandedTask tree_context (task.Node info behind scope) = IsExpandedPart tree_context scope.may_keep scope.may_be_absent behind (info_of info.now)
 IsExpandedTask tree_context (task.Body body for_any info scope) = IsExpandedBody tree_context scope.may_keep scope.may_be_absent false (tree_of body.now) (info_of info.now)
+IsExpandedTask tree_context (task.Whole info scope) = IsExpandedPart tree_context scope.may_keep scope.may_be_absent false (info_of info.now)
+IsExpandedTask tree_context (task.Tail parts scope) = AreExpandedParts tree_context scope.may_keep scope.may_be_absent false parts.now
 IsExpandedTask tree_context (task.Row parts scope) = AreExpandedParts tree_context scope.may_keep scope.may_be_absent false parts.now
 IsExpandedTask tree_context (task.Branches branches behind scope) = AreExpandedParts tree_context scope.may_keep scope.may_be_absent behind branches.now
 IsExpandedTask tree_context (task.Otherwise split first branches behind scope) =
@@ -238,6 +260,8 @@ infos_work groups scope xs = row_work (call_work groups scope.calls_left) (infos
 abbrev pub task_work : List InfoTree → Task → ℕ
 task_work groups (task.Node info behind scope) = info_work groups scope info.now
 task_work groups (task.Body body for_any info scope) = 1 + info_work groups scope info.now
+task_work groups (task.Whole info scope) = 10 + info_work groups scope info.now
+task_work groups (task.Tail parts scope) = 2 + infos_work groups scope parts.now
 task_work groups (task.Row parts scope) = infos_work groups scope parts.now
 task_work groups (task.Branches branches behind scope) = infos_work groups scope branches.now
 task_work groups (task.Otherwise split first branches behind scope) = 2 + infos_work groups scope branches.now

@@ -1,5 +1,5 @@
 -- A program that is being written.
-use Rattle.std.specs.Prelude.{◌≡◌, ℕ, ◌+◌, Bool, List, [], ◌∷◌, ◌++◌, length, map, slice_set, chars, string_bytes, if◌then◌else◌}
+use Rattle.std.specs.Prelude.{◌≡◌, ℕ, ◌+◌, Bool, List, [], ◌∷◌, ◌++◌, length, map, slice_get, slice_set, Option, Some, None, chars, string_bytes, if◌then◌else◌}
 use Rattle.std.specs.Borrow.{Bor}
 use Rattle.fancy_regex_tree.specs.Tree.{Text, Tree}
 use Rattle.fancy_regex_class.specs.Classes.{in_class, folded}
@@ -7,7 +7,7 @@ use Rattle.fancy_regex_desugar.specs.CorePatterns.{CorePattern}
 use Rattle.fancy_regex_desugar.specs.Unfolded.{Written}
 use Rattle.fancy_regex_info.specs.Infos.{InfoTree, info_of}
 use Rattle.fancy_regex_info.specs.declared.info.Info.{Info}
-use Rattle.fancy_regex_program.specs.Ops.{Op, op_of, ops_of, split, jump}
+use Rattle.fancy_regex_program.specs.Ops.{Op, op_of, ops_of, tail, split, jump}
 use Rattle.fancy_regex_program.specs.Code.{flushed, waits, slots_in, code_of}
 use Rattle.fancy_regex_program.specs.Known.{front_of, info_written, info_call}
 use Rattle.fancy_regex_program.specs.Shapes.{IsAllowed}
@@ -44,6 +44,19 @@ added o d = with_op o (closed_draft d)
 -- another operation in that place
 unfoldable pub patched : ℕ → Op → Draft → Draft
 patched at o d = record { ops = slice_set d.ops at o; text = d.text }
+
+-- the operation, which ends there if it is a tail
+abbrev pub ends_at : ℕ → Op → Op
+ends_at end (tail has_member fold t to) = tail has_member fold t end
+ends_at end o = o
+
+-- with the operation in that place, if there is one, ending there
+abbrev pub ended_by : ℕ → ℕ → Option Op → Draft → Draft
+ended_by at end None d = d
+ended_by at end (Some o) d = patched at (ends_at end o) d
+
+unfoldable pub ended : ℕ → ℕ → Draft → Draft
+ended at end d = ended_by at end (slice_get d.ops at) d
 
 -- with the program of a pattern behind it
 unfoldable pub with_pat : Bool → Bool → CorePattern → ℕ → Draft → Draft

@@ -86,6 +86,11 @@ pub(crate) enum Closing {
         /// The index of the jump.
         jump: usize,
     },
+    /// The end of a whole pattern that may be searched in linear time.
+    Tail {
+        /// The index of the instruction in front of it.
+        begin: usize,
+    },
 }
 
 /// Writes the end of a construct.
@@ -117,6 +122,7 @@ pub(crate) fn close(body: &mut ProgramBuilder, closing: Closing) -> Result<(), C
         } => close_unbounded_repeat(body, head, lo, greedy, (slot, check)),
         Closing::AbsentRepeater { scan, start, limit } => close_absent(body, scan, start, limit),
         Closing::Alternatives { jump } => close_alternatives(body, jump),
+        Closing::Tail { begin } => close_tail(body, begin),
     }
 }
 
@@ -310,6 +316,19 @@ fn close_alternatives(body: &mut ProgramBuilder, jump: usize) -> Result<(), Comp
     body.flush()?;
     let end = body.len();
     body.patch(jump, Insn::Jmp(end));
+    Ok(())
+}
+
+/// Lets the instruction in front of the end of a whole pattern lead here.
+fn close_tail(body: &mut ProgramBuilder, begin: usize) -> Result<(), CompileError>
+    ensures cap { body.new.cap ≡ body.old.cap }
+    ensures draft { OnOk result (draft_of body.new ≡ closed_by (ends.Tail begin) (draft_of body.old)) }
+    ensures full { IfErr result (IsFull body.old 0) }
+    ensures refused { IfErr result IsMemoryOrTooComplex }
+{
+    body.flush()?;
+    let end = body.len();
+    body.end_tail(begin, end);
     Ok(())
 }
 

@@ -17,7 +17,7 @@ ghost use Rattle.fancy_regex_program.specs.Ops.{end_atomic};
 ghost use Rattle.fancy_regex_program.specs.Refusals.{IsMemoryOrTooComplex, IsReasonWhere, IsExpandedPart, AreExpandedParts, IsExpandedBody, IsExpandedRepeat, IsExpandedAbsent};
 ghost use Rattle.fancy_regex_program.specs.Refusals.{IsExpandedConditional, IsExpandedTarget, looks_behind};
 ghost use Rattle.fancy_regex_program.specs.Shapes.{IsAllowed};
-ghost use Rattle.fancy_regex_program.specs.Tasks.{listed, node_pattern, body_pattern, row_pattern, branches_pattern, past_pattern, past_others, progress, task_room, IsExpandedTask};
+ghost use Rattle.fancy_regex_program.specs.Tasks.{listed, node_pattern, body_pattern, row_pattern, whole_pattern, tail_pattern, branches_pattern, past_pattern, past_others, progress, task_room, IsExpandedTask};
 ghost use Rattle.fancy_regex_program.specs.Tasks.{Leads, LeadsTo, LeadsOn, call_work, info_work, infos_work, task_work, tasks_work};
 ghost use Rattle.fancy_regex_program.specs.Writing.{Wrote, draft_of, with_op, closed_draft, infos_of, part};
 ghost use Rattle.fancy_regex_program.specs.declared.emitter.CompileContext.{CompileContext as TheContext};
@@ -28,16 +28,17 @@ use crate::closing::{Closing, absent_step, close};
 use crate::emitter::{CompileContext, Emitter, Scope, first_slot, past_slots};
 use crate::insn::{AbsentRepeater, Insn};
 use crate::leaf::{emit_leaf, not_supported};
+use crate::tail::{row_tree, tail_from};
 use crate::task::{Step, Task, Tasks};
 use fancy_regex_info::{CompileError, Info};
 use fancy_regex_tree::{Absent, Expr, LookAround};
-use std::alloc::AllocError;
+use std::alloc::{AllocError, Global};
 use std::slice;
 
 /// How often one group may be inlined inside of itself.
 pub(crate) const OPEN_CALLS_OF_ONE: usize = 19;
 
-/// Emits a node; `slot` is the first free slot. Returns the first free slot after it.
+/// Emits a whole pattern; `slot` is the first free slot. Returns the first free slot after it.
 pub(crate) fn emit<'i, 'e>(
     context: &CompileContext<'_, 'i, 'e>,
     emitter: &mut Emitter,
@@ -46,16 +47,16 @@ pub(crate) fn emit<'i, 'e>(
     slot: usize,
 ) -> Result<usize, CompileError>
     ensures cap { emitter.new.body.cap ≡ emitter.old.body.cap }
-    ensures full { IfErr result (IsFull emitter.old.body (room ((part context.now scope emitter.old.opened.items info.now).front))) }
+    ensures full { IfErr result (IsFull emitter.old.body (room (whole_pattern context.now info.now scope emitter.old.opened.items))) }
     ensures wrote { IfOk result (λ after. Wrote context.now.unicode context.now.whole emitter.old emitter.new slot after
-        (part context.now scope emitter.old.opened.items info.now).front) }
+        (whole_pattern context.now info.now scope emitter.old.opened.items)) }
     ensures allowed { IfOk result (λ after. IsAllowed context.now.unicode scope.may_keep
-        (part context.now scope emitter.old.opened.items info.now).front) }
+        (whole_pattern context.now info.now scope emitter.old.opened.items)) }
     ensures refused { IfErr result (IsReasonWhere context.now.unicode (infos_of context.now)
         (λ tree_context. IsExpandedPart tree_context scope.may_keep scope.may_be_absent false (info_of info.now))) }
 {
     let mut tasks = Vec::new(context.alloc);
-    tasks.push(node(info, scope))?;
+    tasks.push(Task::Whole { info, scope })?;
     let mut next = slot;
     while let Some(task) = tasks.pop() {
         let step = emit_task(context, emitter, task, next)?;
@@ -124,6 +125,11 @@ fn emit_task<'i, 'e>(
             info,
             scope,
         } => emit_body(context, emitter, body, for_any, info, scope, slot),
+        Task::Whole { info, scope } => {
+            let tasks = whole(context.alloc, info, scope)?;
+            Ok(leads_to(slot, tasks))
+        }
+        Task::Tail { parts, scope } => emit_tail(context, emitter, parts, scope, slot),
         Task::Row { parts, scope } => Ok(leads_to(slot, row(parts, scope))),
         Task::Branches {
             branches,
@@ -153,6 +159,70 @@ fn emit_task<'i, 'e>(
             emitter.opened.pop();
             Ok(leads_to(slot, Tasks::Nothing))
         }
+    }
+}
+
+/// The parts of a whole pattern: those of a concatenation before its tail, and that tail; or its root. The error is want of memory.
+fn whole<'i, 'e>(
+    alloc: Global,
+    info: &'i Info<'e>,
+    scope: Scope,
+) -> Result<Tasks<'i, 'e>, AllocError>
+    ensures leads { IfOk result (λ tasks. (context : TheContext) (e : TheEmitter) (slot : ℕ) → Leads context e e slot slot (listed tasks)
+        (past_pattern context (whole_pattern context info.now scope e.opened.items) (progress e slot))
+        (IsAllowed context.unicode scope.may_keep (whole_pattern context info.now scope e.opened.items)) (room (whole_pattern context info.now scope e.opened.items))
+        (λ tree_context. IsExpandedPart tree_context scope.may_keep scope.may_be_absent false (info_of info.now))) }
+    ensures work { IfOk result (λ tasks. (groups : List InfoTree) → tasks_work groups (listed tasks) < 10 + info_work groups scope info.now) }
+{
+    match info.expr {
+        Expr::Concat(_) => {
+            let begin = tail_from(alloc, &info.children)?;
+            let (parts, last) = info.children.split_at(begin);
+            Ok(Tasks::Two {
+                first: Task::Row { parts, scope },
+                then: Task::Tail { parts: last, scope },
+            })
+        }
+        _ => Ok(Tasks::One(node(info, scope))),
+    }
+}
+
+/// Emits the tail of a whole pattern, behind one instruction if it is delegated.
+fn emit_tail<'i, 'e>(
+    context: &CompileContext<'_, 'i, 'e>,
+    emitter: &mut Emitter,
+    parts: &'i [Info<'e>],
+    scope: Scope,
+    slot: usize,
+) -> Result<Step<'i, 'e>, CompileError>
+    ensures cap { emitter.new.body.cap ≡ emitter.old.body.cap }
+    ensures full { IfErr result (IsFull emitter.old.body (room (tail_pattern context.now parts.now scope emitter.old.opened.items))) }
+    ensures leads { IfOk result (LeadsTo context.now
+        (tail_pattern context.now parts.now scope emitter.old.opened.items) scope.may_keep
+        (λ tree_context. AreExpandedParts tree_context scope.may_keep scope.may_be_absent false parts.now) emitter.old emitter.new slot) }
+    ensures refused { IfErr result (IsReasonWhere context.now.unicode (infos_of context.now)
+        (λ tree_context. AreExpandedParts tree_context scope.may_keep scope.may_be_absent false parts.now)) }
+    ensures work { IfOk result (λ step. (groups : List InfoTree) → tasks_work groups (listed step.tasks) ≤ 1 + infos_work groups scope parts.now) }
+{
+    let row = Task::Row { parts, scope };
+    let tree = row_tree(context.alloc, parts)?;
+    match emitter
+        .parts
+        .delegate(context.alloc, &tree, false, context.unicode)?
+    {
+        Some(part) => {
+            emitter.body.flush()?;
+            let begin = emitter.body.len();
+            emitter.body.push_insn(Insn::DelegateTail { part, end: 0 })?;
+            Ok(leads_to(
+                slot,
+                Tasks::Two {
+                    first: row,
+                    then: Task::Close(Closing::Tail { begin }),
+                },
+            ))
+        }
+        None => Ok(leads_to(slot, Tasks::One(row))),
     }
 }
 

@@ -10,7 +10,7 @@ const _: () = prove!(size_of::<Insn>() <= 24);
 
 /// One instruction of a program, of at most 24 bytes: operands that are larger lie behind a pointer. Jump targets are indices of instructions. Slots are numbered from 0; each holds a byte
 /// offset, a count, a height of the backtrack stack, or nothing. The slots 2k and 2k + 1 are the start and the end of group k.
-#[derive(Debug, Drop)]
+#[derive(Clone, Debug, Drop)]
 pub enum Insn {
     /// The whole pattern has matched.
     End,
@@ -85,6 +85,14 @@ pub enum Insn {
     Fail,
     /// Continues behind what a part of the pattern matches first.
     Delegate(Arc<Delegate>),
+    /// The end of the whole pattern. Where only the first match of a search counts, continues at `end` behind what the part matches first
+    /// in range, and fails where it has no such match. In other searches it continues with the next instruction.
+    DelegateTail {
+        /// The rest of the pattern.
+        part: Arc<Delegate>,
+        /// The instruction behind the instructions of the part.
+        end: usize,
+    },
     /// A step of an absent repeater.
     AbsentRepeater(Box<AbsentRepeater>),
 }

@@ -3,6 +3,7 @@
 //! a cap on the length is kept.
 #![tactic(auto)]
 
+mod body_starts;
 mod class_table;
 mod closing;
 mod compiler;
@@ -20,7 +21,9 @@ mod prog;
 mod program_builder;
 mod range;
 mod reading;
+mod spans;
 mod starts;
+mod tail;
 mod task;
 mod writing;
 
@@ -29,3 +32,4 @@ pub use delegate::Delegate;
 pub use insn::{AbsentRepeater, Insn, Repeat, RepeatEpsilon};
 pub use prog::Prog;
 pub use range::CaptureGroupRange;
+pub use spans::SpanCode;

@@ -11,6 +11,7 @@ ghost use Rattle.fancy_regex_desugar.specs.Delegates as delegates;
 ghost use Rattle.fancy_regex_sizes.specs.AnalysisErrors.{is_too_complex};
 ghost use Rattle.fancy_regex_program.specs.Parts.{IsDelegateOf, IsDelegateIfAny, IsPartCause};
 
+use crate::body_starts::body_starts;
 use crate::delegate::Delegate;
 use crate::lazy::lazy_copy;
 use fancy_regex_info::{
@@ -73,19 +74,22 @@ fn searched_delegate(
     if !part.is_printable(alloc)? {
         return Ok(None);
     }
-    let made = new_delegate(alloc, part, &info, for_any, unicode)?;
+    let made = new_delegate(alloc, part, searched, &info, for_any, unicode)?;
     Ok(Some(made))
 }
 
-/// The part with its printed text and the states that it is searched with, which are those of the analyzed tree. The error is
-/// `InnerError` with the text of a class that `regex` refuses, or `Memory`.
+/// The part with its printed text, the states that it is searched with, which are those of the analyzed tree, and what is known
+/// of the bytes that a match of this tree begins with. The error is `InnerError` with the text of a class that `regex` refuses,
+/// or `Memory`.
 fn new_delegate(
     alloc: Global,
     part: &Expr,
+    searched: &Expr,
     info: &Info<'_>,
     for_any: bool,
     unicode: bool,
 ) -> Result<Delegate, CompileError>
+    requires searched { tree_of searched.now ≡ delegates.searched for_any (tree_of part.now) }
     requires easy { (out-Info info.now).hard ≡ false }
     requires info { info_of info.now ≡ analysis false (delegates.searched for_any (tree_of part.now)) }
     requires delegated { delegates.is_delegated for_any (tree_of part.now) ≡ true }
@@ -97,6 +101,7 @@ fn new_delegate(
         ..CompileOptions::default()
     };
     let easy = Easy::new(alloc, info, &options)?;
+    let starts = body_starts(alloc, searched, unicode)?;
     let mut pattern = String::new(alloc);
     part.to_str(&mut pattern, 0)?;
     let part = part.try_clone(alloc)?;
@@ -106,6 +111,7 @@ fn new_delegate(
         for_any,
         pattern,
         easy,
+        starts,
     })
 }
 
@@ -136,7 +142,7 @@ fn ends_in_choice(tree: &Expr) -> bool
 }
 
 /// How many of the nodes are alternations or quantifiers.
-fn choice_nodes(nodes: &[&Expr]) -> usize
+pub(crate) fn choice_nodes(nodes: &[&Expr]) -> usize
     ensures { result ≡ count_by delegates.is_choice (map tree_at nodes.now) }
 {
     nodes.iter().filter(|node| is_choice(**node)).count()

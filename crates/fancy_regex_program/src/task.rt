@@ -28,6 +28,20 @@ pub(crate) enum Task<'i, 'e> {
         /// Its context.
         scope: Scope,
     },
+    /// The whole pattern.
+    Whole {
+        /// Its root.
+        info: &'i Info<'e>,
+        /// Its context.
+        scope: Scope,
+    },
+    /// The last parts of a concatenation that is the whole pattern, all of them plain.
+    Tail {
+        /// The parts.
+        parts: &'i [Info<'e>],
+        /// Their context.
+        scope: Scope,
+    },
     /// The parts of a concatenation.
     Row {
         /// The parts.

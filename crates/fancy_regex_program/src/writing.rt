@@ -6,7 +6,7 @@ ghost use Rattle.fancy_regex_program.specs.Caps.{cap_of};
 ghost use Rattle.fancy_regex_program.specs.Extents.{extent, IsFull};
 ghost use Rattle.fancy_regex_program.specs.Ops.{op_of, ops_of};
 ghost use Rattle.fancy_regex_program.specs.Refusals.{IsMemoryOrTooComplex};
-ghost use Rattle.fancy_regex_program.specs.Writing.{draft_of, with_op, with_char, closed_draft, added, patched};
+ghost use Rattle.fancy_regex_program.specs.Writing.{draft_of, with_op, with_char, closed_draft, added, patched, ended, ends_at};
 
 use crate::insn::Insn;
 use crate::literal_table::LiteralTable;
@@ -104,11 +104,33 @@ impl ProgramBuilder {
         }
     }
 
+    /// Lets the tail whose instruction has this index end at that one, if it is one.
+    pub fn end_tail(&mut self, at: usize, end: usize)
+        ensures draft { draft_of self.new ≡ ended at end (draft_of self.old) }
+        ensures cap { self.new.cap ≡ self.old.cap }
+        ensures long { extent (draft_of self.new) ≡ extent (draft_of self.old) }
+    {
+        if at < self.insns.len() {
+            let insn = mem::replace(&mut self.insns[at], Insn::Fail);
+            self.insns[at] = ended_at(insn, end);
+        }
+    }
+
     /// The instructions, without the pending literal text.
     pub fn into_insns(self) -> Vec<Insn>
         ensures cap { length result.items ≤ self.cap }
         ensures ops { ops_of result.items ≡ (draft_of self).ops }
     {
         self.insns
+    }
+}
+
+/// The instruction, which ends at that one if it begins a tail.
+fn ended_at(insn: Insn, end: usize) -> Insn
+    ensures { op_of result ≡ ends_at end (op_of insn) }
+{
+    match insn {
+        Insn::DelegateTail { part, .. } => Insn::DelegateTail { part, end },
+        other => other,
     }
 }

@@ -1,6 +1,7 @@
 -- Where the first way of a delegated part ends.
-use Rattle.std.proofs.Common.{◌≡◌, ℕ, ◌+◌, ◌<◌, ◌≤◌, List, [], ◌∷◌, length, replicate, Option, Some, None, refl, sym, ◌∙◌, subst, arith, ⊎_elim}
+use Rattle.std.proofs.Common.{◌≡◌, ℕ, ◌<◌, ◌≤◌, List, [], ◌∷◌, length, replicate, Option, Some, None, sym, ◌∙◌, subst, arith, ⊎_elim}
 use Rattle.std.specs.Prelude.{option_map, slice_index_or}
+use Rattle.std.specs.List.{filter}
 use Rattle.std.specs.Str.{IsUtf8, IsCharBoundary}
 use Rattle.std.proofs.lemmas.Bool.{cases_lt}
 use Rattle.std.proofs.lemmas.List.{get_or-replicate, get_or_past, length-replicate}
@@ -10,9 +11,10 @@ use Rattle.fancy_regex_meaning.specs.Groups.{pattern_of}
 use Rattle.fancy_regex_meaning.specs.Ways.{MatchState, Setting, ways}
 use Rattle.fancy_regex_meaning.specs.WayLaws.{Each, KeptBetween, IsForwardTo, HasCharBoundaries}
 use Rattle.fancy_regex_meaning.specs.Searches.{first_item, start_way}
+use Rattle.fancy_regex_meaning.proofs.EachLemmas.{Each-filter}
 use Rattle.fancy_regex_meaning.proofs.ForwardProofs.{ways_cut_well}
 use Rattle.fancy_regex_meaning.proofs.MatchStartProofs.{keeps_start}
-use Rattle.fancy_regex_desugar.specs.Delegates.{first_end}
+use Rattle.fancy_regex_desugar.specs.Delegates.{first_end, ends_until, first_end_until}
 
 -- what holds of each way holds of the first one
 first_holds : (P : MatchState → Type 0) (ws : List MatchState) → Each P ws → (q : ℕ) → option_map (λ w. w.position) (first_item ws) ≡ Some q →
@@ -49,4 +51,29 @@ ends_cut s utf8 t p q here e =
     let begins : HasCharBoundaries s.text alone = (here, λ k a b set. absurd (none-some _ (sym (no_pairs (length pattern.groups) k) ∙ set)), here) in
     let found = first_holds (IsForwardTo (HasCharBoundaries s.text) alone) (ways s pattern.groups pattern.first_group t alone)
     (ways_cut_well s pattern.groups utf8 pattern.first_group t alone begins) q e in
+    subst (IsCharBoundary s.text) found.2 found.1.1.0
+
+-- The same of the first way that ends in range.
+pub ends_until_onward : (s : Setting) (t : Tree) (stop p q : ℕ) → first_end_until s t stop p ≡ Some q → p ≤ q
+unfolding first_end_until
+ends_until_onward s t stop p q e =
+    let pattern = pattern_of t in
+    let alone = start_way pattern p in
+    let all = ways s pattern.groups pattern.first_group t alone in
+    let found = first_holds (KeptBetween alone) (filter (ends_until stop) all)
+    (Each-filter (KeptBetween alone) (ends_until stop) all (keeps_start s pattern.groups pattern.first_group t alone)) q e in
+    let on : p ≤ found.0.position = found.1.0 in
+    omega (arith, on, found.2)
+
+pub ends_until_cut : (s : Setting) → IsUtf8 s.text → (t : Tree) (stop p q : ℕ) → IsCharBoundary s.text p → first_end_until s t stop p ≡ Some q →
+    IsCharBoundary s.text q
+unfolding first_end_until
+ends_until_cut s utf8 t stop p q here e =
+    let pattern = pattern_of t in
+    let alone = start_way pattern p in
+    let all = ways s pattern.groups pattern.first_group t alone in
+    let begins : HasCharBoundaries s.text alone = (here, λ k a b set. absurd (none-some _ (sym (no_pairs (length pattern.groups) k) ∙ set)), here) in
+    let found = first_holds (IsForwardTo (HasCharBoundaries s.text) alone) (filter (ends_until stop) all)
+    (Each-filter (IsForwardTo (HasCharBoundaries s.text) alone) (ends_until stop) all
+    (ways_cut_well s pattern.groups utf8 pattern.first_group t alone begins)) q e in
     subst (IsCharBoundary s.text) found.2 found.1.1.0

@@ -6,8 +6,8 @@ use Rattle.regex_hir.specs.Text.{is_some_and}
 use Rattle.fancy_regex_tree.specs.Tree.{Text}
 use Rattle.fancy_regex_meaning.specs.Positions.{position_before, boundaries}
 use Rattle.fancy_regex_meaning.specs.Ways.{MatchState, Setting, with_position, set_pair, pair_of, holds}
-use Rattle.fancy_regex_desugar.specs.CorePatterns.{CorePattern, nothing, read, general_newline, check, continue, keep_out, fail, cat, alt, group, ahead, never, back, atomic, delegate, repeat, backref, exists, conditional, absent}
-use Rattle.fancy_regex_desugar.specs.Delegates.{first_end}
+use Rattle.fancy_regex_desugar.specs.CorePatterns.{CorePattern, nothing, read, general_newline, check, continue, keep_out, fail, cat, alt, group, ahead, never, back, atomic, delegate, tail, repeat, backref, exists, conditional, absent}
+use Rattle.fancy_regex_desugar.specs.Delegates.{first_end, first_end_until}
 use Rattle.fancy_regex_desugar.specs.CoreWays.{passes}
 use Rattle.fancy_regex_program_laws.specs.ProgramLaws.{FoundMatch}
 use Rattle.fancy_regex_program.specs.Machine.{unset, lower, match_char, match_text, match_newline, match_backref}
@@ -56,6 +56,11 @@ untold known = record { answer = None; branches = 0; claimed = false }
 abbrev pub end_to : Option ℕ → Run
 end_to None w k r = r
 end_to (Some q) w k r = k (with_position w q) r
+
+-- with a bound at the end that is found for it, and without as the run
+abbrev pub end_within : Option ℕ → (ℕ → ℕ → Option ℕ) → Run → Run
+end_within None end g w k r = g w k r
+end_within (Some stop) end g w k r = end_to (end stop w.position) w k r
 
 abbrev pub end_if : Bool → Run
 end_if b w k r = cond b (k w r) r
@@ -117,25 +122,27 @@ module _ (s : Setting) where
   end_again casei (Some pair) w k r =
       cond (match_backref s casei pair.0 pair.1 w.position) (k (with_position w (w.position + (pair.1 - pair.0))) r) r
 
-  abbrev pub ending : CorePattern → Run
-  ending nothing w k r = k w r
-  ending (read leaf) w k r = end_to (match_char s.text (passes s leaf) w.position) w k r
-  ending (general_newline unicode) w k r = end_to (match_newline s unicode w.position) w k r
-  ending (check a) w k r = end_if (holds s a w.position) w k r
-  ending continue w k r = end_if (is_some_and s.continue_at (λ g. g == w.position)) w k r
-  ending keep_out w k r = k (record w { kept = w.position }) r
-  ending fail w k r = r
-  ending (cat a b) w k r = ending a w (λ v x. ending b v k x) r
-  ending (alt a b) w k r = opens (ending a w k (ending b w k r))
-  ending (group n a) w k r = ending a w (λ v x. k (set_pair n (w.position, v.position) v) x) r
-  ending (ahead a) w k r = ending a w (λ v x. k (with_position v w.position) x) r
-  ending (never a) w k r = opens (ending a w (λ v x. r) (k w r))
-  ending (back n) w k r = end_to (position_before s.text n w.position) w k r
-  ending (atomic a) w k r = ending a w (λ v x. k v r) r
-  ending (delegate t a) w k r = end_to (first_end s t w.position) w k r
-  ending (repeat a lo None greedy) w k r = end_times (ending a) lo (end_loop (ending a) greedy (length s.text + 1)) w k r
-  ending (repeat a lo (Some hi) greedy) w k r = end_times (ending a) lo (end_upto (ending a) greedy (hi - lo)) w k r
-  ending (backref n casei) w k r = end_again casei (pair_of w n) w k r
-  ending (exists n) w k r = end_if (is_some (pair_of w n)) w k r
-  ending (conditional c a b) w k r = opens (ending c w (λ v x. ending a v k r) (ending b w k r))
-  ending (absent a) w k r = end_absent (ending a) (boundaries s.text w.position (length s.text)) w k r
+  module _ (bound : Option ℕ) where
+    abbrev pub ending : CorePattern → Run
+    ending nothing w k r = k w r
+    ending (read leaf) w k r = end_to (match_char s.text (passes s leaf) w.position) w k r
+    ending (general_newline unicode) w k r = end_to (match_newline s unicode w.position) w k r
+    ending (check a) w k r = end_if (holds s a w.position) w k r
+    ending continue w k r = end_if (is_some_and s.continue_at (λ g. g == w.position)) w k r
+    ending keep_out w k r = k (record w { kept = w.position }) r
+    ending fail w k r = r
+    ending (cat a b) w k r = ending a w (λ v x. ending b v k x) r
+    ending (alt a b) w k r = opens (ending a w k (ending b w k r))
+    ending (group n a) w k r = ending a w (λ v x. k (set_pair n (w.position, v.position) v) x) r
+    ending (ahead a) w k r = ending a w (λ v x. k (with_position v w.position) x) r
+    ending (never a) w k r = opens (ending a w (λ v x. r) (k w r))
+    ending (back n) w k r = end_to (position_before s.text n w.position) w k r
+    ending (atomic a) w k r = ending a w (λ v x. k v r) r
+    ending (delegate t a) w k r = end_to (first_end s t w.position) w k r
+    ending (tail t a) w k r = end_within bound (first_end_until s t) (ending a) w k r
+    ending (repeat a lo None greedy) w k r = end_times (ending a) lo (end_loop (ending a) greedy (length s.text + 1)) w k r
+    ending (repeat a lo (Some hi) greedy) w k r = end_times (ending a) lo (end_upto (ending a) greedy (hi - lo)) w k r
+    ending (backref n casei) w k r = end_again casei (pair_of w n) w k r
+    ending (exists n) w k r = end_if (is_some (pair_of w n)) w k r
+    ending (conditional c a b) w k r = opens (ending c w (λ v x. ending a v k r) (ending b w k r))
+    ending (absent a) w k r = end_absent (ending a) (boundaries s.text w.position (length s.text)) w k r

@@ -10,8 +10,8 @@ use Rattle.fancy_regex_tree.specs.Tree.{Text}
 use Rattle.fancy_regex_meaning.specs.Ways.{MatchState, Setting, with_position, is_any, holds}
 use Rattle.fancy_regex_meaning.specs.Positions.{position_before}
 use Rattle.fancy_regex_desugar.specs.CoreWays.{passes}
-use Rattle.fancy_regex_desugar.specs.CorePatterns.{any, literal, class, CorePattern, nothing, read, general_newline, check, continue, keep_out, fail, cat, alt, group, ahead, never, back, atomic, delegate, repeat, backref, exists, conditional, absent}
-use Rattle.fancy_regex_desugar.specs.Delegates.{first_end}
+use Rattle.fancy_regex_desugar.specs.CorePatterns.{any, literal, class, CorePattern, nothing, read, general_newline, check, continue, keep_out, fail, cat, alt, group, ahead, never, back, atomic, delegate, tail, repeat, backref, exists, conditional, absent}
+use Rattle.fancy_regex_desugar.specs.Delegates.{first_end, first_end_until, tail_bound}
 use Rattle.fancy_regex_desugar.specs.Shapes.{StepsBackOnlyFirst}
 use Rattle.fancy_regex_slots.specs.Memory.{Thread}
 use Rattle.fancy_regex_program.specs.Ops as op
@@ -23,13 +23,13 @@ use Rattle.fancy_regex_program.specs.Shapes.{IsWritable}
 use Rattle.fancy_regex_program_laws.proofs.Denote.{Tale, Follow, Run, end_to, end_text, ending}
 use Rattle.fancy_regex_program_laws.proofs.PairsInSlots.{take_kept}
 use Rattle.fancy_regex_program_laws.proofs.Runs.{above_refl, same_refl, same_set_below, thread, Sound, Comes, Pops, by_move, Exits, exits_at, exits_later, comes_at, Does}
-use Rattle.fancy_regex_program_laws.proofs.ProgramParts.{HasAt, has_front, has_back, StartsPlain, starts_both, plain_from, plain_at, with_slot_is, does_to, does_move, does_test, does_fail, does_alt, does_group, does_ahead, does_atomic, does_never}
+use Rattle.fancy_regex_program_laws.proofs.ProgramParts.{HasAt, has_front, has_back, StartsPlain, starts_both, plain_from, plain_at, with_slot_is, does_to, does_move, does_tail, does_test, does_fail, does_alt, does_group, does_ahead, does_atomic, does_never}
 use Rattle.fancy_regex_program_laws.proofs.Loops.{does_repeat, does_conditional}
 use Rattle.fancy_regex_program_laws.proofs.UncountedLoops.{GoesPast, does_endless}
 use Rattle.fancy_regex_program_laws.proofs.TakesSome.{ending_past}
 use Rattle.fancy_regex_program_laws.proofs.ReadingCode.{few, body_takes}
 use Rattle.fancy_regex_program_laws.proofs.Absents.{does_absent}
-use Rattle.fancy_regex_program_laws.proofs.ReadingOperations.{good_char, good_text, good_newline, good_before, good_end, does_exists, does_backref}
+use Rattle.fancy_regex_program_laws.proofs.ReadingOperations.{good_char, good_text, good_newline, good_before, good_end, good_end_until, does_exists, does_backref}
 
 chosen_scalar : (c d : ℕ) (b x : Bool) → (is_scalar d && b) ≡ x → cond x (Some d) None ≡ Some c → is_scalar c ≡ true
 chosen_scalar c d b true both e = ap is_scalar (sym (same_Some d c e)) ∙ (and_parts (is_scalar d) b both).0
@@ -121,6 +121,7 @@ module _ (has_member : Text → Bool → ℕ → Bool) (fold : ℕ → ℕ) (who
   code_starts (back n) l pc slot = starts_node l _ _ refl refl
   code_starts (atomic a) l pc slot = starts_node l _ _ refl refl
   code_starts (delegate t a) l pc slot = starts_node l _ _ refl refl
+  code_starts (tail t a) l pc slot = starts_node l _ _ refl refl
   code_starts (repeat a lo None greedy) l pc slot =
       let p = pc + length (flushed l) in
       let uncounted = is_uncounted lo (p + 2) (closed (code_of has_member fold whole a []) (waits a []) (p + 2) (slot + 2)) in
@@ -248,15 +249,15 @@ module _ (code : List Op) (r : RunParameters) (whole : Bool) (count : ℕ) (utf8
 
     -- with what waits behind it
     closed_by : (p : CorePattern) (pc slot : ℕ) (free : Bool) →
-        (HasAt code pc (made p [] pc slot) → Leads pc (pc + length (made p [] pc slot)) slot (slots_in p) free [] (waits p []) (ending r.setting p)) →
-        HasAt code pc (within p pc slot) → Does code r whole count pc (pc + length (within p pc slot)) slot (slots_in p) free (ending r.setting p)
+        (HasAt code pc (made p [] pc slot) → Leads pc (pc + length (made p [] pc slot)) slot (slots_in p) free [] (waits p []) (ending r.setting (tail_bound r.find) p)) →
+        HasAt code pc (within p pc slot) → Does code r whole count pc (pc + length (within p pc slot)) slot (slots_in p) free (ending r.setting (tail_bound r.find) p)
     closed_by p pc slot free leads at =
         let front = has_front code pc (made p [] pc slot) (flushed (waits p [])) at in
         let last = has_back code pc (pc + length (made p [] pc slot)) (made p [] pc slot) (flushed (waits p [])) refl at in
-        does_closed pc slot (slots_in p) free (waits p []) (made p [] pc slot) (ending r.setting p) last (leads front)
+        does_closed pc slot (slots_in p) free (waits p []) (made p [] pc slot) (ending r.setting (tail_bound r.find) p) last (leads front)
 
     pub runs : (p : CorePattern) (l : Text) (pc slot : ℕ) (free : Bool) → IsWritable first count p → StepsBackOnlyFirst free p → HasAt code pc (made p l pc slot) →
-        Leads pc (pc + length (made p l pc slot)) slot (slots_in p) free l (waits p l) (ending r.setting p)
+        Leads pc (pc + length (made p l pc slot)) slot (slots_in p) free l (waits p l) (ending r.setting (tail_bound r.find) p)
     unfolding code_of
     runs nothing l pc slot free ok placed at = record {
       by = λ low w m rest x k above_base above_low room sound fits pops exits.
@@ -279,7 +280,7 @@ module _ (code : List Op) (r : RunParameters) (whole : Bool) (count : ℕ) (utf8
           by = λ low w m rest x k above_base above_low room sound fits pops exits.
               let to : pc + length (xs ++ ys) ≡ pc + length xs + length ys = omega (arith, length-append xs ys) in
               let out = exits_at code r whole count rest low m free w.position (pc + length (xs ++ ys)) (pc + length xs + length ys) (λ v y. end_text r.setting (waits b (waits a l)) v k y) to exits in
-              la.by low w m rest x (λ v y. ending r.setting b v k y) above_base above_low (omega arith) sound fits pops
+              la.by low w m rest x (λ v y. ending r.setting (tail_bound r.find) b v k y) above_base above_low (omega arith) sound fits pops
               (record {
                 plain = plain_from code (pc + length xs) (pc + length xs + length ys) ys (code_starts r.setting.has_member r.setting.fold whole b (waits a l) (pc + length xs) (slot + slots_in a)) at_b refl out.plain;
                 go = λ v n stack y on sound' fits' same above pops'.
@@ -288,46 +289,46 @@ module _ (code : List Op) (r : RunParameters) (whole : Bool) (count : ℕ) (utf8
               });
         }
     runs (read (literal c true)) l pc slot free ok placed at =
-        leads_one pc slot free l (op.test (λ d. r.setting.fold d == r.setting.fold c)) (ending r.setting (read (literal c true))) refl refl at
+        leads_one pc slot free l (op.test (λ d. r.setting.fold d == r.setting.fold c)) (ending r.setting (tail_bound r.find) (read (literal c true))) refl refl at
         (λ here. does_move code r whole count (pc + length (flushed l)) slot free _ (match_char r.setting.text (passes r.setting (literal c true))) here (λ height t. refl)
         (λ w q sound e. good_char r.setting utf8 count (passes r.setting (literal c true)) free w q sound e))
     runs (read (any newline crlf)) l pc slot free ok placed at =
-        leads_one pc slot free l (op.any newline (crlf && not newline)) (ending r.setting (read (any newline crlf))) refl refl at
+        leads_one pc slot free l (op.any newline (crlf && not newline)) (ending r.setting (tail_bound r.find) (read (any newline crlf))) refl refl at
         (λ here. does_move code r whole count (pc + length (flushed l)) slot free _ (match_char r.setting.text (passes r.setting (any newline crlf))) here
         (λ height t. ap (λ f. goes_to (match_char r.setting.text f t.position) t) (any_same r.setting newline crlf))
         (λ w q sound e. good_char r.setting utf8 count (passes r.setting (any newline crlf)) free w q sound e))
     runs (read (class name casei)) l pc slot free ok placed at =
-        leads_one pc slot free l (op.test (among_scalars (r.setting.has_member name casei))) (ending r.setting (read (class name casei))) refl refl at
+        leads_one pc slot free l (op.test (among_scalars (r.setting.has_member name casei))) (ending r.setting (tail_bound r.find) (read (class name casei))) refl refl at
         (λ here. does_move code r whole count (pc + length (flushed l)) slot free _ (match_char r.setting.text (passes r.setting (class name casei))) here
         (λ height t. ap (λ o. goes_to o t) (scalars_pass r.setting.text (r.setting.has_member name casei) t.position))
         (λ w q sound e. good_char r.setting utf8 count (passes r.setting (class name casei)) free w q sound e))
     runs (general_newline unicode) l pc slot free ok placed at =
-        leads_one pc slot free l (op.general_newline unicode) (ending r.setting (general_newline unicode)) refl refl at
+        leads_one pc slot free l (op.general_newline unicode) (ending r.setting (tail_bound r.find) (general_newline unicode)) refl refl at
         (λ here. does_move code r whole count (pc + length (flushed l)) slot free _ (match_newline r.setting unicode) here (λ height t. refl)
         (λ w q sound e. good_newline r.setting utf8 count unicode free w q sound e))
     runs (check a) l pc slot free ok placed at =
-        leads_one pc slot free l (op.assertion a) (ending r.setting (check a)) refl refl at
+        leads_one pc slot free l (op.assertion a) (ending r.setting (tail_bound r.find) (check a)) refl refl at
         (λ here. does_test code r whole count (pc + length (flushed l)) slot free _ (λ w. holds r.setting a w.position) here (λ height w m room sound fits. refl) refl)
     runs continue l pc slot free ok placed at =
-        leads_one pc slot free l op.continue (ending r.setting continue) refl refl at
+        leads_one pc slot free l op.continue (ending r.setting (tail_bound r.find) continue) refl refl at
         (λ here. does_test code r whole count (pc + length (flushed l)) slot free _ (λ w. is_some_and r.setting.continue_at (λ g. g == w.position)) here (λ height w m room sound fits. refl) refl)
     runs keep_out l pc slot free ok placed at =
         let b = cond whole (op.save 0 ∷ []) [] in
         let here = has_back code pc (pc + length (flushed l)) (flushed l) b refl at in
-        leads_node pc slot 0 free l b (ending r.setting keep_out) (starts_kept r.setting.has_member r.setting.fold whole whole) at
+        leads_node pc slot 0 free l b (ending r.setting (tail_bound r.find) keep_out) (starts_kept r.setting.has_member r.setting.fold whole whole) at
         (does_keep (pc + length (flushed l)) slot free whole refl some here)
     runs fail l pc slot free ok placed at =
-        leads_one pc slot free l op.fail (ending r.setting fail) refl refl at (λ here. does_fail code r whole count (pc + length (flushed l)) slot free here)
+        leads_one pc slot free l op.fail (ending r.setting (tail_bound r.find) fail) refl refl at (λ here. does_fail code r whole count (pc + length (flushed l)) slot free here)
     runs (alt a b) l pc slot free ok placed at =
         let p = pc + length (flushed l) in
         let xs = within a (p + 1) slot in
         let ys = within b (p + 2 + length xs) (slot + slots_in a) in
-        leads_round pc slot (slots_in a + slots_in b) free l _ (ending r.setting (alt a b)) (p + 2 + length xs + length ys) (refl, refl) at
+        leads_round pc slot (slots_in a + slots_in b) free l _ (ending r.setting (tail_bound r.find) (alt a b)) (p + 2 + length xs + length ys) (refl, refl) at
         (omega (arith, length-append xs (op.jump (p + 2 + length xs + length ys) ∷ ys)))
         (λ h.
         let jump = has_back code (p + 1) (p + 1 + length xs) xs (op.jump (p + 2 + length xs + length ys) ∷ ys) refl h.1 in
         let next : p + 1 + length xs + 1 ≡ p + 2 + length xs = omega arith in
-        does_alt code r whole count p slot (slots_in a) (slots_in b) free xs ys (ending r.setting a) (ending r.setting b)
+        does_alt code r whole count p slot (slots_in a) (slots_in b) free xs ys (ending r.setting (tail_bound r.find) a) (ending r.setting (tail_bound r.find) b)
         (closed_starts r.setting.has_member r.setting.fold whole b (p + 2 + length xs) (slot + slots_in a)) h
         (closed_by a (p + 1) slot free (λ f. runs a [] (p + 1) slot free ok.0 placed.0 f) (has_front code (p + 1) xs _ h.1))
         (closed_by b (p + 2 + length xs) (slot + slots_in a) free (λ f. runs b [] (p + 2 + length xs) (slot + slots_in a) free ok.1 placed.1 f)
@@ -335,76 +336,86 @@ module _ (code : List Op) (r : RunParameters) (whole : Bool) (count : ℕ) (utf8
     runs (group k a) l pc slot free ok placed at =
         let p = pc + length (flushed l) in
         let xs = within a (p + 1) (slot + 1) in
-        leads_round pc slot (1 + slots_in a) free l _ (ending r.setting (group k a)) (p + 1 + length xs + 2) (refl, refl) at
+        leads_round pc slot (1 + slots_in a) free l _ (ending r.setting (tail_bound r.find) (group k a)) (p + 1 + length xs + 2) (refl, refl) at
         (omega (arith, length-append xs (op.copy slot (2 * k) ∷ op.save (2 * k + 1) ∷ [])))
-        (λ h. does_group code r whole count utf8 p slot (slots_in a) k free xs (ending r.setting a) ok.1 (far k ok.0) h
+        (λ h. does_group code r whole count utf8 p slot (slots_in a) k free xs (ending r.setting (tail_bound r.find) a) ok.1 (far k ok.0) h
         (closed_by a (p + 1) (slot + 1) false (λ f. runs a [] (p + 1) (slot + 1) false ok.2 placed f) (has_front code (p + 1) xs _ h.1)))
     runs (ahead a) l pc slot free ok placed at =
         let p = pc + length (flushed l) in
         let xs = within a (p + 1) (slot + 1) in
-        leads_round pc slot (1 + slots_in a) free l _ (ending r.setting (ahead a)) (p + 1 + length xs + 1) (refl, refl) at
+        leads_round pc slot (1 + slots_in a) free l _ (ending r.setting (tail_bound r.find) (ahead a)) (p + 1 + length xs + 1) (refl, refl) at
         (omega (arith, length-append xs (op.restore slot ∷ [])))
-        (λ h. does_ahead code r whole count utf8 p slot (slots_in a) free xs (ending r.setting a) h
+        (λ h. does_ahead code r whole count utf8 p slot (slots_in a) free xs (ending r.setting (tail_bound r.find) a) h
         (closed_by a (p + 1) (slot + 1) true (λ f. runs a [] (p + 1) (slot + 1) true ok.1 placed f) (has_front code (p + 1) xs _ h.1)))
     runs (never a) l pc slot free ok placed at =
         let p = pc + length (flushed l) in
         let xs = within a (p + 2) (slot + 1) in
-        leads_round pc slot (1 + slots_in a) free l _ (ending r.setting (never a)) (p + 3 + length xs) (refl, refl) at
+        leads_round pc slot (1 + slots_in a) free l _ (ending r.setting (tail_bound r.find) (never a)) (p + 3 + length xs) (refl, refl) at
         (omega (arith, length-append xs (op.fail_negative slot ∷ [])))
         (λ h.
         let two : p + 1 + 1 ≡ p + 2 = omega arith in
-        does_never code r whole count utf8 p slot (slots_in a) free xs (ending r.setting a) h
+        does_never code r whole count utf8 p slot (slots_in a) free xs (ending r.setting (tail_bound r.find) a) h
         (closed_by a (p + 2) (slot + 1) true (λ f. runs a [] (p + 2) (slot + 1) true ok placed f)
         (has_front code (p + 2) xs _ (subst (λ q. HasAt code q (xs ++ op.fail_negative slot ∷ [])) two h.1.1))))
     runs (back n) l pc slot free ok placed at =
-        leads_one pc slot free l (op.go_back n) (ending r.setting (back n)) refl refl at
+        leads_one pc slot free l (op.go_back n) (ending r.setting (tail_bound r.find) (back n)) refl refl at
         (λ here. does_move code r whole count (pc + length (flushed l)) slot free _ (position_before r.setting.text n) here (λ height t. refl)
         (λ w q sound e. good_before r.setting utf8 count n free w q placed sound e))
     runs (atomic a) l pc slot free ok placed at =
         let p = pc + length (flushed l) in
         let xs = within a (p + 1) (slot + 1) in
-        leads_round pc slot (1 + slots_in a) free l _ (ending r.setting (atomic a)) (p + 1 + length xs + 1) (refl, refl) at
+        leads_round pc slot (1 + slots_in a) free l _ (ending r.setting (tail_bound r.find) (atomic a)) (p + 1 + length xs + 1) (refl, refl) at
         (omega (arith, length-append xs (op.end_atomic slot ∷ [])))
         (λ h. does_to code r whole count p (p + 1 + length xs + 1) (p + 1 + length xs + 1) slot (1 + slots_in a) free _ refl
-        (does_atomic code r whole count utf8 p slot (slots_in a) free xs (ending r.setting a) h
-        (does_any code r whole count (p + 1) (p + 1 + length xs) (slot + 1) (slots_in a) free (ending r.setting a)
+        (does_atomic code r whole count utf8 p slot (slots_in a) free xs (ending r.setting (tail_bound r.find) a) h
+        (does_any code r whole count (p + 1) (p + 1 + length xs) (slot + 1) (slots_in a) free (ending r.setting (tail_bound r.find) a)
         (closed_by a (p + 1) (slot + 1) false (λ f. runs a [] (p + 1) (slot + 1) false ok placed f) (has_front code (p + 1) xs _ h.1)))))
     runs (delegate t a) l pc slot free ok placed at =
-        leads_one pc slot free l (op.delegate r.setting.has_member r.setting.fold t) (ending r.setting (delegate t a)) refl refl at
+        leads_one pc slot free l (op.delegate r.setting.has_member r.setting.fold t) (ending r.setting (tail_bound r.find) (delegate t a)) refl refl at
         (λ here. does_move code r whole count (pc + length (flushed l)) slot free _ (first_end r.setting t) here (λ height u. refl)
         (λ w q sound e. good_end r.setting utf8 count t free w q sound e))
+    runs (tail t a) l pc slot free ok placed at =
+        let p = pc + length (flushed l) in
+        let xs = within a (p + 1) slot in
+        leads_round pc slot (slots_in a) free l _ (ending r.setting (tail_bound r.find) (tail t a)) (p + 1 + length xs) (refl, refl) at
+        (omega arith)
+        (λ h. does_tail code r whole count p slot (slots_in a) free (op.tail r.setting.has_member r.setting.fold t (p + 1 + length xs)) (tail_bound r.find)
+        (first_end_until r.setting t) xs (ending r.setting (tail_bound r.find) a) h.0 (λ height u. refl)
+        (λ stop w q sound e. good_end_until r.setting utf8 count t stop free w q sound e)
+        (does_any code r whole count (p + 1) (p + 1 + length xs) slot (slots_in a) free (ending r.setting (tail_bound r.find) a)
+        (closed_by a (p + 1) slot false (λ f. runs a [] (p + 1) slot false ok placed f) h.1)))
     runs (repeat a lo None greedy) l pc slot free ok placed at =
         let p = pc + length (flushed l) in
         let xs = within a (p + 2) (slot + 2) in
         let uncounted = is_uncounted lo (p + 2) xs in
-        let past : uncounted ≡ true → (lo ≤ 1) × GoesPast (ending r.setting a) = λ e. (
+        let past : uncounted ≡ true → (lo ≤ 1) × GoesPast (ending r.setting (tail_bound r.find) a) = λ e. (
           few lo (p + 2) xs e,
-          ending_past r.setting small first count a ok.1 placed (body_takes r.setting.has_member r.setting.fold whole a lo (p + 2) (slot + 2) e),
+          ending_past r.setting (tail_bound r.find) small first count a ok.1 placed (body_takes r.setting.has_member r.setting.fold whole a lo (p + 2) (slot + 2) e),
         ) in
-        leads_round pc slot (2 + slots_in a) free l _ (ending r.setting (repeat a lo None greedy)) (p + 3 + length xs) (starts_loop uncounted lo (p + 1) slot) at
+        leads_round pc slot (2 + slots_in a) free l _ (ending r.setting (tail_bound r.find) (repeat a lo None greedy)) (p + 3 + length xs) (starts_loop uncounted lo (p + 1) slot) at
         (omega (arith, length-append xs (op.jump (p + 1) ∷ [])))
         (λ h.
         let two : p + 1 + 1 ≡ p + 2 = omega arith in
-        does_endless code r whole count uncounted p slot (slots_in a) lo greedy free xs (ending r.setting a) ok.0 past
+        does_endless code r whole count uncounted p slot (slots_in a) lo greedy free xs (ending r.setting (tail_bound r.find) a) ok.0 past
         (closed_starts r.setting.has_member r.setting.fold whole a (p + 2) (slot + 2)) h
         (closed_by a (p + 2) (slot + 2) false (λ f. runs a [] (p + 2) (slot + 2) false ok.1 placed f)
         (has_front code (p + 2) xs _ (subst (λ q. HasAt code q (xs ++ op.jump (p + 1) ∷ [])) two h.1.1))))
     runs (repeat a lo (Some hi) greedy) l pc slot free ok placed at =
         let p = pc + length (flushed l) in
         let xs = within a (p + 2) (slot + 1) in
-        leads_round pc slot (1 + slots_in a) free l _ (ending r.setting (repeat a lo (Some hi) greedy)) (p + 3 + length xs) (refl, refl) at
+        leads_round pc slot (1 + slots_in a) free l _ (ending r.setting (tail_bound r.find) (repeat a lo (Some hi) greedy)) (p + 3 + length xs) (refl, refl) at
         (omega (arith, length-append xs (op.jump (p + 1) ∷ [])))
         (λ h.
         let two : p + 1 + 1 ≡ p + 2 = omega arith in
-        does_repeat code r whole count p slot (slots_in a) lo hi greedy free xs (ending r.setting a)
+        does_repeat code r whole count p slot (slots_in a) lo hi greedy free xs (ending r.setting (tail_bound r.find) a)
         (closed_starts r.setting.has_member r.setting.fold whole a (p + 2) (slot + 1)) h
         (closed_by a (p + 2) (slot + 1) false (λ f. runs a [] (p + 2) (slot + 1) false ok.1 placed f)
         (has_front code (p + 2) xs _ (subst (λ q. HasAt code q (xs ++ op.jump (p + 1) ∷ [])) two h.1.1))))
     runs (backref k casei) l pc slot free ok placed at =
-        leads_one pc slot free l (op.backref (2 * k) casei) (ending r.setting (backref k casei)) refl refl at
+        leads_one pc slot free l (op.backref (2 * k) casei) (ending r.setting (tail_bound r.find) (backref k casei)) refl refl at
         (λ here. does_backref code r whole count utf8 small (pc + length (flushed l)) slot k casei free (far k ok.0) ok.1 here)
     runs (exists k) l pc slot free ok placed at =
-        leads_one pc slot free l (op.exists (2 * k)) (ending r.setting (exists k)) refl refl at
+        leads_one pc slot free l (op.exists (2 * k)) (ending r.setting (tail_bound r.find) (exists k)) refl refl at
         (λ here. does_exists code r whole count utf8 small (pc + length (flushed l)) slot k free (far k ok.0) ok.1 here)
     runs (conditional c a b) l pc slot free ok placed at =
         let p = pc + length (flushed l) in
@@ -412,7 +423,7 @@ module _ (code : List Op) (r : RunParameters) (whole : Bool) (count : ℕ) (utf8
         let ys = within a (p + 3 + length xs) (slot + 1 + slots_in c) in
         let zs = within b (p + 4 + length xs + length ys) (slot + 1 + slots_in c + slots_in a) in
         let to = p + 4 + length xs + length ys + length zs in
-        leads_round pc slot (1 + (slots_in c + (slots_in a + slots_in b))) free l _ (ending r.setting (conditional c a b)) to (refl, refl) at
+        leads_round pc slot (1 + (slots_in c + (slots_in a + slots_in b))) free l _ (ending r.setting (tail_bound r.find) (conditional c a b)) to (refl, refl) at
         (omega (arith, length-append xs (op.end_atomic slot ∷ (ys ++ op.jump to ∷ zs)), length-append ys (op.jump to ∷ zs)))
         (λ h.
         let two : p + 1 + 1 ≡ p + 2 = omega arith in
@@ -423,7 +434,7 @@ module _ (code : List Op) (r : RunParameters) (whole : Bool) (count : ℕ) (utf8
         let at_jump = has_back code (p + 3 + length xs) (p + 3 + length xs + length ys) ys (op.jump to ∷ zs) refl at_a in
         let four : p + 3 + length xs + length ys + 1 ≡ p + 4 + length xs + length ys = omega arith in
         let at_b = subst (λ q. HasAt code q zs) four at_jump.1 in
-        does_conditional code r whole count p slot (slots_in c) (slots_in a) (slots_in b) free xs ys zs (ending r.setting c) (ending r.setting a) (ending r.setting b)
+        does_conditional code r whole count p slot (slots_in c) (slots_in a) (slots_in b) free xs ys zs (ending r.setting (tail_bound r.find) c) (ending r.setting (tail_bound r.find) a) (ending r.setting (tail_bound r.find) b)
         (closed_starts r.setting.has_member r.setting.fold whole b (p + 4 + length xs + length ys) (slot + 1 + slots_in c + slots_in a)) h
         (closed_by c (p + 2) (slot + 1) false (λ f. runs c [] (p + 2) (slot + 1) false ok.0 placed.0 f) (has_front code (p + 2) xs _ at_c))
         (closed_by a (p + 3 + length xs) (slot + 1 + slots_in c) false (λ f. runs a [] (p + 3 + length xs) (slot + 1 + slots_in c) false ok.1 placed.1 f) (has_front code (p + 3 + length xs) ys _ at_a))
@@ -431,14 +442,14 @@ module _ (code : List Op) (r : RunParameters) (whole : Bool) (count : ℕ) (utf8
     runs (absent a) l pc slot free ok placed at =
         let p = pc + length (flushed l) in
         let xs = within a (p + 2) (slot + 2) in
-        leads_round pc slot (2 + slots_in a) free l _ (ending r.setting (absent a)) (p + 4 + length xs) (refl, refl) at
+        leads_round pc slot (2 + slots_in a) free l _ (ending r.setting (tail_bound r.find) (absent a)) (p + 4 + length xs) (refl, refl) at
         (omega (arith, length-append xs (op.absent_limit (slot + 1) ∷ op.absent_end slot (slot + 1) ∷ [])))
         (λ h.
         let two : p + 1 + 1 ≡ p + 2 = omega arith in
-        does_absent code r whole count utf8 p slot (slots_in a) free xs (ending r.setting a) h
+        does_absent code r whole count utf8 p slot (slots_in a) free xs (ending r.setting (tail_bound r.find) a) h
         (closed_by a (p + 2) (slot + 2) false (λ f. runs a [] (p + 2) (slot + 2) false ok.1 placed f)
         (has_front code (p + 2) xs _ (subst (λ q. HasAt code q (xs ++ op.absent_limit (slot + 1) ∷ op.absent_end slot (slot + 1) ∷ [])) two h.1.1))))
 
     pub runs_closed : (p : CorePattern) (pc slot : ℕ) (free : Bool) → IsWritable first count p → StepsBackOnlyFirst free p → HasAt code pc (within p pc slot) →
-        Does code r whole count pc (pc + length (within p pc slot)) slot (slots_in p) free (ending r.setting p)
+        Does code r whole count pc (pc + length (within p pc slot)) slot (slots_in p) free (ending r.setting (tail_bound r.find) p)
     runs_closed p pc slot free ok placed at = closed_by p pc slot free (λ f. runs p [] pc slot free ok placed f) at

@@ -10,9 +10,9 @@ use Rattle.fancy_regex_meaning.proofs.ForwardProofs.{keeps_cuts}
 use Rattle.fancy_regex_slots.specs.Memory.{Thread, truncated}
 use Rattle.fancy_regex_program.specs.Ops as op
 use Rattle.fancy_regex_program.specs.Ops.{Op}
-use Rattle.fancy_regex_program.specs.Machine.{unset, RunParameters, Move, goes, forks, fails, cuts, cut_fails, at_op, moved, wrote, slot_of, with_slot, goes_if, goes_to, match_char, match_text, match_newline, is_start, is_scan, act, pop, exec}
+use Rattle.fancy_regex_program.specs.Machine.{unset, RunParameters, Move, goes, forks, fails, cuts, cut_fails, at_op, moved, wrote, slot_of, with_slot, goes_if, goes_to, goes_past, tail_move, match_char, match_text, match_newline, is_start, is_scan, act, pop, exec}
 use Rattle.fancy_regex_program.specs.SlotLayout.{slots_of_way}
-use Rattle.fancy_regex_program_laws.proofs.Denote.{Run, opens, end_to, end_if}
+use Rattle.fancy_regex_program_laws.proofs.Denote.{Run, opens, end_to, end_within, end_if}
 use Rattle.fancy_regex_program_laws.proofs.PairsInSlots.{take_pair}
 use Rattle.fancy_regex_program_laws.proofs.Runs.{above_refl, above_trans, above_cons, lowered_above, Same, same_refl, same_trans, same_lower, same_set, same_set_below, thread, lt_yes, IsPlain, Sound, Comes, Follows, pops_to, forked, goes_cut, fails_cut, by_move, exits_later, comes_at, Does, base}
 
@@ -83,6 +83,29 @@ module _ (code : List Op) (r : RunParameters) (whole : Bool) (count : ℕ) where
           | Some q ↦ λ e. (let g = good w q sound e in exits.go (with_position w q) m rest x g.0 g.1 fits (same_refl (base code r whole count) low m) (above_refl rest) pops)
         ] in
         by_move code r whole count t rest o (goes_to (f w.position) t) (end_to (f w.position) w k x) at sound.cuts.0 (acts (length rest) t) (go (f w.position) refl);
+  }
+
+  -- a tail: its operations, or with a bound the end that is found for it
+  pub does_tail : (pc slot much : ℕ) (free : Bool) (o : Op) (bound : Option ℕ) (end : ℕ → ℕ → Option ℕ) (b : List Op) (g : Run) → slice_get code pc ≡ Some o →
+      ((height : ℕ) (t : Thread) → act r (Some o) height t ≡ tail_move bound end (pc + 1 + length b) t) →
+      ((stop : ℕ) (w : MatchState) (q : ℕ) → Sound text count w → end stop w.position ≡ Some q → (free ≡ false → w.position ≤ q) × Sound text count (with_position w q)) →
+      Does code r whole count (pc + 1) (pc + 1 + length b) slot much free g →
+      Does code r whole count pc (pc + 1 + length b) slot much free (λ w k x. end_within bound end g w k x)
+  does_tail pc slot much free o bound end b g at acts good body = record {
+    by = λ low w m rest x k above_base above_low room sound fits pops exits.
+        let t : Thread = thread pc w.position m in
+        let to : ℕ = pc + 1 + length b in
+        let found : (stop : ℕ) (o : Option ℕ) → end stop w.position ≡ o → Follows code r whole count rest (goes_past to o t) (end_to o w k x) =
+        λ stop o. elim o as (λ o. end stop w.position ≡ o → Follows code r whole count rest (goes_past to o t) (end_to o w k x)) [
+          | None ↦ λ e. pops
+          | Some q ↦ λ e. (let h = good stop w q sound e in exits.go (with_position w q) m rest x h.0 h.1 fits (same_refl (base code r whole count) low m) (above_refl rest) pops)
+        ] in
+        let go : (o : Option ℕ) → Follows code r whole count rest (tail_move o end to t) (end_within o end g w k x) =
+        λ o. elim o as (λ o. Follows code r whole count rest (tail_move o end to t) (end_within o end g w k x)) [
+          | None ↦ body.by low w m rest x k above_base above_low room sound fits pops exits
+          | Some stop ↦ found stop (end stop w.position) refl
+        ] in
+        by_move code r whole count t rest o (tail_move bound end to t) (end_within bound end g w k x) at sound.cuts.0 (acts (length rest) t) (go bound);
   }
 
   -- an operation that goes on where a test holds

@@ -6,7 +6,7 @@ use Rattle.std.proofs.lemmas.Bool.{and_parts}
 use Rattle.std.proofs.lemmas.Bool.Decides.{nat_tests}
 use Rattle.std.proofs.lemmas.Option.{none-some, same_Some, slice_get_past}
 use Rattle.fancy_regex_tree.specs.Tree.{Text}
-use Rattle.fancy_regex_desugar.specs.CorePatterns.{CorePattern, nothing, read, general_newline, check, continue, keep_out, fail, cat, alt, group, ahead, never, back, atomic, delegate, repeat, backref, exists, conditional, absent}
+use Rattle.fancy_regex_desugar.specs.CorePatterns.{CorePattern, nothing, read, general_newline, check, continue, keep_out, fail, cat, alt, group, ahead, never, back, atomic, delegate, tail, repeat, backref, exists, conditional, absent}
 use Rattle.fancy_regex_program.specs.Ops as op
 use Rattle.fancy_regex_program.specs.Ops.{Op}
 use Rattle.fancy_regex_program.specs.Code.{Code, waits, flushed, slots_in, closed, is_uncounted, code_of}
@@ -257,6 +257,9 @@ module _ (first : ℕ) (ops : List Op) where
           | suc n ↦ λ some. inl due
         ] refl
     through (delegate t a) at pc slot is here h = absurd (reads_not at (op.delegate has_member fold t) here.0 (λ from. refl) h)
+    through (tail t a) at pc slot is here h =
+        let p = pc + length (flushed []) in
+        absurd (reads_not at (op.tail has_member fold t (p + 1 + length (within a (p + 1) slot))) here.0 (λ from. refl) h)
     through (backref k casei) at pc slot is here h = absurd (reads_not at (op.backref (2 * k) casei) here.0 (λ from. refl) h)
     through (exists k) at pc slot is here h = absurd (reads_not at (op.exists (2 * k)) here.0 (λ from. refl) h)
     through (conditional c a b) at pc slot is here h =

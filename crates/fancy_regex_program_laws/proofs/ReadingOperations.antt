@@ -13,14 +13,14 @@ use Rattle.fancy_regex_meaning.specs.Positions.{position_before, is_before_byte}
 use Rattle.fancy_regex_meaning.specs.Ways.{MatchState, Setting, with_position, pair_of, meaning, ways, for_some, general_newline_ways, is_newline}
 use Rattle.fancy_regex_meaning.specs.WayLaws.{Each, HasCharBoundaries, IsForwardTo, PreservesForward}
 use Rattle.fancy_regex_meaning.proofs.ForwardProofs.{keeps_cuts, ways_cut_well}
-use Rattle.fancy_regex_desugar.specs.Delegates.{first_end}
+use Rattle.fancy_regex_desugar.specs.Delegates.{first_end, first_end_until}
 use Rattle.fancy_regex_slots.specs.Memory.{Thread}
 use Rattle.fancy_regex_program.specs.Ops as op
 use Rattle.fancy_regex_program.specs.Ops.{Op}
 use Rattle.fancy_regex_program.specs.Machine.{unset, RunParameters, goes, fails, goes_if, moved, stuck, match_char, match_text, match_newline, match_backref, is_valid_span, backref_move, is_valid_offset, act}
 use Rattle.fancy_regex_program.specs.SlotLayout.{slots_of_way}
 use Rattle.fancy_regex_program_laws.proofs.Denote.{end_if, end_again}
-use Rattle.fancy_regex_program_laws.proofs.DelegatedWays.{ends_onward, ends_cut}
+use Rattle.fancy_regex_program_laws.proofs.DelegatedWays.{ends_onward, ends_cut, ends_until_onward, ends_until_cut}
 use Rattle.fancy_regex_program_laws.proofs.PairsInSlots.{start_of, end_of, laid_start, laid_end}
 use Rattle.fancy_regex_program_laws.proofs.Runs.{above_refl, same_refl, thread, place_is, eq_other, Sound, Follows, by_move, Does}
 use Rattle.fancy_regex_program_laws.proofs.ProgramParts.{with_slot_is, does_test}
@@ -106,6 +106,12 @@ module _ (s : Setting) (utf8 : IsUtf8 s.text) (count : ℕ) where
   good_end t free w q sound e =
       let cut = ends_cut s utf8 t w.position q sound.cuts.0 e in
       (λ _. ends_onward s t w.position q e, record { cuts = (cut, sound.cuts.1, sound.cuts.2); many = sound.many })
+
+  pub good_end_until : (t : Tree) (stop : ℕ) (free : Bool) (w : MatchState) (q : ℕ) → Sound s.text count w → first_end_until s t stop w.position ≡ Some q →
+      (free ≡ false → w.position ≤ q) × Sound s.text count (with_position w q)
+  good_end_until t stop free w q sound e =
+      let cut = ends_until_cut s utf8 t stop w.position q sound.cuts.0 e in
+      (λ _. ends_until_onward s t stop w.position q e, record { cuts = (cut, sound.cuts.1, sound.cuts.2); many = sound.many })
 
   before_good : (n : ℕ) (w : MatchState) (q : ℕ) → Sound s.text count w → position_before s.text n w.position ≡ Some q → Sound s.text count (with_position w q)
   before_good zero w q sound e = let same : w.position ≡ q = same_Some _ _ e in subst (λ n. Sound s.text count (with_position w n)) same sound

@@ -6,6 +6,7 @@ use Rattle.std.proofs.lemmas.Bool.{cases_lt}
 use Rattle.fancy_regex_meaning.specs.Ways.{MatchState}
 use Rattle.fancy_regex_meaning.specs.Searches.{Search, first_some, first_item, farther, first_longest, chosen, is_admitted}
 use Rattle.fancy_regex_desugar.specs.CorePatterns.{CorePattern}
+use Rattle.fancy_regex_desugar.specs.Delegates.{tail_bound}
 use Rattle.fancy_regex_program.specs.Machine.{unset, RunParameters}
 use Rattle.fancy_regex_program.specs.SlotLayout.{slots_of_match}
 use Rattle.fancy_regex_program.specs.Shapes.{IsWritable}
@@ -184,7 +185,7 @@ module _ (r : RunParameters) (p : CorePattern) (whole : Bool) (count : ℕ) (fir
   end_follow = at_end r.find whole r.find.options.longest
 
   abbrev pub trail_from : ℕ → Trail
-  trail_from q = trail r.setting p (entry_way count q)
+  trail_from q = trail r.setting (tail_bound r.find) p (entry_way count q)
 
   -- a branch for the next start, if there is one
   abbrev pub with_next : List ℕ → Tale → Tale
@@ -232,7 +233,7 @@ module _ (r : RunParameters) (p : CorePattern) (whole : Bool) (count : ℕ) (fir
   after_kept (q ∷ qs) l h = refl
 
   ways_are : (q : ℕ) → chosen r.find.options.longest (filter (is_admitted r.find) (states (trail_from q))) ≡ way_at r p count q
-  ways_are q = ap (λ ws. chosen r.find.options.longest (filter (is_admitted r.find) ws)) (states_trail r.setting small first count p ok (entry_way count q))
+  ways_are q = ap (λ ws. chosen r.find.options.longest (filter (is_admitted r.find) ws)) (states_trail r.setting (tail_bound r.find) small first count p ok (entry_way count q))
 
   module _ (l : ℕ) where
     abbrev fresh : Known
@@ -273,7 +274,7 @@ module _ (r : RunParameters) (p : CorePattern) (whole : Bool) (count : ℕ) (fir
           attempt_opened r.find whole l (after qs) (after_kept qs l) r.find.options.longest (trail_from q),
           ap (λ o. (chosen_told r.find whole (after qs fresh) o).branches) (ways_are q),
           counted (way_at r p count q) qs (choices_up_to r p count qs) h,
-          opened_trail r.setting small first count p ok (entry_way count q),
+          opened_trail r.setting (tail_bound r.find) small first count p ok (entry_way count q),
         )
 
     opens_few : (qs : List ℕ) → (after qs fresh).branches ≤ choices_up_to r p count qs

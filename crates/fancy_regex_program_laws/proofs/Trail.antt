@@ -5,12 +5,12 @@ use Rattle.std.proofs.Math.Path.{fun_ext}
 use Rattle.regex_hir.specs.Text.{is_some_and}
 use Rattle.fancy_regex_meaning.specs.Positions.{position_before, boundaries}
 use Rattle.fancy_regex_meaning.specs.Ways.{MatchState, Setting, with_position, set_pair, pair_of, holds}
-use Rattle.fancy_regex_desugar.specs.CorePatterns.{CorePattern, nothing, read, general_newline, check, continue, keep_out, fail, cat, alt, group, ahead, never, back, atomic, delegate, repeat, backref, exists, conditional, absent}
-use Rattle.fancy_regex_desugar.specs.Delegates.{first_end}
+use Rattle.fancy_regex_desugar.specs.CorePatterns.{CorePattern, nothing, read, general_newline, check, continue, keep_out, fail, cat, alt, group, ahead, never, back, atomic, delegate, tail, repeat, backref, exists, conditional, absent}
+use Rattle.fancy_regex_desugar.specs.Delegates.{first_end, first_end_until}
 use Rattle.fancy_regex_desugar.specs.CoreWays.{passes}
 use Rattle.fancy_regex_program.specs.Machine.{unset, lower, match_char, match_newline, match_backref}
 use Rattle.fancy_regex_program_laws.specs.ProgramLaws.{FoundMatch}
-use Rattle.fancy_regex_program_laws.proofs.Denote.{Known, Tale, Follow, Run, one_more, one_less, opens, closes, below, end_ends, end_seen, end_look, end_absent, end_to, end_pick, end_upto, end_loop, end_times, end_again, ending}
+use Rattle.fancy_regex_program_laws.proofs.Denote.{Known, Tale, Follow, Run, one_more, one_less, opens, closes, below, end_ends, end_seen, end_look, end_absent, end_to, end_within, end_pick, end_upto, end_loop, end_times, end_again, ending}
 
 pub data Event : Type 0 where
   Open : Event
@@ -60,6 +60,11 @@ cut_first g other (At w ∷ es) = g w
 abbrev pub trail_to : Option ℕ → Trails
 trail_to None w = []
 trail_to (Some q) w = At (with_position w q) ∷ []
+
+-- with a bound to the end that is found for it, and without as the trails
+abbrev pub trail_within : Option ℕ → (ℕ → ℕ → Option ℕ) → Trails → Trails
+trail_within None end t w = t w
+trail_within (Some stop) end t w = trail_to (end stop w.position) w
 
 abbrev pub trail_if : Bool → Trails
 trail_if b w = cond b (At w ∷ []) []
@@ -219,6 +224,11 @@ to_trail : (o : Option ℕ) (w : MatchState) (k : Follow) (r : Tale) → end_to 
 to_trail None w k r = refl
 to_trail (Some q) w k r = refl
 
+within_trail : (bound : Option ℕ) (end : ℕ → ℕ → Option ℕ) (g : Run) (t : Trails) → ((w : MatchState) (k : Follow) (r : Tale) → g w k r ≡ folded k r (t w)) →
+    (w : MatchState) (k : Follow) (r : Tale) → end_within bound end g w k r ≡ folded k r (trail_within bound end t w)
+within_trail None end g t h w k r = h w k r
+within_trail (Some stop) end g t h w k r = to_trail (end stop w.position) w k r
+
 if_trail : (b : Bool) (w : MatchState) (k : Follow) (r : Tale) → cond b (k w r) r ≡ folded k r (trail_if b w)
 if_trail true w k r = refl
 if_trail false w k r = refl
@@ -232,68 +242,71 @@ module _ (s : Setting) where
   again_text casei None w k r = refl
   again_text casei (Some pair) w k r = if_trail (match_backref s casei pair.0 pair.1 w.position) (with_position w (w.position + (pair.1 - pair.0))) k r
 
-  abbrev pub trail : CorePattern → Trails
-  trail nothing w = At w ∷ []
-  trail (read leaf) w = trail_to (match_char s.text (passes s leaf) w.position) w
-  trail (general_newline unicode) w = trail_to (match_newline s unicode w.position) w
-  trail (check a) w = trail_if (holds s a w.position) w
-  trail continue w = trail_if (is_some_and s.continue_at (λ g. g == w.position)) w
-  trail keep_out w = At (record w { kept = w.position }) ∷ []
-  trail fail w = []
-  trail (cat a b) w = spliced (trail b) (trail a w)
-  trail (alt a b) w = Open ∷ (trail a w ++ trail b w)
-  trail (group n a) w = spliced (λ v. At (set_pair n (w.position, v.position) v) ∷ []) (trail a w)
-  trail (ahead a) w = spliced (λ v. At (with_position v w.position) ∷ []) (trail a w)
-  trail (never a) w = Open ∷ cut_first (λ v. []) (At w ∷ []) (trail a w)
-  trail (back n) w = trail_to (position_before s.text n w.position) w
-  trail (atomic a) w = cut_first (λ v. At v ∷ []) [] (trail a w)
-  trail (delegate t a) w = trail_to (first_end s t w.position) w
-  trail (repeat a lo None greedy) w = trail_times (trail a) lo (trail_loop (trail a) greedy (length s.text + 1)) w
-  trail (repeat a lo (Some hi) greedy) w = trail_times (trail a) lo (trail_upto (trail a) greedy (hi - lo)) w
-  trail (backref n casei) w = trail_again casei (pair_of w n) w
-  trail (exists n) w = trail_if (is_some (pair_of w n)) w
-  trail (conditional c a b) w = Open ∷ cut_first (trail a) (trail b w) (trail c w)
-  trail (absent a) w = trail_absent (trail a) (boundaries s.text w.position (length s.text)) w
+  module _ (bound : Option ℕ) where
+    abbrev pub trail : CorePattern → Trails
+    trail nothing w = At w ∷ []
+    trail (read leaf) w = trail_to (match_char s.text (passes s leaf) w.position) w
+    trail (general_newline unicode) w = trail_to (match_newline s unicode w.position) w
+    trail (check a) w = trail_if (holds s a w.position) w
+    trail continue w = trail_if (is_some_and s.continue_at (λ g. g == w.position)) w
+    trail keep_out w = At (record w { kept = w.position }) ∷ []
+    trail fail w = []
+    trail (cat a b) w = spliced (trail b) (trail a w)
+    trail (alt a b) w = Open ∷ (trail a w ++ trail b w)
+    trail (group n a) w = spliced (λ v. At (set_pair n (w.position, v.position) v) ∷ []) (trail a w)
+    trail (ahead a) w = spliced (λ v. At (with_position v w.position) ∷ []) (trail a w)
+    trail (never a) w = Open ∷ cut_first (λ v. []) (At w ∷ []) (trail a w)
+    trail (back n) w = trail_to (position_before s.text n w.position) w
+    trail (atomic a) w = cut_first (λ v. At v ∷ []) [] (trail a w)
+    trail (delegate t a) w = trail_to (first_end s t w.position) w
+    trail (tail t a) w = trail_within bound (first_end_until s t) (trail a) w
+    trail (repeat a lo None greedy) w = trail_times (trail a) lo (trail_loop (trail a) greedy (length s.text + 1)) w
+    trail (repeat a lo (Some hi) greedy) w = trail_times (trail a) lo (trail_upto (trail a) greedy (hi - lo)) w
+    trail (backref n casei) w = trail_again casei (pair_of w n) w
+    trail (exists n) w = trail_if (is_some (pair_of w n)) w
+    trail (conditional c a b) w = Open ∷ cut_first (trail a) (trail b w) (trail c w)
+    trail (absent a) w = trail_absent (trail a) (boundaries s.text w.position (length s.text)) w
 
-  -- the ending is that of the trail
-  pub ending_trail : (p : CorePattern) (w : MatchState) (k : Follow) (r : Tale) → ending s p w k r ≡ folded k r (trail p w)
-  ending_trail nothing w k r = refl
-  ending_trail (read leaf) w k r = to_trail (match_char s.text (passes s leaf) w.position) w k r
-  ending_trail (general_newline unicode) w k r = to_trail (match_newline s unicode w.position) w k r
-  ending_trail (check a) w k r = if_trail (holds s a w.position) w k r
-  ending_trail continue w k r = if_trail (is_some_and s.continue_at (λ g. g == w.position)) w k r
-  ending_trail keep_out w k r = refl
-  ending_trail fail w k r = refl
-  ending_trail (cat a b) w k r =
-      ending_trail a w (λ v x. ending s b v k x) r
-      ∙ ap (λ (f : Follow). folded f r (trail a w)) (fun_ext (λ v. fun_ext (λ x. ending_trail b v k x)))
-      ∙ sym (folded_spliced k r (trail b) (trail a w))
-  ending_trail (alt a b) w k r =
-      ap opens (ending_trail a w k (ending s b w k r)
-      ∙ ap (λ x. folded k x (trail a w)) (ending_trail b w k r)
-      ∙ sym (folded_append k r (trail a w) (trail b w)))
-  ending_trail (group n a) w k r =
-      ending_trail a w (λ v x. k (set_pair n (w.position, v.position) v) x) r ∙ sym (folded_spliced k r (λ v. At (set_pair n (w.position, v.position) v) ∷ []) (trail a w))
-  ending_trail (ahead a) w k r =
-      ending_trail a w (λ v x. k (with_position v w.position) x) r ∙ sym (folded_spliced k r (λ v. At (with_position v w.position) ∷ []) (trail a w))
-  ending_trail (never a) w k r =
-      ap opens (ending_trail a w (λ v x. r) (k w r) ∙ sym (folded_first k r (λ v. []) (At w ∷ []) (trail a w)))
-  ending_trail (back n) w k r = to_trail (position_before s.text n w.position) w k r
-  ending_trail (atomic a) w k r = ending_trail a w (λ v x. k v r) r ∙ sym (folded_first k r (λ v. At v ∷ []) [] (trail a w))
-  ending_trail (delegate t a) w k r = to_trail (first_end s t w.position) w k r
-  ending_trail (repeat a lo None greedy) w k r =
-      ap (λ (g : Run). end_times g lo (end_loop g greedy (length s.text + 1)) w k r) (fun_ext (λ v. fun_ext (λ f. fun_ext (λ x. ending_trail a v f x))))
-      ∙ times_trail (trail a) lo (end_loop (run_of (trail a)) greedy (length s.text + 1)) (trail_loop (trail a) greedy (length s.text + 1)) (loop_trail (trail a) greedy (length s.text + 1)) w k r
-  ending_trail (repeat a lo (Some hi) greedy) w k r =
-      ap (λ (g : Run). end_times g lo (end_upto g greedy (hi - lo)) w k r) (fun_ext (λ v. fun_ext (λ f. fun_ext (λ x. ending_trail a v f x))))
-      ∙ times_trail (trail a) lo (end_upto (run_of (trail a)) greedy (hi - lo)) (trail_upto (trail a) greedy (hi - lo)) (upto_trail (trail a) greedy (hi - lo)) w k r
-  ending_trail (backref n casei) w k r = again_text casei (pair_of w n) w k r
-  ending_trail (exists n) w k r = if_trail (is_some (pair_of w n)) w k r
-  ending_trail (conditional c a b) w k r =
-      ap opens (ending_trail c w (λ v x. ending s a v k r) (ending s b w k r)
-      ∙ ap (λ x. folded (λ v y. ending s a v k r) x (trail c w)) (ending_trail b w k r)
-      ∙ ap (λ (f : Follow). folded f (folded k r (trail b w)) (trail c w)) (fun_ext (λ v. fun_ext (λ x. ending_trail a v k r)))
-      ∙ sym (folded_first k r (trail a) (trail b w) (trail c w)))
-  ending_trail (absent a) w k r =
-      ap (λ (g : Run). end_absent g (boundaries s.text w.position (length s.text)) w k r) (fun_ext (λ v. fun_ext (λ f. fun_ext (λ x. ending_trail a v f x))))
-      ∙ fun_ext (λ known. absent_trail (trail a) w k r known.kept known.limit (boundaries s.text w.position (length s.text)))
+    -- the ending is that of the trail
+    pub ending_trail : (p : CorePattern) (w : MatchState) (k : Follow) (r : Tale) → ending s bound p w k r ≡ folded k r (trail p w)
+    ending_trail nothing w k r = refl
+    ending_trail (read leaf) w k r = to_trail (match_char s.text (passes s leaf) w.position) w k r
+    ending_trail (general_newline unicode) w k r = to_trail (match_newline s unicode w.position) w k r
+    ending_trail (check a) w k r = if_trail (holds s a w.position) w k r
+    ending_trail continue w k r = if_trail (is_some_and s.continue_at (λ g. g == w.position)) w k r
+    ending_trail keep_out w k r = refl
+    ending_trail fail w k r = refl
+    ending_trail (cat a b) w k r =
+        ending_trail a w (λ v x. ending s bound b v k x) r
+        ∙ ap (λ (f : Follow). folded f r (trail a w)) (fun_ext (λ v. fun_ext (λ x. ending_trail b v k x)))
+        ∙ sym (folded_spliced k r (trail b) (trail a w))
+    ending_trail (alt a b) w k r =
+        ap opens (ending_trail a w k (ending s bound b w k r)
+        ∙ ap (λ x. folded k x (trail a w)) (ending_trail b w k r)
+        ∙ sym (folded_append k r (trail a w) (trail b w)))
+    ending_trail (group n a) w k r =
+        ending_trail a w (λ v x. k (set_pair n (w.position, v.position) v) x) r ∙ sym (folded_spliced k r (λ v. At (set_pair n (w.position, v.position) v) ∷ []) (trail a w))
+    ending_trail (ahead a) w k r =
+        ending_trail a w (λ v x. k (with_position v w.position) x) r ∙ sym (folded_spliced k r (λ v. At (with_position v w.position) ∷ []) (trail a w))
+    ending_trail (never a) w k r =
+        ap opens (ending_trail a w (λ v x. r) (k w r) ∙ sym (folded_first k r (λ v. []) (At w ∷ []) (trail a w)))
+    ending_trail (back n) w k r = to_trail (position_before s.text n w.position) w k r
+    ending_trail (atomic a) w k r = ending_trail a w (λ v x. k v r) r ∙ sym (folded_first k r (λ v. At v ∷ []) [] (trail a w))
+    ending_trail (delegate t a) w k r = to_trail (first_end s t w.position) w k r
+    ending_trail (tail t a) w k r = within_trail bound (first_end_until s t) (ending s bound a) (trail a) (ending_trail a) w k r
+    ending_trail (repeat a lo None greedy) w k r =
+        ap (λ (g : Run). end_times g lo (end_loop g greedy (length s.text + 1)) w k r) (fun_ext (λ v. fun_ext (λ f. fun_ext (λ x. ending_trail a v f x))))
+        ∙ times_trail (trail a) lo (end_loop (run_of (trail a)) greedy (length s.text + 1)) (trail_loop (trail a) greedy (length s.text + 1)) (loop_trail (trail a) greedy (length s.text + 1)) w k r
+    ending_trail (repeat a lo (Some hi) greedy) w k r =
+        ap (λ (g : Run). end_times g lo (end_upto g greedy (hi - lo)) w k r) (fun_ext (λ v. fun_ext (λ f. fun_ext (λ x. ending_trail a v f x))))
+        ∙ times_trail (trail a) lo (end_upto (run_of (trail a)) greedy (hi - lo)) (trail_upto (trail a) greedy (hi - lo)) (upto_trail (trail a) greedy (hi - lo)) w k r
+    ending_trail (backref n casei) w k r = again_text casei (pair_of w n) w k r
+    ending_trail (exists n) w k r = if_trail (is_some (pair_of w n)) w k r
+    ending_trail (conditional c a b) w k r =
+        ap opens (ending_trail c w (λ v x. ending s bound a v k r) (ending s bound b w k r)
+        ∙ ap (λ x. folded (λ v y. ending s bound a v k r) x (trail c w)) (ending_trail b w k r)
+        ∙ ap (λ (f : Follow). folded f (folded k r (trail b w)) (trail c w)) (fun_ext (λ v. fun_ext (λ x. ending_trail a v k r)))
+        ∙ sym (folded_first k r (trail a) (trail b w) (trail c w)))
+    ending_trail (absent a) w k r =
+        ap (λ (g : Run). end_absent g (boundaries s.text w.position (length s.text)) w k r) (fun_ext (λ v. fun_ext (λ f. fun_ext (λ x. ending_trail a v f x))))
+        ∙ fun_ext (λ known. absent_trail (trail a) w k r known.kept known.limit (boundaries s.text w.position (length s.text)))

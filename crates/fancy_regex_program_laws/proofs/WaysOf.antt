@@ -12,15 +12,15 @@ use Rattle.fancy_regex_meaning.specs.Choices.{due_choices, up_to_choices, loop_c
 use Rattle.fancy_regex_meaning.specs.Ways as row
 use Rattle.fancy_regex_meaning.specs.Ways.{MatchState, Moves, Setting, with_position, set_pair, pair_of, for_some, first_only, match_empty_if, is_none_of, character, prefer, due, up_to, loop, keep_only_pairs, holds}
 use Rattle.fancy_regex_meaning.proofs.EachLemmas.{Each-weaker, Each-append, Each-map, Each-flat_map, Each-filter, Each-cond, Each-for_some, Each-reverse, boundaries_within}
-use Rattle.fancy_regex_desugar.specs.CorePatterns.{CorePattern, nothing, read, general_newline, check, continue, keep_out, fail, cat, alt, group, ahead, never, back, atomic, delegate, repeat, backref, exists, conditional, absent}
-use Rattle.fancy_regex_desugar.specs.Delegates.{first_end}
-use Rattle.fancy_regex_desugar.specs.CoreWays.{passes, core_ways, core_choices}
+use Rattle.fancy_regex_desugar.specs.CorePatterns.{CorePattern, nothing, read, general_newline, check, continue, keep_out, fail, cat, alt, group, ahead, never, back, atomic, delegate, tail, repeat, backref, exists, conditional, absent}
+use Rattle.fancy_regex_desugar.specs.Delegates.{first_end, first_end_until}
+use Rattle.fancy_regex_desugar.specs.CoreWays.{passes, end_ways, core_ways, core_choices}
 use Rattle.fancy_regex_program.specs.Machine.{unset, match_char, match_newline, match_backref}
 use Rattle.fancy_regex_desugar.specs.Shapes.{StepsBackOnlyFirst}
 use Rattle.fancy_regex_program.specs.Shapes.{KeepsNothing, IsWritable}
 use Rattle.fancy_regex_program_laws.proofs.ReadingOperations.{newline_way}
-use Rattle.fancy_regex_program_laws.proofs.Trail.{Open, Close, At, Trail, Trails, spliced, states, opened, cut_first, trail_to, trail_if, trail_pick, trail_upto, trail_loop, trail_times, trail_again, trail, states_append, opened_append}
-use Rattle.fancy_regex_program_laws.proofs.DelegatedWays.{ends_onward}
+use Rattle.fancy_regex_program_laws.proofs.Trail.{Open, Close, At, Trail, Trails, spliced, states, opened, cut_first, trail_to, trail_within, trail_if, trail_pick, trail_upto, trail_loop, trail_times, trail_again, trail, states_append, opened_append}
+use Rattle.fancy_regex_program_laws.proofs.DelegatedWays.{ends_onward, ends_until_onward}
 use Rattle.fancy_regex_program_laws.proofs.AbsentWays.{states_absent, opened_absent}
 
 states_spliced : (g : Trails) (es : Trail) → states (spliced g es) ≡ flat_map (λ w. states (g w)) (states es)
@@ -64,6 +64,11 @@ states_pick false more w = refl
 states_to : (o : Option ℕ) (w : MatchState) → states (trail_to o w) ≡ for_some (λ q. with_position w q ∷ []) o
 states_to None w = refl
 states_to (Some q) w = refl
+
+states_within : (end : ℕ → ℕ → Option ℕ) (t : Trails) (f : Moves) (w : MatchState) → states (t w) ≡ f w → (bound : Option ℕ) →
+    states (trail_within bound end t w) ≡ elim bound as (λ _. List MatchState) [ None ↦ f w | Some stop ↦ end_ways (end stop w.position) w ]
+states_within end t f w h None = h
+states_within end t f w h (Some stop) = states_to (end stop w.position) w
 
 states_if : (b : Bool) (w : MatchState) → states (trail_if b w) ≡ match_empty_if b w
 states_if true w = refl
@@ -128,6 +133,10 @@ opened_to : (o : Option ℕ) (w : MatchState) → opened (trail_to o w) ≤ 0
 opened_to None w = omega arith
 opened_to (Some q) w = omega arith
 
+opened_within : (end : ℕ → ℕ → Option ℕ) (t : Trails) (w : MatchState) (n : ℕ) → opened (t w) ≤ n → (bound : Option ℕ) → opened (trail_within bound end t w) ≤ n
+opened_within end t w n h None = h
+opened_within end t w n h (Some stop) = omega (arith, opened_to (end stop w.position) w)
+
 opened_if : (b : Bool) (w : MatchState) → opened (trail_if b w) ≤ 0
 opened_if true w = omega arith
 opened_if false w = omega arith
@@ -155,6 +164,11 @@ module _ (t : Trails) (f : Moves) (h : (w : MatchState) → states (t w) ≡ f w
   opened_times : (n : ℕ) (after : Trails) (rest : MatchState → ℕ) → ((w : MatchState) → opened (after w) ≤ rest w) → (w : MatchState) → opened (trail_times t n after w) ≤ due_choices n f c rest w
   opened_times zero after rest e w = e w
   opened_times (suc n) after rest e w = opened_over (trail_times t n after) (due_choices n f c rest) w (λ v. opened_times n after rest e v)
+
+each_within : (P : MatchState → Type 0) (ws : List MatchState) (vs : ℕ → List MatchState) (bound : Option ℕ) → Each P ws → ((stop : ℕ) → Each P (vs stop)) →
+    Each P (elim bound as (λ _. List MatchState) [ None ↦ ws | Some stop ↦ vs stop ])
+each_within P ws vs None h k = h
+each_within P ws vs (Some stop) h k = k stop
 
 pub first_kept : (P : MatchState → Type 0) (ws : List MatchState) → Each P ws → Each P (first_only ws)
 first_kept P [] h = h
@@ -219,7 +233,7 @@ follows_onward = record { stays = λ w. omega arith; joins = λ u v w e d. omega
 abbrev AllKept : Moves → Type 0
 AllKept = AllKeep Kept follows_kept
 
-module _ (s : Setting) where
+module _ (s : Setting) (bound : Option ℕ) where
   kept_char : (test : ℕ → Bool) (w : MatchState) → Each (Kept w) (character s test w)
   kept_char test w =
       Each-for_some (Kept w) (λ c. cond (test c) (with_position w (w.position + len_utf8 c) ∷ []) []) (char_at s.text w.position)
@@ -238,7 +252,7 @@ module _ (s : Setting) where
   onward_to None w h = tt
   onward_to (Some q) w h = (h q refl, tt)
 
-  keeps : (p : CorePattern) → KeepsNothing p → AllKept (core_ways s p)
+  keeps : (p : CorePattern) → KeepsNothing p → AllKept (core_ways s bound p)
   unfolding core_ways
   keeps nothing k w = (refl, tt)
   keeps (read leaf) k w = kept_char (passes s leaf) w
@@ -248,23 +262,25 @@ module _ (s : Setting) where
   keeps continue k w = keep_if Kept follows_kept (is_some_and s.continue_at (λ g. g == w.position)) w
   keeps keep_out k w = absurd k
   keeps fail k w = tt
-  keeps (cat a b) k w = keep_over Kept follows_kept (core_ways s a) (core_ways s b) (keeps a k.0) (keeps b k.1) w
-  keeps (alt a b) k w = Each-append (Kept w) (core_ways s a w) (core_ways s b w) (keeps a k.0 w) (keeps b k.1 w)
-  keeps (group n a) k w = Each-map (Kept w) (Kept w) (λ v. set_pair n (w.position, v.position) v) (λ v e. e) (core_ways s a w) (keeps a k w)
-  keeps (ahead a) k w = each_way (λ v. record w { pairs = v.pairs }) (λ v. refl) (core_ways s a w)
+  keeps (cat a b) k w = keep_over Kept follows_kept (core_ways s bound a) (core_ways s bound b) (keeps a k.0) (keeps b k.1) w
+  keeps (alt a b) k w = Each-append (Kept w) (core_ways s bound a w) (core_ways s bound b w) (keeps a k.0 w) (keeps b k.1 w)
+  keeps (group n a) k w = Each-map (Kept w) (Kept w) (λ v. set_pair n (w.position, v.position) v) (λ v e. e) (core_ways s bound a w) (keeps a k w)
+  keeps (ahead a) k w = each_way (λ v. record w { pairs = v.pairs }) (λ v. refl) (core_ways s bound a w)
     where
       each_way : (f : MatchState → MatchState) → ((v : MatchState) → Kept w (f v)) → (vs : List MatchState) → Each (Kept w) (map f vs)
       each_way f h [] = tt
       each_way f h (v ∷ vs) = (h v, each_way f h vs)
-  keeps (never a) k w = keep_if Kept follows_kept (is_none_of (core_ways s a w)) w
+  keeps (never a) k w = keep_if Kept follows_kept (is_none_of (core_ways s bound a w)) w
   keeps (back n) k w = kept_to (position_before s.text n w.position) w
-  keeps (atomic a) k w = first_kept (Kept w) (core_ways s a w) (keeps a k w)
+  keeps (atomic a) k w = first_kept (Kept w) (core_ways s bound a w) (keeps a k w)
   keeps (delegate t a) k w = kept_to (first_end s t w.position) w
-  keeps (repeat a lo None greedy) k w = keep_due Kept follows_kept lo (core_ways s a) (loop (length s.text + 1) greedy (core_ways s a)) (keeps a k) (keep_loop Kept follows_kept (length s.text + 1) greedy (core_ways s a) (keeps a k)) w
-  keeps (repeat a lo (Some hi) greedy) k w = keep_due Kept follows_kept lo (core_ways s a) (up_to (hi - lo) greedy (core_ways s a)) (keeps a k) (keep_up_to Kept follows_kept (hi - lo) greedy (core_ways s a) (keeps a k)) w
+  keeps (tail t a) k w = each_within (Kept w) (core_ways s bound a w) (λ stop. end_ways (first_end_until s t stop w.position) w) bound (keeps a k w)
+      (λ stop. kept_to (first_end_until s t stop w.position) w)
+  keeps (repeat a lo None greedy) k w = keep_due Kept follows_kept lo (core_ways s bound a) (loop (length s.text + 1) greedy (core_ways s bound a)) (keeps a k) (keep_loop Kept follows_kept (length s.text + 1) greedy (core_ways s bound a) (keeps a k)) w
+  keeps (repeat a lo (Some hi) greedy) k w = keep_due Kept follows_kept lo (core_ways s bound a) (up_to (hi - lo) greedy (core_ways s bound a)) (keeps a k) (keep_up_to Kept follows_kept (hi - lo) greedy (core_ways s bound a) (keeps a k)) w
   keeps (backref n casei) k w = kept_again casei (pair_of w n) w
   keeps (exists n) k w = keep_if Kept follows_kept (is_some (pair_of w n)) w
-  keeps (conditional c a b) k w = keep_choice Kept follows_kept (core_ways s c w) (core_ways s a) (core_ways s b) w (keeps c k.0 w) (keeps a k.1) (keeps b k.2)
+  keeps (conditional c a b) k w = keep_choice Kept follows_kept (core_ways s bound c w) (core_ways s bound a) (core_ways s bound b) w (keeps c k.0 w) (keeps a k.1) (keeps b k.2)
   keeps (absent a) k w = each_at (Kept w) (with_position w) (λ q. refl) _
 
   onward_char : (test : ℕ → Bool) (w : MatchState) → Each (Onward w) (character s test w)
@@ -286,7 +302,7 @@ module _ (s : Setting) where
   onward_alone w (v ∷ vs) = (omega arith, onward_alone w vs)
 
   -- where no node goes back but in a look-around, every way leads onward
-  pub leads_onward : (p : CorePattern) → StepsBackOnlyFirst false p → AllKeep Onward follows_onward (core_ways s p)
+  pub leads_onward : (p : CorePattern) → StepsBackOnlyFirst false p → AllKeep Onward follows_onward (core_ways s bound p)
   unfolding core_ways
   leads_onward nothing k w = (omega arith, tt)
   leads_onward (read leaf) k w = onward_char (passes s leaf) w
@@ -296,21 +312,23 @@ module _ (s : Setting) where
   leads_onward continue k w = keep_if Onward follows_onward (is_some_and s.continue_at (λ g. g == w.position)) w
   leads_onward keep_out k w = (omega arith, tt)
   leads_onward fail k w = tt
-  leads_onward (cat a b) k w = keep_over Onward follows_onward (core_ways s a) (core_ways s b) (leads_onward a k.0) (leads_onward b k.1) w
-  leads_onward (alt a b) k w = Each-append (Onward w) (core_ways s a w) (core_ways s b w) (leads_onward a k.0 w) (leads_onward b k.1 w)
-  leads_onward (group n a) k w = Each-map (Onward w) (Onward w) (λ v. set_pair n (w.position, v.position) v) (λ v e. e) (core_ways s a w) (leads_onward a k w)
-  leads_onward (ahead a) k w = onward_alone w (core_ways s a w)
-  leads_onward (never a) k w = keep_if Onward follows_onward (is_none_of (core_ways s a w)) w
+  leads_onward (cat a b) k w = keep_over Onward follows_onward (core_ways s bound a) (core_ways s bound b) (leads_onward a k.0) (leads_onward b k.1) w
+  leads_onward (alt a b) k w = Each-append (Onward w) (core_ways s bound a w) (core_ways s bound b w) (leads_onward a k.0 w) (leads_onward b k.1 w)
+  leads_onward (group n a) k w = Each-map (Onward w) (Onward w) (λ v. set_pair n (w.position, v.position) v) (λ v e. e) (core_ways s bound a w) (leads_onward a k w)
+  leads_onward (ahead a) k w = onward_alone w (core_ways s bound a w)
+  leads_onward (never a) k w = keep_if Onward follows_onward (is_none_of (core_ways s bound a w)) w
   leads_onward (back n) k w = absurd cc
-  leads_onward (atomic a) k w = first_kept (Onward w) (core_ways s a w) (leads_onward a k w)
+  leads_onward (atomic a) k w = first_kept (Onward w) (core_ways s bound a w) (leads_onward a k w)
   leads_onward (delegate t a) k w = onward_to (first_end s t w.position) w (λ q e. ends_onward s t w.position q e)
-  leads_onward (repeat a lo None greedy) k w = keep_due Onward follows_onward lo (core_ways s a) (loop (length s.text + 1) greedy (core_ways s a)) (leads_onward a k) (keep_loop Onward follows_onward (length s.text + 1) greedy (core_ways s a) (leads_onward a k)) w
-  leads_onward (repeat a lo (Some hi) greedy) k w = keep_due Onward follows_onward lo (core_ways s a) (up_to (hi - lo) greedy (core_ways s a)) (leads_onward a k) (keep_up_to Onward follows_onward (hi - lo) greedy (core_ways s a) (leads_onward a k)) w
+  leads_onward (tail t a) k w = each_within (Onward w) (core_ways s bound a w) (λ stop. end_ways (first_end_until s t stop w.position) w) bound (leads_onward a k w)
+      (λ stop. onward_to (first_end_until s t stop w.position) w (λ q e. ends_until_onward s t stop w.position q e))
+  leads_onward (repeat a lo None greedy) k w = keep_due Onward follows_onward lo (core_ways s bound a) (loop (length s.text + 1) greedy (core_ways s bound a)) (leads_onward a k) (keep_loop Onward follows_onward (length s.text + 1) greedy (core_ways s bound a) (leads_onward a k)) w
+  leads_onward (repeat a lo (Some hi) greedy) k w = keep_due Onward follows_onward lo (core_ways s bound a) (up_to (hi - lo) greedy (core_ways s bound a)) (leads_onward a k) (keep_up_to Onward follows_onward (hi - lo) greedy (core_ways s bound a) (leads_onward a k)) w
   leads_onward (backref n casei) k w = onward_again casei (pair_of w n) w
   leads_onward (exists n) k w = keep_if Onward follows_onward (is_some (pair_of w n)) w
-  leads_onward (conditional c a b) k w = keep_choice Onward follows_onward (core_ways s c w) (core_ways s a) (core_ways s b) w (leads_onward c k.0 w) (leads_onward a k.1) (leads_onward b k.2)
+  leads_onward (conditional c a b) k w = keep_choice Onward follows_onward (core_ways s bound c w) (core_ways s bound a) (core_ways s bound b) w (leads_onward c k.0 w) (leads_onward a k.1) (leads_onward b k.2)
   leads_onward (absent a) k w =
-      onward_places w _ (Each-filter _ (row.is_free s (core_ways s a) w) _ (Each-reverse _ _ (Each-weaker _ _ (λ q h. h.0) _ (boundaries_within s.text w.position (length s.text)))))
+      onward_places w _ (Each-filter _ (row.is_free s (core_ways s bound a) w) _ (Each-reverse _ _ (Each-weaker _ _ (λ q h. h.0) _ (boundaries_within s.text w.position (length s.text)))))
 
   -- the place is restored, and the start that was kept never went
   restored : (w : MatchState) (vs : List MatchState) → Each (Kept w) vs → map (λ v. with_position v w.position) vs ≡ keep_only_pairs w vs
@@ -335,52 +353,54 @@ module _ (s : Setting) where
   states_backref casei None w = refl
   states_backref casei (Some pair) w = states_if (match_backref s casei pair.0 pair.1 w.position) (with_position w (w.position + (pair.1 - pair.0)))
 
-module _ (s : Setting) (small : length s.text < unset) where
-  pub states_trail : (first end : ℕ) (p : CorePattern) → IsWritable first end p → (w : MatchState) → states (trail s p w) ≡ core_ways s p w
+module _ (s : Setting) (bound : Option ℕ) (small : length s.text < unset) where
+  pub states_trail : (first end : ℕ) (p : CorePattern) → IsWritable first end p → (w : MatchState) → states (trail s bound p w) ≡ core_ways s bound p w
   unfolding core_ways
   states_trail first end nothing ok w = refl
-  states_trail first end (read leaf) ok w = states_char s (passes s leaf) w
+  states_trail first end (read leaf) ok w = states_char s bound (passes s leaf) w
   states_trail first end (general_newline unicode) ok w = states_to (match_newline s unicode w.position) w ∙ sym (newline_way s unicode w)
   states_trail first end (check a) ok w = states_if (holds s a w.position) w
   states_trail first end continue ok w = states_if (is_some_and s.continue_at (λ g. g == w.position)) w
   states_trail first end keep_out ok w = refl
   states_trail first end fail ok w = refl
   states_trail first end (cat a b) ok w =
-      states_as (trail s b) (core_ways s b) (trail s a w) (λ v. states_trail first end b ok.1 v) ∙ ap (flat_map (core_ways s b)) (states_trail first end a ok.0 w)
+      states_as (trail s bound b) (core_ways s bound b) (trail s bound a w) (λ v. states_trail first end b ok.1 v) ∙ ap (flat_map (core_ways s bound b)) (states_trail first end a ok.0 w)
   states_trail first end (alt a b) ok w =
-      states_append (trail s a w) (trail s b w)
-      ∙ ap (λ l. l ++ states (trail s b w)) (states_trail first end a ok.0 w)
-      ∙ ap (λ l. core_ways s a w ++ l) (states_trail first end b ok.1 w)
+      states_append (trail s bound a w) (trail s bound b w)
+      ∙ ap (λ l. l ++ states (trail s bound b w)) (states_trail first end a ok.0 w)
+      ∙ ap (λ l. core_ways s bound a w ++ l) (states_trail first end b ok.1 w)
   states_trail first end (group n a) ok w =
-      states_map (λ v. set_pair n (w.position, v.position) v) (trail s a w) ∙ ap (map (λ v. set_pair n (w.position, v.position) v)) (states_trail first end a ok.2 w)
+      states_map (λ v. set_pair n (w.position, v.position) v) (trail s bound a w) ∙ ap (map (λ v. set_pair n (w.position, v.position) v)) (states_trail first end a ok.2 w)
   states_trail first end (ahead a) ok w =
-      states_map (λ v. with_position v w.position) (trail s a w) ∙ ap (map (λ v. with_position v w.position)) (states_trail first end a ok.1 w)
-      ∙ restored s w (core_ways s a w) (keeps s a ok.0 w)
-  states_trail first end (never a) ok w = states_never (trail s a w) w ∙ ap (λ l. match_empty_if (is_none_of l) w) (states_trail first end a ok w)
+      states_map (λ v. with_position v w.position) (trail s bound a w) ∙ ap (map (λ v. with_position v w.position)) (states_trail first end a ok.1 w)
+      ∙ restored s bound w (core_ways s bound a w) (keeps s bound a ok.0 w)
+  states_trail first end (never a) ok w = states_never (trail s bound a w) w ∙ ap (λ l. match_empty_if (is_none_of l) w) (states_trail first end a ok w)
   states_trail first end (back n) ok w = states_to (position_before s.text n w.position) w
-  states_trail first end (atomic a) ok w = states_atomic (trail s a w) ∙ ap first_only (states_trail first end a ok w)
+  states_trail first end (atomic a) ok w = states_atomic (trail s bound a w) ∙ ap first_only (states_trail first end a ok w)
   states_trail first end (delegate t a) ok w = states_to (first_end s t w.position) w
+  states_trail first end (tail t a) ok w =
+      states_within (first_end_until s t) (trail s bound a) (core_ways s bound a) w (states_trail first end a ok w) bound
   states_trail first end (repeat a lo None greedy) ok w =
-      states_times (trail s a) (core_ways s a) (λ v. states_trail first end a ok.1 v) lo (trail_loop (trail s a) greedy (length s.text + 1)) (loop (length s.text + 1) greedy (core_ways s a))
-      (λ v. states_loop (trail s a) (core_ways s a) (λ u. states_trail first end a ok.1 u) greedy (length s.text + 1) v) w
+      states_times (trail s bound a) (core_ways s bound a) (λ v. states_trail first end a ok.1 v) lo (trail_loop (trail s bound a) greedy (length s.text + 1)) (loop (length s.text + 1) greedy (core_ways s bound a))
+      (λ v. states_loop (trail s bound a) (core_ways s bound a) (λ u. states_trail first end a ok.1 u) greedy (length s.text + 1) v) w
   states_trail first end (repeat a lo (Some hi) greedy) ok w =
-      states_times (trail s a) (core_ways s a) (λ v. states_trail first end a ok.1 v) lo (trail_upto (trail s a) greedy (hi - lo)) (up_to (hi - lo) greedy (core_ways s a))
-      (λ v. states_upto (trail s a) (core_ways s a) (λ u. states_trail first end a ok.1 u) greedy (hi - lo) v) w
-  states_trail first end (backref n casei) ok w = states_backref s casei (pair_of w n) w
+      states_times (trail s bound a) (core_ways s bound a) (λ v. states_trail first end a ok.1 v) lo (trail_upto (trail s bound a) greedy (hi - lo)) (up_to (hi - lo) greedy (core_ways s bound a))
+      (λ v. states_upto (trail s bound a) (core_ways s bound a) (λ u. states_trail first end a ok.1 u) greedy (hi - lo) v) w
+  states_trail first end (backref n casei) ok w = states_backref s bound casei (pair_of w n) w
   states_trail first end (exists n) ok w = states_if (is_some (pair_of w n)) w
   states_trail first end (conditional c a b) ok w =
-      states_choice (trail s a) (trail s b) (trail s c w) w
-      ∙ ap (λ l. row.conditional l (λ v. states (trail s a v)) (λ v. states (trail s b v)) w) (states_trail first end c ok.0 w)
-      ∙ ap (λ (f : Moves). row.conditional (core_ways s c w) f (λ v. states (trail s b v)) w) (fun_ext (λ v. states_trail first end a ok.1 v))
-      ∙ ap (λ (f : Moves). row.conditional (core_ways s c w) (core_ways s a) f w) (fun_ext (λ v. states_trail first end b ok.2 v))
+      states_choice (trail s bound a) (trail s bound b) (trail s bound c w) w
+      ∙ ap (λ l. row.conditional l (λ v. states (trail s bound a v)) (λ v. states (trail s bound b v)) w) (states_trail first end c ok.0 w)
+      ∙ ap (λ (f : Moves). row.conditional (core_ways s bound c w) f (λ v. states (trail s bound b v)) w) (fun_ext (λ v. states_trail first end a ok.1 v))
+      ∙ ap (λ (f : Moves). row.conditional (core_ways s bound c w) (core_ways s bound a) f w) (fun_ext (λ v. states_trail first end b ok.2 v))
   states_trail first end (absent a) ok w =
-      states_absent s small (trail s a) (core_ways s a) (λ v. states_trail first end a ok.1 v) (leads_onward s a ok.0) w
+      states_absent s small (trail s bound a) (core_ways s bound a) (λ v. states_trail first end a ok.1 v) (leads_onward s bound a ok.0) w
 
   opened_backref : (casei : Bool) (o : Option (ℕ × ℕ)) (w : MatchState) → opened (trail_again s casei o w) ≤ 0
   opened_backref casei None w = omega arith
   opened_backref casei (Some pair) w = opened_if (match_backref s casei pair.0 pair.1 w.position) (with_position w (w.position + (pair.1 - pair.0)))
 
-  pub opened_trail : (first end : ℕ) (p : CorePattern) → IsWritable first end p → (w : MatchState) → opened (trail s p w) ≤ core_choices s p w
+  pub opened_trail : (first end : ℕ) (p : CorePattern) → IsWritable first end p → (w : MatchState) → opened (trail s bound p w) ≤ core_choices s bound p w
   unfolding core_choices
   opened_trail first end nothing ok w = omega arith
   opened_trail first end (read leaf) ok w = opened_to (match_char s.text (passes s leaf) w.position) w
@@ -390,30 +410,32 @@ module _ (s : Setting) (small : length s.text < unset) where
   opened_trail first end keep_out ok w = omega arith
   opened_trail first end fail ok w = omega arith
   opened_trail first end (cat a b) ok w =
-      opened_over (trail s a) (core_ways s a) (λ v. states_trail first end a ok.0 v) (core_choices s a) (λ v. opened_trail first end a ok.0 v) (trail s b) (core_choices s b) w (λ v. opened_trail first end b ok.1 v)
-  opened_trail first end (alt a b) ok w = omega (arith, opened_append (trail s a w) (trail s b w), opened_trail first end a ok.0 w, opened_trail first end b ok.1 w)
+      opened_over (trail s bound a) (core_ways s bound a) (λ v. states_trail first end a ok.0 v) (core_choices s bound a) (λ v. opened_trail first end a ok.0 v) (trail s bound b) (core_choices s bound b) w (λ v. opened_trail first end b ok.1 v)
+  opened_trail first end (alt a b) ok w = omega (arith, opened_append (trail s bound a w) (trail s bound b w), opened_trail first end a ok.0 w, opened_trail first end b ok.1 w)
   opened_trail first end (group n a) ok w =
-      omega (arith, opened_still (λ v. At (set_pair n (w.position, v.position) v) ∷ []) (trail s a w) (λ v. omega arith), opened_trail first end a ok.2 w)
-  opened_trail first end (ahead a) ok w = omega (arith, opened_still (λ v. At (with_position v w.position) ∷ []) (trail s a w) (λ v. omega arith), opened_trail first end a ok.1 w)
-  opened_trail first end (never a) ok w = omega (arith, opened_first (λ v. []) (At w ∷ []) 0 (trail s a w) (λ v. omega arith) (omega arith), opened_trail first end a ok w)
+      omega (arith, opened_still (λ v. At (set_pair n (w.position, v.position) v) ∷ []) (trail s bound a w) (λ v. omega arith), opened_trail first end a ok.2 w)
+  opened_trail first end (ahead a) ok w = omega (arith, opened_still (λ v. At (with_position v w.position) ∷ []) (trail s bound a w) (λ v. omega arith), opened_trail first end a ok.1 w)
+  opened_trail first end (never a) ok w = omega (arith, opened_first (λ v. []) (At w ∷ []) 0 (trail s bound a w) (λ v. omega arith) (omega arith), opened_trail first end a ok w)
   opened_trail first end (back n) ok w = opened_to (position_before s.text n w.position) w
-  opened_trail first end (atomic a) ok w = omega (arith, opened_first (λ v. At v ∷ []) [] 0 (trail s a w) (λ v. omega arith) (omega arith), opened_trail first end a ok w)
+  opened_trail first end (atomic a) ok w = omega (arith, opened_first (λ v. At v ∷ []) [] 0 (trail s bound a w) (λ v. omega arith) (omega arith), opened_trail first end a ok w)
   opened_trail first end (delegate t a) ok w = omega (arith, opened_to (first_end s t w.position) w)
+  opened_trail first end (tail t a) ok w =
+      opened_within (first_end_until s t) (trail s bound a) w (core_choices s bound a w) (opened_trail first end a ok w) bound
   opened_trail first end (repeat a lo None greedy) ok w =
-      opened_times (trail s a) (core_ways s a) (λ v. states_trail first end a ok.1 v) (core_choices s a) (λ v. opened_trail first end a ok.1 v) lo (trail_loop (trail s a) greedy (length s.text + 1))
-      (loop_choices (length s.text + 1) (core_ways s a) (core_choices s a))
-      (λ v. opened_loop (trail s a) (core_ways s a) (λ u. states_trail first end a ok.1 u) (core_choices s a) (λ u. opened_trail first end a ok.1 u) greedy (length s.text + 1) v) w
+      opened_times (trail s bound a) (core_ways s bound a) (λ v. states_trail first end a ok.1 v) (core_choices s bound a) (λ v. opened_trail first end a ok.1 v) lo (trail_loop (trail s bound a) greedy (length s.text + 1))
+      (loop_choices (length s.text + 1) (core_ways s bound a) (core_choices s bound a))
+      (λ v. opened_loop (trail s bound a) (core_ways s bound a) (λ u. states_trail first end a ok.1 u) (core_choices s bound a) (λ u. opened_trail first end a ok.1 u) greedy (length s.text + 1) v) w
   opened_trail first end (repeat a lo (Some hi) greedy) ok w =
-      opened_times (trail s a) (core_ways s a) (λ v. states_trail first end a ok.1 v) (core_choices s a) (λ v. opened_trail first end a ok.1 v) lo (trail_upto (trail s a) greedy (hi - lo))
-      (up_to_choices (hi - lo) (core_ways s a) (core_choices s a))
-      (λ v. opened_upto (trail s a) (core_ways s a) (λ u. states_trail first end a ok.1 u) (core_choices s a) (λ u. opened_trail first end a ok.1 u) greedy (hi - lo) v) w
+      opened_times (trail s bound a) (core_ways s bound a) (λ v. states_trail first end a ok.1 v) (core_choices s bound a) (λ v. opened_trail first end a ok.1 v) lo (trail_upto (trail s bound a) greedy (hi - lo))
+      (up_to_choices (hi - lo) (core_ways s bound a) (core_choices s bound a))
+      (λ v. opened_upto (trail s bound a) (core_ways s bound a) (λ u. states_trail first end a ok.1 u) (core_choices s bound a) (λ u. opened_trail first end a ok.1 u) greedy (hi - lo) v) w
   opened_trail first end (backref n casei) ok w = opened_backref casei (pair_of w n) w
   opened_trail first end (exists n) ok w = opened_if (is_some (pair_of w n)) w
   opened_trail first end (conditional c a b) ok w =
       omega (
         arith,
-        opened_choice (trail s a) (trail s b) (core_choices s a) (core_choices s b) (trail s c w) w (λ v. opened_trail first end a ok.1 v) (opened_trail first end b ok.2 w),
+        opened_choice (trail s bound a) (trail s bound b) (core_choices s bound a) (core_choices s bound b) (trail s bound c w) w (λ v. opened_trail first end a ok.1 v) (opened_trail first end b ok.2 w),
         opened_trail first end c ok.0 w,
-        ap (λ l. branch_choices l (core_choices s a) (core_choices s b) w) (states_trail first end c ok.0 w),
+        ap (λ l. branch_choices l (core_choices s bound a) (core_choices s bound b) w) (states_trail first end c ok.0 w),
       )
-  opened_trail first end (absent a) ok w = opened_absent s (trail s a) (core_choices s a) (λ v. opened_trail first end a ok.1 v) w
+  opened_trail first end (absent a) ok w = opened_absent s (trail s bound a) (core_choices s bound a) (λ v. opened_trail first end a ok.1 v) w

@@ -1,11 +1,11 @@
 -- A whole program answers the search of its pattern.
-use Rattle.std.proofs.Common.{◌≡◌, ℕ, zero, suc, ◌+◌, ◌-◌, ◌*◌, ◌<◌, ◌≤◌, Bool, true, false, ◌&&◌, List, [], ◌∷◌, ◌++◌, length, take, get_or, set, Option, Some, None, refl, sym, ap, ◌∙◌, subst, arith, append_assoc, length-append, length-set, get_or-set_same, get_or-set_other, cond}
+use Rattle.std.proofs.Common.{◌≡◌, ℕ, zero, suc, ◌+◌, ◌-◌, ◌*◌, ◌<◌, ◌≤◌, Bool, true, false, ◌&&◌, List, [], ◌∷◌, ◌++◌, length, take, get_or, set, Option, Some, None, refl, sym, ap, ◌∙◌, subst, arith, length-append, length-set, get_or-set_same, get_or-set_other, cond}
 use Rattle.std.specs.Prelude.{slice_get, ◌||◌, ◌==◌, option_map, nat_lt, nat_le, not, replicate}
 use Rattle.std.specs.List.{filter}
 use Rattle.std.specs.Str.{IsCharBoundary}
-use Rattle.std.proofs.Math.Seq.{get_or-append_seam, take-set-lt}
+use Rattle.std.proofs.Math.Seq.{take-set-lt}
 use Rattle.std.proofs.lemmas.List.{get_or-take}
-use Rattle.std.proofs.lemmas.Option.{slice_get-get_or, none-some}
+use Rattle.std.proofs.lemmas.Option.{none-some}
 use Rattle.std.proofs.lemmas.Bool.{and_parts}
 use Rattle.regex_hir.specs.Text.{is_boundary}
 use Rattle.fancy_regex_meaning.specs.Positions.{numbers_from, boundaries}
@@ -13,6 +13,7 @@ use Rattle.fancy_regex_meaning.specs.Ways.{MatchState, Pairs}
 use Rattle.fancy_regex_meaning.specs.Searches.{first_item, first_some, is_admitted}
 use Rattle.fancy_regex_meaning.proofs.BoundaryLemmas.{IsCharBoundary-of_test}
 use Rattle.fancy_regex_desugar.specs.CorePatterns.{CorePattern}
+use Rattle.fancy_regex_desugar.specs.Delegates.{tail_bound}
 use Rattle.fancy_regex_slots.specs.Memory.{Thread}
 use Rattle.fancy_regex_program.specs.Ops as op
 use Rattle.fancy_regex_program.specs.Ops.{Op}
@@ -167,7 +168,7 @@ module _ (r : RunParameters) (p : CorePattern) (whole anchored : Bool) (count : 
   last_at : HasAt code (length front + length body) last
   last_at = has_back code (length front) (length front + length body) body last refl body_at
 
-  body_does : Does code r whole count (length front) (length front + length body) (2 * count) (slots_in p) false (ending r.setting p)
+  body_does : Does code r whole count (length front) (length front + length body) (2 * count) (slots_in p) false (ending r.setting (tail_bound r.find) p)
   body_does =
       runs_closed code r whole count asked.utf8 asked.small asked.groups (first_group_number whole) apart p (length front) (2 * count) false asked.writable asked.placed
       (has_front code (length front) body last body_at)
@@ -271,7 +272,7 @@ module _ (r : RunParameters) (p : CorePattern) (whole anchored : Bool) (count : 
   body_comes q m rest x here room fits pops =
       let w = entry_way count q in
       let sound : Sound r.setting.text count w = record { cuts = (here, (λ k a b e. absurd (none_set count k a b e)), here); many = length_none count } in
-      subst (λ f. Comes code r whole count (thread (length front) q m ∷ rest) f) (ending_trail r.setting p w follow_end x)
+      subst (λ f. Comes code r whole count (thread (length front) q m ∷ rest) f) (ending_trail r.setting (tail_bound r.find) p w follow_end x)
       (body_does.by (2 * count) w m rest x follow_end (omega arith) (omega arith) room sound fits pops
       (record {
         plain = plain_end whole (length front + length body) last_at;

@@ -7,6 +7,7 @@ use Rattle.fancy_regex_meaning.specs.Searches.{first_some, chosen, is_admitted}
 use Rattle.fancy_regex_slots.specs.Memory.{Thread}
 use Rattle.fancy_regex_desugar.specs.CorePatterns.{CorePattern}
 use Rattle.fancy_regex_desugar.specs.CoreWays.{core_ways, core_choices}
+use Rattle.fancy_regex_desugar.specs.Delegates.{tail_bound}
 use Rattle.fancy_regex_desugar.specs.Shapes.{StepsBackOnlyFirst}
 use Rattle.fancy_regex_program.specs.Machine.{unset, RunParameters, Ending, anchored_by, tried, run}
 use Rattle.fancy_regex_program.specs.Code.{slots_in, program_of}
@@ -20,12 +21,12 @@ entry_way count q = record { position = q; pairs = replicate count None; kept = 
 module _ (r : RunParameters) (p : CorePattern) (count : ℕ) where
   -- the preferred (or longest) admitted match from a start position
   abbrev pub way_at : ℕ → Option MatchState
-  way_at q = chosen r.find.options.longest (filter (is_admitted r.find) (core_ways r.setting p (entry_way count q)))
+  way_at q = chosen r.find.options.longest (filter (is_admitted r.find) (core_ways r.setting (tail_bound r.find) p (entry_way count q)))
 
   -- the number of choices over the start positions, up to the first that has a match: 1 for each, and the choices made from it
   abbrev pub choices_up_to : List ℕ → ℕ
   choices_up_to [] = 0
-  choices_up_to (q ∷ qs) = 1 + core_choices r.setting p (entry_way count q) + (if is_some (way_at q) then 0 else choices_up_to qs)
+  choices_up_to (q ∷ qs) = 1 + core_choices r.setting (tail_bound r.find) p (entry_way count q) + (if is_some (way_at q) then 0 else choices_up_to qs)
 
 -- the number of the first group of the pattern: 1 where group 0 is the whole match, else 0
 abbrev pub first_group_number : Bool → ℕ

@@ -3,9 +3,10 @@ use Rattle.fancy_regex_desugar.specs.ProgramSizes.{room}
 use Rattle.fancy_regex_info.specs.Infos.{info_of}
 use Rattle.fancy_regex_program.specs.Refusals.{TreeContext, IsExpandedPart, IsReasonWhere}
 use Rattle.fancy_regex_program.specs.Shapes.{IsAllowed}
-use Rattle.fancy_regex_program.specs.Tasks.{Leads, node_pattern, past_pattern, progress, listed, tasks_work, AreAllowedTasks, AreExpandedTasks}
+use Rattle.fancy_regex_program.specs.Tasks.{Leads, whole_pattern, past_pattern, progress, listed, tasks_work, AreAllowedTasks, AreExpandedTasks}
 use Rattle.fancy_regex_program.specs.Writing.{draft_of, infos_of}
 use Rattle.fancy_regex_program.specs.declared.task.Task.{Task}
+use Rattle.fancy_regex_program.specs.declared.task.Task.TheVariants as task
 use Rattle.fancy_regex_program.proofs.RefusalLemmas.{hands}
 use Rattle.fancy_regex_program.proofs.RoomLemmas.{late}
 use Rattle.fancy_regex_program.proofs.StepLemmas.{leads_begin, leads_on, leads_there, last_room, expanded_second, work_both}
@@ -15,14 +16,14 @@ pub loop-task-init : goal.loop-task-init
 loop-task-init c = record {
   cap = refl;
   leads = leads_begin c.args.context.now c.args.emitter.now c.args.slot c.args.info c.args.scope c.push.new.self.items
-      (c.in_ok-push.ensures.items ∙ ap (λ (xs : List Task). xs ++ c.node.result ∷ []) c.new-tasks.ensures.items ∙ ap (λ (t : Task). t ∷ []) c.node.ensures);
+      (c.in_ok-push.ensures.items ∙ ap (λ (xs : List Task). xs ++ task.Whole c.args.info c.args.scope ∷ []) c.new-tasks.ensures.items);
 }
 
 pub loop-task-preserved : goal.loop-task-preserved
 loop-task-preserved c =
     let context = c.args.context.now in
     let old = c.args.emitter.now in
-    let p = node_pattern context c.args.info.now false c.args.scope old.opened.items in
+    let p = whole_pattern context c.args.info.now c.args.scope old.opened.items in
     let S = λ (tree_context : TreeContext). IsExpandedPart tree_context c.args.scope.may_keep c.args.scope.may_be_absent false (info_of c.args.info.now) in
     let end = past_pattern context p (progress old c.args.slot) in
     record {
@@ -46,7 +47,7 @@ pub returns-clause-wrote : goal.returns-clause-wrote
 returns-clause-wrote c =
     let context = c.args.context.now in
     let old = c.args.emitter.now in
-    let p = node_pattern context c.args.info.now false c.args.scope old.opened.items in
+    let p = whole_pattern context c.args.info.now c.args.scope old.opened.items in
     let S = λ (tree_context : TreeContext). IsExpandedPart tree_context c.args.scope.may_keep c.args.scope.may_be_absent false (info_of c.args.info.now) in
     let end = past_pattern context p (progress old c.args.slot) in
     let nothing : c.loop-task.tasks.items ≡ [] = search rules in

@@ -3,13 +3,13 @@ use Rattle.fancy_regex_desugar.specs.ProgramSizes.{room}
 use Rattle.fancy_regex_info.specs.Infos.{info_of}
 use Rattle.fancy_regex_program.specs.Refusals.{IsExpandedPart}
 use Rattle.fancy_regex_program.specs.Shapes.{IsAllowed}
-use Rattle.fancy_regex_program.specs.Tasks.{Leads, node_pattern, past_pattern, progress, tasks_work}
+use Rattle.fancy_regex_program.specs.Tasks.{Leads, whole_pattern, past_pattern, progress, tasks_work}
 use Rattle.fancy_regex_program.specs.Writing.{infos_of}
 use Rattle.fancy_regex_program.proofs.emit.emit.Given as goal
 
 abbrev pub invariant-loop-task : goal.invariant-loop-task
 invariant-loop-task l =
-    let p = node_pattern l.context l.info false l.fn.scope l.fn.emitter.opened.items in
+    let p = whole_pattern l.context l.info l.fn.scope l.fn.emitter.opened.items in
     record {
       cap : l.emitter.body.cap ≡ l.fn.emitter.body.cap;
       leads : Leads l.context l.fn.emitter l.emitter l.slot l.next l.tasks.items (past_pattern l.context p (progress l.fn.emitter l.slot))

@@ -111,13 +111,13 @@ returns-in-Tested-clause-work c =
 pub returns-in-Row-clause-leads : goal.returns-in-Row-clause-leads
 returns-in-Row-clause-leads c =
     let t = task.Row c.in-Row.parts c.in-Row.scope in
-    subst (λ v. LeadsOn c.args.context.now v c.args.emitter.now c.args.emitter.now c.args.slot c.leads_to.result) (sym c.in-Row.is)
-    (subst (λ r. LeadsOn c.args.context.now t c.args.emitter.now c.args.emitter.now c.args.slot r) (sym c.leads_to.ensures) (c.row.ensures.leads c.args.context.now c.args.emitter.now c.args.slot))
+    subst (λ v. LeadsOn c.args.context.now v c.args.emitter.now c.args.emitter.now c.args.slot c.leads_to-in-Row.result) (sym c.in-Row.is)
+    (subst (λ r. LeadsOn c.args.context.now t c.args.emitter.now c.args.emitter.now c.args.slot r) (sym c.leads_to-in-Row.ensures) (c.row.ensures.leads c.args.context.now c.args.emitter.now c.args.slot))
 
 pub returns-in-Row-clause-work : goal.returns-in-Row-clause-work
 returns-in-Row-clause-work c =
-    subst (λ v. tasks_work (infos_of c.args.context.now) (listed c.leads_to.result.tasks) < task_work (infos_of c.args.context.now) v) (sym c.in-Row.is)
-    (subst (λ (r : Step). tasks_work (infos_of c.args.context.now) (listed r.tasks) < infos_work (infos_of c.args.context.now) c.in-Row.scope c.in-Row.parts.now) (sym c.leads_to.ensures) (c.row.ensures.work (infos_of c.args.context.now)))
+    subst (λ v. tasks_work (infos_of c.args.context.now) (listed c.leads_to-in-Row.result.tasks) < task_work (infos_of c.args.context.now) v) (sym c.in-Row.is)
+    (subst (λ (r : Step). tasks_work (infos_of c.args.context.now) (listed r.tasks) < infos_work (infos_of c.args.context.now) c.in-Row.scope c.in-Row.parts.now) (sym c.leads_to-in-Row.ensures) (c.row.ensures.work (infos_of c.args.context.now)))
 
 pub returns-in_ok-close-in-Close-clause-leads : goal.returns-in_ok-close-in-Close-clause-leads
 returns-in_ok-close-in-Close-clause-leads c =
@@ -132,7 +132,7 @@ returns-in_ok-close-in-Close-clause-work c =
 
 pub returns-in_err-close-in-Close-clause-full : goal.returns-in_err-close-in-Close-clause-full
 returns-in_err-close-in-Close-clause-full c =
-    let r = c.from_residual in
+    let r = c.from_residual-in_err-close-in-Close in
     let room_is = ap (λ t. task_room c.args.context.now t c.args.emitter.now.opened.items) c.in-Close.is in
     late r.result c.in_err-close-in-Close.field-0.0 _ _ r.ensures.1 c.in_err-close-in-Close.ensures.full (λ lt. omega (arith, lt, room_is))
 
@@ -150,3 +150,31 @@ returns-in-EndCall-clause-work c =
     let this = ap (λ (s : Step). tasks_work (infos_of c.args.context.now) (listed s.tasks)) c.leads_to-in-EndCall.ensures in
     let task_is = ap (task_work (infos_of c.args.context.now)) c.in-EndCall.is in
     omega (arith, this, task_is)
+
+pub returns-in_ok-tasks-in-Whole-clause-leads : goal.returns-in_ok-tasks-in-Whole-clause-leads
+returns-in_ok-tasks-in-Whole-clause-leads c =
+    let t = task.Whole c.in-Whole.info c.in-Whole.scope in
+    subst (λ v. LeadsOn c.args.context.now v c.args.emitter.now c.args.emitter.now c.args.slot c.leads_to.result) (sym c.in-Whole.is)
+    (subst (λ r. LeadsOn c.args.context.now t c.args.emitter.now c.args.emitter.now c.args.slot r) (sym c.leads_to.ensures) (c.in_ok-tasks-in-Whole.ensures.leads c.args.context.now c.args.emitter.now c.args.slot))
+
+pub returns-in_ok-tasks-in-Whole-clause-work : goal.returns-in_ok-tasks-in-Whole-clause-work
+returns-in_ok-tasks-in-Whole-clause-work c =
+    subst (λ v. tasks_work (infos_of c.args.context.now) (listed c.leads_to.result.tasks) < task_work (infos_of c.args.context.now) v) (sym c.in-Whole.is)
+    (subst (λ (r : Step). tasks_work (infos_of c.args.context.now) (listed r.tasks) < 10 + info_work (infos_of c.args.context.now) c.in-Whole.scope c.in-Whole.info.now) (sym c.leads_to.ensures) (c.in_ok-tasks-in-Whole.ensures.work (infos_of c.args.context.now)))
+
+pub returns-in-Tail-clause-leads : goal.returns-in-Tail-clause-leads
+returns-in-Tail-clause-leads c =
+    subst (λ t. IfOk c.emit_tail.result (LeadsOn c.args.context.now t c.args.emitter.now c.emit_tail.new.emitter c.args.slot)) (sym c.in-Tail.is) c.emit_tail.ensures.leads
+
+pub returns-in-Tail-clause-full : goal.returns-in-Tail-clause-full
+returns-in-Tail-clause-full c =
+    subst (λ t. IfErr c.emit_tail.result (IsFull c.args.emitter.now.body (task_room c.args.context.now t c.args.emitter.now.opened.items))) (sym c.in-Tail.is) c.emit_tail.ensures.full
+
+pub returns-in-Tail-clause-refused : goal.returns-in-Tail-clause-refused
+returns-in-Tail-clause-refused c =
+    subst (λ t. IfErr c.emit_tail.result (IsReasonWhere c.args.context.now.unicode (infos_of c.args.context.now) (λ tree_context. IsExpandedTask tree_context t))) (sym c.in-Tail.is) c.emit_tail.ensures.refused
+
+pub returns-in-Tail-clause-work : goal.returns-in-Tail-clause-work
+returns-in-Tail-clause-work c =
+    subst (λ t. IfOk c.emit_tail.result (λ step. tasks_work (infos_of c.args.context.now) (listed step.tasks) < task_work (infos_of c.args.context.now) t)) (sym c.in-Tail.is)
+    (less_work c.emit_tail.result (infos_of c.args.context.now) (λ (groups : List InfoTree). 1 + infos_work groups c.in-Tail.scope c.in-Tail.parts.now) (task_work (infos_of c.args.context.now) (task.Tail c.in-Tail.parts c.in-Tail.scope)) (omega arith) c.emit_tail.ensures.work)

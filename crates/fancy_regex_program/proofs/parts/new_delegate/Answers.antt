@@ -7,6 +7,7 @@ use Rattle.fancy_regex_meaning.specs.Groups.{pattern_of}
 use Rattle.fancy_regex_desugar.specs.Delegates as delegates
 use Rattle.fancy_regex_desugar.proofs.DelegateProofs.{part_of, searched_can_be}
 use Rattle.fancy_regex_runner.specs.Runner.{IsEasyOf}
+use Rattle.fancy_regex_program.specs.BodyStarts.{body_starts_in}
 use Rattle.fancy_regex_program.specs.Parts.{IsPartCause}
 use Rattle.fancy_regex_program.proofs.LazyLemmas.{searched_printable}
 use Rattle.fancy_regex_program.proofs.PartLemmas.{part_cause}
@@ -38,6 +39,13 @@ invariant_of-result-clause-first c = c.in_ok-easy.ensures.options.1 ∙ ap (λ o
 
 pub invariant_of-result-clause-delegated : goal.invariant_of-result-clause-delegated
 invariant_of-result-clause-delegated c = ap (delegates.is_delegated c.args.for_any) c.in_ok-part.ensures ∙ c.requires.delegated
+
+pub invariant_of-result-clause-begins : goal.invariant_of-result-clause-begins
+invariant_of-result-clause-begins c set is =
+    ap (λ u. body_starts_in u (delegates.searched c.args.for_any (tree_of c.in_ok-part.part))) c.in_ok-easy.ensures.options.0
+    ∙ ap (λ t. body_starts_in c.args.unicode (delegates.searched c.args.for_any t)) c.in_ok-part.ensures
+    ∙ ap (body_starts_in c.args.unicode) (sym c.requires.searched)
+    ∙ c.in_ok-starts.ensures set is
 
 pub invariant_of-result-clause-shown : goal.invariant_of-result-clause-shown
 invariant_of-result-clause-shown c =
