@@ -1,7 +1,7 @@
 -- A match lies in the range of its search, and its offsets begin with its span.
-use Rattle.std.proofs.Common.{◌≡◌, ⊎_elim, ℕ, ◌*◌, ◌<◌, ◌≤◌, max, Bool, true, false, List, [], ◌∷◌, length, Option, Some, None, refl, sym, subst, ◌∙◌, arith, rules, nat_lt, if◌then◌else◌}
-use Rattle.std.specs.Prelude.{slice_set, slice_index, option_map, IfSome, IsCharBoundary, IsUtf8, string_bytes, Vec}
-use Rattle.std.specs.declared.alloc.Global.{Global}
+use Rattle.std.proofs.Common.{◌≡◌, ⊎_elim, ℕ, ◌*◌, ◌<◌, ◌≤◌, max, Bool, true, false, List, [], ◌∷◌, length, Option, Some, None, refl, sym, subst, ap, ◌∙◌, arith, rules, nat_lt, if◌then◌else◌}
+use Rattle.std.specs.Prelude.{slice_set, slice_index, option_map, IfSome, IsCharBoundary, IsUtf8, string_bytes}
+use Rattle.std.specs.Coded.{Coded, coded×, coded_list, coded_ℕ}
 use Rattle.std.proofs.lemmas.Bool.{cases_lt, true≢false}
 use Rattle.std.proofs.lemmas.List.{length-set, length-replicate}
 use Rattle.std.proofs.lemmas.Option.{same_Some, none-some}
@@ -20,9 +20,13 @@ use Rattle.fancy_regex_class.specs.RunInputs.{group_slots, match_slots}
 use Rattle.fancy_regex_input.specs.SearchInputs.{FitsText}
 use Rattle.fancy_regex_input.specs.declared.config.SearchConfig.{SearchConfig}
 use Rattle.fancy_regex_meta.specs.MetaMatches.{meta_pattern, meta_match_from}
-use Rattle.fancy_regex_meta.specs.Patterns.{tree_in}
 use Rattle.fancy_regex_meta.specs.MemberSearches.{member_setting, member_search, meta_match_at}
-use Rattle.fancy_regex_meta.specs.MatchOffsets.{IsMatchWithin}
+use Rattle.fancy_regex_meta.specs.MatchOffsets.{EndsSecond, IsMatchWithin}
+use Rattle.fancy_regex_meta.specs.FoundParts.{wanted_groups, wanted_parts, parts_in, found_parts}
+use Rattle.fancy_regex_meta.specs.declared.found.FoundMatch.{FoundMatch}
+use Rattle.fancy_regex_meta.specs.declared.found.Wanted.{Wanted}
+use Rattle.fancy_regex_meta.specs.declared.found.Wanted.TheVariants.{Span, Groups}
+use Rattle.fancy_regex_meta.specs.Patterns.{tree_in}
 use Rattle.fancy_regex_meta.specs.declared.meta_regex.MetaRegex.{MetaRegex}
 
 -- each way has as many pairs as it began with
@@ -115,28 +119,56 @@ first_fits text a fits inside =
     subst (IsCharBoundary text) e (fits.start (omega (arith, inside, fits.range_end.0))))
     (cases_lt a.start a.range_start)
 
--- what a search has found lies where it was looked for
-pub found_within : (s : MetaRegex) (text : List ℕ) (a : SearchConfig) (continue_disabled : Bool) (found : Option (Vec ℕ Global)) →
-    IsUtf8 text → IsCharBoundary text (max a.start a.range_start) → a.range_end ≤ length text →
-    option_map (λ (v : Vec ℕ Global). v.items) found ≡ option_map (match_slots (meta_pattern s)) (meta_match_from s text a (max a.start a.range_start) continue_disabled) →
-    IfSome found (λ v. IsMatchWithin text a v.items)
-unfolding search_from
-found_within s text a continue_disabled None utf8 h inside e = tt
-found_within s text a continue_disabled (Some v) utf8 h inside e =
-    let f = some-of (match_slots (meta_pattern s)) (meta_match_from s text a (max a.start a.range_start) continue_disabled) v.items e in
-    let m : Match = f.0 in
-    let lies = first_lies _ (meta_pattern s) _ utf8 h inside m f.1 in
-    let begins = subst (λ (xs : List ℕ). Begins xs m.start m.end) (sym f.2) (places_begin (tree_in s.options (string_bytes s.pattern)) m lies.many) in
+-- the offsets of a match's groups begin with its span
+parts-same : (t : Tree) (wanted : Wanted) (o : Option Match) → ((m : Match) → o ≡ Some m → length m.pairs ≡ length (pattern_of t).groups) →
+    option_map (parts_in wanted) (option_map (match_slots (pattern_of t)) o) ≡ option_map (wanted_parts wanted (pattern_of t)) o
+parts-same t wanted None many = refl
+parts-same t wanted (Some m) many =
+    let begins = places_begin t m (many m refl) in
+    λ i. Some (begins.first i, (begins.second i, wanted_groups wanted (pattern_of t) m))
+
+-- those of the match of a search
+pub first-parts : (t : Tree) (wanted : Wanted) (s : Setting) (find : Search) → IsUtf8 s.text → IsCharBoundary s.text find.first → find.stop ≤ length s.text →
+    option_map (parts_in wanted) (option_map (match_slots (pattern_of t)) (first_match s (pattern_of t) find)) ≡ option_map (wanted_parts wanted (pattern_of t)) (first_match s (pattern_of t) find)
+first-parts t wanted s find utf8 h inside =
+    parts-same t wanted (first_match s (pattern_of t) find) (λ m e. (first_lies s (pattern_of t) find utf8 h inside m e).many)
+
+-- parts have codes, so that equations between them have one proof
+pub coded_parts : Coded (ℕ × (ℕ × List ℕ))
+coded_parts = coded× coded_ℕ (coded× coded_ℕ (coded_list coded_ℕ))
+
+ends_second : (t : Tree) (wanted : Wanted) (x : FoundMatch) (m : Match) → found_parts x ≡ wanted_parts wanted (pattern_of t) m → length m.pairs ≡ length (pattern_of t).groups → EndsSecond wanted x
+ends_second t Span x m e many = tt
+ends_second t Groups x m e many =
+    ap (λ (p : ℕ × (ℕ × List ℕ)). slice_index p.1.1 1) e ∙ (places_begin t m many).second ∙ sym (ap (λ (p : ℕ × (ℕ × List ℕ)). p.1.0) e)
+
+-- What is found where a match lies is within the range.
+lies_within : (s : Setting) (t : Tree) (find : Search) (wanted : Wanted) (a : SearchConfig) (x : FoundMatch) (m : Match) → found_parts x ≡ wanted_parts wanted (pattern_of t) m →
+    Lies s (pattern_of t) find m → find.first ≡ max a.start a.range_start → find.stop ≡ a.range_end → IsMatchWithin wanted s.text a x
+lies_within s t find wanted a x m e lies first stop =
+    let start : x.start ≡ m.start = ap (λ (p : ℕ × (ℕ × List ℕ)). p.0) e in
+    let end : x.end ≡ m.end = ap (λ (p : ℕ × (ℕ × List ℕ)). p.1.0) e in
     record {
-      whole = begins.long;
-      behind = omega (arith, begins.first, lies.behind);
+      behind = omega (arith, start, first, lies.behind);
       cuts = record {
-        ordered = omega (arith, begins.first, begins.second, lies.ordered);
-        starts = subst (IsCharBoundary text) (sym begins.first) lies.starts_well;
-        ends = subst (IsCharBoundary text) (sym begins.second) lies.ends_well;
+        ordered = omega (arith, start, end, lies.ordered);
+        starts = subst (IsCharBoundary s.text) (sym start) lies.starts_well;
+        ends = subst (IsCharBoundary s.text) (sym end) lies.ends_well;
       };
-      inside = omega (arith, begins.second, lies.inside);
+      inside = omega (arith, end, stop, lies.inside);
+      second = ends_second t wanted x m e lies.many;
     }
+
+-- what a search has found lies where it was looked for
+pub found_within : (s : MetaRegex) (text : List ℕ) (a : SearchConfig) (continue_disabled : Bool) (wanted : Wanted) (found : Option FoundMatch) →
+    IsUtf8 text → IsCharBoundary text (max a.start a.range_start) → a.range_end ≤ length text →
+    option_map found_parts found ≡ option_map (wanted_parts wanted (meta_pattern s)) (meta_match_from s text a (max a.start a.range_start) continue_disabled) →
+    IfSome found (IsMatchWithin wanted text a)
+unfolding search_from
+found_within s text a continue_disabled wanted None utf8 h inside e = tt
+found_within s text a continue_disabled wanted (Some x) utf8 h inside e =
+    let f = some-of (wanted_parts wanted (meta_pattern s)) (meta_match_from s text a (max a.start a.range_start) continue_disabled) (found_parts x) e in
+    lies_within _ (tree_in s.options (string_bytes s.pattern)) _ wanted a x f.0 f.2 (first_lies _ (meta_pattern s) _ utf8 h inside f.0 f.1) refl refl
 
 nat_lt-no : (a b : ℕ) → b ≤ a → nat_lt a b ≡ false
 nat_lt-no a b h = search rules
@@ -159,24 +191,14 @@ anchored_match s pattern find anchored inside =
     tries_one (match_at s pattern find) find.first (boundaries s.text find.first find.stop) (nat_lt find.stop find.first) find.anchored (nat_lt-no find.stop find.first inside) anchored
 
 -- the match that starts at an offset lies behind it
-pub found_at_within : (s : MetaRegex) (text : List ℕ) (a : SearchConfig) (continue_at : Option ℕ) (p : ℕ) (found : Option (Vec ℕ Global)) →
+pub found_at_within : (s : MetaRegex) (text : List ℕ) (a : SearchConfig) (continue_at : Option ℕ) (p : ℕ) (wanted : Wanted) (found : Option FoundMatch) →
     IsUtf8 text → IsCharBoundary text p → p ≤ a.range_end → a.range_end ≤ length text →
-    option_map (λ (v : Vec ℕ Global). v.items) found ≡ option_map (match_slots (meta_pattern s)) (meta_match_at s text a continue_at p) →
-    IfSome found (λ v. IsMatchWithin text (record a { start = p; range_start = p }) v.items)
-found_at_within s text a continue_at p None utf8 h before inside e = tt
-found_at_within s text a continue_at p (Some v) utf8 h before inside e =
-    let f = some-of (match_slots (meta_pattern s)) (meta_match_at s text a continue_at p) v.items e in
-    let m : Match = f.0 in
-    let lies = first_lies (member_setting s text a continue_at) (meta_pattern s) (member_search s a p) utf8 h inside m
-    (anchored_match (member_setting s text a continue_at) (meta_pattern s) (member_search s a p) refl before ∙ f.1) in
-    let begins = subst (λ (xs : List ℕ). Begins xs m.start m.end) (sym f.2) (places_begin (tree_in s.options (string_bytes s.pattern)) m lies.many) in
-    record {
-      whole = begins.long;
-      behind = omega (arith, begins.first, lies.behind);
-      cuts = record {
-        ordered = omega (arith, begins.first, begins.second, lies.ordered);
-        starts = subst (IsCharBoundary text) (sym begins.first) lies.starts_well;
-        ends = subst (IsCharBoundary text) (sym begins.second) lies.ends_well;
-      };
-      inside = omega (arith, begins.second, lies.inside);
-    }
+    option_map found_parts found ≡ option_map (wanted_parts wanted (meta_pattern s)) (meta_match_at s text a continue_at p) →
+    IfSome found (IsMatchWithin wanted text (record a { start = p; range_start = p }))
+found_at_within s text a continue_at p wanted None utf8 h before inside e = tt
+found_at_within s text a continue_at p wanted (Some x) utf8 h before inside e =
+    let f = some-of (wanted_parts wanted (meta_pattern s)) (meta_match_at s text a continue_at p) (found_parts x) e in
+    let setting = member_setting s text a continue_at in
+    let find = member_search s a p in
+    let lies = first_lies setting (meta_pattern s) find utf8 h inside f.0 (anchored_match setting (meta_pattern s) find refl before ∙ f.1) in
+    lies_within setting (tree_in s.options (string_bytes s.pattern)) find wanted (record a { start = p; range_start = p }) x f.0 f.2 lies (omega arith) refl

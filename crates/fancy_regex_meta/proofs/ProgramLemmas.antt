@@ -1,9 +1,9 @@
 -- A program and a runner answer the same.
-use Rattle.std.proofs.Common.{◌≡◌, ◌<◌, ◌≤◌, length, subst, arith, IsUtf8, IsCharBoundary, ℕ, Bool, true, false, List, Option, Some, None, refl, ap, sym, ◌∙◌}
+use Rattle.std.proofs.Common.{◌≡◌, ◌<◌, ◌≤◌, length, subst, arith, IsUtf8, IsCharBoundary, ℕ, Bool, true, false, List, [], Option, Some, None, refl, ap, sym, ◌∙◌}
 use Rattle.std.specs.Prelude.{option_map, Ok, Err, Vec}
 use Rattle.std.specs.declared.alloc.Global.{Global}
 use Rattle.fancy_regex_tree.specs.Tree.{Tree}
-use Rattle.fancy_regex_meaning.specs.Groups.{pattern_of}
+use Rattle.fancy_regex_meaning.specs.Groups.{Pattern, pattern_of}
 use Rattle.fancy_regex_meaning.specs.Searches.{Match, first_match}
 use Rattle.fancy_regex_class.specs.RunInputs.{setting_for, match_slots}
 use Rattle.fancy_regex_class.specs.declared.input.RunInput.{RunInput}
@@ -12,13 +12,15 @@ use Rattle.fancy_regex_program.specs.Machine.{unset, RunParameters, Ending}
 use Rattle.fancy_regex_program.specs.Shapes.{IsWritable}
 use Rattle.fancy_regex_program.specs.declared.prog.Prog.{Prog}
 use Rattle.fancy_regex_program_laws.specs.ProgramLaws.{first_group_number, RunRequirements}
-use Rattle.fancy_regex_machine.specs.SearchAnswers.{match_places, found_match, found_choices, Answered}
+use Rattle.fancy_regex_machine.specs.SearchAnswers.{match_places, found_match, found_choices, Answered, AnsweredSpan}
 use Rattle.fancy_regex_machine.specs.MachineLimits.{MachinePassesLimit}
-use Rattle.fancy_regex_machine.specs.RunArguments.{run_parameters_for, machine_ending, AgreesOnGroups}
+use Rattle.fancy_regex_machine.specs.RunArguments.{run_parameters_for, machine_ending, AgreesOnGroups, AgreesOnSpan}
 use Rattle.fancy_regex_machine.specs.declared.error.RuntimeError.{RuntimeError}
 use Rattle.fancy_regex_machine.specs.declared.error.RuntimeError.TheVariants.{StackOverflow, BacktrackLimitExceeded, Memory}
 use Rattle.fancy_regex_machine.specs.declared.search.RunOptions.{RunOptions}
 use Rattle.fancy_regex_meta.specs.ErrorConversions.{from_runtime_error}
+use Rattle.fancy_regex_meta.specs.FoundParts.{wanted_parts}
+use Rattle.fancy_regex_meta.specs.declared.found.Wanted.TheVariants.{Span}
 use Rattle.fancy_regex_meta.specs.Strategies.{search_of, run_options_of, IsCompiled}
 use Rattle.fancy_regex_meta.specs.SearchLimits.{IsSearchError, IsStrategyError, MachineStaysInLimits, run_choices}
 use Rattle.fancy_regex_meta.specs.declared.strategy.Strategy.TheVariants.{Program}
@@ -40,6 +42,25 @@ pub program-answers : (o : RegexOptions) (t : Tree) (text : List ℕ) (input : R
     slots ≡ option_map (match_slots (pattern_of t)) (first_match (setting_for o.unicode_mode text input) (pattern_of t) (search_of o input))
 program-answers o t text input seek can unicode longest whole u l w slots e =
     (rw (u, l, w) at e) ∙ ap (option_map (match_places true)) (found-same o t text input seek can) ∙ map-same t _
+
+-- the same of a run for spans
+pub program-spans : (o : RegexOptions) (t : Tree) (text : List ℕ) (input : RunInput) (seek : Option (List Bool)) → CanSeek o t text input seek → (unicode longest : Bool) →
+    unicode ≡ o.unicode_mode → longest ≡ o.leftmost_longest → (span : Option (ℕ × ℕ)) →
+    span ≡ option_map (λ (m : Match). (m.start, m.end)) (found_match (run_parameters_for unicode longest text input (run_options_of o seek)) (pattern_of t) false) →
+    span ≡ option_map (λ (m : Match). (m.start, m.end)) (first_match (setting_for o.unicode_mode text input) (pattern_of t) (search_of o input))
+program-spans o t text input seek can unicode longest u l span e = (rw (u, l) at e) ∙ ap (option_map (λ (m : Match). (m.start, m.end))) (found-same o t text input seek can)
+
+-- the span of a match is all that is wanted of it
+pub span-parts : (t : Tree) (o : Option Match) → option_map (λ (s : ℕ × ℕ). (s.0, (s.1, []))) (option_map (λ (m : Match). (m.start, m.end)) o) ≡ option_map (wanted_parts Span (pattern_of t)) o
+span-parts t None = refl
+span-parts t (Some m) = refl
+
+-- an error of a run for spans is one of a run for groups
+pub span-error : (r : RunParameters) (pattern : Pattern) (whole anchored : Bool) (e : RuntimeError) (limit : ℕ) →
+    AnsweredSpan r pattern anchored (Err e) limit → Answered r pattern whole anchored (Err e) limit
+span-error r pattern whole anchored BacktrackLimitExceeded limit h = h
+span-error r pattern whole anchored StackOverflow limit h = h
+span-error r pattern whole anchored Memory limit h = h
 
 -- the requirements of a program's run hold
 pub run-requirements : (prog : Prog) (t : Tree) (r : RunParameters) → IsCompiled prog t → IsUtf8 r.setting.text → length r.setting.text < unset →
@@ -88,3 +109,9 @@ pub program-stays : (prog : Prog) (text : List ℕ) (input : RunInput) (options 
     ((n : ℕ) (e : Ending) → machine_ending prog text input options n ≡ Some e → AgreesOnGroups count (Ok found) e options.backtrack_limit) →
     MachineStaysInLimits prog text input options
 program-stays prog text input options count found tells n e is = let told = tells n e is in (told.1, told.2)
+
+-- the same of a run for spans
+pub span-stays : (prog : Prog) (text : List ℕ) (input : RunInput) (options : RunOptions) (found : Option (ℕ × ℕ)) →
+    ((n : ℕ) (e : Ending) → machine_ending prog text input options n ≡ Some e → AgreesOnSpan (Ok found) e options.backtrack_limit) →
+    MachineStaysInLimits prog text input options
+span-stays prog text input options found tells n e is = let told = tells n e is in (told.1, told.2)

@@ -12,4 +12,5 @@ pub mod SearchLimits
 pub mod Reading
 pub mod MemberSearches
 pub mod Caps
+pub mod FoundParts
 pub mod SeekTables

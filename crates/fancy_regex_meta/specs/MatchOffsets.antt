@@ -1,6 +1,9 @@
 -- Start and end offsets of a match in a text.
-use Rattle.std.specs.Prelude.{ℕ, ◌≤◌, List, max, length, slice_index, IsCharBoundary}
+use Rattle.std.specs.Prelude.{◌≡◌, ℕ, ◌≤◌, List, max, slice_index, IsCharBoundary}
 use Rattle.fancy_regex_input.specs.declared.config.SearchConfig.{SearchConfig}
+use Rattle.fancy_regex_meta.specs.declared.found.FoundMatch.{FoundMatch}
+use Rattle.fancy_regex_meta.specs.declared.found.Wanted.{Wanted}
+use Rattle.fancy_regex_meta.specs.declared.found.Wanted.TheVariants.{Span, Groups}
 
 -- Both offsets are character boundaries of the text, in order.
 pub record AreBoundaries (text : List ℕ) (start end : ℕ) : Type 0 where
@@ -8,9 +11,14 @@ pub record AreBoundaries (text : List ℕ) (start end : ℕ) : Type 0 where
   pub starts : IsCharBoundary text start
   pub ends : IsCharBoundary text end
 
--- The offsets begin with those of group 0, which lie in the range of the search and at or after its start.
-pub record IsMatchWithin (text : List ℕ) (config : SearchConfig) (slots : List ℕ) : Type 0 where
-  pub whole : 2 ≤ length slots
-  pub behind : max config.start config.range_start ≤ slice_index slots 0
-  pub cuts : AreBoundaries text (slice_index slots 0) (slice_index slots 1)
-  pub inside : slice_index slots 1 ≤ config.range_end
+-- Where the groups of a match are wanted, the second of their offsets is its end.
+abbrev pub EndsSecond : Wanted → FoundMatch → Type 0
+EndsSecond Span x = Unit {0}
+EndsSecond Groups x = slice_index x.groups.items 1 ≡ x.end
+
+-- What was found lies in the range of the search, at or after its start.
+pub record IsMatchWithin (wanted : Wanted) (text : List ℕ) (config : SearchConfig) (x : FoundMatch) : Type 0 where
+  pub behind : max config.start config.range_start ≤ x.start
+  pub cuts : AreBoundaries text x.start x.end
+  pub inside : x.end ≤ config.range_end
+  pub second : EndsSecond wanted x

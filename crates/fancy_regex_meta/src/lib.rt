@@ -4,6 +4,7 @@
 #![tactic(auto)]
 
 mod error;
+mod found;
 mod memory;
 mod meta_regex;
 mod options;
@@ -13,6 +14,7 @@ mod seek;
 mod strategy;
 
 pub use error::{Error, Result};
+pub use found::{FoundMatch, Wanted};
 pub use memory::MetaMemory;
 pub use meta_regex::MetaRegex;
 pub use options::RegexOptions;

@@ -22,9 +22,4 @@ impl MetaMemory {
             program: RunMemory::new(alloc),
         }
     }
-
-    /// Takes an answer of an earlier search back: its memory serves the answer of a later search of the linear-time matcher.
-    pub fn give_back(&mut self, answer: Vec<usize>) {
-        self.easy.give_back(answer);
-    }
 }

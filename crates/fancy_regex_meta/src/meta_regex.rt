@@ -3,7 +3,6 @@
 ghost use Rattle.std.specs.Prelude.{◌≡◌, ◌≤◌, ◌+◌, ◌-◌, ◌^◌, true, false, min, max, not, ◌&&◌, Some, None, length, IfOk, IfErr, IfSome, option_map, string_bytes, if◌then◌else◌, IsCharBoundary};
 ghost use Rattle.fancy_regex_tree.specs.Tree.{tree_of};
 ghost use Rattle.fancy_regex_meaning.specs.Groups.{pattern_of};
-ghost use Rattle.fancy_regex_class.specs.RunInputs.{match_slots};
 ghost use Rattle.fancy_regex_input.specs.SearchInputs.{FitsText};
 ghost use Rattle.fancy_regex_meta.specs.Strategies.{Executes, StrategyKeepsCap, run_input_of};
 ghost use Rattle.fancy_regex_meta.specs.GroupNames.{AreGroupNumbersOf};
@@ -12,6 +11,7 @@ ghost use Rattle.fancy_regex_meta.specs.PatternMatches.{IsCompiledFrom, names_in
 ghost use Rattle.fancy_regex_meta.specs.EasyPatterns.{uses_easy, pattern_uses_easy, is_easy_strategy};
 
 use crate::error::Result;
+use crate::found::{FoundMatch, Wanted};
 use crate::memory::MetaMemory;
 use crate::options::RegexOptions;
 use crate::strategy::Strategy;
@@ -85,6 +85,8 @@ fn run_input(config: SearchConfig, first: usize, continue_disabled: bool) -> Run
 
 impl MetaRegex {
     ghost use Rattle.fancy_regex_meta.specs.MatchOffsets.{IsMatchWithin};
+    ghost use Rattle.fancy_regex_meta.specs.FoundParts.{found_parts, wanted_parts};
+    ghost use Rattle.fancy_regex_meta.specs.declared.found.Wanted.TheVariants.{Groups};
     ghost use Rattle.fancy_regex_meta.specs.SearchLimits.{IsMetaSearchError, MetaStaysInLimits, meta_uses_easy, meta_starts_tried, max_looks};
     ghost use Rattle.fancy_regex_meta.specs.MetaMatches.{meta_pattern, meta_match_from};
     ghost use Rattle.fancy_regex_meta.specs.MemberSearches.{meta_match_at, IsMemberError, MemberStaysInLimits};
@@ -140,24 +142,24 @@ impl MetaRegex {
         self.groups
     }
 
-    /// The start and end byte offsets of each group of the first match, both `usize::MAX` for a group that did not
-    /// participate; `None` if there is no match. If the flag is set, `\G` never matches. The counter is raised by one for
-    /// each look of the linear-time matcher at the haystack, also if memory runs out. What is allocated for the search, but for
-    /// its answer, stays in `memory`; what earlier searches left there changes no answer. Errors: `RuntimeError` if a program
-    /// exceeds a limit, or `Memory`.
+    /// The first match, with the byte offsets that are wanted; `None` if there is no match. If the flag is set, `\G` never
+    /// matches. The counter is raised by one for each look of the linear-time matcher at the haystack, also if memory runs out.
+    /// What is allocated for the search, but for its answer, stays in `memory`; what earlier searches left there changes no
+    /// answer. Errors: `RuntimeError` if a program exceeds a limit, or `Memory`.
     pub fn search(
         &self,
         alloc: Global,
         text: &str,
         config: SearchConfig,
         continue_disabled: bool,
+        wanted: Wanted,
         steps: &mut Steps,
         memory: &mut MetaMemory,
-    ) -> Result<Option<Vec<usize>>>
+    ) -> Result<Option<FoundMatch>>
         requires { FitsText text.now config }
-        ensures answer { IfOk result (λ found. option_map (λ v. v.items) found
-            ≡ option_map (match_slots (meta_pattern self.now)) (meta_match_from self.now text.now config (max config.start config.range_start) continue_disabled)) }
-        ensures within { IfOk result (λ found. IfSome found (λ v. IsMatchWithin text.now config v.items)) }
+        ensures answer { IfOk result (λ found. option_map found_parts found
+            ≡ option_map (wanted_parts wanted (meta_pattern self.now)) (meta_match_from self.now text.now config (max config.start config.range_start) continue_disabled)) }
+        ensures within { IfOk result (λ found. IfSome found (IsMatchWithin wanted text.now config)) }
         ensures limits { IfErr result (λ e. IsMetaSearchError self.now text.now config continue_disabled e) }
         ensures stays { IfOk result (λ _. MetaStaysInLimits self.now text.now config continue_disabled) }
         ensures looks_most { meta_uses_easy self.now ≡ true → steps.new ≤ steps.old + max_looks self.now config }
@@ -171,13 +173,11 @@ impl MetaRegex {
         }
         let input = run_input(config, first, continue_disabled);
         self.strategy
-            .search(alloc, text, &input, &self.options, steps, memory)
+            .search(alloc, text, &input, &self.options, wanted, steps, memory)
     }
 
-    /// The start and end byte offsets of each group of the match that starts at `position`, both `usize::MAX` for a group that did
-    /// not participate; `None` if no match starts there. `\G` matches at `continue_at` alone, and nowhere if that is `None`.
-    /// `memory` is used as by `search`.
-    /// Errors: `RuntimeError` if a program exceeds a limit, or `Memory`.
+    /// The match that starts at `position`, with the byte offsets of its groups; `None` if no match starts there. `\G` matches at
+    /// `continue_at` alone, and nowhere if that is `None`. `memory` is used as by `search`. Errors: `RuntimeError` if a program exceeds a limit, or `Memory`.
     pub fn search_at(
         &self,
         alloc: Global,
@@ -186,13 +186,13 @@ impl MetaRegex {
         continue_at: Option<usize>,
         position: usize,
         memory: &mut MetaMemory,
-    ) -> Result<Option<Vec<usize>>>
+    ) -> Result<Option<FoundMatch>>
         requires range { config.range_end ≤ length text.now }
         requires boundary { IsCharBoundary text.now position }
         requires inside { position ≤ config.range_end }
-        ensures answer { IfOk result (λ found. option_map (λ v. v.items) found
-            ≡ option_map (match_slots (meta_pattern self.now)) (meta_match_at self.now text.now config continue_at position)) }
-        ensures within { IfOk result (λ found. IfSome found (λ v. IsMatchWithin text.now (record config { start = position; range_start = position }) v.items)) }
+        ensures answer { IfOk result (λ found. option_map found_parts found
+            ≡ option_map (wanted_parts Groups (meta_pattern self.now)) (meta_match_at self.now text.now config continue_at position)) }
+        ensures within { IfOk result (λ found. IfSome found (IsMatchWithin Groups text.now (record config { start = position; range_start = position }))) }
         ensures limits { IfErr result (λ e. IsMemberError self.now text.now config continue_at position e) }
         ensures stays { IfOk result (λ _. MemberStaysInLimits self.now text.now config continue_at position) }
     {
@@ -212,6 +212,7 @@ impl MetaRegex {
             text,
             &input,
             &self.options,
+            Wanted::Groups,
             &mut Steps::new(),
             memory,
         )

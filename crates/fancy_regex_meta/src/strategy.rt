@@ -13,18 +13,19 @@ ghost use Rattle.fancy_regex_sizes.specs.AnalysisErrors.{is_too_complex};
 ghost use Rattle.fancy_regex_info.specs.Infos.{info_of};
 ghost use Rattle.fancy_regex_info.specs.declared.options.BytesMode.TheVariants.{Unicode};
 ghost use Rattle.fancy_regex_info.specs.declared.info.Info.{out-Info};
-ghost use Rattle.fancy_regex_class.specs.RunInputs.{setting_for, match_slots};
+ghost use Rattle.fancy_regex_class.specs.RunInputs.{setting_for};
 ghost use Rattle.fancy_regex_runner.specs.Refusals.{IsTaken, IsCause};
 ghost use Rattle.fancy_regex_runner.specs.Runner.{IsEasyOf};
 ghost use Rattle.fancy_regex_meta.specs.Refusals.{compile_options_of, IsCompileRefusal};
 
 use crate::error::Result;
+use crate::found::{FoundMatch, Wanted, found_groups, found_in, found_span};
 use crate::memory::MetaMemory;
 use crate::options::RegexOptions;
 use crate::seek::seek_table;
 use fancy_regex_class::{RunInput, Steps};
 use fancy_regex_info::{CompileError, CompileOptions, Info};
-use fancy_regex_machine::{RunOptions, run_in};
+use fancy_regex_machine::{RunOptions, run_in, run_spans_in};
 use fancy_regex_program::{Prog, compile};
 use fancy_regex_runner::Easy;
 use std::alloc::Global;
@@ -65,6 +66,7 @@ impl Strategy {
     ghost use Rattle.fancy_regex_program.specs.Programs.{RefersToGroups};
     ghost use Rattle.fancy_regex_meta.specs.Strategies.{Executes, StrategyKeepsCap, is_whole, search_of};
     ghost use Rattle.fancy_regex_meta.specs.EasyPatterns.{uses_easy, is_easy_strategy};
+    ghost use Rattle.fancy_regex_meta.specs.FoundParts.{found_parts, wanted_parts};
     ghost use Rattle.fancy_regex_meta.specs.SearchLimits.{IsSearchError, IsStrategyError, StrategyStaysInLimits, weight_of, run_choices, run_tried};
 
     /// Compiles an analyzed tree, all of whose references must be to existing groups: for the linear-time matcher if the
@@ -100,8 +102,7 @@ impl Strategy {
         Ok(Strategy::Easy(Easy::new(alloc, info, &compile_options(options, calls))?))
     }
 
-    /// The start and end byte offsets of each group of the first match, both `usize::MAX` for a group that did not
-    /// participate; `None` if there is no match. The counter is raised by one for each look of the linear-time matcher at the
+    /// The first match, with the byte offsets that are wanted; `None` if there is no match. The counter is raised by one for each look of the linear-time matcher at the
     /// haystack. What is allocated for the search stays in the memory. Errors: `RuntimeError` at a limit of the program, or `Memory`.
     pub fn search(
         &self,
@@ -109,14 +110,15 @@ impl Strategy {
         text: &str,
         input: &RunInput,
         options: &RegexOptions,
+        wanted: Wanted,
         steps: &mut Steps,
         memory: &mut MetaMemory,
-    ) -> Result<Option<Vec<usize>>>
+    ) -> Result<Option<FoundMatch>>
         requires first { IsCharBoundary text.now input.now.first }
         requires range { input.now.range.end ≤ length text.now }
         requires whole { is_whole self.now ≡ true }
         ensures answer { IfOk result (λ found. (t : Tree) → Executes self.now options.now t
-            → option_map (λ v. v.items) found ≡ option_map (match_slots (pattern_of t))
+            → option_map found_parts found ≡ option_map (wanted_parts wanted (pattern_of t))
             (first_match (setting_for options.now.unicode_mode text.now input.now) (pattern_of t) (search_of options.now input.now))) }
         ensures limits { IfErr result (λ e. (t : Tree) → Executes self.now options.now t
             → IsSearchError (is_easy_strategy self.now) options.now.backtrack_limit (run_choices options.now text.now input.now t) e) }
@@ -131,20 +133,27 @@ impl Strategy {
         ensures counts { steps.old ≤ steps.new }
     {
         match self {
-            Strategy::Easy(easy) => Ok(easy.search_in(
-                alloc,
-                text,
-                input,
-                steps,
-                &mut memory.easy,
-            )?),
+            Strategy::Easy(easy) => {
+                let slots = easy.search_in(alloc, text, input, steps, &mut memory.easy)?;
+                Ok(found_in(alloc, slots, wanted, &mut memory.easy))
+            }
             Strategy::Program { prog, seek } => {
                 let options = RunOptions {
                     backtrack_limit: options.backtrack_limit,
                     find_not_empty: options.find_not_empty,
                     seek: *seek,
                 };
-                Ok(run_in(alloc, prog, text, input, &options, &mut memory.program)?)
+                let memory = &mut memory.program;
+                match wanted {
+                    Wanted::Span => {
+                        let span = run_spans_in(alloc, prog, text, input, &options, memory)?;
+                        Ok(found_span(alloc, span))
+                    }
+                    Wanted::Groups => {
+                        let slots = run_in(alloc, prog, text, input, &options, memory)?;
+                        Ok(found_groups(slots))
+                    }
+                }
             }
         }
     }

@@ -1,23 +1,19 @@
--- The group offsets of a match begin with its span, with two for each group.
+-- What a search has found of a match, and where it searched.
 use Rattle.std.proofs.Common.{◌≡◌, ℕ, ◌≤◌, List, [], ◌∷◌, length, max, false, Option, Some, None, refl, sym, ◌∙◌, ap, arith}
-use Rattle.std.specs.Prelude.{slice_set, slice_index, option_map, is_some}
-use Rattle.fancy_regex_tree.specs.Tree.{Tree}
-use Rattle.fancy_regex_meaning.specs.Groups.{pattern_of}
+use Rattle.std.specs.Prelude.{option_map, is_some}
+use Rattle.fancy_regex_meaning.specs.Groups.{Pattern}
 use Rattle.fancy_regex_meaning.specs.Searches.{Match, find_input}
 use Rattle.fancy_regex_input.specs.declared.config.SearchConfig.{SearchConfig}
 use Rattle.fancy_regex_meta.specs.MetaMatches.{meta_match, meta_match_from}
 use Rattle.fancy_regex_meta.specs.declared.meta_regex.MetaRegex.{MetaRegex}
-use Rattle.fancy_regex_class.specs.RunInputs.{match_slots}
+use Rattle.fancy_regex_meta.specs.FoundParts.{found_parts, wanted_parts}
+use Rattle.fancy_regex_meta.specs.declared.found.FoundMatch.{FoundMatch}
+use Rattle.fancy_regex_meta.specs.declared.found.Wanted.{Wanted}
+use Rattle.fancy_regex_search.specs.CaptureSpans.{IsFoundOf}
 
-starts-with : (xs : List ℕ) (a b : ℕ) → 2 ≤ length (slice_set (slice_set xs 0 a) 1 b) →
-    (slice_index (slice_set (slice_set xs 0 a) 1 b) 0 ≡ a) × (slice_index (slice_set (slice_set xs 0 a) 1 b) 1 ≡ b)
-starts-with [] a b h = absurd (omega arith)
-starts-with (x ∷ []) a b h = absurd (omega arith)
-starts-with (x ∷ y ∷ xs) a b h = (refl, refl)
-
--- they begin with the span of the match
-pub span-is : (t : Tree) (m : Match) (v : List ℕ) → v ≡ match_slots (pattern_of t) m → 2 ≤ length v → (slice_index v 0 ≡ m.start) × (slice_index v 1 ≡ m.end)
-span-is t m v e h = rw e (starts-with _ m.start m.end (rw e at h))
+-- what has the parts of a match is what was found of it
+pub parts-of : (wanted : Wanted) (pattern : Pattern) (x : FoundMatch) (m : Match) → found_parts x ≡ wanted_parts wanted pattern m → IsFoundOf wanted pattern x m
+parts-of wanted pattern x m e = (ap (λ (p : ℕ × (ℕ × List ℕ)). p.0) e, ap (λ (p : ℕ × (ℕ × List ℕ)). p.1.0) e, ap (λ (p : ℕ × (ℕ × List ℕ)). p.1.1) e)
 
 -- a place where there is one
 pub some-of : {A B : Type 0} (f : A → B) (o : Option A) (v : B) → Some v ≡ option_map f o → (m : A) × (o ≡ Some m) × (v ≡ f m)

@@ -18,7 +18,10 @@ use Rattle.fancy_regex_input.specs.SearchInputs.{whole}
 use Rattle.fancy_regex_search.proofs.IterationLemmas.{comes_from, comes_to, skips_from}
 use Rattle.fancy_regex_meta.specs.declared.error.Error.{Error}
 use Rattle.fancy_regex_meta.specs.declared.meta_regex.MetaRegex.{MetaRegex}
-use Rattle.fancy_regex_search.specs.Replacements.{Shown, shown, IsReplacedByCalls, FailsInTurn, here, later, AnswersInTurn, AnswersText, still_replaced, is_spent, limit_of, IsReplacedBy, by_calls, by_text, IsReplacedLeaving, left_by_calls, left_by_text, IsReplaceError, of_search, of_search_by_text, of_call, of_memory, IsReplaceErrorLeaving, search_failed, search_failed_by_text, call_failed, memory_ran_out}
+use Rattle.fancy_regex_meta.specs.FoundParts.{wanted_groups}
+use Rattle.fancy_regex_meta.specs.declared.found.Wanted.{Wanted}
+use Rattle.fancy_regex_meta.specs.declared.found.Wanted.TheVariants.{Span, Groups}
+use Rattle.fancy_regex_search.specs.Replacements.{Shown, shown, AnswersBy, IsReplacedByCalls, FailsInTurn, here, later, AnswersInTurn, AnswersText, still_replaced, is_spent, limit_of, IsReplacedBy, by_calls, by_text, IsReplacedLeaving, left_by_calls, left_by_text, IsReplaceError, of_search, of_search_by_text, of_call, of_memory, IsReplaceErrorLeaving, search_failed, search_failed_by_text, call_failed, memory_ran_out}
 
 -- What is still to be replaced from an offset on, behind a text that is out, completes the replacement of all of these matches.
 pub record Completes {S : Type 0} (Calls : S → Shown → Result (List ℕ) Error → S → Type 0) (r : MetaRegex) (text : List ℕ) (ms : List Match) (first : S) (p : ℕ) (left : List Match) (s : S) (out : List ℕ) : Type 0 where
@@ -250,41 +253,43 @@ pub fixed_text_fails : {S T : Type 0} (text_of : S → List ℕ) (Others : T →
 fixed_text_fails text_of Others r text ms s last t shown_text e h = text_fails (AnswersText text_of) Others (λ x m d next call. call.0) r text ms s last t None shown_text e h
 
 -- what is shown of a match
-pub shown_same : (r r' : MetaRegex) (text text' slots : List ℕ) (m : Match) → r' ≡ r → text' ≡ text → slots ≡ match_slots (meta_pattern r) m →
+shown_same : (r r' : MetaRegex) (text text' slots : List ℕ) (m : Match) → r' ≡ r → text' ≡ text → slots ≡ match_slots (meta_pattern r) m →
     ◌≡◌ {A = Shown} (record { regex = r'; text = text'; slots = slots }) (shown r text m)
 shown_same r r' text text' slots m a b e = λ i. record { regex = a i; text = b i; slots = e i }
 
+-- a call that answered what was found of a match answers for the match
+pub call_shown : {S : Type 0} (Calls : S → Shown → Result (List ℕ) Error → S → Type 0) (wanted : Wanted) (r r' : MetaRegex) (text text' slots : List ℕ) (m : Match) (s next : S)
+    (result : Result (List ℕ) Error) → AnswersBy wanted Calls → r' ≡ r → text' ≡ text → slots ≡ wanted_groups wanted (meta_pattern r) m →
+    Calls s (record { regex = r'; text = text'; slots = slots }) result next → Calls s (shown r text m) result next
+call_shown Calls Groups r r' text text' slots m s next result alike a b e call = subst (λ (x : Shown). Calls s x result next) (shown_same r r' text text' slots m a b e) call
+call_shown Calls Span r r' text text' slots m s next result alike a b e call = alike s (record { regex = r'; text = text'; slots = slots }) (shown r text m) result next call
+
 -- One turn of a replacement: the text before the next match is out, and the answer for it.
 pub completes_gap : {S : Type 0} (Calls : S → Shown → Result (List ℕ) Error → S → Type 0) (r : MetaRegex) (text : List ℕ) (ms : List Match) (first : S) (p p' : ℕ) (left left' : Option ℕ)
-    (before after : List Match) (s next : S) (out out' gap slots w : List ℕ) (r' : MetaRegex) (text' slots' : List ℕ) → r' ≡ r → text' ≡ text → slots' ≡ slots →
-    is_spent left ≡ false → left' ≡ option_map (λ n. n - 1) left →
-    (m : Match) × (before ≡ m ∷ after) × (slots ≡ match_slots (meta_pattern r) m) × (gap ≡ slice_range text p m.start) × (p' ≡ m.end) →
-    Calls s (record { regex = r'; text = text'; slots = slots' }) (Ok w) next → out' ≡ (out ++ gap) ++ w →
+    (before after : List Match) (s next : S) (out out' gap w : List ℕ) (m : Match) → is_spent left ≡ false → left' ≡ option_map (λ n. n - 1) left →
+    before ≡ m ∷ after → gap ≡ slice_range text p m.start → p' ≡ m.end → Calls s (shown r text m) (Ok w) next → out' ≡ (out ++ gap) ++ w →
     Completes Calls r text ms first p (still_replaced left before) s out →
     (still_replaced left before ≡ [] → ⊥) × Completes Calls r text ms first p' (still_replaced left' after) next out'
-completes_gap {S} Calls r text ms first p p' left left' before after s next out out' gap slots w r' text' slots' a b e unspent less gives call wrote so =
-    let m : Match = gives.0 in
-    let split : still_replaced left before ≡ m ∷ still_replaced left' after = still_more left left' before m after unspent less gives.1 in
-    let told : Calls s (shown r text m) (Ok w) next = subst (λ (x : Shown). Calls s x (Ok w) next) (shown_same r r' text text' slots' m a b (e ∙ gives.2)) call in
+completes_gap {S} Calls r text ms first p p' left left' before after s next out out' gap w m unspent less is cut end call wrote so =
+    let split : still_replaced left before ≡ m ∷ still_replaced left' after = still_more left left' before m after unspent less is in
     let step : Completes Calls r text ms first m.end (still_replaced left' after) next ((out ++ slice_range text p m.start) ++ w) =
-    completes_next Calls r text ms first p m (still_replaced left' after) s next out w (subst (λ (xs : List Match). Completes Calls r text ms first p xs s out) split so) told in (
+    completes_next Calls r text ms first p m (still_replaced left' after) s next out w (subst (λ (xs : List Match). Completes Calls r text ms first p xs s out) split so) call in (
       (λ none. never_empty m (still_replaced left' after) (sym split ∙ none)),
-      rw (gives.4, wrote, gives.3) step,
+      rw (end, wrote, cut) step,
     )
 
 -- one turn of a replacement: the call has answered for the match that the iteration returned
 pub progress_gap : {S : Type 0} (Calls : S → Shown → Result (List ℕ) Error → S → Type 0) (r : MetaRegex) (text : List ℕ) (ms : List Match) (first : S) (config new : SearchConfig)
-    (state after : IterState) (left left' : Option ℕ) (before others : List Match) (s next : S) (w : List ℕ) (r' : MetaRegex) (text' slots' : List ℕ) → r' ≡ r → text' ≡ text →
-    (m : Match) → before ≡ m ∷ others → slots' ≡ match_slots (meta_pattern r) m → is_spent left ≡ false → left' ≡ option_map (λ n. n - 1) left →
+    (state after : IterState) (left left' : Option ℕ) (before others : List Match) (s next : S) (w : List ℕ) (m : Match) → before ≡ m ∷ others → is_spent left ≡ false →
+    left' ≡ option_map (λ n. n - 1) left →
     config ≡ record (whole text) { start = config.start } → (n : Match) × (before ≡ n ∷ others) × PassesItem r text config state n new after →
-    SkipsStayInLimits r text config state → Calls s (record { regex = r'; text = text'; slots = slots' }) (Ok w) next →
+    SkipsStayInLimits r text config state → Calls s (shown r text m) (Ok w) next →
     Progress Calls r text ms first config state (still_replaced left before) s → Progress Calls r text ms first new after (still_replaced left' others) next
-progress_gap {S} Calls r text ms first config new state after left left' before others s next w r' text' slots' a b m is slots unspent less moved returns stays call so =
+progress_gap {S} Calls r text ms first config new state after left left' before others s next w m is unspent less moved returns stays call so =
     let split : still_replaced left before ≡ m ∷ still_replaced left' others = still_more left left' before m others unspent less is in
     let same : returns.0 ≡ m = first_same returns.0 m others others (sym returns.1 ∙ is) in
     let passes : PassesItem r text config state m new after = subst (λ (n : Match). PassesItem r text config state n new after) same returns.2 in
-    let told : Calls s (shown r text m) (Ok w) next = subst (λ (x : Shown). Calls s x (Ok w) next) (shown_same r r' text text' slots' m a b slots) call in
-    progress_next Calls r text ms first config new state after m (still_replaced left' others) s next w moved passes stays told
+    progress_next Calls r text ms first config new state after m (still_replaced left' others) s next w moved passes stays call
     (subst (λ (xs : List Match). Progress Calls r text ms first config state xs s) split so)
 
 -- before the first call of a replacement with this limit

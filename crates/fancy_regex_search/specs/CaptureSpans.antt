@@ -4,6 +4,9 @@ use Rattle.fancy_regex_meaning.specs.Searches.{Match}
 use Rattle.fancy_regex_meaning.specs.Groups.{Pattern}
 use Rattle.fancy_regex_class.specs.RunInputs.{match_slots}
 use Rattle.fancy_regex_meta.specs.MatchOffsets.{AreBoundaries}
+use Rattle.fancy_regex_meta.specs.FoundParts.{wanted_groups}
+use Rattle.fancy_regex_meta.specs.declared.found.FoundMatch.{FoundMatch}
+use Rattle.fancy_regex_meta.specs.declared.found.Wanted.{Wanted}
 
 -- The group participated in the match: it has offsets, which are character boundaries in order.
 pub record Participated (text : List ℕ) (slots : List ℕ) (k : ℕ) : Type 0 where
@@ -22,6 +25,10 @@ span_in m = (m.start, m.end)
 -- these are the start and end offsets of the groups of a match
 abbrev pub AreGroupsOf : Pattern → List ℕ → Match → Type 0
 AreGroupsOf pattern slots m = slots ≡ match_slots pattern m
+
+-- This is what was found of a match: its span, and the offsets of its groups where they are wanted.
+abbrev pub IsFoundOf : Wanted → Pattern → FoundMatch → Match → Type 0
+IsFoundOf wanted pattern x m = (x.start ≡ m.start) × (x.end ≡ m.end) × (x.groups.items ≡ wanted_groups wanted pattern m)
 
 -- A value for the wanted match, or `None` if there is no match.
 abbrev pub IsResultFor : {A : Type 0} → (A → Match → Type 0) → Option A → Option Match → Type 0

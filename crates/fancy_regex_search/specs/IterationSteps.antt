@@ -1,46 +1,47 @@
 -- One search of an iteration.
-use Rattle.std.specs.Prelude.{◌≡◌, ℕ, ◌<◌, ◌≤◌, List, [], ◌∷◌, true, false, max, slice_index, MatchOption, MatchResult, Option, Some, None}
+use Rattle.std.specs.Prelude.{◌≡◌, ℕ, ◌<◌, ◌≤◌, List, [], ◌∷◌, true, false, max, MatchOption, MatchResult, Option, Some, None}
 use Rattle.std.specs.declared.result.Result.{Result}
 use Rattle.fancy_regex_meaning.specs.Groups.{Pattern}
 use Rattle.fancy_regex_meaning.specs.Positions.{position_after}
 use Rattle.fancy_regex_meaning.specs.Searches.{Match}
-use Rattle.fancy_regex_class.specs.RunInputs.{match_slots}
 use Rattle.fancy_regex_input.specs.declared.config.SearchConfig.{SearchConfig}
 use Rattle.fancy_regex_meta.specs.MatchOffsets.{IsMatchWithin}
+use Rattle.fancy_regex_meta.specs.declared.found.Wanted.{Wanted}
 use Rattle.fancy_regex_meta.specs.MetaMatches.{meta_pattern, meta_match_from}
 use Rattle.fancy_regex_meta.specs.SearchLimits.{IsMetaSearchError}
 use Rattle.fancy_regex_meta.specs.declared.meta_regex.MetaRegex.{MetaRegex}
 use Rattle.fancy_regex_search.specs.RemainingMatches.{next_start, remaining_matches, remaining_searches}
 use Rattle.fancy_regex_search.specs.IterationSearches.{SkipsToFrom, KeepsSearches, KeepsSkips, PassesItem}
 use Rattle.fancy_regex_search.specs.IterationLimits.{SkipsStayInLimits}
+use Rattle.fancy_regex_search.specs.CaptureSpans.{IsFoundOf}
 use Rattle.fancy_regex_search.specs.declared.match_iter.IterState.{IterState}
 use Rattle.fancy_regex_search.specs.declared.match_iter.Step.{Step}
 use Rattle.fancy_regex_search.specs.declared.match_iter.Step.TheVariants.{Item, Skip, End, Fault}
 
 -- The result of the step, by the matches that remained before and remain after it.
-abbrev pub StepGives : Pattern → List Match → Step → List Match → Type 0
-StepGives pattern before (Item v) after = (m : Match) × (before ≡ m ∷ after) × (v.items ≡ match_slots pattern m)
-StepGives pattern before Skip after = before ≡ after
-StepGives pattern before End after = (before ≡ []) × (after ≡ [])
-StepGives pattern before (Fault e) after = after ≡ []
+abbrev pub StepGives : Wanted → Pattern → List Match → Step → List Match → Type 0
+StepGives wanted pattern before (Item x) after = (m : Match) × (before ≡ m ∷ after) × IsFoundOf wanted pattern x m
+StepGives wanted pattern before Skip after = before ≡ after
+StepGives wanted pattern before End after = (before ≡ []) × (after ≡ [])
+StepGives wanted pattern before (Fault e) after = after ≡ []
 
 -- The start of the next search after a step.
-abbrev pub StepMoves : List ℕ → SearchConfig → Step → SearchConfig → Type 0
-StepMoves text old (Item v) new = IsMatchWithin text old v.items × (new.start ≡ next_start text (slice_index v.items 0) (slice_index v.items 1))
-StepMoves text old Skip new = Unit {0}
-StepMoves text old End new = new ≡ old
-StepMoves text old (Fault e) new = new.start ≡ position_after text old.range_end
+abbrev pub StepMoves : Wanted → List ℕ → SearchConfig → Step → SearchConfig → Type 0
+StepMoves wanted text old (Item x) new = IsMatchWithin wanted text old x × (new.start ≡ next_start text x.start x.end)
+StepMoves wanted text old Skip new = Unit {0}
+StepMoves wanted text old End new = new ≡ old
+StepMoves wanted text old (Fault e) new = new.start ≡ position_after text old.range_end
 
 -- Fewer searches remain after a step, unless it ended the iteration.
 abbrev pub StepDecreases : ℕ → Step → ℕ → Type 0
 StepDecreases before End after = Unit {0}
-StepDecreases before (Item v) after = after < before
+StepDecreases before (Item x) after = after < before
 StepDecreases before Skip after = after < before
 StepDecreases before (Fault e) after = after < before
 
 -- A step without a match and a fault end the iteration. One that returns an item does not.
 abbrev pub StepEnds : Step → IterState → Type 0
-StepEnds (Item v) state = state.is_done ≡ false
+StepEnds (Item x) state = state.is_done ≡ false
 StepEnds Skip state = Unit {0}
 StepEnds End state = state.is_done ≡ true
 StepEnds (Fault e) state = state.is_done ≡ true
@@ -49,14 +50,14 @@ StepEnds (Fault e) state = state.is_done ≡ true
 module _ (s : MetaRegex) (text : List ℕ) (old : SearchConfig) (before : IterState) where
   -- A fault of a step is an error of its search, which starts in the range.
   abbrev pub StepFails : Step → Type 0
-  StepFails (Item v) = Unit {0}
+  StepFails (Item x) = Unit {0}
   StepFails Skip = Unit {0}
   StepFails End = Unit {0}
   StepFails (Fault e) = (max old.start old.range_start ≤ old.range_end) × IsMetaSearchError s text old before.continue_disabled e
 
   -- Every search of the iteration after the step is one of the iteration before it.
   abbrev pub StepPasses : Step → SearchConfig → IterState → Type 0
-  StepPasses (Item v) new after = KeepsSearches s text old before.continue_disabled new after.continue_disabled
+  StepPasses (Item x) new after = KeepsSearches s text old before.continue_disabled new after.continue_disabled
   StepPasses Skip new after = KeepsSearches s text old before.continue_disabled new after.continue_disabled
   StepPasses End new after = Unit {0}
   StepPasses (Fault e) new after = Unit {0}
@@ -64,7 +65,7 @@ module _ (s : MetaRegex) (text : List ℕ) (old : SearchConfig) (before : IterSt
   -- What a step leaves: the end of an item as the last end; after a skip an iteration that goes on; and an iteration that was
   -- over, or whose search found nothing.
   abbrev pub StepLeaves : Step → SearchConfig → IterState → Type 0
-  StepLeaves (Item v) new after = after.last ≡ Some (slice_index v.items 1)
+  StepLeaves (Item x) new after = after.last ≡ Some x.end
   StepLeaves Skip new after = (before.is_done ≡ false) × (after.is_done ≡ false) × KeepsSkips s text old before new after
   StepLeaves End new after = (after.continue_disabled ≡ before.continue_disabled)
       × (before.is_done ≡ false → meta_match_from s text old (max old.start old.range_start) before.continue_disabled ≡ None)
@@ -72,7 +73,7 @@ module _ (s : MetaRegex) (text : List ℕ) (old : SearchConfig) (before : IterSt
 
   -- The match of an item is the first that remained before the step.
   abbrev pub StepReturns : Step → SearchConfig → IterState → Type 0
-  StepReturns (Item v) new after = (m : Match) × (remaining_matches s text old before ≡ m ∷ remaining_matches s text new after) × PassesItem s text old before m new after
+  StepReturns (Item x) new after = (m : Match) × (remaining_matches s text old before ≡ m ∷ remaining_matches s text new after) × PassesItem s text old before m new after
   StepReturns Skip new after = Unit {0}
   StepReturns End new after = Unit {0}
   StepReturns (Fault e) new after = Unit {0}
@@ -80,15 +81,15 @@ module _ (s : MetaRegex) (text : List ℕ) (old : SearchConfig) (before : IterSt
   -- A step that finds something, or nothing, makes a search that stays within the limits; so does each one that comes behind it
   -- by skipping alone, where those of the state after a skip do.
   abbrev pub StepStays : Step → SearchConfig → IterState → Type 0
-  StepStays (Item v) new after = SkipsStayInLimits s text old before
+  StepStays (Item x) new after = SkipsStayInLimits s text old before
   StepStays Skip new after = SkipsStayInLimits s text new after → SkipsStayInLimits s text old before
   StepStays End new after = before.is_done ≡ false → SkipsStayInLimits s text old before
   StepStays (Fault e) new after = Unit {0}
 
   -- One search of an iteration: its result, and the configuration and the state after it.
-  pub record IsStep (result : Step) (new : SearchConfig) (after : IterState) : Type 0 where
-    pub gives : StepGives (meta_pattern s) (remaining_matches s text old before) result (remaining_matches s text new after)
-    pub moves : StepMoves text old result new
+  pub record IsStep (wanted : Wanted) (result : Step) (new : SearchConfig) (after : IterState) : Type 0 where
+    pub gives : StepGives wanted (meta_pattern s) (remaining_matches s text old before) result (remaining_matches s text new after)
+    pub moves : StepMoves wanted text old result new
     pub nears : StepDecreases (remaining_searches text old before) result (remaining_searches text new after)
     pub grows : old.start ≤ new.start
     pub config : new ≡ record old { start = new.start }

@@ -4,16 +4,17 @@ use Rattle.std.proofs.Common.{Bor}
 use Rattle.std.specs.declared.result.Result.{Result}
 use Rattle.fancy_regex_meaning.specs.Searches.{Match, pieces_from}
 use Rattle.fancy_regex_meaning.specs.Groups.{Pattern}
-use Rattle.fancy_regex_class.specs.RunInputs.{match_slots}
+use Rattle.fancy_regex_meta.specs.FoundParts.{wanted_groups}
+use Rattle.fancy_regex_meta.specs.declared.found.Wanted.{Wanted}
 use Rattle.fancy_regex_search.specs.declared.match_iter.IterState.{IterState}
 
 -- The call returned the first of the remaining matches, with the text between the previous match and it; or `None`, and there
 -- was none; or an error, and none remains. The number is where the last match ended.
-abbrev pub YieldsGap : {A E : Type 0} → (A → List ℕ) → (A → List ℕ) → Pattern → List ℕ → ℕ → List Match → Option (Result A E) → ℕ → List Match → Type 0
-YieldsGap text_of slots_of pattern text old before result new after =
+abbrev pub YieldsGap : {A E : Type 0} → (A → List ℕ) → (A → List ℕ) → Wanted → Pattern → List ℕ → ℕ → List Match → Option (Result A E) → ℕ → List Match → Type 0
+YieldsGap text_of groups_of wanted pattern text old before result new after =
     MatchOption result ((before ≡ []) × (after ≡ []) × (new ≡ old))
     (λ item. MatchResult item
-    (λ gap. (m : Match) × (before ≡ m ∷ after) × (slots_of gap ≡ match_slots pattern m) × (text_of gap ≡ slice_range text old m.start) × (new ≡ m.end))
+    (λ gap. (m : Match) × (before ≡ m ∷ after) × (groups_of gap ≡ wanted_groups wanted pattern m) × (text_of gap ≡ slice_range text old m.start) × (new ≡ m.end))
     (λ _. (after ≡ []) × (new ≡ old)))
 
 -- the pieces that a split has still to return: from where the last match ended, unless it is done

@@ -54,10 +54,10 @@ pub fn match_at<'r, S: Input>(
         memory,
     )?;
     match found {
-        Some(slots) => Ok(Some(AnchoredMatch {
-            start: slots[0],
-            end: slots[1],
-            captures: Captures::new(regex, haystack, slots),
+        Some(matched) => Ok(Some(AnchoredMatch {
+            start: matched.start,
+            end: matched.end,
+            captures: Captures::new(regex, haystack, matched.groups),
         })),
         None => Ok(None),
     }

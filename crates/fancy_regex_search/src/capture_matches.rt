@@ -4,6 +4,7 @@ ghost use Rattle.std.specs.Prelude.{◌≡◌, ◌≤◌, false, None, slice_ind
 ghost use Rattle.std.specs.Iterator.{at_most};
 ghost use Rattle.fancy_regex_class.specs.RunInputs.{match_slots};
 ghost use Rattle.fancy_regex_meta.specs.MetaMatches.{meta_pattern};
+ghost use Rattle.fancy_regex_meta.specs.declared.found.Wanted.TheVariants.{Groups};
 ghost use Rattle.fancy_regex_search.specs.IterationErrors.{IsItemError};
 ghost use Rattle.fancy_regex_search.specs.IterationLimits.{NextStays};
 ghost use Rattle.fancy_regex_search.specs.IterationSearches.{KeepsSearches};
@@ -14,7 +15,7 @@ use crate::captures::Captures;
 use crate::match_iter::MatchIter;
 use crate::regex::Regex;
 use fancy_regex_input::{Input, RegexInput};
-use fancy_regex_meta::Result;
+use fancy_regex_meta::{Result, Wanted};
 use std::alloc::Global;
 
 /// The capture groups of the non-overlapping matches in a haystack, from left to right. An item may be an error; after an
@@ -23,6 +24,7 @@ use std::alloc::Global;
 pub struct CaptureMatches<'r, S: Input> {
     /// The searches of the iteration.
     match_iter: MatchIter<'r, S>,
+    pub ghost groups: { match_iter.wanted ≡ Groups },
 }
 
 impl<'r, S: Input> CaptureMatches<'r, S> {
@@ -41,7 +43,7 @@ impl<'r, S: Input> CaptureMatches<'r, S> {
         ensures first { result.match_iter.state.last ≡ None }
     {
         CaptureMatches {
-            match_iter: MatchIter::new(alloc, regex, input),
+            match_iter: MatchIter::new(alloc, regex, input, Wanted::Groups),
         }
     }
 
@@ -83,7 +85,7 @@ impl<'r, S: Input> Iterator for CaptureMatches<'r, S> {
         let regex = self.match_iter.regex;
         let haystack = self.match_iter.input.haystack();
         match self.match_iter.advance()? {
-            Ok(slots) => Some(Ok(Captures::new(regex, haystack, slots))),
+            Ok(found) => Some(Ok(Captures::new(regex, haystack, found.groups))),
             Err(error) => Some(Err(error)),
         }
     }

@@ -7,7 +7,7 @@ ghost use Rattle.fancy_regex_meta.specs.MetaMatches.{meta_pattern};
 use crate::match_iter::MatchIter;
 use crate::regex::Regex;
 use fancy_regex_input::RegexInput;
-use fancy_regex_meta::Result;
+use fancy_regex_meta::{Result, Wanted};
 use std::alloc::Global;
 
 /// A match and the text between the previous match and it.
@@ -15,8 +15,8 @@ use std::alloc::Global;
 pub struct Gap<'h> {
     /// The text from the end of the previous match, or from the start of the haystack, to the start of the match.
     pub text: &'h str,
-    /// The start and end byte offsets of each group of the match.
-    pub slots: Vec<usize>,
+    /// The start and end byte offsets of each group of the match, where they are wanted.
+    pub groups: Vec<usize>,
 }
 
 /// An iteration over the matches of a text that keeps where the last match ended.
@@ -39,7 +39,7 @@ impl<'r, 'h> GapIter<'r, 'h> {
     ghost use Rattle.fancy_regex_search.specs.Pieces.{YieldsGap};
 
     /// The iteration before its first search.
-    pub fn new(alloc: Global, regex: &'r Regex, text: &'h str) -> GapIter<'r, 'h>
+    pub fn new(alloc: Global, regex: &'r Regex, text: &'h str, wanted: Wanted) -> GapIter<'r, 'h>
         ensures left { remaining_matches result.match_iter.regex.now.meta result.match_iter.input.haystack.now result.match_iter.input.config
             result.match_iter.state ≡ all_matches regex.entry.now.meta text.entry.now (whole text.entry.now) }
         ensures input { (result.match_iter.input.haystack ≡ text.entry) × (result.match_iter.input.config ≡ whole text.entry.now) }
@@ -47,16 +47,17 @@ impl<'r, 'h> GapIter<'r, 'h> {
         ensures begins { (result.match_iter.state.continue_disabled ≡ false) × (result.last_end ≡ 0) }
         ensures going { result.match_iter.state.is_done ≡ false }
         ensures first { result.match_iter.state.last ≡ None }
+        ensures wanted { result.match_iter.wanted ≡ wanted }
     {
         GapIter {
-            match_iter: MatchIter::new(alloc, regex, RegexInput::new(text)),
+            match_iter: MatchIter::new(alloc, regex, RegexInput::new(text), wanted),
             last_end: 0,
         }
     }
 
     /// The next match and the text before it. `None` after the last match and after an error.
     pub fn next_gap(&mut self) -> Option<Result<Gap<'h>>>
-        ensures gives { YieldsGap (λ gap. gap.text.now) (λ gap. gap.slots.items) (meta_pattern self.old.match_iter.regex.now.meta)
+        ensures gives { YieldsGap (λ gap. gap.text.now) (λ gap. gap.groups.items) self.old.match_iter.wanted (meta_pattern self.old.match_iter.regex.now.meta)
             self.old.match_iter.input.haystack.now self.old.last_end
             (remaining_matches self.old.match_iter.regex.now.meta self.old.match_iter.input.haystack.now self.old.match_iter.input.config self.old.match_iter.state) result self.new.last_end
             (remaining_matches self.new.match_iter.regex.now.meta self.new.match_iter.input.haystack.now self.new.match_iter.input.config self.new.match_iter.state) }
@@ -64,6 +65,7 @@ impl<'r, 'h> GapIter<'r, 'h> {
             < remaining_searches self.old.match_iter.input.haystack.now self.old.match_iter.input.config self.old.match_iter.state) }
         ensures haystack { self.new.match_iter.input.haystack ≡ self.old.match_iter.input.haystack }
         ensures regex { self.new.match_iter.regex ≡ self.old.match_iter.regex }
+        ensures wanted { self.new.match_iter.wanted ≡ self.old.match_iter.wanted }
         ensures config { self.new.match_iter.input.config ≡ record (self.old.match_iter.input.config) { start = self.new.match_iter.input.config.start } }
         ensures fails { IfSome result (λ item. IfErr item (λ e. IsItemError self.old.match_iter.regex.now.meta self.old.match_iter.input.haystack.now
             self.old.match_iter.input.config
@@ -78,12 +80,12 @@ impl<'r, 'h> GapIter<'r, 'h> {
     {
         let text = self.match_iter.input.haystack();
         match self.match_iter.advance()? {
-            Ok(slots) => {
-                let before = &text[self.last_end..slots[0]];
-                self.last_end = slots[1];
+            Ok(found) => {
+                let before = &text[self.last_end..found.start];
+                self.last_end = found.end;
                 Some(Ok(Gap {
                     text: before,
-                    slots,
+                    groups: found.groups,
                 }))
             }
             Err(error) => Some(Err(error)),

@@ -1,33 +1,34 @@
 //! Searches a haystack with a regex, and turns the start and end offsets of groups into matches of the haystack.
 
-ghost use Rattle.std.specs.Prelude.{◌≡◌, ◌≤◌, ◌+◌, ◌-◌, ◌^◌, true, false, IfOk, IfErr, IfSome, option_map, min, max, slice_index};
-ghost use Rattle.fancy_regex_class.specs.RunInputs.{match_slots};
+ghost use Rattle.std.specs.Prelude.{◌≡◌, ◌≤◌, ◌+◌, ◌-◌, ◌^◌, true, false, IfOk, IfErr, IfSome, option_map, min, max};
 ghost use Rattle.fancy_regex_input.specs.SearchInputs.{FitsText};
 ghost use Rattle.fancy_regex_meta.specs.SearchLimits.{IsMetaSearchError, MetaStaysInLimits, meta_uses_easy, meta_starts_tried, max_looks};
 ghost use Rattle.fancy_regex_meta.specs.MetaMatches.{meta_pattern, meta_match_from};
-ghost use Rattle.fancy_regex_meta.specs.MatchOffsets.{IsMatchWithin};
+ghost use Rattle.fancy_regex_meta.specs.MatchOffsets.{AreBoundaries, IsMatchWithin};
+ghost use Rattle.fancy_regex_meta.specs.FoundParts.{found_parts, wanted_parts};
 ghost use Rattle.fancy_regex_search.specs.CaptureSpans.{IsSpanAt};
 
 use crate::regex::Regex;
 use fancy_regex_class::Steps;
 use fancy_regex_input::{Input, SearchConfig};
-use fancy_regex_meta::{MetaMemory, Result};
+use fancy_regex_meta::{FoundMatch, MetaMemory, Result, Wanted};
 use std::alloc::Global;
 
-/// The start and end byte offsets of each group of the first match, or `None` if there is no match. If the flag is set, `\G`
-/// never matches. The counter is raised as `find_input_counted` says. Errors: `RuntimeError` at a limit, or `Memory`.
-pub fn find_slots<S: Input>(
+/// The first match, with the byte offsets that are wanted, or `None` if there is no match. If the flag is set, `\G` never
+/// matches. The counter is raised as `find_input_counted` says. Errors: `RuntimeError` at a limit, or `Memory`.
+pub fn find_match<S: Input>(
     alloc: Global,
     regex: &Regex,
     haystack: S,
     config: SearchConfig,
     continue_disabled: bool,
+    wanted: Wanted,
     steps: &mut Steps,
-) -> Result<Option<Vec<usize>>>
+) -> Result<Option<FoundMatch>>
     requires { FitsText (S.text haystack) config }
-    ensures answer { IfOk result (λ found. option_map (λ v. v.items) found
-        ≡ option_map (match_slots (meta_pattern regex.now.meta)) (meta_match_from regex.now.meta (S.text haystack) config (max config.start config.range_start) continue_disabled)) }
-    ensures within { IfOk result (λ found. IfSome found (λ v. IsMatchWithin (S.text haystack) config v.items)) }
+    ensures answer { IfOk result (λ found. option_map found_parts found
+        ≡ option_map (wanted_parts wanted (meta_pattern regex.now.meta)) (meta_match_from regex.now.meta (S.text haystack) config (max config.start config.range_start) continue_disabled)) }
+    ensures within { IfOk result (λ found. IfSome found (IsMatchWithin wanted (S.text haystack) config)) }
     ensures limits { IfErr result (λ e. IsMetaSearchError regex.now.meta (S.text haystack) config continue_disabled e) }
     ensures stays { IfOk result (λ _. MetaStaysInLimits regex.now.meta (S.text haystack) config continue_disabled) }
     ensures looks_most { meta_uses_easy regex.now.meta ≡ true → steps.new ≤ steps.old + max_looks regex.now.meta config }
@@ -37,31 +38,33 @@ pub fn find_slots<S: Input>(
     ensures counts { steps.old ≤ steps.new }
 {
     let mut memory = MetaMemory::new(alloc);
-    find_slots_in(
+    find_match_in(
         alloc,
         regex,
         haystack,
         config,
         continue_disabled,
+        wanted,
         steps,
         &mut memory,
     )
 }
 
-/// `find_slots` in the memory of earlier searches, which changes no answer.
-pub fn find_slots_in<S: Input>(
+/// `find_match` in the memory of earlier searches, which changes no answer.
+pub fn find_match_in<S: Input>(
     alloc: Global,
     regex: &Regex,
     haystack: S,
     config: SearchConfig,
     continue_disabled: bool,
+    wanted: Wanted,
     steps: &mut Steps,
     memory: &mut MetaMemory,
-) -> Result<Option<Vec<usize>>>
+) -> Result<Option<FoundMatch>>
     requires { FitsText (S.text haystack) config }
-    ensures answer { IfOk result (λ found. option_map (λ v. v.items) found
-        ≡ option_map (match_slots (meta_pattern regex.now.meta)) (meta_match_from regex.now.meta (S.text haystack) config (max config.start config.range_start) continue_disabled)) }
-    ensures within { IfOk result (λ found. IfSome found (λ v. IsMatchWithin (S.text haystack) config v.items)) }
+    ensures answer { IfOk result (λ found. option_map found_parts found
+        ≡ option_map (wanted_parts wanted (meta_pattern regex.now.meta)) (meta_match_from regex.now.meta (S.text haystack) config (max config.start config.range_start) continue_disabled)) }
+    ensures within { IfOk result (λ found. IfSome found (IsMatchWithin wanted (S.text haystack) config)) }
     ensures limits { IfErr result (λ e. IsMetaSearchError regex.now.meta (S.text haystack) config continue_disabled e) }
     ensures stays { IfOk result (λ _. MetaStaysInLimits regex.now.meta (S.text haystack) config continue_disabled) }
     ensures looks_most { meta_uses_easy regex.now.meta ≡ true → steps.new ≤ steps.old + max_looks regex.now.meta config }
@@ -75,6 +78,7 @@ pub fn find_slots_in<S: Input>(
         haystack.as_str(),
         config,
         continue_disabled,
+        wanted,
         steps,
         memory,
     )
@@ -103,11 +107,11 @@ pub fn group_match<S: Input>(haystack: S, slots: &[usize], group: usize) -> Opti
     Some(haystack.make_match(start, end))
 }
 
-/// The whole match, from offsets that begin with those of group 0.
-pub fn whole_match<S: Input>(haystack: S, config: SearchConfig, slots: &[usize]) -> S::Match
-    requires { IsMatchWithin (S.text haystack) config slots.now }
-    ensures span { S.span result ≡ (slice_index slots.now 0, slice_index slots.now 1) }
+/// The match of the haystack with the span of a match that was found in it.
+pub fn whole_match<S: Input>(haystack: S, found: &FoundMatch) -> S::Match
+    requires { AreBoundaries (S.text haystack) found.now.start found.now.end }
+    ensures span { S.span result ≡ (found.now.start, found.now.end) }
     ensures text { S.match_text result ≡ S.text haystack }
 {
-    haystack.make_match(slots[0], slots[1])
+    haystack.make_match(found.start, found.end)
 }

@@ -1,18 +1,18 @@
 //! The searches behind the iterators over matches: each search starts where the previous match ended. An empty match at the
 //! end of the previous match is skipped, and after an error the iteration is over.
 
-ghost use Rattle.std.specs.Prelude.{◌≡◌, ◌≤◌, ◌<◌, max, option_map, None, Some, true, false, slice_index, MatchOption, MatchResult, IfSome, IfNone, IfOk, IfErr};
-ghost use Rattle.fancy_regex_class.specs.RunInputs.{match_slots};
+ghost use Rattle.std.specs.Prelude.{◌≡◌, ◌≤◌, ◌<◌, max, option_map, None, Some, true, false, MatchOption, MatchResult, IfSome, IfNone, IfOk, IfErr};
 ghost use Rattle.fancy_regex_meta.specs.MetaMatches.{meta_pattern, meta_match_from};
 ghost use Rattle.fancy_regex_meta.specs.MatchOffsets.{IsMatchWithin};
+ghost use Rattle.fancy_regex_meta.specs.FoundParts.{found_parts, wanted_parts};
 ghost use Rattle.fancy_regex_meta.specs.SearchLimits.{MetaStaysInLimits};
 
-use crate::group_spans::find_slots_in;
+use crate::group_spans::find_match_in;
 use crate::regex::Regex;
 use fancy_regex_class::Steps;
 use fancy_regex_input::{Input, RegexInput};
 use fancy_regex_meaning::laws_of_items;
-use fancy_regex_meta::{Error, MetaMemory, Result};
+use fancy_regex_meta::{Error, FoundMatch, MetaMemory, Result, Wanted};
 use std::alloc::Global;
 
 /// The state that an iteration keeps between its searches.
@@ -37,6 +37,8 @@ pub struct MatchIter<'r, S: Input> {
     pub input: RegexInput<S>,
     /// The state between searches.
     pub state: IterState,
+    /// Which byte offsets each match is to have.
+    pub wanted: Wanted,
     /// What the searches allocate, used again by each.
     memory: MetaMemory,
 }
@@ -44,8 +46,8 @@ pub struct MatchIter<'r, S: Input> {
 /// The result of one search of an iteration.
 #[derive(Drop)]
 enum Step {
-    /// A match: the start and end byte offsets of each group.
-    Item(Vec<usize>),
+    /// A match.
+    Item(FoundMatch),
     /// An empty match that is skipped; the iteration goes on.
     Skip,
     /// No further match.
@@ -59,11 +61,16 @@ impl<'r, S: Input> MatchIter<'r, S> {
     ghost use Rattle.fancy_regex_search.specs.IterationLimits.{NextStays};
     ghost use Rattle.fancy_regex_search.specs.IterationSearches.{KeepsSearches};
     ghost use Rattle.fancy_regex_search.specs.RemainingMatches.{remaining_matches, all_matches, remaining_searches, Yields};
-    ghost use Rattle.fancy_regex_search.specs.CaptureSpans.{AreGroupsOf};
+    ghost use Rattle.fancy_regex_search.specs.CaptureSpans.{IsFoundOf};
     ghost use Rattle.fancy_regex_search.specs.IterationSteps.{IsStep, IsLeftByNone, NextMoves, NextReturns, NextEnds, NextKeeps};
 
     /// The iteration before its first search.
-    pub fn new(alloc: Global, regex: &'r Regex, input: RegexInput<S>) -> MatchIter<'r, S>
+    pub fn new(
+        alloc: Global,
+        regex: &'r Regex,
+        input: RegexInput<S>,
+        wanted: Wanted,
+    ) -> MatchIter<'r, S>
         ensures left { remaining_matches result.regex.now.meta (S.text result.input.haystack) result.input.config result.state
             ≡ all_matches regex.entry.now.meta (S.text input.haystack) input.config }
         ensures input { (result.input.haystack ≡ input.haystack) × (result.input.config ≡ input.config) }
@@ -71,6 +78,7 @@ impl<'r, S: Input> MatchIter<'r, S> {
         ensures begins { result.state.continue_disabled ≡ false }
         ensures going { result.state.is_done ≡ false }
         ensures first { result.state.last ≡ None }
+        ensures wanted { result.wanted ≡ wanted }
     {
         MatchIter {
             alloc,
@@ -81,23 +89,18 @@ impl<'r, S: Input> MatchIter<'r, S> {
                 continue_disabled: false,
                 is_done: false,
             },
+            wanted,
             memory: MetaMemory::new(alloc),
         }
     }
 
-    /// Takes the offsets of a match back: their memory serves a later match.
-    pub fn give_back(&mut self, slots: Vec<usize>)
-        ensures { (self.new.input ≡ self.old.input) × (self.new.regex ≡ self.old.regex) × (self.new.state ≡ self.old.state) }
-    {
-        self.memory.give_back(slots);
-    }
-
     /// Makes one search and moves the start of the next one.
     fn step(&mut self) -> Step
-        ensures step { IsStep self.old.regex.now.meta (S.text self.old.input.haystack) self.old.input.config self.old.state result
+        ensures step { IsStep self.old.regex.now.meta (S.text self.old.input.haystack) self.old.input.config self.old.state self.old.wanted result
             self.new.input.config self.new.state }
         ensures haystack { self.new.input.haystack ≡ self.old.input.haystack }
         ensures regex { self.new.regex ≡ self.old.regex }
+        ensures wanted { self.new.wanted ≡ self.old.wanted }
     {
         if self.state.is_done {
             return Step::End;
@@ -109,17 +112,18 @@ impl<'r, S: Input> MatchIter<'r, S> {
             return Step::End;
         }
         let haystack = self.input.haystack();
-        let found = find_slots_in(
+        let found = find_match_in(
             self.alloc,
             self.regex,
             haystack,
             config,
             self.state.continue_disabled,
+            self.wanted,
             &mut Steps::new(),
             &mut self.memory,
         );
         match found {
-            Ok(Some(slots)) => self.step_past_match(slots),
+            Ok(Some(matched)) => self.step_past_match(matched),
             Ok(None) => self.end_without_match(),
             Err(error) => {
                 self.state.is_done = true;
@@ -135,40 +139,42 @@ impl<'r, S: Input> MatchIter<'r, S> {
         requires going { self.old.state.is_done ≡ false }
         requires inside { max self.old.input.config.start self.old.input.config.range_start ≤ self.old.input.config.range_end }
         requires found { None
-            ≡ option_map (match_slots (meta_pattern self.old.regex.now.meta)) (meta_match_from self.old.regex.now.meta (S.text self.old.input.haystack) self.old.input.config
+            ≡ option_map (wanted_parts self.old.wanted (meta_pattern self.old.regex.now.meta)) (meta_match_from self.old.regex.now.meta (S.text self.old.input.haystack) self.old.input.config
             (max self.old.input.config.start self.old.input.config.range_start) self.old.state.continue_disabled) }
         requires stays { MetaStaysInLimits self.old.regex.now.meta (S.text self.old.input.haystack) self.old.input.config self.old.state.continue_disabled }
-        ensures step { IsStep self.old.regex.now.meta (S.text self.old.input.haystack) self.old.input.config self.old.state result
+        ensures step { IsStep self.old.regex.now.meta (S.text self.old.input.haystack) self.old.input.config self.old.state self.old.wanted result
             self.new.input.config self.new.state }
         ensures haystack { self.new.input.haystack ≡ self.old.input.haystack }
         ensures regex { self.new.regex ≡ self.old.regex }
+        ensures wanted { self.new.wanted ≡ self.old.wanted }
     {
         self.state.is_done = true;
         Step::End
     }
 
     /// Moves the start of the next search past a match, and skips an empty match at the end of the previous one.
-    fn step_past_match(&mut self, slots: Vec<usize>) -> Step
+    fn step_past_match(&mut self, found: FoundMatch) -> Step
         requires going { self.old.state.is_done ≡ false }
-        requires found { Some slots.items
-            ≡ option_map (match_slots (meta_pattern self.old.regex.now.meta)) (meta_match_from self.old.regex.now.meta (S.text self.old.input.haystack) self.old.input.config
+        requires found { Some (found_parts found)
+            ≡ option_map (wanted_parts self.old.wanted (meta_pattern self.old.regex.now.meta)) (meta_match_from self.old.regex.now.meta (S.text self.old.input.haystack) self.old.input.config
             (max self.old.input.config.start self.old.input.config.range_start) self.old.state.continue_disabled) }
-        requires within { IsMatchWithin (S.text self.old.input.haystack) self.old.input.config slots.items }
+        requires within { IsMatchWithin self.old.wanted (S.text self.old.input.haystack) self.old.input.config found }
         requires stays { MetaStaysInLimits self.old.regex.now.meta (S.text self.old.input.haystack) self.old.input.config self.old.state.continue_disabled }
-        ensures step { IsStep self.old.regex.now.meta (S.text self.old.input.haystack) self.old.input.config self.old.state result
+        ensures step { IsStep self.old.regex.now.meta (S.text self.old.input.haystack) self.old.input.config self.old.state self.old.wanted result
             self.new.input.config self.new.state }
         ensures haystack { self.new.input.haystack ≡ self.old.input.haystack }
         ensures regex { self.new.regex ≡ self.old.regex }
+        ensures wanted { self.new.wanted ≡ self.old.wanted }
     {
         laws_of_items();
-        let start = slots[0];
-        let end = slots[1];
+        let start = found.start;
+        let end = found.end;
         let is_repeated = self.state.last == Some(end);
         self.state.last = Some(end);
         if start < end {
             self.state.continue_disabled = false;
             self.input.set_start(end);
-            return Step::Item(slots);
+            return Step::Item(found);
         }
         self.state.continue_disabled = end == self.input.effective_start();
         let next = self.input.haystack().advance_position(end);
@@ -176,21 +182,22 @@ impl<'r, S: Input> MatchIter<'r, S> {
         if is_repeated {
             return Step::Skip;
         }
-        Step::Item(slots)
+        Step::Item(found)
     }
 
-    /// The start and end byte offsets of each group of the next match. `None` after the last match and after an error.
-    pub fn advance(&mut self) -> Option<Result<Vec<usize>>>
-        ensures gives { Yields (λ v m. v.items ≡ match_slots (meta_pattern self.old.regex.now.meta) m)
+    /// The next match, with the byte offsets that are wanted. `None` after the last match and after an error.
+    pub fn advance(&mut self) -> Option<Result<FoundMatch>>
+        ensures gives { Yields (IsFoundOf self.old.wanted (meta_pattern self.old.regex.now.meta))
             (remaining_matches self.old.regex.now.meta (S.text self.old.input.haystack) self.old.input.config self.old.state) result
             (remaining_matches self.new.regex.now.meta (S.text self.new.input.haystack) self.new.input.config self.new.state) }
-        ensures within { IfSome result (λ item. IfOk item (λ v. IsMatchWithin (S.text self.old.input.haystack) self.old.input.config v.items)) }
-        ensures moves { NextMoves (λ v. (slice_index v.items 0, slice_index v.items 1)) (S.text self.old.input.haystack) self.old.input.config result self.new.input.config }
+        ensures within { IfSome result (λ item. IfOk item (IsMatchWithin self.old.wanted (S.text self.old.input.haystack) self.old.input.config)) }
+        ensures moves { NextMoves (λ x. (x.start, x.end)) (S.text self.old.input.haystack) self.old.input.config result self.new.input.config }
         ensures nears { IfSome result (λ _. remaining_searches (S.text self.new.input.haystack) self.new.input.config self.new.state
             < remaining_searches (S.text self.old.input.haystack) self.old.input.config self.old.state) }
         ensures grows { self.old.input.config.start ≤ self.new.input.config.start }
         ensures haystack { self.new.input.haystack ≡ self.old.input.haystack }
         ensures regex { self.new.regex ≡ self.old.regex }
+        ensures wanted { self.new.wanted ≡ self.old.wanted }
         ensures config { self.new.input.config ≡ record (self.old.input.config) { start = self.new.input.config.start } }
         ensures fails { IfSome result (λ item. IfErr item (λ e. IsItemError self.old.regex.now.meta (S.text self.old.input.haystack) self.old.input.config
             self.old.state e)) }
@@ -199,13 +206,13 @@ impl<'r, S: Input> MatchIter<'r, S> {
             self.old.state.continue_disabled self.new.input.config self.new.state.continue_disabled)) }
         ensures returns { NextReturns self.old.regex.now.meta (S.text self.old.input.haystack) self.old.input.config self.old.state result self.new.input.config self.new.state }
         ensures ends { NextEnds result self.new.state }
-        ensures keeps { NextKeeps (λ v. slice_index v.items 1) result self.new.state }
+        ensures keeps { NextKeeps (λ x. x.end) result self.new.state }
         ensures left { IfNone result (IsLeftByNone self.old.regex.now.meta (S.text self.old.input.haystack) self.old.input.config self.old.state
             self.new.input.config self.new.state) }
     {
         loop {
             match self.step() {
-                Step::Item(slots) => return Some(Ok(slots)),
+                Step::Item(found) => return Some(Ok(found)),
                 Step::Skip => {}
                 Step::End => return None,
                 Step::Fault(error) => return Some(Err(error)),

@@ -13,7 +13,7 @@ use crate::group_spans::whole_match;
 use crate::match_iter::MatchIter;
 use crate::regex::Regex;
 use fancy_regex_input::{Input, RegexInput};
-use fancy_regex_meta::Result;
+use fancy_regex_meta::{Result, Wanted};
 use std::alloc::Global;
 
 /// The non-overlapping matches in a haystack, from left to right. An item may be an error; after an error or `None` there are
@@ -36,7 +36,7 @@ impl<'r, S: Input> Matches<'r, S> {
         ensures first { result.match_iter.state.last ≡ None }
     {
         Matches {
-            match_iter: MatchIter::new(alloc, regex, input),
+            match_iter: MatchIter::new(alloc, regex, input, Wanted::Span),
         }
     }
 
@@ -87,13 +87,8 @@ impl<'r, S: Input> Iterator for Matches<'r, S> {
 
     fn next(&mut self) -> Option<Result<S::Match>> {
         let haystack = self.match_iter.input.haystack();
-        let config = self.match_iter.input.config();
         match self.match_iter.advance()? {
-            Ok(slots) => {
-                let found = whole_match(haystack, config, &slots);
-                self.match_iter.give_back(slots);
-                Some(Ok(found))
-            }
+            Ok(found) => Some(Ok(whole_match(haystack, &found))),
             Err(error) => Some(Err(error)),
         }
     }

@@ -7,13 +7,13 @@ ghost use Rattle.fancy_regex_input.specs.SearchInputs.{whole};
 ghost use Rattle.fancy_regex_meaning.specs.Searches.{counted};
 ghost use Rattle.fancy_regex_search.specs.RemainingMatches.{all_matches};
 ghost use Rattle.fancy_regex_search.specs.IterationLimits.{ReplacementStays};
-ghost use Rattle.fancy_regex_search.specs.Replacements.{limit_of, is_spent, IsReplacedByCalls, IsReplacedBy, IsReplacedLeaving, IsReplaceError, IsReplaceErrorLeaving};
+ghost use Rattle.fancy_regex_search.specs.Replacements.{limit_of, is_spent, AnswersBy, IsReplacedByCalls, IsReplacedBy, IsReplacedLeaving, IsReplaceError, IsReplaceErrorLeaving};
 
 use crate::captures::Captures;
 use crate::gap_iter::GapIter;
 use crate::regex::Regex;
 use crate::replacer::{NoExpand, Replacer};
-use fancy_regex_meta::Result;
+use fancy_regex_meta::{Result, Wanted};
 use std::alloc::Global;
 use std::borrow::CowStr;
 
@@ -46,6 +46,7 @@ fn one_less(limit: Option<usize>) -> Option<usize>
 
 /// The text with its first matches replaced by what the replacer answers for each, or with all of them for limit 0. Errors:
 /// those of the searches, the last of which is the one behind the last match that is replaced, that of the replacer, or `Memory`.
+/// The replacer is shown the groups where they are wanted; otherwise its answers must not depend on what it is shown.
 // Not inlined: where it was, LLVM had not compiled `try_replacen` for `NoExpand` after half an hour. Why was not looked into.
 #[inline(never)]
 fn replace_by_calls<'t, R: Replacer>(
@@ -53,9 +54,11 @@ fn replace_by_calls<'t, R: Replacer>(
     regex: &Regex,
     text: &'t str,
     limit: usize,
+    wanted: Wanted,
     replacer: &mut R,
 ) -> Result<CowStr<'t>>
-    requires { R.is_ready replacer.old }
+    requires ready { R.is_ready replacer.old }
+    requires alike { AnswersBy wanted R.answers }
     ensures replaced { IfOk result (λ v. IsReplacedByCalls R.answers regex.now.meta text.entry.now 0 (counted limit
         (all_matches regex.now.meta text.entry.now (whole text.entry.now)))
         replacer.old (cow_str_bytes v) replacer.new) }
@@ -65,7 +68,7 @@ fn replace_by_calls<'t, R: Replacer>(
         (all_matches regex.now.meta text.entry.now (whole text.entry.now))) replacer.old e replacer.new None) }
     ensures ready { R.is_ready replacer.new }
 {
-    let mut gaps = GapIter::new(alloc, regex, text);
+    let mut gaps = GapIter::new(alloc, regex, text, wanted);
     let mut out = String::new(alloc);
     let mut rest = text;
     let mut left = limit_of(limit);
@@ -76,7 +79,7 @@ fn replace_by_calls<'t, R: Replacer>(
             break;
         }
         out.push_str(gap.text)?;
-        let captures = Captures::new(regex, text, gap.slots);
+        let captures = Captures::new(regex, text, gap.groups);
         replacer.replace_append(alloc, &captures, &mut out)?;
         rest = gaps.rest();
         left = one_less(left);
@@ -187,8 +190,9 @@ impl Regex {
         ensures ready { R.is_ready rep.new }
     {
         if let Some(fixed) = rep.no_expansion() {
-            return replace_by_calls(alloc, self, text, limit, &mut NoExpand(fixed.as_str()));
+            let mut replacer = NoExpand(fixed.as_str());
+            return replace_by_calls(alloc, self, text, limit, Wanted::Span, &mut replacer);
         }
-        replace_by_calls(alloc, self, text, limit, rep)
+        replace_by_calls(alloc, self, text, limit, Wanted::Groups, rep)
     }
 }

@@ -11,12 +11,12 @@ ghost use Rattle.fancy_regex_search.specs.CaptureSpans.{span_in, AreGroupsOf, Is
 
 use crate::capture_matches::CaptureMatches;
 use crate::captures::Captures;
-use crate::group_spans::{find_slots, whole_match};
+use crate::group_spans::{find_match, whole_match};
 use crate::matches::Matches;
 use crate::regex::Regex;
 use fancy_regex_class::Steps;
 use fancy_regex_input::{Input, RegexInput};
-use fancy_regex_meta::Result;
+use fancy_regex_meta::{Result, Wanted};
 use fancy_regex_tree_laws::weight_bound;
 use std::alloc::Global;
 
@@ -36,12 +36,13 @@ impl Regex {
         ensures limits { IfErr result (λ e. IsMetaSearchError self.now.meta (S.text input.haystack) input.config false e) }
         ensures stays { IfOk result (λ _. MetaStaysInLimits self.now.meta (S.text input.haystack) input.config false) }
     {
-        let found = find_slots(
+        let found = find_match(
             alloc,
             self,
             input.haystack(),
             input.config(),
             false,
+            Wanted::Span,
             &mut Steps::new(),
         )?;
         Ok(found.is_some())
@@ -113,8 +114,8 @@ impl Regex {
         weight_bound();
         let haystack = input.haystack();
         let config = input.config();
-        match find_slots(alloc, self, haystack, config, false, steps)? {
-            Some(slots) => Ok(Some(whole_match(haystack, config, &slots))),
+        match find_match(alloc, self, haystack, config, false, Wanted::Span, steps)? {
+            Some(found) => Ok(Some(whole_match(haystack, &found))),
             None => Ok(None),
         }
     }
@@ -164,16 +165,17 @@ impl Regex {
         ensures stays { IfOk result (λ _. MetaStaysInLimits self.now.meta (S.text input.haystack) input.config false) }
     {
         let haystack = input.haystack();
-        let found = find_slots(
+        let found = find_match(
             alloc,
             self,
             haystack,
             input.config(),
             false,
+            Wanted::Groups,
             &mut Steps::new(),
         )?;
         match found {
-            Some(slots) => Ok(Some(Captures::new(self, haystack, slots))),
+            Some(matched) => Ok(Some(Captures::new(self, haystack, matched.groups))),
             None => Ok(None),
         }
     }

@@ -7,8 +7,8 @@ use Rattle.fancy_regex_input.specs.declared.config.SearchConfig.{SearchConfig}
 use Rattle.fancy_regex_meaning.specs.Searches.{Match, counted}
 use Rattle.fancy_regex_search.specs.RemainingMatches.{all_matches, remaining_matches}
 use Rattle.fancy_regex_search.specs.IterationLimits.{SkipsStayInLimits}
-use Rattle.fancy_regex_search.specs.Replacements.{Shown, shown, still_replaced, FailsInTurn, here, IsReplacedByCalls, call_failed}
-use Rattle.fancy_regex_search.proofs.ReplaceLemmas.{Completes, completes_gap, completes_last, still_spent, still_none, still_more, shown_same}
+use Rattle.fancy_regex_search.specs.Replacements.{shown, still_replaced, FailsInTurn, here, IsReplacedByCalls, call_failed}
+use Rattle.fancy_regex_search.proofs.ReplaceLemmas.{Completes, completes_gap, completes_last, still_spent, still_none, still_more, call_shown}
 use Rattle.fancy_regex_search.proofs.ReplaceLemmas.{completes_init, progress_init, progress_gap, progress_fails, progress_ran_out, progress_stays}
 use Rattle.fancy_regex_search.proofs.replace.replace_by_calls.Goals.{in-Some+in_ok-gap+then-is_spent, in_default}
 use Rattle.fancy_regex_search.proofs.replace.replace_by_calls.Goals as goal
@@ -43,15 +43,15 @@ returns-in_err-replace_append-clause-fails g c =
     let e = c.in_err-replace_append.field-0.0 in
     let last = c.replace_append.new.self in
     let was : c.in-Some.found ≡ Ok c.in_ok-gap.gap = c.in_ok-gap.was in
-    let gives = rw (c.next_gap.ensures.haystack, c.next_gap.ensures.regex, inv.2, inv.3, was) at c.in-Some.ensures.gives in
+    let gives = rw (c.next_gap.ensures.haystack, c.next_gap.ensures.regex, inv.2, inv.3, inv.11, was) at c.in-Some.ensures.gives in
     let m : Match = gives.0 in
     let before : List Match = remaining_matches s text c.loop-found.gaps.match_iter.input.config c.loop-found.gaps.match_iter.state in
     let after : List Match = remaining_matches s text c.next_gap.new.self.match_iter.input.config c.next_gap.new.self.match_iter.state in
     let left : still_replaced c.loop-found.left before ≡ m ∷ still_replaced (option_map (λ n. n - 1) c.loop-found.left) after =
     still_more c.loop-found.left _ before m after (sym c.is_spent.ensures ∙ c.if-is_spent.false) refl gives.1 in
-    let same = shown_same s c.new-captures.result.regex.now.meta text c.new-captures.result.haystack.now c.new-captures.result.slots.items m
-    (ap (λ x. x.now.meta) c.new-captures.ensures.regex) (ap (λ x. x.now) c.new-captures.ensures.haystack) (ap (λ x. x.items) c.new-captures.ensures.slots ∙ gives.2) in
-    let call : A c.loop-found.replacer (shown s text m) (Err e) last = subst (λ (x : Shown). A c.loop-found.replacer x (Err e) last) same c.in_err-replace_append.ensures.fails.0 in
+    let call : A c.loop-found.replacer (shown s text m) (Err e) last = call_shown A c.args.wanted s c.new-captures.result.regex.now.meta text c.new-captures.result.haystack.now
+    c.new-captures.result.slots.items m c.loop-found.replacer last (Err e) c.requires.alike (ap (λ x. x.now.meta) c.new-captures.ensures.regex) (ap (λ x. x.now) c.new-captures.ensures.haystack)
+    (ap (λ x. x.items) c.new-captures.ensures.slots ∙ gives.2) c.in_err-replace_append.ensures.fails.0 in
     let failed : FailsInTurn A c.loop-found.replacer (map (shown s text) (still_replaced c.loop-found.left before)) e last =
     rw left (here c.loop-found.replacer last (shown s text m) _ e call) in
     rw (p.1, p.2) (call_failed None (inv.7.fails e last failed))
@@ -77,6 +77,7 @@ loop-found-init g c =
       search rules,
       search rules,
       made.going,
+      made.wanted,
     )
 
 pub loop-found-preserved : goal.loop-found-preserved
@@ -89,24 +90,22 @@ loop-found-preserved g c =
     let captures = c.new-captures.result in
     let wrote = c.in_ok-replace_append.ensures.appends in
     let gap = c.in_ok-gap.gap in
-    let turn = completes_gap g.R.Replacer.answers s text (counted c.args.limit (all_matches s text (whole text))) c.args.replacer.now old.gaps.last_end new.last_end old.left c.one_less-left.result
-    (remaining_matches s text old.gaps.match_iter.input.config old.gaps.match_iter.state) (remaining_matches s text new.match_iter.input.config new.match_iter.state)
-    old.replacer c.replace_append.new.self (string_bytes old.out) (string_bytes c.replace_append.new.dst) gap.text.now gap.slots.items wrote.0
-    captures.regex.now.meta captures.haystack.now captures.slots.items
-    (ap (λ x. x.now.meta) c.new-captures.ensures.regex) (ap (λ x. x.now) c.new-captures.ensures.haystack) (ap (λ x. x.items) c.new-captures.ensures.slots)
-    (sym c.is_spent.ensures ∙ c.if-is_spent.false) c.one_less-left.ensures
-    (rw (c.next_gap.ensures.haystack, c.next_gap.ensures.regex, inv.2, inv.3, c.in_ok-gap.was) at c.in-Some.ensures.gives)
-    wrote.1 (wrote.2 ∙ ap (λ x. x ++ wrote.0) c.in_ok-push_str.ensures.bytes) inv.7 in
-    let gives = rw (c.next_gap.ensures.haystack, c.next_gap.ensures.regex, inv.2, inv.3, c.in_ok-gap.was) at c.in-Some.ensures.gives in
+    let gives = rw (c.next_gap.ensures.haystack, c.next_gap.ensures.regex, inv.2, inv.3, inv.11, c.in_ok-gap.was) at c.in-Some.ensures.gives in
     let returns = rw (inv.2, inv.3, c.in_ok-gap.was) at c.in-Some.ensures.returns in
     let stays = rw (inv.2, inv.3, c.in_ok-gap.was) at c.in-Some.ensures.stays in
+    let m : Match = gives.0 in
+    let call : g.R.Replacer.answers old.replacer (shown s text m) (Ok wrote.0) c.replace_append.new.self = call_shown g.R.Replacer.answers c.args.wanted s captures.regex.now.meta
+    text captures.haystack.now captures.slots.items m old.replacer c.replace_append.new.self (Ok wrote.0) c.requires.alike (ap (λ x. x.now.meta) c.new-captures.ensures.regex)
+    (ap (λ x. x.now) c.new-captures.ensures.haystack) (ap (λ x. x.items) c.new-captures.ensures.slots ∙ gives.2) wrote.1 in
+    let turn = completes_gap g.R.Replacer.answers s text (counted c.args.limit (all_matches s text (whole text))) c.args.replacer.now old.gaps.last_end new.last_end old.left c.one_less-left.result
+    (remaining_matches s text old.gaps.match_iter.input.config old.gaps.match_iter.state) (remaining_matches s text new.match_iter.input.config new.match_iter.state)
+    old.replacer c.replace_append.new.self (string_bytes old.out) (string_bytes c.replace_append.new.dst) gap.text.now wrote.0 m
+    (sym c.is_spent.ensures ∙ c.if-is_spent.false) c.one_less-left.ensures gives.1 gives.3 gives.4 call
+    (wrote.2 ∙ ap (λ x. x ++ wrote.0) c.in_ok-push_str.ensures.bytes) inv.7 in
     let onward = progress_gap g.R.Replacer.answers s text (counted c.args.limit (all_matches s text (whole text))) c.args.replacer.now old.gaps.match_iter.input.config new.match_iter.input.config
     old.gaps.match_iter.state new.match_iter.state old.left c.one_less-left.result
     (remaining_matches s text old.gaps.match_iter.input.config old.gaps.match_iter.state) (remaining_matches s text new.match_iter.input.config new.match_iter.state)
-    old.replacer c.replace_append.new.self wrote.0 captures.regex.now.meta captures.haystack.now captures.slots.items
-    (ap (λ x. x.now.meta) c.new-captures.ensures.regex) (ap (λ x. x.now) c.new-captures.ensures.haystack)
-    gives.0 gives.1 (ap (λ x. x.items) c.new-captures.ensures.slots ∙ gives.2)
-    (sym c.is_spent.ensures ∙ c.if-is_spent.false) c.one_less-left.ensures inv.4 returns stays wrote.1 inv.5 in
+    old.replacer c.replace_append.new.self wrote.0 m gives.1 (sym c.is_spent.ensures ∙ c.if-is_spent.false) c.one_less-left.ensures inv.4 returns stays call inv.5 in
     let text_same = ap (λ x. x.now) c.next_gap.ensures.haystack ∙ inv.2 in (
       c.rest-rest.utf8,
       c.replace_append.ensures.ready,
@@ -119,6 +118,7 @@ loop-found-preserved g c =
       (λ none. absurd (turn.0 (inv.8 none).0)),
       (λ e. absurd (true≢false e)),
       rw c.in_ok-gap.was at c.in-Some.ensures.ends,
+      c.next_gap.ensures.wanted ∙ inv.11,
     )
 
 pub returns-then-not-is_changed-clause-replaced : goal.returns-then-not-is_changed-clause-replaced

@@ -27,6 +27,7 @@ invariant-loop-found g l =
     × (ms ≡ [] → (left ≡ []) × (l.is_changed ≡ false))
     × (l.is_changed ≡ false → (string_bytes l.out ≡ []) × (l.gaps.last_end ≡ 0))
     × (iter.state.is_done ≡ false)
+    × (iter.wanted ≡ l.fn.wanted)
 
 abbrev pub decreases-loop-found : goal.decreases-loop-found
 decreases-loop-found g l = remaining_searches l.gaps.match_iter.input.haystack.now l.gaps.match_iter.input.config l.gaps.match_iter.state

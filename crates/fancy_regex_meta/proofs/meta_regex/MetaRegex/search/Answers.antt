@@ -1,11 +1,11 @@
 use Rattle.std.proofs.Common.{◌≡◌, ◌<◌, ◌≤◌, ◌+◌, ◌∙◌, ℕ, Bool, min, subst, max, Result, Ok, Err, sym, ap, arith}
 use Rattle.std.specs.Prelude.{option_map, string_bytes, IfOk, IfErr}
 use base.Stored.{Coded-set}
-use Rattle.std.specs.Coded.{coded_option, coded_list, coded_ℕ}
+use Rattle.std.specs.Coded.{coded_option}
 use mathlib.Core.Logic.{∥∥₁_elim}
-use Rattle.fancy_regex_class.specs.RunInputs.{match_slots}
 use Rattle.fancy_regex_meta.specs.Patterns.{tree_in}
 use Rattle.fancy_regex_meta.specs.MetaMatches.{meta_pattern}
+use Rattle.fancy_regex_meta.specs.FoundParts.{wanted_parts}
 use Rattle.std.proofs.Math.Bridge.{le_prop}
 use Rattle.fancy_regex_meaning.specs.Groups.{pattern_of}
 use Rattle.fancy_regex_meaning.specs.Choices.{choices}
@@ -13,7 +13,7 @@ use Rattle.fancy_regex_meta.specs.EasyPatterns.{is_easy_strategy}
 use Rattle.fancy_regex_meta.specs.Strategies.{run_input_of}
 use Rattle.fancy_regex_meta.specs.SearchLimits.{IsSearchError, IsStrategyError, StrategyStaysInLimits, starts_tried, meta_tree, meta_uses_easy, meta_choices, effective_start}
 use Rattle.fancy_regex_meta.proofs.SearchLemmas.{input-same, none-past, run-input-same, none-attempted, IsSearchError-prop, IsStrategyError-prop}
-use Rattle.fancy_regex_meta.proofs.MatchOffsetLemmas.{first_fits, found_within}
+use Rattle.fancy_regex_meta.proofs.MatchOffsetLemmas.{first_fits, found_within, coded_parts}
 use Rattle.fancy_regex_meta.proofs.meta_regex.MetaRegex.search.Goals as goal
 
 pub returns-then-config-first-clause-answer : goal.returns-then-config-first-clause-answer
@@ -21,7 +21,7 @@ returns-then-config-first-clause-answer c =
     let s = c.args.self.now in
     let a = c.args.config in
     let past : a.range_end < max a.start a.range_start = omega (arith, c.max-first.ensures, c.if-config-first.true) in
-    sym (ap (option_map (match_slots (meta_pattern s))) (none-past s.options (string_bytes s.pattern) c.args.text.now a (max a.start a.range_start) c.args.continue_disabled past))
+    sym (ap (option_map (wanted_parts c.args.wanted (meta_pattern s))) (none-past s.options (string_bytes s.pattern) c.args.text.now a (max a.start a.range_start) c.args.continue_disabled past))
 
 if_ok : {A E : Type 0} {P Q : A → Type 0} (r : Result A E) → IfOk r P → ((x : A) → P x → Q x) → IfOk r Q
 if_ok (Ok x) h f = f x h
@@ -39,9 +39,9 @@ returns-clause-answer c =
     let input = c.run_input-input in
     let is : input.result ≡ run_input_of a (max a.start a.range_start) c.args.continue_disabled = input.ensures ∙ ap (λ q. run_input_of a q c.args.continue_disabled) c.max-first.ensures in
     if_ok c.search.result c.search.ensures.answer (λ found told.
-    ∥∥₁_elim s.made (Coded-set (coded_option (coded_list coded_ℕ)) _ _) (λ made.
+    ∥∥₁_elim s.made (Coded-set (coded_option coded_parts) _ _) (λ made.
     told (tree_in s.options (string_bytes s.pattern)) made.runs
-    ∙ ap (option_map (match_slots (meta_pattern s))) (input-same s.options (meta_pattern s) c.args.text.now a (max a.start a.range_start) c.args.continue_disabled input.result is)))
+    ∙ ap (option_map (wanted_parts c.args.wanted (meta_pattern s))) (input-same s.options (meta_pattern s) c.args.text.now a (max a.start a.range_start) c.args.continue_disabled input.result is)))
 
 pub returns-clause-within : goal.returns-clause-within
 returns-clause-within c =
@@ -49,7 +49,7 @@ returns-clause-within c =
     let a = c.args.config in
     let inside : max a.start a.range_start ≤ a.range_end = omega (arith, c.max-first.ensures, c.if-config-first.false) in
     if_ok c.search.result (returns-clause-answer c) (λ found told.
-    found_within s c.args.text.now a c.args.continue_disabled found c.utf8.text (first_fits c.args.text.now a c.requires inside) c.requires.range_end.0 told)
+    found_within s c.args.text.now a c.args.continue_disabled c.args.wanted found c.utf8.text (first_fits c.args.text.now a c.requires inside) c.requires.range_end.0 told)
 
 pub returns-then-config-first-clause-looks_least : goal.returns-then-config-first-clause-looks_least
 returns-then-config-first-clause-looks_least c served =

@@ -7,19 +7,19 @@ use Rattle.fancy_regex_search.proofs.match_iter.MatchIter.advance.Goals as goal
 
 pub returns-in-Item-clause-passes : goal.returns-in-Item-clause-passes
 returns-in-Item-clause-passes g c q o made =
-    let inv = c.loop-slots.invariant in
-    let step = rw (inv.haystack, inv.regex) at c.in-Item.ensures.step in
+    let inv = c.loop-found.invariant in
+    let step = rw (inv.haystack, inv.regex, inv.wanted) at c.in-Item.ensures.step in
     inv.passes q o (step.passes q o made)
 
 pub returns-in-Item-clause-returns : goal.returns-in-Item-clause-returns
 returns-in-Item-clause-returns g c =
-    let inv = c.loop-slots.invariant in
-    let now = c.loop-slots.self in
+    let inv = c.loop-found.invariant in
+    let now = c.loop-found.self in
     let old = c.args.self.now in
     let s = old.regex.now.meta in
     let text = g.S.Input.text old.input.haystack in
     let new = c.step.new.self in
-    let step = rw (inv.haystack, inv.regex) at c.in-Item.ensures.step in
+    let step = rw (inv.haystack, inv.regex, inv.wanted) at c.in-Item.ensures.step in
     let left = rw inv.regex at inv.left in (
       step.returns.0,
       left ∙ step.returns.1,
@@ -28,11 +28,11 @@ returns-in-Item-clause-returns g c =
 
 pub returns-in-Fault-clause-fails : goal.returns-in-Fault-clause-fails
 returns-in-Fault-clause-fails g c =
-    let inv = c.loop-slots.invariant in
-    let now = c.loop-slots.self in
+    let inv = c.loop-found.invariant in
+    let now = c.loop-found.self in
     let s = c.args.self.now.regex.now.meta in
     let text = g.S.Input.text c.args.self.now.input.haystack in
-    let step = rw (inv.haystack, inv.regex) at c.in-Fault.ensures.step in (
+    let step = rw (inv.haystack, inv.regex, inv.wanted) at c.in-Fault.ensures.step in (
       now.input.config.start,
       now.state.continue_disabled,
       inv.skips now.input.config.start now.state.continue_disabled (at_once now.state.last now.input.config.start now.state.continue_disabled),
@@ -42,13 +42,13 @@ returns-in-Fault-clause-fails g c =
 
 pub returns-in-End-clause-left : goal.returns-in-End-clause-left
 returns-in-End-clause-left g c =
-    let inv = c.loop-slots.invariant in
-    let now = c.loop-slots.self in
+    let inv = c.loop-found.invariant in
+    let now = c.loop-found.self in
     let old = c.args.self.now in
     let s = old.regex.now.meta in
     let text = g.S.Input.text old.input.haystack in
     let new = c.step.new.self in
-    let step = rw (inv.haystack, inv.regex) at c.in-End.ensures.step in
+    let step = rw (inv.haystack, inv.regex, inv.wanted) at c.in-End.ensures.step in
     record {
       over = λ over. step.moves ∙ inv.over over;
       skips = λ going.
@@ -61,12 +61,12 @@ returns-in-End-clause-left g c =
 
 pub returns-in-Item-clause-stays : goal.returns-in-Item-clause-stays
 returns-in-Item-clause-stays g c =
-    let inv = c.loop-slots.invariant in
-    let step = rw (inv.haystack, inv.regex) at c.in-Item.ensures.step in
+    let inv = c.loop-found.invariant in
+    let step = rw (inv.haystack, inv.regex, inv.wanted) at c.in-Item.ensures.step in
     inv.stays step.stays
 
 pub returns-in-End-clause-stays : goal.returns-in-End-clause-stays
 returns-in-End-clause-stays g c going =
-    let inv = c.loop-slots.invariant in
-    let step = rw (inv.haystack, inv.regex) at c.in-End.ensures.step in
+    let inv = c.loop-found.invariant in
+    let step = rw (inv.haystack, inv.regex, inv.wanted) at c.in-End.ensures.step in
     inv.stays (step.stays (inv.done ∙ going))

@@ -4,8 +4,8 @@ use Rattle.fancy_regex_search.specs.IterationSearches.{KeepsSearches, KeepsSkips
 use Rattle.fancy_regex_search.specs.IterationLimits.{SkipsStayInLimits}
 use Rattle.fancy_regex_search.proofs.match_iter.MatchIter.advance.Given as goal
 
-abbrev pub invariant-loop-slots : goal.invariant-loop-slots
-invariant-loop-slots g l =
+abbrev pub invariant-loop-found : goal.invariant-loop-found
+invariant-loop-found g l =
     let text = g.S.Input.text l.fn.self.input.haystack in
     let s = l.self in
     let o = l.fn.self in
@@ -14,6 +14,7 @@ invariant-loop-slots g l =
       start : o.input.config.start ≤ s.input.config.start;
       haystack : s.input.haystack ≡ o.input.haystack;
       regex : s.regex ≡ o.regex;
+      wanted : s.wanted ≡ o.wanted;
       config : s.input.config ≡ record (o.input.config) { start = s.input.config.start };
       searches : remaining_searches text s.input.config s.state ≤ remaining_searches text o.input.config o.state;
       passes : KeepsSearches o.regex.now.meta text o.input.config o.state.continue_disabled s.input.config s.state.continue_disabled;
@@ -23,7 +24,7 @@ invariant-loop-slots g l =
       over : o.state.is_done ≡ true → s.input.config ≡ o.input.config;
     }
 
-abbrev pub decreases-loop-slots : goal.decreases-loop-slots
-decreases-loop-slots g l =
+abbrev pub decreases-loop-found : goal.decreases-loop-found
+decreases-loop-found g l =
     let s = l.self in
     remaining_searches (g.S.Input.text s.input.haystack) s.input.config s.state
