@@ -48,6 +48,16 @@ fn delegates(alloc: Global, pattern: &str) -> Result<usize, &'static str> {
     )
 }
 
+/// Whether the end of the pattern is delegated.
+fn has_tail(alloc: Global, pattern: &str) -> Result<bool, &'static str> {
+    let prog = program(alloc, pattern)?;
+    let body = prog.body();
+    Ok(
+        body.iter()
+            .any(|insn| matches!(*insn, Insn::DelegateTail { .. })),
+    )
+}
+
 /// The span of the match, `None` for no match, or the name of the error.
 fn span(alloc: Global, pattern: &str, text: &str) -> Result<Option<(usize, usize)>, &'static str> {
     span_before(alloc, pattern, text, text.len(), 1_000_000)
@@ -62,7 +72,21 @@ fn span_before(
     stop: usize,
     backtracks: usize,
 ) -> Result<Option<(usize, usize)>, &'static str> {
-    let prog = program(alloc, pattern)?;
+    let options = CompileOptions::default();
+    span_as(alloc, pattern, text, stop, &options, false, backtracks)
+}
+
+/// The same of a search that may refuse empty matches, by a program of these options.
+fn span_as(
+    alloc: Global,
+    pattern: &str,
+    text: &str,
+    stop: usize,
+    options: &CompileOptions,
+    find_not_empty: bool,
+    backtracks: usize,
+) -> Result<Option<(usize, usize)>, &'static str> {
+    let prog = program_with(alloc, pattern, false, options)?;
     if stop > text.len() || !prog.has_whole() {
         return Err("range");
     }
@@ -79,7 +103,7 @@ fn span_before(
     };
     let options = RunOptions {
         backtrack_limit: backtracks,
-        find_not_empty: false,
+        find_not_empty,
         seek: None,
     };
     match run_spans(alloc, &prog, text, &input, &options) {
@@ -230,4 +254,98 @@ fn a_look_ahead_is_one_backtrack_at_each_start(rt: HostRuntime) {
         }
     }
     assert!(rt; matches!(span_before(alloc, "(?=a*)b", &text, 2_000, 3_000), Ok(None)));
+}
+
+#[test]
+fn which_patterns_end_in_a_tail(rt: HostRuntime) {
+    let alloc = rt.alloc();
+    assert!(rt; matches!(has_tail(alloc, "(?<=x)a?(?:b?c)*d"), Ok(true)));
+    assert!(rt; matches!(has_tail(alloc, "(?:a|b){2}c"), Ok(true)));
+    // no choices in a repetition, a group in the last part, no row
+    assert!(rt; matches!(has_tail(alloc, "(?<=x)(?:a|b)c*d*"), Ok(false)));
+    assert!(rt; matches!(has_tail(alloc, "(?:a|b)*(c)"), Ok(false)));
+    assert!(rt; matches!(has_tail(alloc, "(?:a|b)*"), Ok(false)));
+}
+
+#[test]
+fn a_tail_is_searched_in_linear_time(rt: HostRuntime) {
+    let alloc = rt.alloc();
+    let mut text = String::new(alloc);
+    if text.push_str("x").is_err() || text.push_str(LETTERS).is_err() {
+        panic!(rt; "no text");
+    }
+    assert!(rt;
+        matches!(
+            span_before(alloc, "(?<=x)(?:a?){30}a{30}", &text, 31, 40),
+            Ok(Some((1, 31)))
+        )
+    );
+}
+
+#[test]
+fn a_tail_ends_in_range(rt: HostRuntime) {
+    let alloc = rt.alloc();
+    let pattern = "(?<=x)(?:a|ab){1,2}(?:c|bcd)?";
+    assert!(rt; matches!(has_tail(alloc, pattern), Ok(true)));
+    assert!(rt;
+        matches!(
+            span_before(alloc, pattern, "xabcd", 5, 100),
+            Ok(Some((1, 5)))
+        )
+    );
+    assert!(rt;
+        matches!(
+            span_before(alloc, pattern, "xabcd", 4, 100),
+            Ok(Some((1, 2)))
+        )
+    );
+    assert!(rt; matches!(span_before(alloc, pattern, "xabcd", 1, 100), Ok(None)));
+}
+
+#[test]
+fn the_longest_match_of_a_tail(rt: HostRuntime) {
+    let alloc = rt.alloc();
+    let pattern = "(?<=x)(?:a|ab){1,2}(?:c|bcd)?";
+    let options = CompileOptions {
+        leftmost_longest: true,
+        ..CompileOptions::default()
+    };
+    assert!(rt;
+        matches!(
+            span_as(alloc, pattern, "xabcd", 5, &options, false, 100),
+            Ok(Some((1, 5)))
+        )
+    );
+    assert!(rt;
+        matches!(
+            span_as(alloc, pattern, "xabcd", 4, &options, false, 100),
+            Ok(Some((1, 4)))
+        )
+    );
+}
+
+#[test]
+fn a_tail_where_empty_matches_are_refused(rt: HostRuntime) {
+    let alloc = rt.alloc();
+    let options = CompileOptions::default();
+    assert!(rt; matches!(has_tail(alloc, "(?:a??){2}b??"), Ok(true)));
+    assert!(rt;
+        matches!(
+            span_as(alloc, "(?:a??){2}b??", "ca", 2, &options, true, 100),
+            Ok(Some((1, 2)))
+        )
+    );
+    assert!(rt;
+        matches!(
+            span_as(alloc, "a*", "ba", 2, &options, true, 100),
+            Ok(Some((1, 2)))
+        )
+    );
+    let pattern = "(?<=x)(?:a|ab){1,2}(?:c|bcd)?";
+    assert!(rt;
+        matches!(
+            span_as(alloc, pattern, "xabcd", 4, &options, true, 100),
+            Ok(Some((1, 2)))
+        )
+    );
 }

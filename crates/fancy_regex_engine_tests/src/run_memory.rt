@@ -134,3 +134,38 @@ fn runs_in_one_memory_end_as_in_new_memory(rt: HostRuntime) {
         }
     }
 }
+
+#[test]
+fn a_run_for_spans_leaves_out_what_nothing_reads(rt: HostRuntime) {
+    let alloc = rt.alloc();
+    let mut memory = RunMemory::new(alloc);
+    let doubled = program(alloc, "((\\w)\\2)(\\w)");
+    let looped = program(alloc, "(?:(a)|(b))+(?!c)");
+    let tested = program(alloc, "(a)?(?(1)b|c)");
+    assert!(rt; doubled.is_some() && looped.is_some() && tested.is_some());
+    if let (Some(doubled), Some(looped), Some(tested)) = (&doubled, &looped, &tested) {
+        assert!(rt; doubled.spans().is_some() && looped.spans().is_some());
+        assert!(rt;
+            ends(
+                alloc,
+                &mut memory,
+                doubled,
+                "abbc",
+                100,
+                Some(&[1, 4, 1, 3, 1, 2, 3, 4])
+            )
+        );
+        assert!(rt; ends(alloc, &mut memory, doubled, "abcd", 100, Some(&[])));
+        assert!(rt;
+            ends(
+                alloc,
+                &mut memory,
+                looped,
+                "xabc",
+                100,
+                Some(&[1, 2, 1, 2, usize::MAX, usize::MAX])
+            )
+        );
+        assert!(rt; ends(alloc, &mut memory, tested, "ab", 100, Some(&[0, 2, 0, 1])));
+    }
+}
