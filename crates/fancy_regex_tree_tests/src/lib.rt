@@ -3,6 +3,8 @@
 #![tactic(auto)]
 
 #[cfg(test)]
+mod debug_text;
+#[cfg(test)]
 mod parse_tests;
 #[cfg(test)]
 mod print_tests;

@@ -1,22 +1,15 @@
-//! Tests of `Expr::parse_tree` and of the functions that visit trees. Each answer is a text, which is compared once.
+//! Tests of the texts of errors, of options, and of the functions that visit, change and copy trees.
 
+use crate::debug_text::debug_text;
 use fancy_regex_tree::{
-    Absent, AstNode, CaptureGroupTarget, Error, Expr, FLAG_CASEI,
-    FLAG_IGNORE_NUMBERED_GROUPS_WHEN_NAMED_GROUPS_EXIST, FLAG_UNICODE, Flags, ParseOptions,
+    AstNode, Error, Expr, FLAG_CASEI, FLAG_IGNORE_NUMBERED_GROUPS_WHEN_NAMED_GROUPS_EXIST,
+    FLAG_UNICODE, Flags, ParseOptions,
 };
 use std::alloc::{AllocError, Global};
 use std::test::Fail;
 
-/// A pattern; and its tree, back references, named groups and number of groups, or its error, as text.
-static ROWS: [(&str, &str); 5] = [
-    (
-        "(?<a>.)(?<b>.)(?<a>.)",
-        "Concat([Group(Any { newline: false, crlf: false }), Group(Any { newline: false, crlf: false }), Group(Any { newline: false, crlf: false })]) {} {\"a\": [1, 3], \"b\": [2]} 3",
-    ),
-    (
-        "()\\1\\2",
-        "Concat([Group(Empty), Backref { group: 1, casei: false }, Backref { group: 2, casei: false }]) {1} {} 1",
-    ),
+/// A pattern, and the text of its error.
+static FAULTS: [(&str, &str); 3] = [
     (
         "(?<a>x)\\k<a>(?<a>y)",
         "Parsing error at position 7: Invalid group name in back reference: a",
@@ -28,49 +21,20 @@ static ROWS: [(&str, &str); 5] = [
     ),
 ];
 
-/// The result of parsing the pattern, as text.
-fn shown(alloc: Global, pattern: &str) -> Result<String, AllocError> {
+/// The text of the error of the pattern; empty if it has none.
+fn fault_text(alloc: Global, pattern: &str) -> Result<String, AllocError> {
     match Expr::parse_tree(alloc, pattern) {
-        Ok(found) => format!(in alloc;
-            "{:?} {:?} {:?} {}",
-            found.expr, found.backrefs, found.named_groups, found.total_groups
-        ),
-        Err(Error::Memory) => Err(AllocError),
+        Ok(_) => Ok(String::new(alloc)),
         Err(error) => format!(in alloc; "{error}"),
     }
 }
 
 #[test]
-fn reads_patterns(rt: HostRuntime) -> Result<(), Fail> {
-    for (pattern, wanted) in ROWS.iter() {
-        let found = shown(rt.alloc(), pattern)?;
-        assert!(rt; found.as_str() == *wanted);
+fn writes_errors(rt: HostRuntime) -> Result<(), Fail> {
+    for (pattern, wanted) in FAULTS.iter() {
+        let found = fault_text(rt.alloc(), pattern)?;
+        assert_eq!(rt; found.as_str(), *wanted);
     }
-    Ok(())
-}
-
-/// Whether it is a leaf; the numbers of its children and of its nodes; whether a repeat and an alternation are below it.
-fn walked(alloc: Global, expr: &Expr) -> Result<String, AllocError> {
-    let is_leaf = expr.is_leaf_node();
-    let children = expr.children_iter().count();
-    let nodes = expr.preorder(alloc)?.len();
-    let repeats = expr.has_descendant(|node| matches!(node, Expr::Repeat { .. }));
-    let alternates = expr.has_descendant(|node| matches!(node, Expr::Alt(_)));
-    format!(in alloc; "{is_leaf} {children} {nodes} {repeats} {alternates}")
-}
-
-/// What a walk over the tree of a pattern tells, and its number of groups.
-fn walked_pattern(alloc: Global, pattern: &str, flags: u32) -> Result<(String, usize), Error> {
-    let found = Expr::parse_tree_with_flags(alloc, pattern, flags)?;
-    Ok((walked(alloc, &found.expr)?, found.total_groups))
-}
-
-#[test]
-fn walks(rt: HostRuntime) -> Result<(), Fail> {
-    let flags = FLAG_UNICODE | FLAG_IGNORE_NUMBERED_GROUPS_WHEN_NAMED_GROUPS_EXIST;
-    let (text, groups) = walked_pattern(rt.alloc(), "(?(a)(?<n>b)|c*)", flags)?;
-    assert_eq!(rt; text.as_str(), "false 3 6 true false");
-    assert!(rt; groups == 1);
     Ok(())
 }
 
@@ -89,159 +53,167 @@ const NAMED_GROUPS_ALONE: ParseOptions = ParseOptions {
     ignore_numbered: true,
 };
 
-/// The number of groups of the tree under the options, and whether the flags give the same tree.
-fn parsed_twice(alloc: Global, flags: u32) -> Result<(usize, bool), Error> {
-    let found = Expr::parse_tree_with_options(alloc, "(a)(?<n>b)", NAMED_GROUPS_ALONE)?;
-    let by_flags = Expr::parse_tree_with_flags(alloc, "(a)(?<n>b)", flags)?;
-    Ok((found.total_groups, found == by_flags))
+/// Whether the options give one group, and the flags the same tree.
+fn is_parsed_alike(alloc: Global, flags: u32) -> bool {
+    let found = Expr::parse_tree_with_options(alloc, "(a)(?<n>b)", NAMED_GROUPS_ALONE);
+    let groups = match &found {
+        Ok(tree) => tree.total_groups,
+        Err(_) => 0,
+    };
+    groups == 1 && found == Expr::parse_tree_with_flags(alloc, "(a)(?<n>b)", flags)
 }
 
 #[test]
-fn parses_with_options(rt: HostRuntime) -> Result<(), Fail> {
+fn parses_with_options(rt: HostRuntime) {
     let flags = FLAG_UNICODE | FLAG_CASEI | FLAG_IGNORE_NUMBERED_GROUPS_WHEN_NAMED_GROUPS_EXIST;
-    assert!(rt; ParseOptions::from_flags(flags) == NAMED_GROUPS_ALONE);
-    let (groups, is_same) = parsed_twice(rt.alloc(), flags)?;
-    assert!(rt; groups == 1 && is_same);
-    Ok(())
+    let same_options = ParseOptions::from_flags(flags) == NAMED_GROUPS_ALONE;
+    assert!(rt; same_options && is_parsed_alike(rt.alloc(), flags));
 }
 
-/// A group that is not resolved, around what keeps the start of the match.
-fn unresolved(alloc: Global) -> Result<Expr, AllocError> {
-    let inner = Box::new(alloc, Expr::KeepOut)?;
-    Ok(Expr::AstNode(AstNode::AstGroup { name: None, inner }, 0))
-}
-
-/// Whether `KeepOut` is below it, and whether it is in it; and the number of its nodes.
-fn kept_out(alloc: Global, expr: &Expr) -> Result<String, AllocError> {
-    let below = expr.has_descendant(|node| matches!(node, Expr::KeepOut));
-    let inside = expr.any_node(|node| matches!(node, Expr::KeepOut));
-    let nodes = expr.preorder(alloc)?.len();
-    format!(in alloc; "{below} {inside} {nodes}")
-}
-
-fn unresolved_text(alloc: Global) -> Result<String, AllocError> {
-    let group = unresolved(alloc)?;
-    kept_out(alloc, &group)
-}
-
-/// Whether a child is lent or put in the place of another.
-fn has_children(alloc: Global) -> Result<bool, AllocError> {
-    let mut group = unresolved(alloc)?;
-    let is_lent = group.child_mut(0).is_some();
-    Ok(is_lent || group.replace_child(0, Expr::Empty).1.is_ok())
-}
-
-/// Whether it is a leaf, and the number of its children.
-fn leaf_text(alloc: Global) -> Result<String, AllocError> {
-    let group = unresolved(alloc)?;
-    let is_leaf = group.is_leaf_node();
-    let children = group.children_iter().count();
-    format!(in alloc; "{is_leaf} {children}")
-}
-
-#[test]
-fn an_unresolved_node_is_a_leaf(rt: HostRuntime) -> Result<(), Fail> {
-    let text = unresolved_text(rt.alloc())?;
-    assert_eq!(rt; text.as_str(), "false true 2");
-    let text = leaf_text(rt.alloc())?;
-    assert_eq!(rt; text.as_str(), "true 0");
-    assert!(rt; !has_children(rt.alloc())?);
-    Ok(())
-}
-
-/// A conditional with two branches.
-fn conditional(alloc: Global) -> Result<Expr, Error> {
-    Ok(Expr::parse_tree(alloc, "(?(a)b|c)")?.expr)
-}
-
-/// The conditional with its second child replaced through a reference.
-fn child_written(alloc: Global) -> Result<Expr, Error> {
-    let mut expr = conditional(alloc)?;
-    if let Some(child) = expr.child_mut(1) {
-        *child = Expr::KeepOut;
+/// The tree of the pattern; without one a group that is not resolved, around what keeps the start of the match.
+fn tree_of(alloc: Global, pattern: Option<&str>) -> Result<Expr, Error> {
+    match pattern {
+        Some(pattern) => Ok(Expr::parse_tree(alloc, pattern)?.expr),
+        None => {
+            let inner = Box::new(alloc, Expr::KeepOut)?;
+            Ok(Expr::AstNode(AstNode::AstGroup { name: None, inner }, 0))
+        }
     }
-    Ok(expr)
 }
 
-/// What `Debug` writes of the tree.
-fn tree_text(alloc: Global, expr: &Expr) -> Result<String, AllocError> {
-    format!(in alloc; "{expr:?}")
+/// Whether it is a leaf; the numbers of its children and of its nodes; whether a repeat, an alternation and `KeepOut` are below
+/// it; and whether `KeepOut` is in it.
+type Walk = (bool, usize, usize, bool, bool, bool, bool);
+
+/// What a walk over the tree tells.
+fn walk(alloc: Global, pattern: Option<&str>) -> Result<Walk, Error> {
+    let expr = tree_of(alloc, pattern)?;
+    let nodes = expr.preorder(alloc)?.len();
+    Ok((
+        expr.is_leaf_node(),
+        expr.children_iter().count(),
+        nodes,
+        expr.has_descendant(|node| matches!(node, Expr::Repeat { .. })),
+        expr.has_descendant(|node| matches!(node, Expr::Alt(_))),
+        expr.has_descendant(|node| matches!(node, Expr::KeepOut)),
+        expr.any_node(|node| matches!(node, Expr::KeepOut)),
+    ))
 }
 
-fn written_text(alloc: Global) -> Result<String, Error> {
-    let expr = child_written(alloc)?;
-    Ok(tree_text(alloc, &expr)?)
-}
-
-fn has_fourth_child(alloc: Global) -> Result<bool, Error> {
-    let mut expr = child_written(alloc)?;
-    Ok(expr.child_mut(3).is_some())
-}
+/// A pattern, and the walk over its tree.
+static WALKS: [(Option<&str>, Walk); 2] = [
+    (
+        Some("(?(a)(?<n>b)|c*)"),
+        (false, 3, 6, true, false, false, false),
+    ),
+    (None, (true, 0, 2, false, false, false, true)),
+];
 
 #[test]
-fn lends_a_child(rt: HostRuntime) -> Result<(), Fail> {
-    let text = written_text(rt.alloc())?;
-    assert_eq!(rt;
-        text.as_str(),
-        "Conditional { condition: Literal { val: \"a\", casei: false }, true_branch: KeepOut, false_branch: Literal { val: \"c\", casei: false } }"
-    );
-    assert!(rt; !has_fourth_child(rt.alloc())?);
+fn walks(rt: HostRuntime) -> Result<(), Fail> {
+    for (pattern, wanted) in WALKS.iter() {
+        let found = walk(rt.alloc(), *pattern)?;
+        assert!(rt; found == *wanted);
+    }
     Ok(())
 }
 
-/// What `Debug` writes of the tree with its third child replaced, and of the child that was there.
-fn replaced_text(alloc: Global, expr: Expr) -> Result<String, AllocError> {
-    let replaced = expr.replace_child(2, Expr::KeepOut);
-    format!(in alloc; "{replaced:?}")
+/// Writes `KeepOut` in the place of a child through a reference, and then in the place of another by value. Gives whether the
+/// first was there, and what the second call answers.
+fn edited(
+    alloc: Global,
+    mut expr: Expr,
+    written: usize,
+    replaced: usize,
+) -> Result<String, AllocError> {
+    let is_lent = match expr.child_mut(written) {
+        Some(child) => {
+            *child = Expr::KeepOut;
+            true
+        }
+        None => false,
+    };
+    debug_text(
+        alloc,
+        (is_lent, expr.replace_child(replaced, Expr::KeepOut)),
+    )
 }
 
-fn child_replaced(alloc: Global) -> Result<String, Error> {
-    Ok(replaced_text(alloc, conditional(alloc)?)?)
+fn edited_pattern(
+    alloc: Global,
+    pattern: Option<&str>,
+    written: usize,
+    replaced: usize,
+) -> Result<String, Error> {
+    Ok(edited(alloc, tree_of(alloc, pattern)?, written, replaced)?)
 }
+
+/// A pattern, the two children, and what the edits give.
+static EDITS: [(Option<&str>, usize, usize, &str); 3] = [
+    (
+        Some("(?(a)b|c)"),
+        1,
+        3,
+        "(true, (Conditional { condition: Literal { val: \"a\", casei: false }, true_branch: KeepOut, false_branch: Literal { val: \"c\", casei: false } }, Err(KeepOut)))",
+    ),
+    (
+        Some("(?(a)b|c)"),
+        3,
+        2,
+        "(false, (Conditional { condition: Literal { val: \"a\", casei: false }, true_branch: Literal { val: \"b\", casei: false }, false_branch: KeepOut }, Ok(Literal { val: \"c\", casei: false })))",
+    ),
+    (
+        None,
+        0,
+        0,
+        "(false, (AstNode(AstGroup { name: None, inner: KeepOut }, 0), Err(KeepOut)))",
+    ),
+];
 
 #[test]
-fn replaces_a_child(rt: HostRuntime) -> Result<(), Fail> {
-    let text = child_replaced(rt.alloc())?;
-    assert_eq!(rt;
-        text.as_str(),
-        "(Conditional { condition: Literal { val: \"a\", casei: false }, true_branch: Literal { val: \"b\", casei: false }, false_branch: KeepOut }, Ok(Literal { val: \"c\", casei: false }))"
-    );
+fn edits_children(rt: HostRuntime) -> Result<(), Fail> {
+    for (pattern, written, replaced, wanted) in EDITS.iter() {
+        let found = edited_pattern(rt.alloc(), *pattern, *written, *replaced)?;
+        assert_eq!(rt; found.as_str(), *wanted);
+    }
     Ok(())
 }
 
-/// A tree of many kinds of nodes.
-fn many_nodes(alloc: Global) -> Result<Expr, Error> {
-    let found = Expr::parse_tree(alloc, "(?<n>a|[b-d]{2,}?)(?~x)\\k<n>(?(1)y|\\g<1>)")?;
-    Ok(found.expr)
+/// Whether the copies of the node, and of the group that it calls, equal what they copy.
+fn copies_node(alloc: Global, node: &AstNode) -> Result<bool, AllocError> {
+    if let AstNode::SubroutineCall(target) = node {
+        if target.try_clone(alloc)? != *target {
+            return Ok(false);
+        }
+    }
+    Ok(node.try_clone(alloc)? == *node)
 }
 
-fn copies_tree(alloc: Global) -> Result<bool, Error> {
-    let tree = many_nodes(alloc)?;
-    Ok(tree.try_clone(alloc)? == tree)
+/// Whether the copies of the tree, and of the operator or node that it consists of, equal what they copy.
+fn copies_tree(alloc: Global, expr: &Expr) -> Result<bool, AllocError> {
+    match expr {
+        Expr::Absent(absent) => Ok(absent.try_clone(alloc)? == *absent),
+        Expr::AstNode(node, _) => copies_node(alloc, node),
+        _ => Ok(expr.try_clone(alloc)? == *expr),
+    }
 }
 
-fn copies_target(alloc: Global) -> Result<bool, AllocError> {
-    let target = CaptureGroupTarget::ByName(String::from_str(alloc, "n")?);
-    Ok(target.try_clone(alloc)? == target)
+fn copies(alloc: Global, pattern: &str) -> Result<bool, Error> {
+    let expr = tree_of(alloc, Some(pattern))?;
+    Ok(copies_tree(alloc, &expr)?)
 }
 
-fn copies_node(alloc: Global) -> Result<bool, AllocError> {
-    let target = CaptureGroupTarget::ByName(String::from_str(alloc, "n")?);
-    let node = AstNode::SubroutineCall(target);
-    Ok(node.try_clone(alloc)? == node)
-}
-
-fn copies_absent(alloc: Global) -> Result<bool, Error> {
-    let absent = Absent::Repeater(Box::new(alloc, many_nodes(alloc)?)?);
-    Ok(absent.try_clone(alloc)? == absent)
-}
+/// A tree of many kinds of nodes, the same in an absent operator, and a call of a group that does not exist.
+static COPIED: [&str; 3] = [
+    "(?<n>a|[b-d]{2,}?)(?~x)\\k<n>(?(1)y|\\g<1>)",
+    "(?~(?<n>a|[b-d]{2,}?)(?~x)\\k<n>(?(1)y|\\g<1>))",
+    "\\g<n>",
+];
 
 #[test]
 fn copies_equal_what_they_copy(rt: HostRuntime) -> Result<(), Fail> {
-    let alloc = rt.alloc();
-    assert!(rt; copies_tree(alloc)?);
-    assert!(rt; copies_target(alloc)?);
-    assert!(rt; copies_node(alloc)?);
-    assert!(rt; copies_absent(alloc)?);
+    for pattern in COPIED.iter() {
+        assert!(rt; copies(rt.alloc(), pattern)?);
+    }
     Ok(())
 }

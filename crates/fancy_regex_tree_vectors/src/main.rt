@@ -4,7 +4,7 @@
 //! table holds, and where the cases come from.
 #![tactic(auto)]
 
-use case::case_of;
+use case::{case_of, plain};
 use fault::Fault;
 use std::io;
 use std::process::ExitCode;
@@ -12,8 +12,6 @@ use std::process::ExitCode;
 mod answer;
 mod case;
 mod fault;
-mod quoted;
-mod tree_text;
 
 fn main(rt: HostRuntime) -> ExitCode {
     match compare_all(&rt) {
@@ -23,8 +21,8 @@ fn main(rt: HostRuntime) -> ExitCode {
     }
 }
 
-/// Compares each case of the table and prints the totals. Returns whether all cases agree. Fails as `case_of` does, and if
-/// standard input or output fails.
+/// Compares each case of the table and prints the totals. Returns whether all cases agree. Fails if a line is not a
+/// case, if memory runs out, and if standard input or output fails.
 fn compare_all(rt: &HostRuntime) -> Result<bool, Fault> {
     let table = io::read_to_string(rt.alloc(), rt.stdin())?;
     let mut cases: usize = 0;
@@ -45,8 +43,11 @@ fn compare_all(rt: &HostRuntime) -> Result<bool, Fault> {
 
 /// Whether the case of this line agrees. If not, prints it and the actual result.
 fn compare(rt: &HostRuntime, line: &str) -> Result<bool, Fault> {
-    let case = case_of(rt.alloc(), line)?;
-    let found = answer::answer(rt.alloc(), case.flags, &case.pattern)?;
+    let Some(case) = case_of(line) else {
+        return Err(Fault::Table);
+    };
+    let pattern = plain(rt.alloc(), case.quoted)?;
+    let found = answer::answer(rt.alloc(), case.flags, &pattern)?;
     if has_all(&found, case.wanted) {
         return Ok(true);
     }
@@ -57,14 +58,9 @@ fn compare(rt: &HostRuntime, line: &str) -> Result<bool, Fault> {
 /// Whether the answer has each of the expected fields.
 fn has_all(answer: &str, wanted: &str) -> bool {
     for field in wanted.split('\t') {
-        if !has(answer, field) {
+        if !answer.split('\t').any(|found| found == field) {
             return false;
         }
     }
     true
-}
-
-/// Whether the answer has this field.
-fn has(answer: &str, wanted: &str) -> bool {
-    answer.split('\t').any(|field| field == wanted)
 }
