@@ -1,97 +1,129 @@
-//! Tests of the analysis on trees that are built by hand, and that no parser makes, and of the trees that are well-formed.
+//! Tests of the analysis on trees that no parser makes, and of the trees that are well-formed. Such a tree is a parsed one that is
+//! changed.
 
 use fancy_regex_info::{AnalyzeContext, CompileError};
 use fancy_regex_sizes::{analyze, can_compile_as_anchored, is_well_formed};
 use fancy_regex_tree::{Assertion, Expr, ExprTree};
-use std::alloc::{AllocError, Global};
-use std::collections::{BTreeMap, BTreeSet};
-use std::test::Fail;
+use std::alloc::Global;
+use std::collections::BTreeSet;
 
-fn letter(alloc: Global) -> Result<Expr, AllocError> {
-    Ok(Expr::Literal {
-        val: String::from_str(alloc, "a")?,
-        casei: false,
-    })
+/// A change of a parsed tree.
+#[derive(Clone, Copy)]
+enum Change {
+    /// The summary says that there is no group.
+    NoGroup,
+    /// The summary says that no group is referred to.
+    NoReference,
+    /// The summary says that there are calls.
+    Calls,
+    /// The bounds of the repeat are 3 and 0.
+    ReversedBounds,
+    /// There is an optional start of the text in place of the pattern.
+    OptionalStart,
+    /// There is an alternation of no branches in place of the pattern.
+    NoBranch,
+    /// There is a call of group 3 in place of the pattern.
+    CallOfThird,
 }
 
-fn repeat(alloc: Global, child: Expr, lo: usize, hi: usize) -> Result<Expr, AllocError> {
-    Ok(Expr::Repeat {
-        child: Box::new(alloc, child)?,
-        lo,
-        hi,
-        greedy: true,
-    })
+/// What is asked of a tree.
+#[derive(Clone, Copy)]
+enum Question {
+    /// `is_well_formed`.
+    IsWellFormed,
+    /// `can_compile_as_anchored`.
+    IsAnchored,
+    /// Whether the analysis refuses a call of group 3, as there is none.
+    LacksThird,
 }
 
-fn concatenation(alloc: Global, first: Expr, second: Expr) -> Result<Expr, AllocError> {
-    let mut parts = Vec::new(alloc);
-    parts.push(first)?;
-    parts.push(second)?;
-    Ok(Expr::Concat(parts))
-}
+/// A pattern, what is changed in its tree, a question, and the answer. All trees have no group 3.
+struct Asked(&'static str, &'static [Change], Question, bool);
 
-fn group(alloc: Global, child: Expr) -> Result<Expr, AllocError> {
-    Ok(Expr::Group(Box::new(alloc, child)?))
-}
+static TREES: [Asked; 11] = [
+    // the summary of a well-formed tree agrees with its nodes
+    Asked(
+        "(a)\\1",
+        &[Change::NoGroup, Change::NoReference],
+        Question::IsWellFormed,
+        false,
+    ),
+    Asked(
+        "(a)\\1",
+        &[Change::NoReference],
+        Question::IsWellFormed,
+        false,
+    ),
+    Asked("(a)\\1", &[], Question::IsWellFormed, true),
+    Asked("(a)\\1", &[Change::Calls], Question::IsWellFormed, false),
+    Asked("a", &[], Question::IsWellFormed, true),
+    // its repeats have their bounds in order, and its alternations have branches
+    Asked(
+        "a{3}",
+        &[Change::ReversedBounds],
+        Question::IsWellFormed,
+        false,
+    ),
+    Asked("a", &[Change::NoBranch], Question::IsWellFormed, false),
+    // an anchored pattern begins with the start of the text, and cannot leave it out
+    Asked("\\Aa", &[], Question::IsAnchored, true),
+    Asked("a", &[], Question::IsAnchored, false),
+    Asked("\\A", &[Change::OptionalStart], Question::IsAnchored, false),
+    // a call without a target is refused
+    Asked("a", &[Change::CallOfThird], Question::LacksThird, true),
+];
 
-fn tree_with_root(alloc: Global, expr: Expr) -> ExprTree {
-    ExprTree {
-        expr,
-        backrefs: BTreeSet::new(alloc),
-        named_groups: BTreeMap::new(alloc),
-        contains_subroutines: false,
-        total_groups: 0,
-        reference_above_total: false,
-        named_backref_only: false,
-        calls_whole: false,
-    }
-}
-
-#[test]
-fn a_call_without_a_target_is_refused(rt: HostRuntime) {
-    let alloc = rt.alloc();
-    let tree = tree_with_root(alloc, Expr::SubroutineCall(3));
-    match analyze(alloc, &tree, AnalyzeContext::default()) {
-        Err(CompileError::SubroutineCallTargetNotFound(target)) => {
-            assert_eq!(rt; target.as_str(), "3");
+/// Makes the change.
+fn make(alloc: Global, tree: &mut ExprTree, change: Change) {
+    match change {
+        Change::NoGroup => tree.total_groups = 0,
+        Change::NoReference => tree.backrefs = BTreeSet::new(alloc),
+        Change::Calls => tree.contains_subroutines = true,
+        Change::ReversedBounds => if let Expr::Repeat { lo, hi, .. } = &mut tree.expr {
+            *lo = 3;
+            *hi = 0;
+        },
+        Change::OptionalStart => {
+            let start = Expr::Assertion(Assertion::StartText);
+            if let Ok(child) = Box::new(alloc, start) {
+                tree.expr = Expr::Repeat {
+                    child,
+                    lo: 0,
+                    hi: 1,
+                    greedy: true,
+                };
+            }
         }
-        _ => panic!(rt; "refused otherwise, or not at all"),
+        Change::NoBranch => tree.expr = Expr::Alt(Vec::new(alloc)),
+        Change::CallOfThird => tree.expr = Expr::SubroutineCall(3),
     }
 }
 
-#[test]
-fn well_formed_trees(rt: HostRuntime) -> Result<(), Fail> {
-    let alloc = rt.alloc();
-    let reference = Expr::Backref {
-        group: 1,
-        casei: false,
+/// The answer to the question.
+fn answer(alloc: Global, tree: &ExprTree, question: Question) -> bool {
+    match question {
+        Question::IsWellFormed => is_well_formed(tree),
+        Question::IsAnchored => can_compile_as_anchored(&tree.expr),
+        Question::LacksThird => match analyze(alloc, tree, AnalyzeContext::default()) {
+            Err(CompileError::SubroutineCallTargetNotFound(target)) => target.as_str() == "3",
+            _ => false,
+        },
+    }
+}
+
+/// Whether the answer is the wanted one.
+fn holds(alloc: Global, row: &Asked) -> bool {
+    let Ok(mut tree) = Expr::parse_tree(alloc, row.0) else {
+        return false;
     };
-    let root = concatenation(alloc, group(alloc, letter(alloc)?)?, reference)?;
-    let mut tree = tree_with_root(alloc, root);
-    assert!(rt; !is_well_formed(&tree));
-    tree.total_groups = 1;
-    assert!(rt; !is_well_formed(&tree));
-    tree.backrefs.insert(1)?;
-    assert!(rt; is_well_formed(&tree));
-    tree.contains_subroutines = true;
-    assert!(rt; !is_well_formed(&tree));
-    assert!(rt; is_well_formed(&tree_with_root(alloc, letter(alloc)?)));
-    let reversed = tree_with_root(alloc, repeat(alloc, letter(alloc)?, 3, 0)?);
-    assert!(rt; !is_well_formed(&reversed));
-    let branchless = tree_with_root(alloc, Expr::Alt(Vec::new(alloc)));
-    assert!(rt; !is_well_formed(&branchless));
-    Ok(())
+    for change in row.1 {
+        make(alloc, &mut tree, *change);
+    }
+    answer(alloc, &tree, row.2) == row.3
 }
 
 #[test]
-fn anchored_patterns(rt: HostRuntime) -> Result<(), Fail> {
-    let alloc = rt.alloc();
-    let start = Expr::Assertion(Assertion::StartText);
-    let anchored = concatenation(alloc, start, letter(alloc)?)?;
-    assert!(rt; can_compile_as_anchored(&anchored));
-    assert!(rt; !can_compile_as_anchored(&letter(alloc)?));
-    let start = Expr::Assertion(Assertion::StartText);
-    let optional = repeat(alloc, start, 0, 1)?;
-    assert!(rt; !can_compile_as_anchored(&optional));
-    Ok(())
+fn trees(rt: HostRuntime) {
+    let wrong = TREES.iter().position(|row| !holds(rt.alloc(), row));
+    assert_eq!(rt; wrong, None);
 }

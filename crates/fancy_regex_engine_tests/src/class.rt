@@ -1,31 +1,41 @@
 //! Tests of class matchers, folding and counted reads.
 
 use fancy_regex_class::{CaseiLiteral, CharClassMatcher, Counted, Steps, is_word};
+use std::alloc::Global;
 
-#[test]
-fn another_pattern_has_members_too(rt: HostRuntime) {
-    match CharClassMatcher::new(rt.alloc(), "ab|c", false, true) {
-        Ok(matcher) => assert!(rt; matcher.contains('c') && !matcher.contains('a')),
-        Err(_) => assert!(rt; false),
-    }
-}
+/// A pattern, an ASCII character, and whether it is a member of what the pattern matches. The second pattern is another than a class.
+struct Member(&'static str, u8, bool);
 
-#[test]
-fn ascii_answers(rt: HostRuntime) {
-    match CharClassMatcher::new(rt.alloc(), "[0-9é]", false, true) {
+static MEMBERS: [Member; 4] = [
+    Member("ab|c", b'c', true),
+    Member("ab|c", b'a', false),
+    Member("[0-9é]", b'0', true),
+    Member("[0-9é]", b'/', false),
+];
+
+/// Whether the matcher and its table say this of the character.
+fn has_member(alloc: Global, row: &Member) -> bool {
+    match CharClassMatcher::new(alloc, row.0, false, true) {
         Ok(matcher) => {
-            assert!(rt; matcher.ascii()[48]);
-            assert!(rt; !matcher.ascii()[47]);
+            matcher.contains(char::from(row.1)) == row.2
+                && matcher.ascii().get(usize::from(row.1)) == Some(&row.2)
         }
-        Err(_) => assert!(rt; false),
+        Err(_) => false,
     }
 }
 
 #[test]
-fn literals_fold(rt: HostRuntime) {
-    assert!(rt; CaseiLiteral::new('ſ', true).matches('S'));
-    assert!(rt; !CaseiLiteral::new('ſ', false).matches('S'));
-    assert!(rt; CaseiLiteral::new('s', false).matches('S'));
+fn classes_have_members(rt: HostRuntime) {
+    let wrong = MEMBERS.iter().position(|row| !has_member(rt.alloc(), row));
+    assert_eq!(rt; wrong, None);
+}
+
+#[test]
+fn characters_fold_and_are_of_words(rt: HostRuntime) {
+    let folds = CaseiLiteral::new('ſ', true).matches('S')
+        && !CaseiLiteral::new('ſ', false).matches('S')
+        && CaseiLiteral::new('s', false).matches('S');
+    assert!(rt; folds);
     assert!(rt; is_word('é', true) && !is_word('é', false) && is_word('_', false));
 }
 
@@ -33,8 +43,7 @@ fn literals_fold(rt: HostRuntime) {
 fn looks_are_counted(rt: HostRuntime) {
     let mut steps = Steps::new();
     let mut text = Counted::new("aé", &mut steps);
-    assert!(rt; text.look(0) == (None, Some('a')));
-    assert!(rt; text.look(1) == (Some('a'), Some('é')));
-    assert!(rt; text.look(3) == (Some('é'), None));
-    assert!(rt; steps.count() == 3);
+    let looks = [text.look(0), text.look(1), text.look(3)];
+    let wanted = [(None, Some('a')), (Some('a'), Some('é')), (Some('é'), None)];
+    assert!(rt; looks == wanted && steps.count() == 3);
 }

@@ -1,6 +1,8 @@
 //! Tests of character classes, the analysis of patterns, the runner, the compiler and the machine, of what the cases of
 //! `fancy_regex_vectors` cannot state. They are a crate of their own so that the crates that they test are proved once. There is no
 //! code here.
+//!
+//! Most cases are rows of tables. A test that fails tells the number of the first wrong row, from 0.
 #![tactic(auto)]
 
 #[cfg(test)]
@@ -8,12 +10,12 @@ mod analysis;
 #[cfg(test)]
 mod class;
 #[cfg(test)]
-mod delegates;
+mod compiled;
 #[cfg(test)]
-mod machine;
+mod groups;
 #[cfg(test)]
 mod program;
 #[cfg(test)]
-mod run_memory;
-#[cfg(test)]
 mod runner;
+#[cfg(test)]
+mod spans;

@@ -1,59 +1,143 @@
-//! Programs without a group for the whole match, and ranges of groups.
+//! What programs are made of, and ranges of groups.
 
-use fancy_regex_info::{AnalyzeContext, CompileOptions};
-use fancy_regex_program::{CaptureGroupRange, Insn, Prog, compile};
-use fancy_regex_sizes::analyze;
-use fancy_regex_tree::Expr;
+use crate::compiled::{Text, program};
+use fancy_regex_info::CompileOptions;
+use fancy_regex_program::{CaptureGroupRange, Insn, Prog};
 use std::alloc::Global;
 
-/// The anchored program of a pattern, without a group for the whole match; `None` for a pattern that is refused.
-fn bare_program(alloc: Global, pattern: &str) -> Option<Prog> {
-    let tree = Expr::parse_tree(alloc, pattern).ok()?;
-    let context = AnalyzeContext {
-        explicit_capture_group_0: true,
-        find_not_empty: false,
-    };
-    let info = analyze(alloc, &tree, context).ok()?;
+/// An instruction.
+enum Step {
+    Lit(Text),
+    /// A part that is delegated, by its pattern. It has no capture group.
+    Part(Text),
+    Save(usize),
+    Restore(usize),
+    End,
+}
+
+/// What a program has.
+enum Wanted {
+    /// So many parts that are delegated.
+    Parts(usize),
+    /// Whether the end of the pattern is delegated.
+    Tail(bool),
+    /// So many slots.
+    Slots(usize),
+    /// Instructions for runs that answer only the span of a match.
+    SpanCode,
+    /// These instructions, where it is anchored and has no group for the whole match.
+    Steps(&'static [Step]),
+}
+
+/// A pattern, and what its program has.
+struct Compiled(Text, Wanted);
+
+static PROGRAMS: [Compiled; 28] = [
+    Compiled("(?>(?:a?){3}b)", Wanted::Parts(1)),
+    Compiled("(?!(?:a?){3}b)c", Wanted::Parts(1)),
+    Compiled("(?((?:a?){3}b)c|d)", Wanted::Parts(1)),
+    Compiled("(?=(?:a?){3}b)a", Wanted::Parts(1)),
+    // one choice at the end, where only counts whether the body matches
+    Compiled("(?=ab*)c", Wanted::Parts(1)),
+    Compiled("(?!a|b)c", Wanted::Parts(1)),
+    Compiled("(?=a*b)a", Wanted::Parts(0)),
+    Compiled("(?=a(?:b*c))a", Wanted::Parts(0)),
+    // the same body of two uses
+    Compiled("(?=(?:a|b)*)(?>(?:a|b)*)", Wanted::Parts(2)),
+    // too few choices, a capture group, a hard node, a body that is read backwards
+    Compiled("(?>a*)b", Wanted::Parts(0)),
+    Compiled("(?>(a?){3}b)", Wanted::Parts(0)),
+    Compiled("(?=(a?){3})b", Wanted::Parts(0)),
+    Compiled("(?<=a|b)e", Wanted::Parts(0)),
+    Compiled("(?>(?:a?){3}\\Gb)", Wanted::Parts(0)),
+    Compiled("(?<!(?:a|b)(?:c|d))e", Wanted::Parts(0)),
+    // the end of the pattern
+    Compiled("(?<=x)a?(?:b?c)*d", Wanted::Tail(true)),
+    Compiled("(?:a|b){2}c", Wanted::Tail(true)),
+    Compiled("(?<=x)(?:a|ab){1,2}(?:c|bcd)?", Wanted::Tail(true)),
+    Compiled("(?:a??){2}b??", Wanted::Tail(true)),
+    // no choices in a repetition, a group in the last part, no row
+    Compiled("(?<=x)(?:a|b)c*d*", Wanted::Tail(false)),
+    Compiled("(?:a|b)*(c)", Wanted::Tail(false)),
+    Compiled("(?:a|b)*", Wanted::Tail(false)),
+    Compiled("(a|b)\\g<1>", Wanted::Slots(5)),
+    Compiled("(?:(?:ab){2,3}){4,5}", Wanted::Slots(4)),
+    Compiled("((\\w)\\2)(\\w)", Wanted::SpanCode),
+    Compiled("(?:(a)|(b))+(?!c)", Wanted::SpanCode),
+    // a literal is one instruction, and so is the body of a look-ahead
+    Compiled("abc", Wanted::Steps(&[Step::Lit("abc"), Step::End])),
+    Compiled(
+        "(?=ab*)c",
+        Wanted::Steps(&[
+            Step::Save(0),
+            Step::Part("ab*"),
+            Step::Restore(0),
+            Step::Lit("c"),
+            Step::End,
+        ]),
+    ),
+];
+
+/// Whether the instruction is this one.
+fn is_step(insn: &Insn, step: &Step) -> bool {
+    match (insn, step) {
+        (Insn::Lit(text), Step::Lit(wanted)) => text.as_str() == *wanted,
+        (Insn::Delegate(part), Step::Part(wanted)) => {
+            part.pattern() == *wanted && part.capture_groups().to_option_if_non_empty().is_none()
+        }
+        (Insn::Save(slot), Step::Save(wanted)) => slot == wanted,
+        (Insn::Restore(slot), Step::Restore(wanted)) => slot == wanted,
+        (Insn::End, Step::End) => true,
+        _ => false,
+    }
+}
+
+/// Whether the program has what is wanted.
+fn has(prog: &Prog, wanted: &Wanted) -> bool {
+    let mut body = prog.body().iter();
+    match wanted {
+        Wanted::Parts(count) => {
+            body.filter(|insn| matches!(**insn, Insn::Delegate(_)))
+                .count()
+                == *count
+        }
+        Wanted::Tail(is_there) => {
+            body.any(|insn| matches!(*insn, Insn::DelegateTail { .. })) == *is_there
+        }
+        Wanted::Slots(count) => prog.slots() == *count,
+        Wanted::SpanCode => prog.spans().is_some(),
+        Wanted::Steps(steps) => {
+            prog.body().len() == steps.len()
+                && body
+                    .zip(steps.iter())
+                    .all(|(insn, step)| is_step(insn, step))
+        }
+    }
+}
+
+/// Whether the program of a row has what is wanted.
+fn holds(alloc: Global, row: &Compiled) -> bool {
+    let is_bare = matches!(row.1, Wanted::Steps(_));
     let options = CompileOptions {
-        anchored: true,
+        anchored: is_bare,
         ..CompileOptions::default()
     };
-    compile(alloc, &info, &options).ok()
-}
-
-#[test]
-fn an_anchored_literal_is_one_instruction(rt: HostRuntime) {
-    let Some(prog) = bare_program(rt.alloc(), "abc") else {
-        panic!(rt; "no program");
-    };
-    match prog.body() {
-        [Insn::Lit(text), Insn::End] => assert_eq!(rt; text.as_str(), "abc"),
-        _ => panic!(rt; "another program"),
+    match program(alloc, row.0, is_bare, &options) {
+        Some(prog) => has(&prog, &row.1),
+        None => false,
     }
 }
 
-/// The program of a pattern; `None` for a pattern that is refused.
-fn whole_program(alloc: Global, pattern: &str) -> Option<Prog> {
-    let tree = Expr::parse_tree(alloc, pattern).ok()?;
-    let info = analyze(alloc, &tree, AnalyzeContext::default()).ok()?;
-    compile(alloc, &info, &CompileOptions::default()).ok()
-}
-
 #[test]
-fn programs_have_slots(rt: HostRuntime) {
-    let alloc = rt.alloc();
-    for (pattern, slots) in [("(a|b)\\g<1>", 5), ("(?:(?:ab){2,3}){4,5}", 4)] {
-        let Some(prog) = whole_program(alloc, pattern) else {
-            panic!(rt; "no program");
-        };
-        assert_eq!(rt; prog.slots(), slots);
-    }
+fn programs_have_what_is_wanted(rt: HostRuntime) {
+    let wrong = PROGRAMS.iter().position(|row| !holds(rt.alloc(), row));
+    assert_eq!(rt; wrong, None);
 }
 
 #[test]
 fn ranges_of_groups(rt: HostRuntime) {
     let range = CaptureGroupRange(1, 3);
-    assert_eq!(rt; (range.start(), range.end()), (1, 3));
+    assert!(rt; range.start() == 1 && range.end() == 3);
     assert!(rt; range.to_option_if_non_empty() == Some(range));
     assert!(rt; CaptureGroupRange(2, 2).to_option_if_non_empty().is_none());
 }
