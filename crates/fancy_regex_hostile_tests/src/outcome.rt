@@ -19,7 +19,7 @@ pub trait Attempt {
 }
 
 /// How a call ended.
-#[derive(Clone, Copy, PartialEq, Eq)]
+#[derive(Clone, Copy)]
 pub enum Ending {
     Right,
     Wrong,
@@ -42,13 +42,12 @@ fn tell(rt: &HostRuntime) {
 
 /// What a row's calls are made on, at the second attempt if the first wanted memory, which is told.
 fn made_of<A: Attempt>(rt: &HostRuntime, row: &A) -> Option<A::Made> {
-    match row.make(rt.alloc()) {
-        Err(Error::Memory) => {
-            tell(rt);
-            row.make(rt.alloc()).ok()
-        }
-        made => made.ok(),
+    let first = row.make(rt.alloc());
+    if !matches!(&first, Err(Error::Memory)) {
+        return first.ok();
     }
+    tell(rt);
+    row.make(rt.alloc()).ok()
 }
 
 /// Whether both of two equal calls end rightly, of which at most one met a refusal: that one with the right answer or with want of
@@ -91,4 +90,17 @@ pub fn shows(text: &str, whole: &str, cut: &[&str]) -> Result<bool> {
         return Err(Error::Memory);
     }
     Ok(text == whole)
+}
+
+/// What a buffer holds at first to which a call appends.
+pub const BEFORE: &str = "before ";
+
+/// The outcome of a call that may have appended to a buffer: whether it holds the wanted text now. A refused call counts as such
+/// only where the buffer is as before.
+pub fn appended(outcome: &Result<()>, buffer: &[u8], wanted: &str) -> Result<bool> {
+    match outcome {
+        Ok(()) => Ok(buffer == wanted.as_bytes()),
+        Err(Error::Memory) if buffer == BEFORE.as_bytes() => Err(Error::Memory),
+        Err(_) => Ok(false),
+    }
 }

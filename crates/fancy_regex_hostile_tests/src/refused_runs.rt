@@ -1,17 +1,17 @@
-//! Memory is refused while a tree is analyzed, compiled, run or searched by the calls of the inner crates: tree, analysis and
-//! program are as before, and the same call then answers.
+//! Memory is refused while a program is run or a runner searches by the calls of the inner crates: program and runner are as before,
+//! and the same call then answers.
 
 ghost use Rattle.std.specs.Prelude.{◌≡◌, length};
 
 use crate::outcome::{Attempt, Text, first_wrong};
-use fancy_regex::{Error, Result, Steps};
+use fancy_regex::{Result, Steps};
 use fancy_regex_class::{RunInput, Span};
-use fancy_regex_info::{AnalyzeContext, CompileError, CompileOptions, Info};
+use fancy_regex_info::{AnalyzeContext, CompileError, CompileOptions};
 use fancy_regex_machine::{RunOptions, run, run_default, run_spans};
 use fancy_regex_program::{Prog, compile};
 use fancy_regex_runner::Easy;
 use fancy_regex_sizes::analyze;
-use fancy_regex_tree::{Expr, ExprTree};
+use fancy_regex_tree::Expr;
 use std::alloc::Global;
 
 /// The input of a search of the whole text.
@@ -40,136 +40,45 @@ fn run_options() -> RunOptions {
     }
 }
 
-/// The program of a pattern.
-fn program_of(alloc: Global, pattern: &str) -> Result<Prog> {
-    let tree = Expr::parse_tree(alloc, pattern)?;
-    let info = analyze(alloc, &tree, AnalyzeContext::default())?;
-    Ok(compile(alloc, &info, &CompileOptions::default())?)
+/// What the calls that run a program answer.
+enum Call {
+    /// All of them: the span of the match.
+    Find((usize, usize)),
+    /// `run`: so many groups behind the whole match, and each letter of the text is in a group of its own.
+    Groups(usize),
 }
 
-/// A pattern, its weight and its least size, a cap on its program, and how many instructions that has; `None` where it is too long.
-struct Compiling(Text, u64, usize, usize, Option<usize>);
-
-static COMPILED: [Compiling; 2] = [
-    Compiling("abc", 3, 3, 5, Some(5)),
-    Compiling("abc", 3, 3, 3, None),
-];
-
-/// Whether the program has so many instructions under a cap, or is too long for it.
-fn has_length(alloc: Global, info: &Info<'_>, cap: usize, length: Option<usize>) -> Result<bool> {
-    let options = CompileOptions {
-        max_prog_size: Some(cap),
-        ..CompileOptions::default()
-    };
-    match compile(alloc, info, &options) {
-        Ok(prog) => Ok(length == Some(prog.body().len())),
-        Err(CompileError::PatternTooComplex) => Ok(length.is_none()),
-        Err(error) => Err(error.into()),
-    }
-}
-
-/// The outcome of compiling an analysis. Where it wants memory, the same call with the same analysis answers then.
-fn compiles(alloc: Global, info: &Info<'_>, cap: usize, length: Option<usize>) -> Result<bool> {
-    match has_length(alloc, info, cap, length) {
-        Err(Error::Memory) => match has_length(alloc, info, cap, length) {
-            Ok(true) => Err(Error::Memory),
-            again => again,
-        },
-        first => first,
-    }
-}
-
-impl Attempt for Compiling {
-    type Made = ExprTree;
-
-    fn make(&self, alloc: Global) -> Result<ExprTree> {
-        Ok(Expr::parse_tree(alloc, self.0)?)
-    }
-
-    fn is_right(&self, alloc: Global, tree: &ExprTree) -> Result<bool> {
-        let info = analyze(alloc, tree, AnalyzeContext::default())?;
-        let outcome = compiles(alloc, &info, self.3, self.4);
-        if info.weight != self.1 || info.min_size != self.2 {
-            return Ok(false);
-        }
-        outcome
-    }
-}
-
-#[test]
-fn a_cap_is_kept_after_want_of_memory(rt: HostRuntime) {
-    assert_eq!(rt; first_wrong(&rt, &COMPILED), None);
-}
-
-/// A pattern for the machine, a text, and the span of the match.
-struct Running(Text, Text, (usize, usize));
+/// A pattern for the machine, a text, and calls that run the program.
+struct Running(Text, Text, Call);
 
 static RUNS: [Running; 8] = [
-    Running("(?=(a|ab)(?!x))\\1c", "abc", (0, 3)),
-    Running("(\\((?:[^()]|\\g<1>)*\\))", "x(a(b)c)y", (1, 8)),
-    Running("(a)?(?(1)b|c)", "ab", (0, 2)),
-    Running("(?<=a|bc)d", "bcd", (2, 3)),
-    Running("(?~abc)", "xabcx", (0, 3)),
-    Running("(?>a{2,3}+)\\Kb\\G?", "aab", (2, 3)),
-    Running("(?i)(ſ)\\1\\b", "ſſ", (0, 4)),
-    Running("((?:a|b){1,2}?)*(?!\\1)", "abab", (0, 4)),
+    Running("(?=(a|ab)(?!x))\\1c", "abc", Call::Find((0, 3))),
+    Running("(\\((?:[^()]|\\g<1>)*\\))", "x(a(b)c)y", Call::Find((1, 8))),
+    Running("(a)?(?(1)b|c)", "ab", Call::Find((0, 2))),
+    Running("(?<=a|bc)d", "bcd", Call::Find((2, 3))),
+    Running("(?~abc)", "xabcx", Call::Find((0, 3))),
+    Running("(?>a{2,3}+)\\Kb\\G?", "aab", Call::Find((2, 3))),
+    Running("(?i)(ſ)\\1\\b", "ſſ", Call::Find((0, 4))),
+    Running("((?:a|b){1,2}?)*(?!\\1)", "abab", Call::Find((0, 4))),
 ];
-
-/// Whether two byte offsets are those of the first pair.
-fn begins_with(places: &Option<Vec<usize>>, wanted: Option<(usize, usize)>) -> bool {
-    match places {
-        Some(places) => match places.as_slice() {
-            [start, end, ..] => wanted == Some((*start, *end)),
-            _ => false,
-        },
-        None => wanted.is_none(),
-    }
-}
-
-/// Whether each call that runs a program finds this span.
-fn all_find(alloc: Global, prog: &Prog, text: &str, wanted: (usize, usize)) -> Result<bool> {
-    if !prog.has_whole() {
-        return Ok(false);
-    }
-    let input = run_input(text);
-    let options = run_options();
-    if !begins_with(&run(alloc, prog, text, &input, &options)?, Some(wanted)) {
-        return Ok(false);
-    }
-    if !begins_with(&run_default(alloc, prog, text, 0)?, Some(wanted)) {
-        return Ok(false);
-    }
-    Ok(run_spans(alloc, prog, text, &input, &options)? == Some(wanted))
-}
-
-impl Attempt for Running {
-    type Made = Prog;
-
-    fn make(&self, alloc: Global) -> Result<Prog> {
-        program_of(alloc, self.0)
-    }
-
-    // The calls go on up to the first that wants memory, and all of them are repeated.
-    fn is_right(&self, alloc: Global, prog: &Prog) -> Result<bool> {
-        all_find(alloc, prog, self.1, self.2)
-    }
-}
 
 #[test]
 fn a_run_that_wants_memory_can_be_repeated(rt: HostRuntime) {
     assert_eq!(rt; first_wrong(&rt, &RUNS), None);
 }
 
-/// A pattern of so many groups for the machine, a text of letters `a`, and in how many of its groups a letter is.
-struct Grouping(Text, usize, Text);
-
-// Each letter is in a group of its own, and the groups behind them are not set.
-static GROUPED: [Grouping; 1] = [Grouping(
+// The groups behind those of the letters are not set.
+static GROUPED: [Running; 1] = [Running(
     "(a)?(a)?(a)?(a)?(a)?(a)?(a)?(a)?(a)?(a)?(a)?(a)?(a)?(a)?(a)?(a)?(a)?(a)?(a)?(a)?\
     (a)?(a)?(a)?(a)?(a)?(a)?(a)?(a)?(a)?(a)?(a)?(a)?(a)?(a)?(a)?(a)?(a)?(a)?(a)?(a)?(?!b)",
-    40,
     "aaaaaaaaaaaaaaaaaaaa",
+    Call::Groups(40),
 )];
+
+#[test]
+fn each_letter_is_in_a_group_of_its_own(rt: HostRuntime) {
+    assert_eq!(rt; first_wrong(&rt, &GROUPED), None);
+}
 
 /// The byte offsets of a group where each of so many letters is in a group of its own.
 fn place_of(group: usize, letters: usize) -> [usize; 2] {
@@ -190,7 +99,48 @@ fn are_in_turn(places: &[usize], groups: usize, letters: usize) -> bool {
     places.len() / 2 == groups.saturating_add(1)
 }
 
-impl Attempt for Grouping {
+/// Whether each letter of the text is in a group of its own.
+fn has_letters(alloc: Global, prog: &Prog, text: &str, groups: usize) -> Result<bool> {
+    if !prog.has_whole() {
+        return Ok(false);
+    }
+    match run(alloc, prog, text, &run_input(text), &run_options())? {
+        Some(places) => Ok(are_in_turn(places.as_slice(), groups, text.len())),
+        None => Ok(false),
+    }
+}
+
+/// The first two byte offsets.
+fn first_pair(places: Option<Vec<usize>>) -> Option<(usize, usize)> {
+    match places?.as_slice() {
+        [start, end, ..] => Some((*start, *end)),
+        _ => None,
+    }
+}
+
+/// Whether each call that runs a program finds this span. They go on up to the first that wants memory, and all of them are repeated.
+fn all_find(alloc: Global, prog: &Prog, text: &str, wanted: (usize, usize)) -> Result<bool> {
+    if !prog.has_whole() {
+        return Ok(false);
+    }
+    let input = run_input(text);
+    let options = run_options();
+    let found = [
+        first_pair(run(alloc, prog, text, &input, &options)?),
+        first_pair(run_default(alloc, prog, text, 0)?),
+        run_spans(alloc, prog, text, &input, &options)?,
+    ];
+    Ok(found == [Some(wanted); 3])
+}
+
+/// The program of a pattern.
+fn program_of(alloc: Global, pattern: &str) -> Result<Prog> {
+    let tree = Expr::parse_tree(alloc, pattern)?;
+    let info = analyze(alloc, &tree, AnalyzeContext::default())?;
+    Ok(compile(alloc, &info, &CompileOptions::default())?)
+}
+
+impl Attempt for Running {
     type Made = Prog;
 
     fn make(&self, alloc: Global) -> Result<Prog> {
@@ -198,19 +148,11 @@ impl Attempt for Grouping {
     }
 
     fn is_right(&self, alloc: Global, prog: &Prog) -> Result<bool> {
-        if !prog.has_whole() {
-            return Ok(false);
-        }
-        match run(alloc, prog, self.2, &run_input(self.2), &run_options())? {
-            Some(places) => Ok(are_in_turn(places.as_slice(), self.1, self.2.len())),
-            None => Ok(false),
+        match &self.2 {
+            Call::Find(wanted) => all_find(alloc, prog, self.1, *wanted),
+            Call::Groups(groups) => has_letters(alloc, prog, self.1, *groups),
         }
     }
-}
-
-#[test]
-fn each_letter_is_in_a_group_of_its_own(rt: HostRuntime) {
-    assert_eq!(rt; first_wrong(&rt, &GROUPED), None);
 }
 
 /// A pattern for the runner, its weight, a text, and the span of the match. A search looks at the text at most as often as the weight
@@ -244,15 +186,19 @@ static LOOKS: [Looking; 10] = [
     Looking(A63, 65, A62, None),
 ];
 
-/// The runner of a pattern, and the pattern's weight; `None` for a pattern that the runner does not search for.
-fn runner_of(alloc: Global, pattern: &str) -> Result<Option<(Easy, u64)>> {
+#[test]
+fn a_search_of_the_runner_that_wants_memory_can_be_repeated(rt: HostRuntime) {
+    assert_eq!(rt; first_wrong(&rt, &LOOKS), None);
+}
+
+/// The runner of a pattern of this weight. A pattern of another weight, or for the machine, counts as too complex.
+fn runner_of(alloc: Global, pattern: &str, weight: u64) -> Result<Easy> {
     let tree = Expr::parse_tree(alloc, pattern)?;
     let info = analyze(alloc, &tree, AnalyzeContext::default())?;
-    if info.hard {
-        return Ok(None);
+    if info.hard || info.weight.saturating_add(2) != weight {
+        return Err(CompileError::PatternTooComplex.into());
     }
-    let weight = info.weight.saturating_add(2);
-    Ok(Some((Easy::new(alloc, &info, &CompileOptions::default())?, weight)))
+    Ok(Easy::new(alloc, &info, &CompileOptions::default())?)
 }
 
 /// Whether the runner finds this span with at most so many looks at the text, also where the search wants memory.
@@ -272,28 +218,18 @@ fn looks_little(
     if steps.count() > looks {
         return Ok(false);
     }
-    Ok(begins_with(&found?, wanted))
+    Ok(first_pair(found?) == wanted)
 }
 
 impl Attempt for Looking {
-    type Made = Option<(Easy, u64)>;
+    type Made = Easy;
 
-    fn make(&self, alloc: Global) -> Result<Option<(Easy, u64)>> {
-        runner_of(alloc, self.0)
+    fn make(&self, alloc: Global) -> Result<Easy> {
+        runner_of(alloc, self.0, self.1)
     }
 
-    fn is_right(&self, alloc: Global, made: &Option<(Easy, u64)>) -> Result<bool> {
-        match made {
-            Some((easy, weight)) if *weight == self.1 => {
-                let places = (self.2.len() as u64).saturating_add(1);
-                looks_little(alloc, easy, self.2, weight.saturating_mul(places), self.3)
-            }
-            _ => Ok(false),
-        }
+    fn is_right(&self, alloc: Global, easy: &Easy) -> Result<bool> {
+        let places = (self.2.len() as u64).saturating_add(1);
+        looks_little(alloc, easy, self.2, self.1.saturating_mul(places), self.3)
     }
-}
-
-#[test]
-fn a_search_of_the_runner_that_wants_memory_can_be_repeated(rt: HostRuntime) {
-    assert_eq!(rt; first_wrong(&rt, &LOOKS), None);
 }
