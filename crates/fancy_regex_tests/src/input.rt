@@ -1,6 +1,7 @@
 //! Inputs, character boundaries and matches.
 
 use fancy_regex_input::{Input, Match, RegexInput, next_boundary, previous_boundary};
+use std::alloc::{AllocError, Global};
 use std::ops::Range;
 use std::test::Fail;
 
@@ -19,56 +20,49 @@ fn first_character<S: Input>(input: S) -> Option<S::Match> {
     Some(input.make_match(0, end))
 }
 
-#[test]
-fn walks_over_boundaries(rt: HostRuntime) {
-    assert!(rt; next_boundary("aé", 1) == 3);
-    assert!(rt; next_boundary("aé", 3) == 4);
-    assert!(rt; previous_boundary("aé", 3) == 1);
-}
-
-#[test]
-fn matches_lie_in_the_text(rt: HostRuntime) -> Result<(), Fail> {
-    let found = Match::new("aéb", 1, 3);
-    assert!(rt; found.as_str() == "é");
-    assert!(rt; found.start() == 1);
-    assert!(rt; found.end() == 3);
+/// Whether a match of `é` tells its text and its place, which are these.
+fn tells_its_place(found: Match<'_>) -> bool {
     let text: &str = found.into();
-    assert!(rt; text == "é");
     let range: Range<usize> = found.into();
-    assert!(rt; range == found.range());
-    Ok(())
+    let is_placed = found.start() == 1 && found.end() == 3 && range == found.range();
+    is_placed && found.as_str() == "é" && text == "é"
 }
 
 #[test]
-fn inputs_are_texts(rt: HostRuntime) -> Result<(), Fail> {
-    let Some(found) = first_character("éa") else {
-        panic!(rt; "no first character");
-    };
-    assert!(rt; found == Match::new("éa", 0, 2));
-    let text = String::from_str(rt.alloc(), "éa")?;
+fn matches_lie_between_boundaries(rt: HostRuntime) {
+    let is_walked = next_boundary("aé", 1) == 3 && next_boundary("aé", 3) == 4;
+    let is_walked_back = previous_boundary("aé", 3) == 1;
+    assert!(rt; is_walked && is_walked_back && tells_its_place(Match::new("aéb", 1, 3)));
+}
+
+/// Whether a borrowed text and a borrowed string are inputs.
+fn are_inputs(alloc: Global) -> Result<bool, AllocError> {
+    let is_found = first_character("éa") == Some(Match::new("éa", 0, 2));
+    let text = String::from_str(alloc, "éa")?;
     let input = &text;
-    assert!(rt; input.prev_codepoint_ix(2) == 0);
-    assert!(rt; !Input::is_ascii(&input));
-    Ok(())
+    Ok(is_found && input.prev_codepoint_ix(2) == 0 && !Input::is_ascii(&input))
 }
 
-#[test]
-fn setters_change_one_thing(rt: HostRuntime) -> Result<(), Fail> {
+/// Whether the setters of an input change one thing each.
+fn sets_one_thing() -> Result<bool, AllocError> {
     let input = RegexInput::from("aéb")
         .from_pos(1)
         .range(0..3)
         .anchored(true);
-    assert!(rt; input.haystack() == "aéb");
-    assert!(rt; input.start() == 1);
-    assert!(rt; input.get_range() == (0..3));
-    assert!(rt; input.effective_start() == 1);
-    assert!(rt; !input.is_done());
+    let is_placed = input.start() == 1 && input.get_range() == (0..3);
+    let is_begun = input.effective_start() == 1 && !input.is_done() && input.haystack() == "aéb";
     let input = input
         .start_text(false)
         .end_text(false)
         .continue_from_previous_match_end(false);
     let config = input.clone()?.config();
-    assert!(rt; config.anchored);
-    assert!(rt; !config.start_text && !config.end_text && !config.continues);
+    let is_whole = config.start_text || config.end_text || config.continues;
+    Ok(is_placed && is_begun && config.anchored && !is_whole)
+}
+
+#[test]
+fn inputs_are_texts_with_setters(rt: HostRuntime) -> Result<(), Fail> {
+    let are_inputs = are_inputs(rt.alloc())?;
+    assert!(rt; are_inputs && sets_one_thing()?);
     Ok(())
 }

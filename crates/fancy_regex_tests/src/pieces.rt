@@ -1,65 +1,64 @@
 //! Splits whose searches fail, each with the items that have to come.
 
 use fancy_regex::{Error, Regex, RegexBuilder, Result, RuntimeError};
-use std::alloc::{AllocError, Global};
-use std::test::Fail;
+use std::alloc::Global;
 
-/// Appends an item: a piece in brackets, `!` for the backtrack limit, `?` for another error.
-fn push_item(shown: &mut String, item: Result<&str>) -> std::result::Result<(), AllocError> {
-    match item {
-        Ok(piece) => {
-            shown.push('[')?;
-            shown.push_str(piece)?;
-            shown.push(']')?;
+/// A piece; `None` for a search that exceeds the backtrack limit.
+type Item = Option<&'static str>;
+
+/// The items of a split of `xb` at `x`, where the search behind that fails.
+static ITEMS: [Item; 3] = [Some(""), None, Some("b")];
+
+/// The limits of splits, and their items.
+static LIMITED: [(usize, &[Item]); 2] = [
+    (2, &[Some(""), Some("b")]),
+    (3, &[Some(""), None, Some("b")]),
+];
+
+/// Whether an item is there, and is this one.
+fn is_item(found: Option<Result<&str>>, wanted: Item) -> bool {
+    match (found, wanted) {
+        (Some(Ok(piece)), Some(text)) => piece == text,
+        (Some(Err(Error::RuntimeError(RuntimeError::BacktrackLimitExceeded))), None) => true,
+        _ => false,
+    }
+}
+
+/// Whether a split has the items.
+fn splits(alloc: Global, regex: &Regex) -> bool {
+    let mut pieces = regex.split(alloc, "xb");
+    for item in ITEMS.iter() {
+        if !is_item(pieces.next(), *item) {
+            return false;
         }
-        Err(Error::RuntimeError(RuntimeError::BacktrackLimitExceeded)) => shown.push('!')?,
-        Err(_) => shown.push('?')?,
     }
-    Ok(())
+    pieces.next().is_none()
 }
 
-/// The items of a split.
-fn split_items(
-    alloc: Global,
-    regex: &Regex,
-    text: &str,
-) -> std::result::Result<String, AllocError> {
-    let mut shown = String::new(alloc);
-    for item in regex.split(alloc, text) {
-        push_item(&mut shown, item)?;
+/// Whether a split with a limit has the items.
+fn splits_up_to(alloc: Global, regex: &Regex, limit: usize, items: &[Item]) -> bool {
+    let mut pieces = regex.splitn(alloc, "xb", limit);
+    for item in items {
+        if !is_item(pieces.next(), *item) {
+            return false;
+        }
     }
-    Ok(shown)
+    pieces.next().is_none()
 }
 
-/// The items of a split with a limit.
-fn splitn_items(
-    alloc: Global,
-    regex: &Regex,
-    text: &str,
-    limit: usize,
-) -> std::result::Result<String, AllocError> {
-    let mut shown = String::new(alloc);
-    for item in regex.splitn(alloc, text, limit) {
-        push_item(&mut shown, item)?;
-    }
-    Ok(shown)
+/// A regex whose searches fail at the first way back.
+fn limited(alloc: Global) -> Result<Regex> {
+    let mut builder = RegexBuilder::new(alloc, "x|(a)\\1")?;
+    builder.backtrack_limit(0).build(alloc)
 }
 
 #[test]
-fn goes_on_after_an_error(rt: HostRuntime) -> std::result::Result<(), Fail> {
-    let alloc = rt.alloc();
-    let Ok(mut builder) = RegexBuilder::new(alloc, "x|(a)\\1") else {
-        panic!(rt; "builder");
+fn goes_on_after_an_error(rt: HostRuntime) {
+    let Ok(regex) = limited(rt.alloc()) else {
+        panic!(rt; "no regex");
     };
-    builder.backtrack_limit(0);
-    let Ok(regex) = builder.build(alloc) else {
-        panic!(rt; "build");
-    };
-    let all = split_items(alloc, &regex, "xb")?;
-    assert_eq!(rt; all.as_str(), "[]![b]");
-    let two = splitn_items(alloc, &regex, "xb", 2)?;
-    assert_eq!(rt; two.as_str(), "[][b]");
-    let three = splitn_items(alloc, &regex, "xb", 3)?;
-    assert_eq!(rt; three.as_str(), "[]![b]");
-    Ok(())
+    assert!(rt; splits(rt.alloc(), &regex), "all");
+    for (limit, items) in LIMITED.iter() {
+        assert!(rt; splits_up_to(rt.alloc(), &regex, *limit, items), "{limit}");
+    }
 }

@@ -1,77 +1,54 @@
 //! Replacements by functions, and the text without a match.
 
 use fancy_regex::{Captures, Error, FnReplacer, NoExpand, Regex, Replacer, Result, RuntimeError};
+use std::alloc::Global;
 use std::borrow::CowStr;
-use std::test::Fail;
 
-#[test]
-fn borrows_a_text_without_a_match(rt: HostRuntime) -> std::result::Result<(), Fail> {
-    let alloc = rt.alloc();
-    let Ok(regex) = Regex::new(alloc, "x") else {
-        panic!(rt; "build");
-    };
-    let Ok(made) = regex.replace_all(alloc, "banana", NoExpand("o")) else {
-        panic!(rt; "replace");
-    };
-    assert!(rt; matches!(made, CowStr::Borrowed(_)));
-    Ok(())
+/// Whether a text was made, and is this one.
+pub fn is_made(made: Result<CowStr<'_>>, wanted: &str) -> bool {
+    match made {
+        Ok(text) => text.as_str() == wanted,
+        Err(_) => false,
+    }
 }
 
-#[test]
-fn replaces_by_groups(rt: HostRuntime) -> std::result::Result<(), Fail> {
-    let alloc = rt.alloc();
-    let Ok(regex) = Regex::new(alloc, "([^,\\s]+),\\s+(\\S+)") else {
-        panic!(rt; "build");
-    };
+/// Whether a text without a match of `x` is borrowed.
+pub fn borrows(alloc: Global, regex: &Regex) -> bool {
+    matches!(
+        regex.replace_all(alloc, "banana", NoExpand("o")),
+        Ok(CowStr::Borrowed(_))
+    )
+}
+
+/// Whether a function of the groups, `([^,\s]+),\s+(\S+)`, says what replaces a match.
+pub fn swaps(alloc: Global, regex: &Regex) -> bool {
     let swap = FnReplacer::new(|captures: &Captures<'_, &str>| -> Result<String> {
-        let mut text = String::new(alloc);
-        if let Some(first) = captures.get(2) {
-            text.push_str(first.as_str())?;
+        match (captures.get(2), captures.get(1)) {
+            (Some(first), Some(last)) => {
+                Ok(format!(in alloc; "{} {}", first.as_str(), last.as_str())?)
+            }
+            _ => Ok(String::new(alloc)),
         }
-        text.push_str(" ")?;
-        if let Some(last) = captures.get(1) {
-            text.push_str(last.as_str())?;
-        }
-        Ok(text)
     });
-    let Ok(made) = regex.replace(alloc, "Springsteen, Bruce", swap) else {
-        panic!(rt; "replace");
-    };
-    assert_eq!(rt; made.as_str(), "Bruce Springsteen");
-    Ok(())
+    let made = regex.replace(alloc, "Springsteen, Bruce", swap);
+    is_made(made, "Bruce Springsteen")
 }
 
-#[test]
-fn counts_calls_of_a_lent_function(rt: HostRuntime) -> std::result::Result<(), Fail> {
-    let alloc = rt.alloc();
-    let Ok(regex) = Regex::new(alloc, "a") else {
-        panic!(rt; "build");
-    };
+/// Whether a function that is lent twice to replace `a` is called once for each match.
+pub fn counts(alloc: Global, regex: &Regex) -> bool {
     let mut calls = 0u8;
     let mut count = FnReplacer::new(|_: &Captures<'_, &str>| -> Result<String> {
         calls = calls.wrapping_add(1);
-        match format!(in alloc; "{calls}") {
-            Ok(text) => Ok(text),
-            Err(_) => Err(Error::Memory),
-        }
+        Ok(format!(in alloc; "{calls}")?)
     });
-    let Ok(first) = regex.replace_all(alloc, "banana", count.by_ref()) else {
-        panic!(rt; "replace");
-    };
-    assert_eq!(rt; first.as_str(), "b1n2n3");
-    let Ok(second) = regex.replace_all(alloc, "aa", count.by_ref()) else {
-        panic!(rt; "replace again");
-    };
-    assert_eq!(rt; second.as_str(), "45");
-    Ok(())
+    let first = regex.replace_all(alloc, "banana", count.by_ref());
+    let is_counted = is_made(first, "b1n2n3");
+    let second = regex.replace_all(alloc, "aa", count.by_ref());
+    is_made(second, "45") && is_counted
 }
 
-#[test]
-fn stops_at_the_first_error(rt: HostRuntime) -> std::result::Result<(), Fail> {
-    let alloc = rt.alloc();
-    let Ok(regex) = Regex::new(alloc, "a") else {
-        panic!(rt; "build");
-    };
+/// Whether a replacement of `a` ends with the first error of its function.
+pub fn stops(alloc: Global, regex: &Regex) -> bool {
     let mut calls = 0u8;
     let fails = FnReplacer::new(|_: &Captures<'_, &str>| -> Result<String> {
         calls = calls.wrapping_add(1);
@@ -81,7 +58,6 @@ fn stops_at_the_first_error(rt: HostRuntime) -> std::result::Result<(), Fail> {
         Ok(String::new(alloc))
     });
     let made = regex.replace_all(alloc, "aaa", fails);
-    assert!(rt; matches!(made, Err(Error::RuntimeError(RuntimeError::StackOverflow))));
-    assert!(rt; calls == 2);
-    Ok(())
+    let is_passed_on = matches!(&made, Err(Error::RuntimeError(RuntimeError::StackOverflow)));
+    is_passed_on && calls == 2
 }

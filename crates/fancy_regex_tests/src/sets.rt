@@ -1,24 +1,49 @@
 //! Sets of regexes: what is found, member by member.
 
-use fancy_regex::{Regex, RegexInput, RegexOptionsBuilder, RegexSet, RegexSetMatchesAt, Result};
+use fancy_regex::{
+    Regex, RegexInput, RegexOptionsBuilder, RegexSet, RegexSetMatch, RegexSetMatchesAt, Result,
+};
 use std::alloc::Global;
-use std::fmt::Write;
 use std::test::Fail;
 
-/// The items, each as the number of the member and the span of its match.
-fn items(alloc: Global, mut found: RegexSetMatchesAt<'_, &str>) -> Result<String> {
-    let mut shown = String::new(alloc);
-    while let Some(item) = found.next() {
-        let item = item?;
-        write!(
-            &mut shown,
-            "{} {}..{};",
-            item.pattern(),
-            item.start(),
-            item.end()
-        )?;
+/// The number of a member, the span of its match, its text, and the start of its first group.
+struct Item(usize, usize, usize, &'static str, Option<usize>);
+
+/// Whether an item shows this.
+fn is_item(found: &RegexSetMatch<'_, &str>, wanted: &Item) -> bool {
+    let Item(pattern, start, end, text, group) = wanted;
+    let is_in_group = match found.captures().get(1) {
+        Some(first) => *group == Some(first.start()),
+        None => group.is_none(),
+    };
+    let is_placed = found.start() == *start && found.end() == *end;
+    let is_text = found.as_str() == *text && found.get().as_str() == *text;
+    found.pattern() == *pattern && is_placed && is_text && is_in_group
+}
+
+/// Whether just these items come.
+fn are_items(mut found: RegexSetMatchesAt<'_, &str>, items: &[Item]) -> bool {
+    for item in items {
+        let is_due = match found.next() {
+            Some(Ok(next)) => is_item(&next, item),
+            Some(Err(_error)) => false,
+            None => false,
+        };
+        if !is_due {
+            return false;
+        }
     }
-    Ok(shown)
+    found.next().is_none()
+}
+
+/// Whether a set of two members finds these items at offset 1.
+fn finds(alloc: Global, set: &RegexSet, text: &str, items: &[Item]) -> bool {
+    let Ok(Some(found)) = set.find_input(alloc, RegexInput::new(text)) else {
+        return false;
+    };
+    let is_counted = set.len() == 2 && !set.is_empty() && found.regex_set().len() == 2;
+    let is_placed = found.start() == 1 && found.haystack() == text;
+    are_items(found, items) && is_counted && is_placed
 }
 
 /// A regex of longest matches, and one of first matches.
@@ -31,45 +56,22 @@ fn mixed(alloc: Global) -> Result<RegexSet> {
     Ok(RegexSet::from_regexes(regexes))
 }
 
+/// What the members of `mixed` find in `xabc`.
+static MIXED: [Item; 2] = [Item(0, 1, 3, "ab", None), Item(1, 1, 2, "a", None)];
+
 #[test]
 fn members_keep_their_options(rt: HostRuntime) -> std::result::Result<(), Fail> {
-    let alloc = rt.alloc();
-    let Ok(set) = mixed(alloc) else {
-        panic!(rt; "no set");
-    };
-    assert!(rt; set.len() == 2 && !set.is_empty());
-    let Ok(Some(found)) = set.find_input(alloc, RegexInput::new("xabc")) else {
-        panic!(rt; "no answer");
-    };
-    let Ok(shown) = items(alloc, found) else {
-        panic!(rt; "no items");
-    };
-    assert_eq!(rt; shown.as_str(), "0 1..3;1 1..2;");
+    let set = mixed(rt.alloc())?;
+    assert!(rt; finds(rt.alloc(), &set, "xabc", &MIXED));
     Ok(())
 }
 
+/// What the second of the patterns finds in `aéb`.
+static KEPT_OUT: [Item; 1] = [Item(1, 3, 4, "b", Some(3))];
+
 #[test]
 fn an_item_shows_its_match(rt: HostRuntime) -> std::result::Result<(), Fail> {
-    let alloc = rt.alloc();
-    let Ok(set) = RegexSet::new(alloc, &["x", "é\\K(b)"]) else {
-        panic!(rt; "no set");
-    };
-    let Ok(Some(mut found)) = set.find_input(alloc, RegexInput::new("aéb")) else {
-        panic!(rt; "no match");
-    };
-    assert!(rt; found.start() == 1);
-    assert!(rt; found.regex_set().len() == 2);
-    assert_eq!(rt; found.haystack(), "aéb");
-    let Some(Ok(item)) = found.next() else {
-        panic!(rt; "no item");
-    };
-    assert!(rt; item.pattern() == 1 && item.start() == 3 && item.end() == 4);
-    assert_eq!(rt; item.as_str(), "b");
-    assert_eq!(rt; item.get().as_str(), "b");
-    let Some(group) = item.captures().get(1) else {
-        panic!(rt; "no group");
-    };
-    assert!(rt; group.start() == 3);
-    assert!(rt; found.next().is_none());
+    let set = RegexSet::new(rt.alloc(), &["x", "é\\K(b)"])?;
+    assert!(rt; finds(rt.alloc(), &set, "aéb", &KEPT_OUT));
     Ok(())
 }

@@ -1,48 +1,34 @@
 //! Templates of other types than texts, and expansion into a writer.
 
+use crate::replacement::is_made;
 use fancy_regex::{Expander, Regex};
+use std::alloc::Global;
 use std::borrow::CowStr;
-use std::test::Fail;
 
-#[test]
-fn replaces_by_owned_templates(rt: HostRuntime) -> Result<(), Fail> {
-    let alloc = rt.alloc();
-    let Ok(regex) = Regex::new(alloc, "(b)") else {
-        panic!(rt; "build");
+/// Whether strings, borrowed and owned, replace a match of `(b)`.
+pub fn takes_strings(alloc: Global, regex: &Regex) -> bool {
+    let Ok(template) = String::from_str(alloc, "<$1>") else {
+        return false;
     };
-    let template = String::from_str(alloc, "<$1>")?;
-    let Ok(made) = regex.replace_all(alloc, "abc", &template) else {
-        panic!(rt; "borrowed string");
-    };
-    assert_eq!(rt; made.as_str(), "a<b>c");
-    let Ok(made) = regex.replace_all(alloc, "abc", template) else {
-        panic!(rt; "string");
-    };
-    assert_eq!(rt; made.as_str(), "a<b>c");
-    let template = CowStr::Borrowed("[$1]");
-    let Ok(made) = regex.replace_all(alloc, "abc", &template) else {
-        panic!(rt; "borrowed cow");
-    };
-    assert_eq!(rt; made.as_str(), "a[b]c");
-    let Ok(made) = regex.replace_all(alloc, "abc", template) else {
-        panic!(rt; "cow");
-    };
-    assert_eq!(rt; made.as_str(), "a[b]c");
-    Ok(())
+    let by_reference = is_made(regex.replace_all(alloc, "abc", &template), "a<b>c");
+    let by_value = is_made(regex.replace_all(alloc, "abc", template), "a<b>c");
+    by_reference && by_value
 }
 
-#[test]
-fn expands_into_a_writer(rt: HostRuntime) {
-    let alloc = rt.alloc();
-    let Ok(regex) = Regex::new(alloc, "(a)") else {
-        panic!(rt; "build");
-    };
+/// Whether texts that are borrowed or owned, themselves borrowed and owned, replace a match of `(b)`.
+pub fn takes_cows(alloc: Global, regex: &Regex) -> bool {
+    let template = CowStr::Borrowed("[$1]");
+    let by_reference = is_made(regex.replace_all(alloc, "abc", &template), "a[b]c");
+    let by_value = is_made(regex.replace_all(alloc, "abc", template), "a[b]c");
+    by_reference && by_value
+}
+
+/// Whether a writer gets the expansion of a template for a match of `(a)`.
+pub fn writes(alloc: Global, regex: &Regex) -> bool {
     let Ok(Some(captures)) = regex.captures(alloc, "a") else {
-        panic!(rt; "captures");
+        return false;
     };
     let mut bytes: Vec<u8> = Vec::new(alloc);
-    let Ok(()) = Expander::default().write_expansion(&mut bytes, "${1}!", &captures) else {
-        panic!(rt; "into a writer");
-    };
-    assert!(rt; bytes.as_slice() == b"a!".as_slice());
+    let written = Expander::default().write_expansion(&mut bytes, "${1}!", &captures);
+    written.is_ok() && bytes.as_slice() == b"a!".as_slice()
 }

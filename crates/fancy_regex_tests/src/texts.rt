@@ -2,49 +2,50 @@
 
 use fancy_regex::{CompileError, Error, ParseError, RuntimeError};
 use std::alloc::{AllocError, Global};
+use std::fmt::Display;
 use std::test::Fail;
 
-/// What is shown of a compile error.
-fn shown(alloc: Global, error: CompileError) -> Result<String, AllocError> {
-    format!(in alloc; "{error}")
+/// Errors, and their texts.
+const TEXTS: [(CompileError, &str); 4] = [
+    (
+        CompileError::VariableLookBehindRequiresFeature,
+        "variable look behind requires feature",
+    ),
+    (CompileError::InvalidGroupName, "invalid group name"),
+    (CompileError::UnresolvedAstNode, "unresolved ast node"),
+    (CompileError::Memory, "Out of memory"),
+];
+
+/// Whether an error has this text.
+fn is_text<E: Display>(alloc: Global, error: &E, wanted: &str) -> bool {
+    match error.to_string(alloc) {
+        Ok(text) => text.as_str() == wanted,
+        Err(_) => false,
+    }
+}
+
+/// Whether errors of the other types have their texts.
+fn others_have_texts(alloc: Global) -> bool {
+    is_text(alloc, &ParseError::InvalidRepeat, "Invalid repeat syntax")
+        && is_text(alloc, &RuntimeError::StackOverflow, "stack overflow")
+        && is_text(alloc, &RuntimeError::Memory, "Out of memory")
+        && is_text(alloc, &Error::Memory, "Out of memory")
+}
+
+/// Whether errors show their payload.
+fn show_payloads(alloc: Global) -> Result<bool, AllocError> {
+    let dfa = CompileError::DfaBuildError(String::from_str(alloc, "[z-a]")?);
+    let general = CompileError::UnexpectedGeneralError(String::from_str(alloc, "[z-a]")?);
+    let is_shown = is_text(alloc, &dfa, "dfa build error: [z-a]");
+    Ok(is_text(alloc, &general, "unexpected general error: [z-a]") && is_shown)
 }
 
 #[test]
-fn compile_errors_have_their_texts(rt: HostRuntime) -> Result<(), Fail> {
-    let alloc = rt.alloc();
-    let text = shown(alloc, CompileError::VariableLookBehindRequiresFeature)?;
-    assert_eq!(rt; text.as_str(), "variable look behind requires feature");
-    let text = shown(alloc, CompileError::InvalidGroupName)?;
-    assert_eq!(rt; text.as_str(), "invalid group name");
-    let text = shown(alloc, CompileError::UnresolvedAstNode)?;
-    assert_eq!(rt; text.as_str(), "unresolved ast node");
-    let text = shown(alloc, CompileError::Memory)?;
-    assert_eq!(rt; text.as_str(), "Out of memory");
-    Ok(())
-}
-
-#[test]
-fn compile_errors_show_their_payload(rt: HostRuntime) -> Result<(), Fail> {
-    let alloc = rt.alloc();
-    let payload = String::from_str(alloc, "[z-a]")?;
-    let text = shown(alloc, CompileError::DfaBuildError(payload))?;
-    assert_eq!(rt; text.as_str(), "dfa build error: [z-a]");
-    let payload = String::from_str(alloc, "[z-a]")?;
-    let text = shown(alloc, CompileError::UnexpectedGeneralError(payload))?;
-    assert_eq!(rt; text.as_str(), "unexpected general error: [z-a]");
-    Ok(())
-}
-
-#[test]
-fn other_errors_have_their_texts(rt: HostRuntime) -> Result<(), Fail> {
-    let alloc = rt.alloc();
-    let text = format!(in alloc; "{}", ParseError::InvalidRepeat)?;
-    assert_eq!(rt; text.as_str(), "Invalid repeat syntax");
-    let text = format!(in alloc; "{}", RuntimeError::StackOverflow)?;
-    assert_eq!(rt; text.as_str(), "stack overflow");
-    let text = format!(in alloc; "{}", RuntimeError::Memory)?;
-    assert_eq!(rt; text.as_str(), "Out of memory");
-    let text = format!(in alloc; "{}", Error::Memory)?;
-    assert_eq!(rt; text.as_str(), "Out of memory");
+fn errors_have_their_texts(rt: HostRuntime) -> Result<(), Fail> {
+    for (error, text) in TEXTS.iter() {
+        assert!(rt; is_text(rt.alloc(), error, text), "{text}");
+    }
+    let is_shown = show_payloads(rt.alloc())?;
+    assert!(rt; is_shown && others_have_texts(rt.alloc()));
     Ok(())
 }

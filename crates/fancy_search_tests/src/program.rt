@@ -1,27 +1,83 @@
-//! What `run` writes and returns for readers and writers that fail.
-
-ghost use Rattle.std.specs.Prelude.{Some};
+//! Calls of the program, with readers and writers that fail, and the texts and statuses of faults.
 
 use fancy_regex::{CompileError, Error, ParseError, RuntimeError};
-use fancy_search_run::{Fault, Source, Status, exit_status, run, run_from};
-use std::alloc::Global;
+use fancy_search_run::{Fault, Source, Status, exit_status, run_from};
+use std::alloc::{AllocError, Global};
 use std::io;
 use std::io::{ErrorKind, Read, Write};
 use std::test::Fail;
 
-/// A writer over memory that takes one byte a call, and fails where it has so many.
+/// What a call can read.
+#[derive(Clone, Copy)]
+pub enum Input {
+    /// These bytes, read up to their end.
+    Whole(&'static [u8]),
+    /// These bytes, and then reading fails.
+    Broken(&'static [u8]),
+    /// Nothing, and the call does not ask for any.
+    Unread,
+}
+
+/// A call of the program: its words, what it can read, its exit status, how it ends, and what it writes if there is room.
+#[derive(Clone, Copy)]
+pub struct Call(
+    pub &'static [&'static str],
+    pub Input,
+    pub u8,
+    pub &'static str,
+    pub &'static str,
+);
+
+/// A reader that gives its bytes, and then tells its end or fails.
 #[derive(Drop)]
-pub struct Narrow {
-    pub taken: Vec<u8>,
+struct Given {
+    left: &'static [u8],
+    fails: bool,
+    was_asked: bool,
+}
+
+impl Given {
+    /// The reader of an input.
+    fn new(input: Input) -> Given {
+        let (left, fails) = match input {
+            Input::Whole(bytes) => (bytes, false),
+            Input::Broken(bytes) => (bytes, true),
+            Input::Unread => (b"".as_slice(), true),
+        };
+        Given {
+            left,
+            fails,
+            was_asked: false,
+        }
+    }
+}
+
+impl Read for Given {
+    fn read(&mut self, buf: &mut [u8]) -> io::Result<usize> {
+        self.was_asked = true;
+        if self.fails && self.left.is_empty() {
+            return Err(io::Error::from(ErrorKind::BrokenPipe));
+        }
+        self.left.read(buf)
+    }
+}
+
+/// A writer over memory that takes one byte a call, and fails or takes nothing where it has so many.
+#[derive(Drop)]
+struct Narrow {
+    taken: Vec<u8>,
     room: usize,
+    fails: bool,
 }
 
 impl Write for Narrow {
-    ghost contents = { λ w. Some w.taken.items };
-
     fn write(&mut self, buf: &[u8]) -> io::Result<usize> {
         if self.taken.len() >= self.room {
-            return Err(io::Error::from(ErrorKind::BrokenPipe));
+            return if self.fails {
+                Err(io::Error::from(ErrorKind::BrokenPipe))
+            } else {
+                Ok(0)
+            };
         }
         match buf.first() {
             Some(byte) => {
@@ -37,199 +93,105 @@ impl Write for Narrow {
     }
 }
 
-/// A writer that takes nothing.
-#[derive(Drop)]
-struct Full;
-
-impl Write for Full {
-    fn write(&mut self, _buf: &[u8]) -> io::Result<usize> {
-        Ok(0)
-    }
-
-    fn flush(&mut self) -> io::Result<()> {
-        Ok(())
+/// Whether the program tells this: the text of a fault, or a word for another end.
+fn is_told(alloc: Global, ended: &Result<Status, Fault>, wanted: &str) -> bool {
+    match ended {
+        Ok(Status::Done) => wanted == "done",
+        Ok(Status::Nothing) => wanted == "nothing",
+        Err(Fault::Words(text)) => wanted == "words" && !text.is_empty(),
+        Err(Fault::Help(_)) => wanted == "help",
+        Err(fault) => is_text(alloc, fault, wanted),
     }
 }
 
-/// A reader that always fails.
-#[derive(Drop)]
-struct Closed;
-
-impl Read for Closed {
-    fn read(&mut self, _buf: &mut [u8]) -> io::Result<usize> {
-        Err(io::Error::from(ErrorKind::BrokenPipe))
+/// Whether a fault has this text.
+fn is_text(alloc: Global, fault: &Fault, wanted: &str) -> bool {
+    match fault.to_string(alloc) {
+        Ok(text) => text.as_str() == wanted,
+        Err(_) => false,
     }
 }
 
-/// A reader that gives one text and then fails.
-#[derive(Drop)]
-struct Broken {
-    is_first: bool,
+/// Whether a writer is full of the beginning of a text.
+fn is_full_of(writer: &Narrow, text: &str) -> bool {
+    writer.taken.len() == writer.room && text.as_bytes().starts_with(writer.taken.as_slice())
 }
 
-impl Read for Broken {
-    fn read(&mut self, buf: &mut [u8]) -> io::Result<usize> {
-        if !self.is_first {
-            return Err(io::Error::from(ErrorKind::Interrupted));
-        }
-        self.is_first = false;
-        match buf.first_mut() {
-            Some(byte) => {
-                *byte = b'b';
-                Ok(1)
-            }
-            None => Ok(0),
-        }
-    }
-}
-
-fn answer(alloc: Global, words: &[&str], mut input: &[u8]) -> (Result<Status, Fault>, Vec<u8>) {
-    let mut output = Vec::new(alloc);
-    let result = run(alloc, words, &mut input, &mut output);
-    (result, output)
-}
-
-/// The fault of a call that wrote nothing.
-fn fault_of(alloc: Global, words: &[&str], input: &[u8]) -> Option<Fault> {
-    let (result, written) = answer(alloc, words, input);
-    if written.is_empty() {
-        result.err()
-    } else {
-        None
-    }
-}
-
-/// A writer with room for so many bytes.
-pub fn room_for(alloc: Global, room: usize) -> Narrow {
-    Narrow {
+/// Whether a call ends as it has to where its writer has room for so many bytes.
+fn ends_rightly(alloc: Global, call: &Call, room: usize, fails: bool) -> bool {
+    let Call(words, input, status, told, written) = *call;
+    let mut reader = Given::new(input);
+    let mut writer = Narrow {
         taken: Vec::new(alloc),
         room,
-    }
+        fails,
+    };
+    let mut source = Source::new(&mut reader);
+    let was_new = !source.has_ended();
+    let ended = run_from(alloc, words, &mut source, &mut writer);
+    let is_read = source.has_ended() == matches!(input, Input::Whole(_));
+    let is_asked = reader.was_asked != matches!(input, Input::Unread);
+    let (status, told) = if room < written.len() {
+        (2, "cannot write output")
+    } else {
+        (status, told)
+    };
+    was_new
+        && is_read
+        && is_asked
+        && is_full_of(&writer, written)
+        && exit_status(&ended) == status
+        && is_told(alloc, &ended, told)
 }
 
-#[test]
-fn prints_without_reading(rt: HostRuntime) {
-    let mut output = Vec::new(rt.alloc());
-    let outcome = run(rt.alloc(), &["print", "a"], &mut Closed, &mut output);
-    assert_eq!(rt; outcome, Ok(Status::Done));
-    assert_eq!(rt; output.as_slice(), b"a\n".as_slice());
-    assert_eq!(rt; exit_status(&outcome), 0);
+/// Whether a call ends as it has to with room for its output, and with less.
+pub fn is_right(alloc: Global, call: &Call) -> bool {
+    let Call(_, _, _, _, written) = *call;
+    for room in 0..=written.len() {
+        if !ends_rightly(alloc, call, room, true) || !ends_rightly(alloc, call, room, false) {
+            return false;
+        }
+    }
+    true
 }
 
-#[test]
-fn first_fault(rt: HostRuntime) {
-    let alloc = rt.alloc();
-    assert_eq!(rt;
-        fault_of(alloc, &["find", "a"], b"\xFF"),
-        Some(Fault::NotUtf8)
-    );
-    assert_eq!(rt;
-        fault_of(alloc, &["find", ")"], b"\xFF"),
-        Some(Fault::NotUtf8)
-    );
-    for words in [["seek", "a"].as_slice(), ["find"].as_slice(), &[]] {
-        let mut reader = Broken { is_first: true };
-        let mut output = Vec::new(alloc);
-        let result = run(alloc, words, &mut reader, &mut output);
-        assert!(rt; matches!(&result, Err(Fault::Words(_))));
-        assert!(rt; reader.is_first && output.is_empty());
-    }
-    assert!(rt; matches!(&fault_of(alloc, &["--help"], b"\xFF"), Some(Fault::Help(_))));
+/// Faults, with their texts and the exit statuses.
+const FAULTS: [(Result<Status, Fault>, &str, u8); 8] = [
+    (
+        Err(Fault::Regex(Error::ParseError(4, ParseError::UnclosedOpenParen))),
+        "Parsing error at position 4: Opening parenthesis without closing parenthesis",
+        2,
+    ),
+    (
+        Err(Fault::Regex(Error::CompileError(CompileError::NeverEndingRecursion))),
+        "Error compiling regex: never ending recursion",
+        2,
+    ),
+    (
+        Err(Fault::Regex(Error::RuntimeError(RuntimeError::BacktrackLimitExceeded))),
+        "Error executing regex: backtrack limit exceeded",
+        2,
+    ),
+    (Err(Fault::NotReprinted), "pattern does not reprint", 2),
+    (Err(Fault::Input), "cannot read input", 2),
+    (Err(Fault::NotUtf8), "input is not UTF-8", 2),
+    (Err(Fault::Output), "cannot write output", 2),
+    (Err(Fault::Memory), "Out of memory", 2),
+];
+
+/// Whether the faults of words show the texts that they hold.
+fn shows_texts_of_words(alloc: Global) -> Result<bool, AllocError> {
+    let words = Fault::Words(String::from_str(alloc, "w")?);
+    let help = Fault::Help(String::from_str(alloc, "h")?);
+    Ok(is_text(alloc, &words, "w") && is_text(alloc, &help, "h"))
 }
 
 #[test]
 fn shows_faults(rt: HostRuntime) -> Result<(), Fail> {
-    let alloc = rt.alloc();
-    for (fault, text) in [
-        (Fault::Words(String::from_str(alloc, "w")?), "w"),
-        (Fault::Help(String::from_str(alloc, "h")?), "h"),
-        (
-            Fault::Regex(Error::ParseError(4, ParseError::UnclosedOpenParen)),
-            "Parsing error at position 4: Opening parenthesis without closing parenthesis",
-        ),
-        (
-            Fault::Regex(Error::CompileError(CompileError::NeverEndingRecursion)),
-            "Error compiling regex: never ending recursion",
-        ),
-        (
-            Fault::Regex(Error::RuntimeError(RuntimeError::BacktrackLimitExceeded)),
-            "Error executing regex: backtrack limit exceeded",
-        ),
-        (Fault::NotReprinted, "pattern does not reprint"),
-        (Fault::Input, "cannot read input"),
-        (Fault::NotUtf8, "input is not UTF-8"),
-        (Fault::Output, "cannot write output"),
-        (Fault::Memory, "Out of memory"),
-    ] {
-        assert_eq!(rt; fault.to_string(rt.alloc())?.as_str(), text);
+    for (fault, text, status) in FAULTS.iter() {
+        let is_shown = is_told(rt.alloc(), fault, text) && exit_status(fault) == *status;
+        assert!(rt; is_shown, "{text}");
     }
+    assert!(rt; shows_texts_of_words(rt.alloc())?);
     Ok(())
-}
-
-#[test]
-fn reader_fails(rt: HostRuntime) {
-    let mut output = Vec::new(rt.alloc());
-    let mut reader = Broken { is_first: true };
-    let result = run(rt.alloc(), &["find", "b"], &mut reader, &mut output);
-    assert_eq!(rt; result, Err(Fault::Input));
-    assert!(rt; output.is_empty());
-}
-
-#[test]
-fn source_notes_the_end(rt: HostRuntime) {
-    let mut output = Vec::new(rt.alloc());
-    let mut broken = Broken { is_first: true };
-    let mut source = Source::new(&mut broken);
-    let result = run_from(rt.alloc(), &["find", "b"], &mut source, &mut output);
-    assert_eq!(rt; result, Err(Fault::Input));
-    assert!(rt; !source.has_ended());
-    let mut whole = b"ab".as_slice();
-    let mut source = Source::new(&mut whole);
-    assert!(rt; !source.has_ended());
-    let result = run_from(rt.alloc(), &["find", "b"], &mut source, &mut output);
-    assert_eq!(rt; result, Ok(Status::Done));
-    assert!(rt; source.has_ended());
-    assert_eq!(rt; output.as_slice(), b"1..2\n".as_slice());
-}
-
-#[test]
-fn exit_statuses_of_faults(rt: HostRuntime) {
-    for fault in [
-        Fault::NotReprinted,
-        Fault::Input,
-        Fault::NotUtf8,
-        Fault::Output,
-        Fault::Memory,
-    ] {
-        assert_eq!(rt; exit_status(&Err(fault)), 2);
-    }
-}
-
-#[test]
-fn writer_takes_little(rt: HostRuntime) {
-    let whole = b"1..3\n3..4\n".as_slice();
-    for room in 0..whole.len() {
-        let mut writer = room_for(rt.alloc(), room);
-        let result = run(
-            rt.alloc(),
-            &["find", "ab|b"],
-            &mut b"xabb".as_slice(),
-            &mut writer,
-        );
-        assert_eq!(rt; result, Err(Fault::Output), "{room}");
-        assert_eq!(rt; writer.taken.as_slice(), &whole[..room], "{room}");
-    }
-    let mut writer = room_for(rt.alloc(), whole.len());
-    let result = run(
-        rt.alloc(),
-        &["find", "ab|b"],
-        &mut b"xabb".as_slice(),
-        &mut writer,
-    );
-    assert_eq!(rt; result, Ok(Status::Done));
-    assert_eq!(rt; writer.taken.as_slice(), whole);
-    let result = run(rt.alloc(), &["find", "b"], &mut b"b".as_slice(), &mut Full);
-    assert_eq!(rt; result, Err(Fault::Output));
-    let result = run(rt.alloc(), &["find", "a"], &mut b"b".as_slice(), &mut Full);
-    assert_eq!(rt; result, Ok(Status::Nothing));
 }

@@ -3,133 +3,131 @@
 use fancy_search_words::{Arguments, Options, Refusal, Subcommand, read_words};
 use std::alloc::Global;
 
-/// What the words ask, or a word for why they ask nothing.
-fn requested<'a>(
-    alloc: Global,
-    words: &'a [&'a str],
-) -> Result<(Subcommand<'a>, Options), &'static str> {
-    match read_words(alloc, words) {
-        Ok(requested) => Ok((requested.subcommand, requested.options)),
-        Err(Refusal::Help(_)) => Err("help"),
-        Err(Refusal::Words(_)) => Err("words"),
-        Err(Refusal::Memory) => Err("memory"),
-    }
+/// Words with all options.
+static ALL: [&str; 11] = [
+    "captures",
+    "-im",
+    "--limit",
+    "7",
+    "(a)",
+    "-s",
+    "-x",
+    "--ascii",
+    "--oniguruma",
+    "--not-empty",
+    "--longest",
+];
+
+/// What these ask for.
+const ALL_OPTIONS: Options = Options {
+    case_insensitive: true,
+    multi_line: true,
+    dot_matches_new_line: true,
+    ignore_whitespace: true,
+    ascii: true,
+    oniguruma: true,
+    not_empty: true,
+    longest: true,
+    limit: Some(7),
+};
+
+/// Whether the arguments are a pattern for `captures` with all options.
+fn are_all(asked: &Arguments<'_>) -> bool {
+    asked.options == ALL_OPTIONS && matches!(&asked.subcommand, Subcommand::Captures("(a)"))
 }
 
 #[test]
 fn all_options(rt: HostRuntime) {
-    let all = Options {
-        case_insensitive: true,
-        multi_line: true,
-        dot_matches_new_line: true,
-        ignore_whitespace: true,
-        ascii: true,
-        oniguruma: true,
-        not_empty: true,
-        longest: true,
-        limit: Some(7),
-    };
-    let many = [
-        "captures",
-        "-im",
-        "--limit",
-        "7",
-        "(a)",
-        "-s",
-        "-x",
-        "--ascii",
-        "--oniguruma",
-        "--not-empty",
-        "--longest",
-    ]
-    .as_slice();
-    assert_eq!(rt;
-        requested(rt.alloc(), many),
-        Ok((Subcommand::Captures("(a)"), all))
-    );
-}
-
-/// The text of a call for help.
-fn help(alloc: Global, words: &[&str]) -> String {
-    match read_words(alloc, words) {
-        Err(Refusal::Help(text)) => text,
-        Err(Refusal::Words(_text)) => String::new(alloc),
-        Err(Refusal::Memory) => String::new(alloc),
-        Ok(_asked) => String::new(alloc),
+    match read_words(rt.alloc(), &ALL) {
+        Ok(asked) => assert!(rt; are_all(&asked)),
+        Err(_) => panic!(rt; "refused"),
     }
 }
 
-/// The text for words that do not parse.
-fn refusal(alloc: Global, words: &[&str]) -> String {
+/// Words, whether they call for help, and the usage and other parts of the text that tells so or why they are refused.
+static TEXTS: [(&[&str], bool, &str, &[&str]); 7] = [
+    (
+        &["--help"],
+        true,
+        "Usage: fancy_search <COMMAND>\n",
+        &[
+            "find",
+            "captures",
+            "split",
+            "replace",
+            "print",
+            "set",
+            "Status:",
+            "Examples:",
+        ],
+    ),
+    (
+        &["find", "-h"],
+        true,
+        "Usage: fancy_search find [OPTIONS] <PATTERN>\n",
+        &[],
+    ),
+    (
+        &["replace", "-h"],
+        true,
+        "Usage: fancy_search replace [OPTIONS] <PATTERN> <TEMPLATE>\n",
+        &[],
+    ),
+    (
+        &["help", "captures"],
+        true,
+        "Usage: fancy_search captures [OPTIONS] <PATTERN>\n",
+        &[],
+    ),
+    (
+        &["captures", "--help"],
+        true,
+        "Usage: fancy_search captures [OPTIONS] <PATTERN>\n",
+        &[
+            "<PATTERN>",
+            "-i",
+            "-m",
+            "-s",
+            "-x",
+            "--ascii",
+            "--oniguruma",
+            "--not-empty",
+            "--longest",
+            "--limit <N>",
+            "Example: captures",
+        ],
+    ),
+    (
+        &["captures"],
+        false,
+        "Usage: fancy_search captures <PATTERN>\n",
+        &[],
+    ),
+    (&["seek"], false, "Usage: fancy_search <COMMAND>\n", &[]),
+];
+
+/// Whether a text has the usage and all of these parts.
+fn has_all(text: &str, usage: &str, parts: &[&str]) -> bool {
+    for part in parts {
+        if !text.contains(*part) {
+            return false;
+        }
+    }
+    text.contains(usage)
+}
+
+/// Whether words get such a text.
+fn tells(alloc: Global, words: &[&str], is_help: bool, usage: &str, parts: &[&str]) -> bool {
     match read_words(alloc, words) {
-        Err(Refusal::Words(text)) => text,
-        Err(Refusal::Help(_text)) => String::new(alloc),
-        Err(Refusal::Memory) => String::new(alloc),
-        Ok(_asked) => String::new(alloc),
+        Err(Refusal::Help(text)) => is_help && has_all(&text, usage, parts),
+        Err(Refusal::Words(text)) => !is_help && has_all(&text, usage, parts),
+        _ => false,
     }
 }
 
 #[test]
-fn usage_names_the_program(rt: HostRuntime) {
-    for (text, usage) in [
-        (
-            help(rt.alloc(), &["--help"]),
-            "Usage: fancy_search <COMMAND>\n",
-        ),
-        (
-            help(rt.alloc(), &["find", "-h"]),
-            "Usage: fancy_search find [OPTIONS] <PATTERN>\n",
-        ),
-        (
-            help(rt.alloc(), &["replace", "-h"]),
-            "Usage: fancy_search replace [OPTIONS] <PATTERN> <TEMPLATE>\n",
-        ),
-        (
-            help(rt.alloc(), &["help", "captures"]),
-            "Usage: fancy_search captures [OPTIONS] <PATTERN>\n",
-        ),
-        (
-            refusal(rt.alloc(), &["captures"]),
-            "Usage: fancy_search captures <PATTERN>\n",
-        ),
-        (
-            refusal(rt.alloc(), &["seek"]),
-            "Usage: fancy_search <COMMAND>\n",
-        ),
-    ] {
-        assert!(rt; text.contains(usage), "{usage}");
-    }
-}
-
-#[test]
-fn help_tells_all(rt: HostRuntime) {
-    let text = help(rt.alloc(), &["--help"]);
-    for part in [
-        "find",
-        "captures",
-        "split",
-        "replace",
-        "print",
-        "set",
-        "Status:",
-        "Examples:",
-    ] {
-        assert!(rt; text.contains(part), "{part}");
-    }
-    let options = help(rt.alloc(), &["captures", "--help"]);
-    for part in [
-        "<PATTERN>",
-        "-i",
-        "-m",
-        "-s",
-        "-x",
-        "--ascii",
-        "--oniguruma",
-        "--not-empty",
-        "--longest",
-        "--limit <N>",
-        "Example: captures",
-    ] {
-        assert!(rt; options.contains(part), "{part}");
+fn texts_name_the_program_and_tell_all(rt: HostRuntime) {
+    for (words, is_help, usage, parts) in TEXTS.iter() {
+        assert!(rt; tells(rt.alloc(), words, *is_help, usage, parts), "{usage}");
     }
 }

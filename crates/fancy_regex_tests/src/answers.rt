@@ -1,0 +1,56 @@
+//! What regexes answer to calls that a table of cases cannot ask, each by a function that tells whether the answer is right.
+
+use crate::calls::stays_at_the_item;
+use crate::replacement::{borrows, counts, stops, swaps};
+use crate::templates::{takes_cows, takes_strings, writes};
+use fancy_regex::Regex;
+use std::alloc::Global;
+
+/// What is asked of a regex.
+#[derive(Clone, Copy)]
+enum Question {
+    Borrows,
+    Counts,
+    StaysAtTheItem,
+    Stops,
+    Swaps,
+    TakesCows,
+    TakesStrings,
+    Writes,
+}
+
+/// Patterns, and what is asked of their regexes.
+static QUESTIONS: [(&str, Question); 8] = [
+    ("x", Question::Borrows),
+    ("a", Question::Counts),
+    ("a", Question::StaysAtTheItem),
+    ("a", Question::Stops),
+    ("([^,\\s]+),\\s+(\\S+)", Question::Swaps),
+    ("(b)", Question::TakesCows),
+    ("(b)", Question::TakesStrings),
+    ("(a)", Question::Writes),
+];
+
+/// Whether the regex of a pattern answers rightly.
+fn is_right(alloc: Global, pattern: &str, question: Question) -> bool {
+    let Ok(regex) = Regex::new(alloc, pattern) else {
+        return false;
+    };
+    match question {
+        Question::Borrows => borrows(alloc, &regex),
+        Question::Counts => counts(alloc, &regex),
+        Question::StaysAtTheItem => stays_at_the_item(alloc, &regex),
+        Question::Stops => stops(alloc, &regex),
+        Question::Swaps => swaps(alloc, &regex),
+        Question::TakesCows => takes_cows(alloc, &regex),
+        Question::TakesStrings => takes_strings(alloc, &regex),
+        Question::Writes => writes(alloc, &regex),
+    }
+}
+
+#[test]
+fn regexes_answer_rightly(rt: HostRuntime) {
+    for (pattern, question) in QUESTIONS.iter() {
+        assert!(rt; is_right(rt.alloc(), pattern, *question), "{pattern}");
+    }
+}
