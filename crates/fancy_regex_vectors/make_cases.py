@@ -11,7 +11,7 @@ A line of the table is a case: six columns or more, separated by tabs. In patter
 control character, a blank, a `%` or not ASCII is written as `%` and two hexadecimal digits.
 
     options     letters; behind blanks `b` and the backtrack limit, `c` and the cap of the program, if they are not the defaults
-    pattern     of a set all its patterns with a blank between, `-` if it has none
+    pattern     of a set all its patterns with a blank between, `-` if it has none; none of them has a blank itself
     text
     input       empty for a whole text; else the start, both ends of the range, and letters, with blanks between
     template

@@ -1,12 +1,12 @@
 //! Why a measurement failed.
 
 use fancy_regex::Error;
-use std::alloc::{AllocError, AllocFailed};
+use std::alloc::AllocError;
 use std::io;
 use std::num::ParseIntError;
 
 /// Why a measurement failed.
-#[derive(Debug, Drop)]
+#[derive(Clone, Copy, Debug)]
 pub enum Fault {
     /// The first word is no size.
     Words,
@@ -20,12 +20,6 @@ pub enum Fault {
 
 impl From<AllocError> for Fault {
     fn from(_: AllocError) -> Fault {
-        Fault::Memory
-    }
-}
-
-impl<T: Drop> From<AllocFailed<T>> for Fault {
-    fn from(_: AllocFailed<T>) -> Fault {
         Fault::Memory
     }
 }

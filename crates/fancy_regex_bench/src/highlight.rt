@@ -1,7 +1,7 @@
-//! A highlighter: the tokens of a source text, found by a set of thirty patterns, and by the same thirty asked one by one.
+//! A highlighter: the tokens of a source text, found by a set of thirty patterns.
 
 use crate::fault::Fault;
-use fancy_regex::{Regex, RegexInput, RegexSet};
+use fancy_regex::{RegexInput, RegexSet};
 use std::alloc::Global;
 
 /// Comments, strings, numbers, keywords, names and operators. Where several match at one place, the first of them counts.
@@ -38,29 +38,14 @@ const TOKENS: [&str; 30] = [
     "[(){}\\[\\],;:.?@]",
 ];
 
-/// The number of tokens that a set of the thirty patterns finds.
-pub fn tokens_by_set(alloc: Global, text: &str) -> Result<u64, Fault> {
+/// The number of tokens of a text.
+pub fn tokens(alloc: Global, text: &str) -> Result<u64, Fault> {
     let set = RegexSet::new(alloc, &TOKENS)?;
-    count_by_set(alloc, &set, text)
-}
-
-/// The number of tokens that the members find.
-pub fn tokens_by_members(alloc: Global, text: &str) -> Result<u64, Fault> {
-    let members = build_members(alloc)?;
-    count_by_members(alloc, &members, text)
-}
-
-/// A regex for each of the thirty patterns.
-fn build_members(alloc: Global) -> Result<Vec<Regex>, Fault> {
-    let mut members = Vec::new(alloc);
-    for pattern in TOKENS {
-        members.push(Regex::new(alloc, pattern)?)?;
-    }
-    Ok(members)
+    tokens_by(alloc, &set, text)
 }
 
 /// The number of tokens that a set finds: at each place the match of the first member that has one, and on from its end.
-fn count_by_set(alloc: Global, set: &RegexSet, text: &str) -> Result<u64, Fault> {
+fn tokens_by(alloc: Global, set: &RegexSet, text: &str) -> Result<u64, Fault> {
     let mut count: u64 = 0;
     let mut place = 0;
     for _ in 0..text.len() {
@@ -90,39 +75,4 @@ fn next_end(
         Some(item) => Ok(Some(item?.end())),
         None => Ok(None),
     }
-}
-
-/// The number of tokens that the members find, asked one after another at each place.
-fn count_by_members(alloc: Global, members: &[Regex], text: &str) -> Result<u64, Fault> {
-    let mut count: u64 = 0;
-    let mut place = 0;
-    for _ in 0..text.len() {
-        match first_end(alloc, members, text, place)? {
-            Some(end) if end > place => {
-                count = count.saturating_add(1);
-                place = end;
-            }
-            _ => place = place.saturating_add(1),
-        }
-    }
-    Ok(count)
-}
-
-/// The end of the match of the first member that has one at a place; `None` if none has.
-fn first_end(
-    alloc: Global,
-    members: &[Regex],
-    text: &str,
-    place: usize,
-) -> Result<Option<usize>, Fault> {
-    if !text.is_char_boundary(place) {
-        return Ok(None);
-    }
-    for member in members {
-        let input = RegexInput::new(text).from_pos(place).anchored(true);
-        if let Some(found) = member.find_input(alloc, input)? {
-            return Ok(Some(found.end()));
-        }
-    }
-    Ok(None)
 }

@@ -1,6 +1,6 @@
 //! The generated haystacks.
 
-use crate::work::Work;
+use crate::work::Call;
 use std::alloc::{AllocError, Global};
 
 /// The words of a haystack, without digits and upper-case letters.
@@ -24,10 +24,10 @@ static LINES: [&str; 12] = [
     "    while i != end && !is_done { i += 1; total -= price[i] % 7; }\n",
 ];
 
-/// The haystack of a work, of about this many bytes: a source text for the highlighter, else words.
-pub fn text_of(alloc: Global, work: Work, size: usize) -> Result<String, AllocError> {
-    match work {
-        Work::TokensBySet | Work::TokensByMembers => made(alloc, &LINES, size),
+/// The haystack of a call, of about this many bytes: a source text for the highlighter, else words.
+pub fn text_of(alloc: Global, call: Call, size: usize) -> Result<String, AllocError> {
+    match call {
+        Call::Tokens => made(alloc, &LINES, size),
         _ => made(alloc, &WORDS, size),
     }
 }

@@ -83,56 +83,57 @@ pub enum Call {
     Set,
 }
 
-static CALLS: [(&str, Call); 36] = [
+/// All calls by their names, in the order in which their totals are printed.
+pub static CALLS: [(&str, Call); 36] = [
+    ("split", Call::Text(TextCall::Split)),
     ("build", Call::Build),
+    ("reprint", Call::Pattern(PatternCall::Reprint)),
+    ("required_bytes", Call::Pattern(PatternCall::RequiredBytes)),
+    ("start_bytes", Call::Pattern(PatternCall::StartBytes)),
+    ("captures", Call::Group(GroupCall::Captures)),
+    ("is_match", Call::Span(SpanCall::IsMatch)),
+    ("weight", Call::Analysis(AnalysisCall::Weight)),
+    ("looks", Call::Span(SpanCall::Looks)),
     ("find", Call::Span(SpanCall::Find)),
     ("find_input", Call::Span(SpanCall::FindInput)),
-    ("find_from_pos", Call::Span(SpanCall::FindFromPos)),
-    ("is_match", Call::Span(SpanCall::IsMatch)),
     ("is_match_input", Call::Span(SpanCall::IsMatchInput)),
     ("find_iter", Call::Span(SpanCall::FindIter)),
-    ("find_iter_input", Call::Span(SpanCall::FindIterInput)),
-    ("looks", Call::Span(SpanCall::Looks)),
-    ("captures", Call::Group(GroupCall::Captures)),
-    ("captures_input", Call::Group(GroupCall::CapturesInput)),
-    ("captures_from_pos", Call::Group(GroupCall::CapturesFromPos)),
-    ("captures_iter", Call::Group(GroupCall::CapturesIter)),
-    (
-        "captures_iter_input",
-        Call::Group(GroupCall::CapturesIterInput),
-    ),
-    ("name", Call::Group(GroupCall::Name)),
-    ("capture_names", Call::Group(GroupCall::CaptureNames)),
-    ("split", Call::Text(TextCall::Split)),
-    ("splitn", Call::Text(TextCall::SplitN)),
+    ("set", Call::Set),
     ("replacen", Call::Text(TextCall::ReplaceN)),
     ("no_expand", Call::Text(TextCall::NoExpand)),
+    ("escape", Call::Pattern(PatternCall::Escape)),
+    ("capture_names", Call::Group(GroupCall::CaptureNames)),
     ("expand", Call::Text(TextCall::Expand)),
     ("python", Call::Text(TextCall::Python)),
+    ("splitn", Call::Text(TextCall::SplitN)),
+    ("sizes", Call::Analysis(AnalysisCall::Sizes)),
+    ("easy", Call::Analysis(AnalysisCall::Easy)),
     ("check", Call::Text(TextCall::Check)),
-    ("start_bytes", Call::Pattern(PatternCall::StartBytes)),
-    ("required_bytes", Call::Pattern(PatternCall::RequiredBytes)),
-    ("reprint", Call::Pattern(PatternCall::Reprint)),
-    ("reprinted", Call::Reprinted),
-    ("escape", Call::Pattern(PatternCall::Escape)),
     (
         "expander_escape",
         Call::Pattern(PatternCall::ExpanderEscape),
     ),
-    ("sizes", Call::Analysis(AnalysisCall::Sizes)),
-    ("weight", Call::Analysis(AnalysisCall::Weight)),
-    ("easy", Call::Analysis(AnalysisCall::Easy)),
     ("machine", Call::Analysis(AnalysisCall::Machine)),
+    ("captures_input", Call::Group(GroupCall::CapturesInput)),
+    ("find_from_pos", Call::Span(SpanCall::FindFromPos)),
+    ("captures_from_pos", Call::Group(GroupCall::CapturesFromPos)),
+    ("captures_iter", Call::Group(GroupCall::CapturesIter)),
+    ("name", Call::Group(GroupCall::Name)),
+    ("reprinted", Call::Reprinted),
     ("layout", Call::Analysis(AnalysisCall::Layout)),
     ("repeats", Call::Analysis(AnalysisCall::Repeats)),
-    ("set", Call::Set),
+    ("find_iter_input", Call::Span(SpanCall::FindIterInput)),
+    (
+        "captures_iter_input",
+        Call::Group(GroupCall::CapturesIterInput),
+    ),
 ];
 
-/// The call of this name; `None` if there is none.
-pub fn call_named(name: &str) -> Option<Call> {
-    for (known, call) in CALLS.iter() {
+/// The place of the call of this name in the table, and the call; `None` if there is none.
+pub fn call_named(name: &str) -> Option<(usize, Call)> {
+    for (place, (known, call)) in CALLS.iter().enumerate() {
         if *known == name {
-            return Some(*call);
+            return Some((place, *call));
         }
     }
     None

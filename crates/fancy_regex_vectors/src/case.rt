@@ -1,5 +1,6 @@
 //! The cases of the table: what is asked, and of what.
 
+use crate::call::{Call, call_named};
 use crate::fault::Fault;
 use fancy_regex::{
     FLAG_CASEI, FLAG_CRLF, FLAG_DOTNL, FLAG_IGNORE_NUMBERED_GROUPS_WHEN_NAMED_GROUPS_EXIST,
@@ -10,8 +11,10 @@ use fancy_regex::{
 /// A line of the table, cut into its columns.
 #[derive(Clone, Copy)]
 pub struct Row<'t> {
-    /// The letters of the options, and limits behind blanks.
-    pub options: &'t str,
+    /// The letters of the options.
+    pub letters: &'t str,
+    /// The limits, with a blank between.
+    pub limits: &'t str,
     /// The pattern, percent-encoded; of a set its patterns, with a blank between.
     pub patterns: &'t str,
     /// The text, percent-encoded.
@@ -31,8 +34,10 @@ pub fn row_of(line: &str) -> Result<Row<'_>, Fault> {
     let (text, rest) = rest.split_once('\t').ok_or(Fault::Table)?;
     let (input, rest) = rest.split_once('\t').ok_or(Fault::Table)?;
     let (template, questions) = rest.split_once('\t').ok_or(Fault::Table)?;
+    let (letters, limits) = options.split_once(' ').unwrap_or((options, ""));
     Ok(Row {
-        options,
+        letters,
+        limits,
         patterns,
         text,
         input,
@@ -41,21 +46,33 @@ pub fn row_of(line: &str) -> Result<Row<'_>, Fault> {
     })
 }
 
-/// A question of a case: a call, its argument if it has one, and the answers that are allowed, separated by ` | `.
+/// A question of a case.
 #[derive(Clone, Copy)]
 pub struct Question<'t> {
-    pub call: &'t str,
+    /// The name of the call.
+    pub name: &'t str,
+    /// Its place in the table of calls.
+    pub place: usize,
+    pub call: Call,
+    /// The argument; empty if the call has none.
     pub argument: &'t str,
+    /// The argument as a number; 0 if it is none.
+    pub number: usize,
+    /// The answers that are allowed, separated by ` | `.
     pub allowed: &'t str,
 }
 
-/// Cuts a question into its parts. Fails with `Fault::Table` if it has no answer.
+/// Cuts a question into its parts. Fails with `Fault::Table` if it has no answer or asks no call.
 pub fn question_of(field: &str) -> Result<Question<'_>, Fault> {
     let (asked, allowed) = field.split_once('=').ok_or(Fault::Table)?;
-    let (call, argument) = asked.split_once(' ').unwrap_or((asked, ""));
+    let (name, argument) = asked.split_once(' ').unwrap_or((asked, ""));
+    let (place, call) = call_named(name).ok_or(Fault::Table)?;
     Ok(Question {
+        name,
+        place,
         call,
         argument,
+        number: argument.parse::<usize>().unwrap_or(0),
         allowed,
     })
 }
@@ -67,33 +84,33 @@ pub struct Case<'c> {
     pub pattern: &'c str,
     pub text: &'c str,
     pub template: &'c str,
+    /// The options of the row, without `seek`.
+    pub options: RegexOptionsBuilder,
+    /// The cap on the program, if the row has one.
+    pub cap: Option<usize>,
     pub seek: bool,
 }
 
+impl Case<'_> {
+    /// The options with `seek`, if the case is asked with it.
+    pub fn options_to_build(&self) -> RegexOptionsBuilder {
+        let mut options = self.options;
+        options.seek(self.seek);
+        options
+    }
+}
+
 /// The number of these digits. Fails with `Fault::Table` if they are none.
-pub fn number_of(digits: &str) -> Result<usize, Fault> {
+fn number_of(digits: &str) -> Result<usize, Fault> {
     match digits.parse::<usize>() {
         Ok(number) => Ok(number),
         Err(_) => Err(Fault::Table),
     }
 }
 
-/// Whether the options have this letter.
-pub fn has_option(row: Row<'_>, letter: char) -> bool {
-    letters_of(row).contains(letter)
-}
-
-/// The letters of a row's options.
-fn letters_of<'t>(row: Row<'t>) -> &'t str {
-    match row.options.split_once(' ') {
-        Some((letters, _limits)) => letters,
-        None => row.options,
-    }
-}
-
-/// The limit that begins with this letter, if the options have one: `b` the backtrack limit, `c` the cap on the program.
+/// The limit that begins with this letter, if a row has one: `b` the backtrack limit, `c` the cap on the program.
 pub fn limit_of(row: Row<'_>, letter: char) -> Result<Option<usize>, Fault> {
-    for word in row.options.split(' ') {
+    for word in row.limits.split(' ') {
         if let Some(digits) = word.strip_prefix(letter) {
             return Ok(Some(number_of(digits)?));
         }
@@ -101,9 +118,8 @@ pub fn limit_of(row: Row<'_>, letter: char) -> Result<Option<usize>, Fault> {
     Ok(None)
 }
 
-/// The options that a printed text keeps: `u` Unicode mode, `l` longest, `e` not empty.
-pub fn kept_options(row: Row<'_>) -> RegexOptionsBuilder {
-    let letters = letters_of(row);
+/// The options that a printed text keeps, by their letters: `u` Unicode mode, `l` longest, `e` not empty.
+pub fn kept_options(letters: &str) -> RegexOptionsBuilder {
     let mut options = RegexOptionsBuilder::new();
     options
         .unicode_mode(letters.contains('u'))
@@ -112,11 +128,10 @@ pub fn kept_options(row: Row<'_>) -> RegexOptionsBuilder {
     options
 }
 
-/// The options of a row, with the option `seek` or without: those that a printed text keeps, and `i` case-insensitive, `m`
-/// multi-line, `s` dot matches newlines, `x` blanks are skipped, `R` CRLF, `o` Oniguruma mode, `n` named groups alone.
-pub fn options_of(row: Row<'_>, seek: bool) -> Result<RegexOptionsBuilder, Fault> {
-    let letters = letters_of(row);
-    let mut options = kept_options(row);
+/// The options of these letters: those that a printed text keeps, and `i` case-insensitive, `m` multi-line, `s` dot matches newlines,
+/// `x` blanks are skipped, `R` CRLF, `o` Oniguruma mode, `n` named groups alone.
+fn options_of(letters: &str) -> RegexOptionsBuilder {
+    let mut options = kept_options(letters);
     options
         .case_insensitive(letters.contains('i'))
         .multi_line(letters.contains('m'))
@@ -125,8 +140,13 @@ pub fn options_of(row: Row<'_>, seek: bool) -> Result<RegexOptionsBuilder, Fault
     options
         .crlf(letters.contains('R'))
         .oniguruma_mode(letters.contains('o'))
-        .ignore_numbered_groups_when_named_groups_exist(letters.contains('n'))
-        .seek(seek);
+        .ignore_numbered_groups_when_named_groups_exist(letters.contains('n'));
+    options
+}
+
+/// The options of a row with its limits. Fails with `Fault::Table` if a limit is no number.
+pub fn limited_options(row: Row<'_>) -> Result<RegexOptionsBuilder, Fault> {
+    let mut options = options_of(row.letters);
     if let Some(limit) = limit_of(row, 'b')? {
         options.backtrack_limit(limit);
     }
@@ -136,28 +156,27 @@ pub fn options_of(row: Row<'_>, seek: bool) -> Result<RegexOptionsBuilder, Fault
     Ok(options)
 }
 
-/// The flags of `Expr::parse_tree_with_flags` that a row's options stand for.
-pub fn flags_of(row: Row<'_>) -> u32 {
+/// The flags of `Expr::parse_tree_with_flags` by the letters of the options that they stand for.
+static FLAGS: [(char, u32); 8] = [
+    ('i', FLAG_CASEI),
+    ('m', FLAG_MULTI),
+    ('s', FLAG_DOTNL),
+    ('x', FLAG_IGNORE_SPACE),
+    ('u', FLAG_UNICODE),
+    ('R', FLAG_CRLF),
+    ('o', FLAG_ONIGURUMA_MODE),
+    ('n', FLAG_IGNORE_NUMBERED_GROUPS_WHEN_NAMED_GROUPS_EXIST),
+];
+
+/// The flags that these letters stand for.
+pub fn flags_of(letters: &str) -> u32 {
     let mut flags = 0;
-    for letter in letters_of(row).chars() {
-        flags |= flag_of(letter);
+    for (letter, flag) in FLAGS.iter() {
+        if letters.contains(*letter) {
+            flags |= *flag;
+        }
     }
     flags
-}
-
-/// The flag of an option's letter; 0 for an option that does not concern reading.
-fn flag_of(letter: char) -> u32 {
-    match letter {
-        'i' => FLAG_CASEI,
-        'm' => FLAG_MULTI,
-        's' => FLAG_DOTNL,
-        'x' => FLAG_IGNORE_SPACE,
-        'u' => FLAG_UNICODE,
-        'R' => FLAG_CRLF,
-        'o' => FLAG_ONIGURUMA_MODE,
-        'n' => FLAG_IGNORE_NUMBERED_GROUPS_WHEN_NAMED_GROUPS_EXIST,
-        _ => 0,
-    }
 }
 
 /// The input of a case. The column has the start, both ends of the range, and letters: `a` anchored, `s` no start of the text, `e`

@@ -1,55 +1,85 @@
 //! The answers to the questions of a line, beside those of the table.
 
 use crate::answer::append_answer;
-use crate::case::{Case, Question, has_option, options_of, question_of, row_of};
+use crate::case::{Case, Question, Row, input_of, limit_of, limited_options, question_of, row_of};
 use crate::fault::Fault;
 use crate::quoted::plain;
 use crate::totals::Totals;
 use fancy_regex::{Error, Regex};
+use std::alloc::Global;
 
-/// Compares the answers to each question of this line, with the option `seek` and without; of a row with the letter `k` only with
-/// it, of a row with `p` only without. Fails with `Fault::Table` if the line is no case, if standard output fails, or with
-/// `Fault::Memory`.
-pub fn compare_line<'t>(
-    rt: &HostRuntime,
-    line: &'t str,
-    totals: &mut Totals<'t>,
-) -> Result<(), Fault> {
+/// The texts of a row, decoded.
+#[derive(Drop)]
+struct Texts {
+    pattern: String,
+    text: String,
+    template: String,
+}
+
+/// Compares the answers to each question of this line. Fails with `Fault::Table` if the line is no case, if standard output fails,
+/// or with `Fault::Memory`.
+pub fn compare_line(rt: &HostRuntime, line: &str, totals: &mut Totals) -> Result<(), Fault> {
     let row = row_of(line)?;
-    let pattern = plain(rt.alloc(), row.patterns)?;
-    let text = plain(rt.alloc(), row.text)?;
-    let template = plain(rt.alloc(), row.template)?;
+    let texts = texts_of(rt.alloc(), row)?;
+    compare_row(rt, row, &texts, totals)
+}
+
+/// Decodes the texts of a row.
+fn texts_of(alloc: Global, row: Row<'_>) -> Result<Texts, Fault> {
+    let pattern = plain(alloc, row.patterns)?;
+    let text = plain(alloc, row.text)?;
+    let template = plain(alloc, row.template)?;
+    Ok(Texts {
+        pattern,
+        text,
+        template,
+    })
+}
+
+/// Compares the answers to the questions of a row, with the option `seek` and without; of a row with the letter `k` only with it, of
+/// a row with `p` only without.
+fn compare_row(
+    rt: &HostRuntime,
+    row: Row<'_>,
+    texts: &Texts,
+    totals: &mut Totals,
+) -> Result<(), Fault> {
     let case = Case {
         row,
-        pattern: &pattern,
-        text: &text,
-        template: &template,
+        pattern: &texts.pattern,
+        text: &texts.text,
+        template: &texts.template,
+        options: limited_options(row)?,
+        cap: limit_of(row, 'c')?,
         seek: false,
     };
-    if !has_option(row, 'k') {
-        compare_questions(rt, &case, row.questions, totals)?;
+    if !row.letters.contains('k') {
+        compare_case(rt, &case, totals)?;
     }
-    if !has_option(row, 'p') {
-        let case = Case { seek: true, ..case };
-        compare_questions(rt, &case, row.questions, totals)?;
+    if !row.letters.contains('p') {
+        compare_case(rt, &Case { seek: true, ..case }, totals)?;
     }
     Ok(())
 }
 
-/// Compares the answers to these questions.
-fn compare_questions<'t>(
+/// Compares the answers to the questions of a case.
+fn compare_case(rt: &HostRuntime, case: &Case<'_>, totals: &mut Totals) -> Result<(), Fault> {
+    let pattern = String::from_str(rt.alloc(), case.pattern)?;
+    let built = case.options_to_build().build(rt.alloc(), pattern);
+    compare_questions(rt, case, &built, totals)
+}
+
+/// Compares the answers to the questions of a case, of which `built` is the regex or why there is none.
+fn compare_questions(
     rt: &HostRuntime,
     case: &Case<'_>,
-    questions: &'t str,
-    totals: &mut Totals<'t>,
+    built: &Result<Regex, Error>,
+    totals: &mut Totals,
 ) -> Result<(), Fault> {
-    let options = options_of(case.row, case.seek)?;
-    let pattern = String::from_str(rt.alloc(), case.pattern)?;
-    let built = options.build(rt.alloc(), pattern);
-    for field in questions.split('\t') {
+    for field in case.row.questions.split('\t') {
         let question = question_of(field)?;
-        let agrees = compare_answer(rt, case, &built, question)?;
-        totals.count(question.call, agrees)?;
+        let agrees = compare_answer(rt, case, built, question)?;
+        totals.count(question.place, agrees);
     }
     Ok(())
 }
@@ -61,24 +91,39 @@ fn compare_answer(
     built: &Result<Regex, Error>,
     question: Question<'_>,
 ) -> Result<bool, Fault> {
+    let input = input_of(case)?;
     let mut found = String::new(rt.alloc());
-    append_answer(rt.alloc(), &mut found, case, built, question)?;
-    if allows(question.allowed, &found) {
+    append_answer(rt.alloc(), &mut found, case, input, built, question)?;
+    judge(rt, case.row, question, &found)
+}
+
+/// Whether this answer is one that is allowed. If not, prints the row, the question and the answer.
+fn judge(
+    rt: &HostRuntime,
+    row: Row<'_>,
+    question: Question<'_>,
+    found: &str,
+) -> Result<bool, Fault> {
+    if allows(question.allowed, found) {
         return Ok(true);
     }
-    let row = case.row;
     println!(rt;
-        "{}\t{}\t{}\t{}\t{}",
-        row.options, row.patterns, row.text, row.input, row.template
+        "{} {}\t{}\t{}\t{}\t{}",
+        row.letters, row.limits, row.patterns, row.text, row.input, row.template
     )?;
     println!(rt;
         "{} {}={}\nanswer: {found}",
-        question.call, question.argument, question.allowed
+        question.name, question.argument, question.allowed
     )?;
     Ok(false)
 }
 
 /// Whether the answer is one of those that are allowed, which have ` | ` between them.
 fn allows(allowed: &str, found: &str) -> bool {
-    allowed.split(" | ").any(|answer| answer == found)
+    for answer in allowed.split(" | ") {
+        if answer == found {
+            return true;
+        }
+    }
+    false
 }

@@ -1,16 +1,13 @@
-//! Why a call has no answer.
+//! Why the answers cannot be compared.
 
-use fancy_regex::{CompileError, Error, ExprError, RuntimeError};
-use std::alloc::{AllocError, AllocFailed};
+use std::alloc::AllocError;
 use std::io;
 
-/// Why a call has no answer.
-#[derive(Debug, Drop)]
+/// Why the answers cannot be compared.
+#[derive(Clone, Copy, Debug)]
 pub enum Fault {
     /// A line of the table is not a case.
     Table,
-    /// The call failed.
-    Regex(Error),
     /// Standard input or output failed.
     System,
     /// An allocation was refused.
@@ -20,36 +17,6 @@ pub enum Fault {
 impl From<AllocError> for Fault {
     fn from(_: AllocError) -> Fault {
         Fault::Memory
-    }
-}
-
-impl<T: Drop> From<AllocFailed<T>> for Fault {
-    fn from(_: AllocFailed<T>) -> Fault {
-        Fault::Memory
-    }
-}
-
-impl From<Error> for Fault {
-    fn from(error: Error) -> Fault {
-        Fault::Regex(error)
-    }
-}
-
-impl From<ExprError> for Fault {
-    fn from(error: ExprError) -> Fault {
-        Fault::Regex(Error::from(error))
-    }
-}
-
-impl From<CompileError> for Fault {
-    fn from(error: CompileError) -> Fault {
-        Fault::Regex(Error::from(error))
-    }
-}
-
-impl From<RuntimeError> for Fault {
-    fn from(error: RuntimeError) -> Fault {
-        Fault::Regex(Error::from(error))
     }
 }
 

@@ -36,15 +36,13 @@ fn append_insn(out: &mut String, insn: &Insn) -> Result<(), AllocError> {
 
 /// Appends how many instructions begin a greedy repeat, and how many fail.
 pub fn append_repeats(out: &mut String, prog: &Prog) -> Result<(), AllocError> {
-    let repeats = prog
-        .body()
-        .iter()
-        .filter(|insn| matches!(insn, Insn::RepeatGr(_)))
-        .count();
-    let failing = prog
-        .body()
-        .iter()
-        .filter(|insn| matches!(insn, Insn::Fail))
-        .count();
+    let (mut repeats, mut failing) = (0_usize, 0_usize);
+    for insn in prog.body() {
+        match insn {
+            Insn::RepeatGr(_) => repeats = repeats.saturating_add(1),
+            Insn::Fail => failing = failing.saturating_add(1),
+            _ => {}
+        }
+    }
     write!(out, "{repeats} {failing}")
 }

@@ -2,12 +2,12 @@
 
 use crate::byte_sets::append_bytes;
 use crate::call::PatternCall;
-use crate::case::{Case, kept_options, options_of};
-use crate::fault::Fault;
-use crate::quoted::append_quoted;
-use fancy_regex::{Expander, Regex, RegexOptionsBuilder, escape};
+use crate::case::{Case, kept_options};
+use crate::quoted::{append_quoted, put_error};
+use crate::texts::append_text;
+use fancy_regex::{ByteSet, Error, Expander, Regex, Result as Found, escape};
 use fancy_regex_answers::answers;
-use std::alloc::Global;
+use std::alloc::{AllocError, Global};
 use std::fmt::Write;
 
 /// Appends the answer of a call on a pattern.
@@ -16,22 +16,19 @@ pub fn append_pattern_call(
     out: &mut String,
     case: &Case<'_>,
     call: PatternCall,
-) -> Result<(), Fault> {
-    let options = options_of(case.row, false)?;
+) -> Result<(), AllocError> {
+    let (options, pattern, text) = (&case.options, case.pattern, case.text);
     match call {
-        PatternCall::StartBytes => append_start_bytes(alloc, out, options, case.pattern),
+        PatternCall::StartBytes => {
+            append_start_bytes(alloc, out, options.start_bytes(alloc, pattern))
+        }
         PatternCall::RequiredBytes => {
-            append_bytes(out, &options.required_bytes(alloc, case.pattern)?)?;
-            Ok(())
+            append_required_bytes(alloc, out, options.required_bytes(alloc, pattern))
         }
-        PatternCall::Reprint => append_reprinted(alloc, out, options, case.pattern),
-        PatternCall::Escape => {
-            append_quoted(out, escape(alloc, case.text)?.as_str())?;
-            Ok(())
-        }
+        PatternCall::Reprint => append_reprinted(alloc, out, options.reprint(alloc, pattern)),
+        PatternCall::Escape => append_text(alloc, out, escape(alloc, text)),
         PatternCall::ExpanderEscape => {
-            append_quoted(out, Expander::default().escape(alloc, case.text)?.as_str())?;
-            Ok(())
+            append_text(alloc, out, Expander::default().escape(alloc, text))
         }
     }
 }
@@ -40,60 +37,80 @@ pub fn append_pattern_call(
 fn append_start_bytes(
     alloc: Global,
     out: &mut String,
-    options: RegexOptionsBuilder,
-    pattern: &str,
-) -> Result<(), Fault> {
-    match options.start_bytes(alloc, pattern)? {
-        Some(set) => append_bytes(out, &set)?,
-        None => out.push_str("none")?,
+    set: Found<Option<ByteSet>>,
+) -> Result<(), AllocError> {
+    match set {
+        Ok(Some(set)) => append_bytes(out, &set),
+        Ok(None) => out.push_str("none"),
+        Err(error) => put_error(alloc, out, &error),
     }
-    Ok(())
+}
+
+/// Appends the bytes that each text has in which a pattern matches.
+fn append_required_bytes(
+    alloc: Global,
+    out: &mut String,
+    set: Found<ByteSet>,
+) -> Result<(), AllocError> {
+    match set {
+        Ok(set) => append_bytes(out, &set),
+        Err(error) => put_error(alloc, out, &error),
+    }
 }
 
 /// Appends the printed text of a pattern, or `none`.
 fn append_reprinted(
     alloc: Global,
     out: &mut String,
-    options: RegexOptionsBuilder,
-    pattern: &str,
-) -> Result<(), Fault> {
-    match options.reprint(alloc, pattern)? {
-        Some(text) => append_quoted(out, &text)?,
-        None => out.push_str("none")?,
+    printed: Found<Option<String>>,
+) -> Result<(), AllocError> {
+    match printed {
+        Ok(Some(text)) => append_quoted(out, &text),
+        Ok(None) => out.push_str("none"),
+        Err(error) => put_error(alloc, out, &error),
     }
-    Ok(())
 }
 
 /// Appends `alike` if all searches by a regex of the printed text have the answers that they have by the regex, else the answers of
-/// both. Fails with `Fault::Table` if the pattern does not reprint.
+/// both.
 pub fn append_reprinted_answers(
     alloc: Global,
     out: &mut String,
     case: &Case<'_>,
     regex: &Regex,
-) -> Result<(), Fault> {
-    let wanted = answers(alloc, regex, case.text)?;
-    let found = reprinted_answers(alloc, case)?;
-    if found == wanted {
-        out.push_str("alike")?;
-    } else {
-        write!(out, "{wanted}\nprinted:{found}")?;
+) -> Result<(), AllocError> {
+    match answers(alloc, regex, case.text) {
+        Ok(wanted) => append_comparison(alloc, out, &wanted, reprinted_answers(alloc, case)),
+        Err(error) => put_error(alloc, out, &error),
     }
-    Ok(())
 }
 
-/// The answers of all searches by a regex of the printed text.
-fn reprinted_answers(alloc: Global, case: &Case<'_>) -> Result<String, Fault> {
-    match options_of(case.row, case.seek)?.reprint(alloc, case.pattern)? {
+/// Appends `alike` if these answers are those that are wanted, else both; the text of the error if there are none.
+fn append_comparison(
+    alloc: Global,
+    out: &mut String,
+    wanted: &str,
+    found: Found<String>,
+) -> Result<(), AllocError> {
+    match found {
+        Ok(found) if found.as_str() == wanted => out.push_str("alike"),
+        Ok(found) => write!(out, "{wanted}\nprinted:{found}"),
+        Err(error) => put_error(alloc, out, &error),
+    }
+}
+
+/// The answers of all searches by a regex of the printed text; an empty text if the pattern does not reprint.
+fn reprinted_answers(alloc: Global, case: &Case<'_>) -> Result<String, Error> {
+    match case.options_to_build().reprint(alloc, case.pattern)? {
         Some(printed) => kept_answers(alloc, case, printed),
-        None => Err(Fault::Table),
+        None => Ok(String::new(alloc)),
     }
 }
 
 /// The answers of all searches by a regex of this pattern, with the options that a printed text keeps.
-fn kept_answers(alloc: Global, case: &Case<'_>, pattern: String) -> Result<String, Fault> {
-    let regex = kept_options(case.row)
+fn kept_answers(alloc: Global, case: &Case<'_>, pattern: String) -> Result<String, Error> {
+    let regex = kept_options(case.row.letters)
         .seek(case.seek)
         .build(alloc, pattern)?;
-    Ok(answers(alloc, &regex, case.text)?)
+    answers(alloc, &regex, case.text)
 }

@@ -1,6 +1,7 @@
 //! Percent-encoded texts: `%`, and each byte that is not a visible ASCII character, is `%` and two hexadecimal digits.
 
 use crate::fault::Fault;
+use fancy_regex::Error;
 use percent_encoding::{AsciiSet, CONTROLS, percent_decode_str, utf8_percent_encode};
 use std::alloc::{AllocError, Global};
 
@@ -9,8 +10,19 @@ pub fn append_quoted(out: &mut String, text: &str) -> Result<(), AllocError> {
     let set: AsciiSet = CONTROLS.add(b' ').add(b'%');
     out.push('[')?;
     utf8_percent_encode(text, set).append_to(out)?;
-    out.push(']')?;
-    Ok(())
+    out.push(']')
+}
+
+/// Appends the text of an error.
+pub fn append_error(alloc: Global, out: &mut String, error: &Error) -> Result<(), AllocError> {
+    let text = format!(in alloc; "{error}")?;
+    append_quoted(out, &text)
+}
+
+/// Puts the text of an error in the place of an answer.
+pub fn put_error(alloc: Global, out: &mut String, error: &Error) -> Result<(), AllocError> {
+    out.clear();
+    append_error(alloc, out, error)
 }
 
 /// Decodes a percent-encoded text. Fails with `Fault::Table` if the bytes are not UTF-8, or with `Fault::Memory`.

@@ -1,43 +1,46 @@
 //! Sets of patterns.
 
-use crate::case::{Case, input_of, options_of};
-use crate::fault::Fault;
-use crate::quoted::{append_quoted, plain};
-use fancy_regex::{RegexSet, RegexSetMatch, RegexSetMatchesAt, Result as RegexResult};
+use crate::case::Case;
+use crate::quoted::{append_error, put_error};
+use fancy_regex::{Error, RegexInput, RegexSet, RegexSetMatch, RegexSetMatchesAt, Result as Found};
 use std::alloc::{AllocError, Global};
 use std::fmt::Write;
 
 /// Appends the members of the case's set that match at the earliest place, or `none`.
-pub fn append_set(alloc: Global, out: &mut String, case: &Case<'_>) -> Result<(), Fault> {
-    let set = set_of(alloc, case)?;
-    match set.find_input(alloc, input_of(case)?)? {
-        Some(members) => append_members(alloc, out, members)?,
-        None => out.push_str("none")?,
+pub fn append_set(
+    alloc: Global,
+    out: &mut String,
+    case: &Case<'_>,
+    input: RegexInput<&str>,
+) -> Result<(), AllocError> {
+    match set_of(alloc, case) {
+        Ok(set) => append_found(alloc, out, set.find_input(alloc, input)),
+        Err(error) => put_error(alloc, out, &error),
     }
-    Ok(())
 }
 
 /// The set of the case's patterns.
-fn set_of(alloc: Global, case: &Case<'_>) -> Result<RegexSet, Fault> {
-    let patterns = patterns_of(alloc, case.row.patterns)?;
-    let mut texts: Vec<&str> = Vec::new(alloc);
-    for pattern in patterns.iter() {
-        texts.push(pattern.as_str())?;
+fn set_of(alloc: Global, case: &Case<'_>) -> Result<RegexSet, Error> {
+    let mut patterns: Vec<&str> = Vec::new(alloc);
+    if case.pattern != "-" {
+        for pattern in case.pattern.split(' ') {
+            patterns.push(pattern)?;
+        }
     }
-    let options = options_of(case.row, false)?;
-    Ok(RegexSet::new_with_options(alloc, &texts, &options)?)
+    RegexSet::new_with_options(alloc, &patterns, &case.options)
 }
 
-/// Decodes patterns that are percent-encoded, with a blank between.
-fn patterns_of(alloc: Global, quoted: &str) -> Result<Vec<String>, Fault> {
-    let mut patterns = Vec::new(alloc);
-    if quoted == "-" {
-        return Ok(patterns);
+/// Appends the members that match at a place, or `none`.
+fn append_found(
+    alloc: Global,
+    out: &mut String,
+    found: Found<Option<RegexSetMatchesAt<'_, &str>>>,
+) -> Result<(), AllocError> {
+    match found {
+        Ok(Some(members)) => append_members(alloc, out, members),
+        Ok(None) => out.push_str("none"),
+        Err(error) => put_error(alloc, out, &error),
     }
-    for pattern in quoted.split(' ') {
-        patterns.push(plain(alloc, pattern)?)?;
-    }
-    Ok(patterns)
 }
 
 /// Appends the members, with a blank between.
@@ -47,28 +50,25 @@ fn append_members(
     mut members: RegexSetMatchesAt<'_, &str>,
 ) -> Result<(), AllocError> {
     while let Some(member) = members.next() {
-        if !out.is_empty() {
-            out.push(' ')?;
-        }
         append_member(alloc, out, &member)?;
     }
     Ok(())
 }
 
-/// Appends the number of a member and the span of its match, or the text of its error.
+/// Appends the number of a member and the span of its match, or the text of its error; behind a blank if it is not the first.
 fn append_member(
     alloc: Global,
     out: &mut String,
-    member: &RegexResult<RegexSetMatch<'_, &str>>,
+    member: &Found<RegexSetMatch<'_, &str>>,
 ) -> Result<(), AllocError> {
+    if !out.is_empty() {
+        out.push(' ')?;
+    }
     match member {
         Ok(found) => {
             let (number, start, end) = (found.pattern(), found.start(), found.end());
             write!(out, "{number}:{start}..{end}")
         }
-        Err(error) => {
-            let text = format!(in alloc; "{error}")?;
-            append_quoted(out, &text)
-        }
+        Err(error) => append_error(alloc, out, error),
     }
 }

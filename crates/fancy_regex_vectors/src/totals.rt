@@ -1,73 +1,50 @@
 //! How many answers of each call agree.
 
+use crate::call::CALLS;
 use crate::fault::Fault;
-use std::alloc::{AllocError, Global};
 
 /// How often a call was asked, and how often its answer agreed.
-#[derive(Drop)]
-struct Total<'t> {
-    call: &'t str,
+#[derive(Clone, Copy)]
+struct Total {
     asked: usize,
     agreeing: usize,
 }
 
-impl<'t> Total<'t> {
-    /// A call that was asked once.
-    fn first(call: &'t str, agrees: bool) -> Total<'t> {
-        Total {
-            call,
-            asked: 1,
-            agreeing: usize::from(agrees),
-        }
-    }
-
-    /// Counts an answer.
-    fn count(&mut self, agrees: bool) {
-        self.asked = self.asked.saturating_add(1);
-        if agrees {
-            self.agreeing = self.agreeing.saturating_add(1);
-        }
-    }
+/// The totals of all calls, in the order of their table.
+#[derive(Clone, Copy)]
+pub struct Totals {
+    /// One for each row of the table.
+    calls: [Total; 36],
 }
 
-/// The totals of all calls, in the order in which they were asked first.
-#[derive(Drop)]
-pub struct Totals<'t> {
-    calls: Vec<Total<'t>>,
-}
-
-impl<'t> Totals<'t> {
+impl Totals {
     /// No call was asked.
-    pub fn new(alloc: Global) -> Totals<'t> {
+    pub fn new() -> Totals {
         Totals {
-            calls: Vec::new(alloc),
+            calls: [Total {
+                asked: 0,
+                agreeing: 0,
+            }; 36],
         }
     }
 
-    /// Counts an answer of a call.
-    pub fn count(&mut self, call: &'t str, agrees: bool) -> Result<(), AllocError> {
-        for total in self.calls.iter_mut() {
-            if total.call == call {
-                total.count(agrees);
-                return Ok(());
-            }
+    /// Counts an answer of the call at this place of the table.
+    pub fn count(&mut self, place: usize, agrees: bool) {
+        if let Some(total) = self.calls.get_mut(place) {
+            total.asked = total.asked.saturating_add(1);
+            total.agreeing = total.agreeing.saturating_add(usize::from(agrees));
         }
-        self.calls.push(Total::first(call, agrees))?;
-        Ok(())
     }
 
-    /// Prints a line for each call. Returns whether all answers agree.
+    /// Prints a line for each call that was asked. Returns whether all answers agree.
     pub fn print(&self, rt: &HostRuntime) -> Result<bool, Fault> {
         let mut all_agree = true;
-        for total in self.calls.iter() {
-            if total.agreeing == total.asked {
-                println!(rt; "{}: {} agree", total.call, total.asked)?;
-            } else {
-                println!(rt;
-                    "{}: {} of {} agree",
-                    total.call, total.agreeing, total.asked
-                )?;
+        for ((name, _call), total) in CALLS.iter().zip(self.calls.iter()) {
+            if total.agreeing < total.asked {
+                println!(rt; "{name}: {} of {} agree", total.agreeing, total.asked)?;
                 all_agree = false;
+            } else if total.asked > 0 {
+                println!(rt; "{name}: {} agree", total.asked)?;
             }
         }
         Ok(all_agree)
