@@ -2,6 +2,7 @@ pub mod Children
 pub mod BorrowedChildren
 pub mod Replacing
 pub mod Compared
+pub mod Unequal
 pub mod Found
 pub mod Parsing
 pub mod Backrefs
