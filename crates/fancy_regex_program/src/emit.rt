@@ -1,7 +1,7 @@
 //! Instructions of the nodes of an analyzed tree. What is left to emit stands on a stack of tasks, so nothing recurses. Each
 //! function takes the first free slot and returns the next one; the errors are those of `compile`.
 
-ghost use Rattle.std.specs.Prelude.{◌≡◌, Bool, ◌≤◌, ◌<◌, ◌+◌, ℕ, List, [], ◌∷◌, ◌++◌, false, true, slice_get, IfOk, IfErr, OnOk, Some, None};
+ghost use Rattle.std.specs.Prelude.{◌≡◌, Bool, ◌≤◌, ◌<◌, ◌+◌, ℕ, List, [], ◌∷◌, ◌++◌, length, false, true, slice_get, IfOk, IfErr, OnOk, Some, None};
 ghost use Rattle.fancy_regex_meaning.specs.Ways.{is_at_call_limit as is_full_of};
 ghost use Rattle.fancy_regex_desugar.specs.CorePatterns as pat;
 ghost use Rattle.fancy_regex_desugar.specs.ProgramSizes.{room};
@@ -10,30 +10,35 @@ ghost use Rattle.fancy_regex_tree.specs.Tree.{tree_of};
 ghost use Rattle.fancy_regex_sizes.specs.AnalysisErrors.{is_too_complex};
 ghost use Rattle.fancy_regex_info.specs.Infos.{InfoTree, info_of};
 ghost use Rattle.fancy_regex_info.specs.declared.info.Info.TheViews.{out-Info};
-ghost use Rattle.fancy_regex_program.specs.Extents.{IsFull};
+ghost use Rattle.fancy_regex_program.specs.Extents.{IsFull, extent};
 ghost use Rattle.fancy_regex_program.specs.Known.{info_call};
 ghost use Rattle.fancy_regex_program.specs.Machine.{unset};
-ghost use Rattle.fancy_regex_program.specs.Ops.{end_atomic};
+ghost use Rattle.fancy_regex_program.specs.Ops as op;
+ghost use Rattle.fancy_regex_program.specs.Ops.{end_atomic, op_of};
 ghost use Rattle.fancy_regex_program.specs.Refusals.{IsMemoryOrTooComplex, IsReasonWhere, IsExpandedPart, AreExpandedParts, IsExpandedBody, IsExpandedRepeat, IsExpandedAbsent};
 ghost use Rattle.fancy_regex_program.specs.Refusals.{IsExpandedConditional, IsExpandedTarget, looks_behind};
 ghost use Rattle.fancy_regex_program.specs.Shapes.{IsAllowed};
 ghost use Rattle.fancy_regex_program.specs.Tasks.{listed, node_pattern, body_pattern, row_pattern, whole_pattern, tail_pattern, branches_pattern, past_pattern, past_others, progress, task_room, IsExpandedTask};
 ghost use Rattle.fancy_regex_program.specs.Tasks.{Leads, LeadsTo, LeadsOn, call_work, info_work, infos_work, task_work, tasks_work};
-ghost use Rattle.fancy_regex_program.specs.Writing.{Wrote, draft_of, with_op, closed_draft, infos_of, part};
+ghost use Rattle.fancy_regex_program.specs.Writing.{Wrote, added, draft_of, with_op, closed_draft, infos_of, part};
 ghost use Rattle.fancy_regex_program.specs.declared.emitter.CompileContext.{CompileContext as TheContext};
 ghost use Rattle.fancy_regex_program.specs.declared.emitter.Emitter.{Emitter as TheEmitter};
+ghost use Rattle.fancy_regex_program.specs.declared.insn.Insn.TheVariants as the_insn;
 ghost use Rattle.fancy_regex_program.specs.declared.task.Task.TheVariants as the_task;
 
 use crate::closing::{Closing, absent_step, close};
+use crate::delegate::Delegate;
 use crate::emitter::{CompileContext, Emitter, Scope, first_slot, past_slots};
 use crate::insn::{AbsentRepeater, Insn};
 use crate::leaf::{emit_leaf, not_supported};
-use crate::tail::{row_tree, tail_from};
+use crate::program_builder::ProgramBuilder;
+use crate::tail::tail_from;
 use crate::task::{Step, Task, Tasks};
 use fancy_regex_info::{CompileError, Info};
 use fancy_regex_tree::{Absent, Expr, LookAround};
 use std::alloc::{AllocError, Global};
 use std::slice;
+use std::sync::Arc;
 
 /// How often one group may be inlined inside of itself.
 pub(crate) const OPEN_CALLS_OF_ONE: usize = 19;
@@ -205,15 +210,12 @@ fn emit_tail<'i, 'e>(
     ensures work { IfOk result (λ step. (groups : List InfoTree) → tasks_work groups (listed step.tasks) ≤ 1 + infos_work groups scope parts.now) }
 {
     let row = Task::Row { parts, scope };
-    let tree = row_tree(context.alloc, parts)?;
     match emitter
         .parts
-        .delegate(context.alloc, &tree, false, context.unicode)?
+        .delegate_row(context.alloc, parts, context.unicode)?
     {
         Some(part) => {
-            emitter.body.flush()?;
-            let begin = emitter.body.len();
-            emitter.body.push_insn(Insn::DelegateTail { part, end: 0 })?;
+            let begin = begin_tail(&mut emitter.body, part)?;
             Ok(leads_to(
                 slot,
                 Tasks::Two {
@@ -224,6 +226,21 @@ fn emit_tail<'i, 'e>(
         }
         None => Ok(leads_to(slot, Tasks::One(row))),
     }
+}
+
+/// Appends the instruction that begins a delegated tail, whose end is set later. Returns its index.
+fn begin_tail(body: &mut ProgramBuilder, part: Arc<Delegate>) -> Result<usize, CompileError>
+    ensures begin { IfOk result (λ begin. begin ≡ length (closed_draft (draft_of body.old)).ops) }
+    ensures draft { OnOk result (draft_of body.new ≡ with_op (op_of (the_insn.DelegateTail part 0)) (closed_draft (draft_of body.old))) }
+    ensures cap { body.new.cap ≡ body.old.cap }
+    ensures long { OnOk result (extent (draft_of body.new) ≡ extent (draft_of body.old) + 1) }
+    ensures full { IfErr result (IsFull body.old 1) }
+    ensures refused { IfErr result IsMemoryOrTooComplex }
+{
+    body.flush()?;
+    let begin = body.len();
+    body.push_insn(Insn::DelegateTail { part, end: 0 })?;
+    Ok(begin)
 }
 
 /// The first part of a concatenation, and the others.
@@ -271,12 +288,11 @@ fn emit_branches<'i, 'e>(
     if others.is_empty() {
         return Ok(leads_to(slot, Tasks::One(branch)));
     }
-    emitter.body.flush()?;
-    let split = emitter.body.len();
-    emitter.body.push_insn(Insn::Split(0, 0))?;
+    let begins = begin_choice(&mut emitter.body)?;
+    let (split, first) = begins;
     let otherwise = Task::Otherwise {
         split,
-        first: emitter.body.len(),
+        first,
         branches: others,
         behind,
         scope,
@@ -288,6 +304,58 @@ fn emit_branches<'i, 'e>(
             then: otherwise,
         },
     ))
+}
+
+/// Appends a choice whose targets are set later. Returns its index, and that of the instruction behind it.
+fn begin_choice(body: &mut ProgramBuilder) -> Result<(usize, usize), CompileError>
+    ensures split { IfOk result (λ begins. begins.0 ≡ length (closed_draft (draft_of body.old)).ops) }
+    ensures first { IfOk result (λ begins. begins.1 ≡ length (draft_of body.new).ops) }
+    ensures draft { OnOk result (draft_of body.new ≡ with_op (op.split 0 0) (closed_draft (draft_of body.old))) }
+    ensures cap { body.new.cap ≡ body.old.cap }
+    ensures long { OnOk result (extent (draft_of body.new) ≡ extent (draft_of body.old) + 1) }
+    ensures full { IfErr result (IsFull body.old 1) }
+    ensures refused { IfErr result IsMemoryOrTooComplex }
+{
+    body.flush()?;
+    let split = body.len();
+    body.push_insn(Insn::Split(0, 0))?;
+    Ok((split, body.len()))
+}
+
+/// Begins an atomic group that keeps its height in this slot, and appends a choice whose targets are set later. Returns the index of
+/// the choice, and that of the instruction behind it.
+fn begin_atomic_choice(
+    body: &mut ProgramBuilder,
+    slot: usize,
+) -> Result<(usize, usize), CompileError>
+    ensures split { IfOk result (λ begins. begins.0 ≡ length (added (op.begin_atomic slot) (draft_of body.old)).ops) }
+    ensures first { IfOk result (λ begins. begins.1 ≡ length (draft_of body.new).ops) }
+    ensures draft { OnOk result (draft_of body.new ≡ with_op (op.split 0 0) (added (op.begin_atomic slot) (draft_of body.old))) }
+    ensures cap { body.new.cap ≡ body.old.cap }
+    ensures long { OnOk result (extent (draft_of body.new) ≡ extent (draft_of body.old) + 2) }
+    ensures full { IfErr result (IsFull body.old 2) }
+    ensures refused { IfErr result IsMemoryOrTooComplex }
+{
+    body.flush_and_push(Insn::BeginAtomic(slot))?;
+    let split = body.len();
+    body.push_insn(Insn::Split(0, 0))?;
+    Ok((split, body.len()))
+}
+
+/// Appends this instruction, and one behind it that is replaced later, where each iteration of a loop begins. Returns the index of
+/// the latter.
+fn begin_loop(body: &mut ProgramBuilder, begin: Insn) -> Result<usize, CompileError>
+    ensures head { IfOk result (λ head. head ≡ length (added (op_of begin) (draft_of body.old)).ops) }
+    ensures draft { OnOk result (draft_of body.new ≡ with_op op.fail (added (op_of begin) (draft_of body.old))) }
+    ensures cap { body.new.cap ≡ body.old.cap }
+    ensures long { OnOk result (extent (draft_of body.new) ≡ extent (draft_of body.old) + 2) }
+    ensures full { IfErr result (IsFull body.old 2) }
+    ensures refused { IfErr result IsMemoryOrTooComplex }
+{
+    body.flush_and_push(begin)?;
+    let head = body.len();
+    body.push_insn(Insn::Fail)?;
+    Ok(head)
 }
 
 /// Ends a branch by a jump over the others, which is patched later, and goes on with those.
@@ -745,10 +813,8 @@ fn emit_negative_look_ahead<'i, 'e>(
     ensures work { IfOk result (λ step. (groups : List InfoTree) → tasks_work groups (listed step.tasks) ≤ 2 + info_work groups scope info.now) }
 {
     let inside = past_slots(slot, 1)?;
-    emitter.body.flush_and_push(Insn::BeginAtomic(slot))?;
-    let split = emitter.body.len();
-    emitter.body.push_insn(Insn::Split(0, 0))?;
-    let first = emitter.body.len();
+    let begins = begin_atomic_choice(&mut emitter.body, slot)?;
+    let (split, first) = begins;
     let closing = Closing::NegativeLookAround { slot, split, first };
     let looking = Scope {
         may_keep: false,
@@ -773,10 +839,8 @@ fn emit_negative_look_behind<'i, 'e>(
     ensures work { IfOk result (λ step. (groups : List InfoTree) → tasks_work groups (listed step.tasks) ≤ 1 + info_work groups scope info.now) }
 {
     let inside = past_slots(slot, 1)?;
-    emitter.body.flush_and_push(Insn::BeginAtomic(slot))?;
-    let split = emitter.body.len();
-    emitter.body.push_insn(Insn::Split(0, 0))?;
-    let first = emitter.body.len();
+    let begins = begin_atomic_choice(&mut emitter.body, slot)?;
+    let (split, first) = begins;
     let closing = Closing::NegativeLookAround { slot, split, first };
     let looking = Scope {
         may_keep: false,
@@ -840,9 +904,7 @@ fn emit_bounded_repeat<'i, 'e>(
     ensures work { IfOk result (λ step. (groups : List InfoTree) → tasks_work groups (listed step.tasks) ≤ 1 + info_work groups scope child.now) }
 {
     let inside = past_slots(slot, 1)?;
-    emitter.body.flush_and_push(Insn::BeginRepeat(slot))?;
-    let head = emitter.body.len();
-    emitter.body.push_insn(Insn::Fail)?;
+    let head = begin_loop(&mut emitter.body, Insn::BeginRepeat(slot))?;
     let closing = Closing::BoundedRepeat {
         head,
         bounds,
@@ -872,9 +934,7 @@ fn emit_unbounded_repeat<'i, 'e>(
 {
     let check = past_slots(slot, 1)?;
     let inside = past_slots(slot, 2)?;
-    emitter.body.flush_and_push(Insn::Fail)?;
-    let head = emitter.body.len();
-    emitter.body.push_insn(Insn::Fail)?;
+    let head = begin_loop(&mut emitter.body, Insn::Fail)?;
     let closing = Closing::UnboundedRepeat {
         head,
         lo,
@@ -907,13 +967,12 @@ fn emit_conditional<'i, 'e>(
 {
     let (yes, no) = branches;
     let inside = past_slots(slot, 1)?;
-    emitter.body.flush_and_push(Insn::BeginAtomic(slot))?;
-    let split = emitter.body.len();
-    emitter.body.push_insn(Insn::Split(0, 0))?;
+    let begins = begin_atomic_choice(&mut emitter.body, slot)?;
+    let (split, first) = begins;
     let tested = Task::Tested {
         slot,
         split,
-        first: emitter.body.len(),
+        first,
         yes,
         no,
         scope,
@@ -1009,9 +1068,7 @@ fn emit_absent<'i, 'e>(
         ..scope
     };
     let begin = absent_step(context.alloc, AbsentRepeater::Begin { start: slot, limit })?;
-    emitter.body.flush_and_push(begin)?;
-    let scan = emitter.body.len();
-    emitter.body.push_insn(Insn::Fail)?;
+    let scan = begin_loop(&mut emitter.body, begin)?;
     let closing = Closing::AbsentRepeater {
         scan,
         start: slot,

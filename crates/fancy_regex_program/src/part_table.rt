@@ -1,16 +1,18 @@
 //! The parts of a pattern that are delegated. Each is made once, however often it is written.
 
 ghost use Rattle.std.specs.Prelude.{◌≡◌, true, false, option_map, All, IfOk, IfErr, IfSome};
-ghost use Rattle.fancy_regex_tree.specs.Tree.{tree_of};
+ghost use Rattle.fancy_regex_tree.specs.Tree.{tree_of, concat};
 ghost use Rattle.fancy_regex_sizes.specs.AnalysisErrors.{is_too_complex};
 ghost use Rattle.fancy_regex_runner.specs.Plain.{classes};
 ghost use Rattle.fancy_regex_runner.specs.Refusals.{IsRead};
 ghost use Rattle.fancy_regex_desugar.specs.Delegates.{searched};
 ghost use Rattle.fancy_regex_program.specs.Parts.{IsDelegateIfAny, IsPartCause};
+ghost use Rattle.fancy_regex_program.specs.Tails.{row_trees};
 
 use crate::delegate::Delegate;
 use crate::parts::delegate_of;
-use fancy_regex_info::CompileError;
+use crate::tail::row_tree;
+use fancy_regex_info::{CompileError, Info};
 use fancy_regex_tree::Expr;
 use std::alloc::Global;
 use std::sync::Arc;
@@ -79,6 +81,21 @@ impl PartTable {
         let shared = delegate.clone()?;
         self.parts.push(KnownPart { unicode, delegate })?;
         Ok(Some(shared))
+    }
+
+    /// As `delegate`, for the concatenation of these parts, of which only the first match matters.
+    pub fn delegate_row(
+        &mut self,
+        alloc: Global,
+        parts: &[Info<'_>],
+        unicode: bool,
+    ) -> Result<Option<Arc<Delegate>>, CompileError>
+        ensures value { IfOk result (λ found. IsDelegateIfAny unicode false (concat (row_trees parts.now)) (option_map (λ d. d.value) found)) }
+        ensures full { IfErr result (λ e. is_too_complex e ≡ false) }
+        ensures refused { IfErr result (IsPartCause unicode false (concat (row_trees parts.now))) }
+    {
+        let row = row_tree(alloc, parts)?;
+        self.delegate(alloc, &row, false, unicode)
     }
 
     /// The part with this tree, of the same use and with the same classes, if it was made.

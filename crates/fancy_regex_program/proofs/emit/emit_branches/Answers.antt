@@ -1,11 +1,10 @@
-use Rattle.std.proofs.Common.{◌≡◌, ◌≤◌, ◌∷◌, length, true, sym, ap, ◌∙◌, arith}
+use Rattle.std.proofs.Common.{◌≡◌, ◌≤◌, ◌∷◌, length, true, refl, sym, ap, ◌∙◌, arith}
 use Rattle.std.specs.Prelude.{◌==◌}
 use Rattle.std.proofs.lemmas.Bool.Decides.{nat_tests}
 use Rattle.std.proofs.lemmas.List.{nil_from_length}
 use Rattle.fancy_regex_desugar.specs.ProgramSizes.{room}
 use Rattle.fancy_regex_program.specs.Extents.{IsFull}
 use Rattle.fancy_regex_program.specs.Tasks.{branches_pattern, tasks_work, listed}
-use Rattle.fancy_regex_program.specs.Writing.{draft_of}
 use Rattle.fancy_regex_program.specs.declared.emitter.CompileContext.{CompileContext}
 use Rattle.fancy_regex_program.specs.declared.task.Step.{Step}
 use Rattle.fancy_regex_sizes.proofs.PartErrorLemmas.{gives}
@@ -43,29 +42,27 @@ returns-then-is_empty-clause-work c groups =
     let this = ap (λ (s : Step). tasks_work groups (listed s.tasks)) c.leads_to-then-is_empty.ensures in
     omega (arith, this, first_work groups c.args.scope c.args.branches.now c.in-Some.others.now c.in-Some.info.now c.in-Some.ensures.cases.0)
 
-pub returns-in_err-push_insn-clause-full : goal.returns-in_err-push_insn-clause-full
-returns-in_err-push_insn-clause-full c =
+pub returns-in_err-begins-clause-full : goal.returns-in_err-begins-clause-full
+returns-in_err-begins-clause-full c =
     let b = c.args.branches.now in
     let some : 1 ≤ length c.in-Some.others.now = (let full = sym c.is_empty.ensures ∙ c.if-is_empty.false in grind (arith, nat_tests)) in
-    let e = c.in_err-push_insn in
-    gives c.from_residual-in_err-push_insn.result e.field-0.0
+    let e = c.in_err-begins in
+    gives c.from_residual-in_err-begins.result e.field-0.0
     (λ f. (context : CompileContext) → IsFull c.args.emitter.now.body (room (branches_pattern context b c.args.behind c.args.scope c.args.emitter.now.opened.items)) f)
-    c.from_residual-in_err-push_insn.ensures.1
+    c.from_residual-in_err-begins.ensures.1
     (λ context too. let lt = e.ensures.full too in
     omega (
       arith,
       lt,
-      c.in_ok-flush.ensures.long,
-      c.in_ok-flush.ensures.cap,
       branches_need context b c.args.behind c.args.scope c.args.emitter.now.opened.items c.in-Some.info.now c.in-Some.others.now c.in-Some.ensures.cases.0 some,
     ))
 
 pub returns-clause-leads : goal.returns-clause-leads
 returns-clause-leads c context =
     let some : 1 ≤ length c.in-Some.others.now = (let full = sym c.is_empty.ensures ∙ c.if-is_empty.false in grind (arith, nat_tests)) in
-    leads_alternatives context c.args.emitter.now c.push_insn.new.self c.args.slot c.args.branches.now c.args.behind c.args.scope c.leads_to-2.result c.len-split.result c.len.result
-    c.in-Some.info c.in-Some.others (draft_of c.flush.new.self) c.in-Some.ensures.cases.0 some c.leads_to-2.ensures c.in_ok-flush.ensures.draft c.len-split.ensures
-    c.in_ok-push_insn.ensures.draft c.len.ensures (omega (arith, c.in_ok-flush.ensures.long, c.in_ok-push_insn.ensures.long))
+    leads_alternatives context c.args.emitter.now c.begin_choice.new.body c.args.slot c.args.branches.now c.args.behind c.args.scope c.leads_to-2.result c.in_ok-begins.begins.0 c.in_ok-begins.begins.1
+    c.in-Some.info c.in-Some.others _ c.in-Some.ensures.cases.0 some c.leads_to-2.ensures refl c.in_ok-begins.ensures.split
+    c.in_ok-begins.ensures.draft c.in_ok-begins.ensures.first (omega (arith, c.in_ok-begins.ensures.long))
 
 pub returns-clause-work : goal.returns-clause-work
 returns-clause-work c groups =

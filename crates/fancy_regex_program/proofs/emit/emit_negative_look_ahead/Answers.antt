@@ -13,16 +13,13 @@ use Rattle.fancy_regex_program.proofs.emit.emit_negative_look_ahead.Goals as goa
 pub returns-clause-leads : goal.returns-clause-leads
 returns-clause-leads c context =
     let a = body_pattern context true c.args.body.now c.args.info.now c.args.scope c.args.emitter.now.opened.items in
-    leads_around_body context c.args.emitter.now (record { body = c.push_insn.new.self; classes = c.args.emitter.now.classes; opened = c.args.emitter.now.opened; parts = c.args.emitter.now.parts }) c.args.slot c.args.scope.may_keep (never a)
+    leads_around_body context c.args.emitter.now (record { body = c.begin_atomic_choice.new.body; classes = c.args.emitter.now.classes; opened = c.args.emitter.now.opened; parts = c.args.emitter.now.parts }) c.args.slot c.args.scope.may_keep (never a)
     (λ tree_context. IsExpandedBody tree_context false c.args.scope.may_be_absent false (tree_of c.args.body.now) (info_of c.args.info.now)) c.around_body.result c.in_ok-inside.inside _ _ _ _ _ c.around_body.ensures.tasks c.around_body.ensures.slot
-    (drew_never context.unicode context.whole a c.args.slot c.in_ok-inside.inside c.len-split.result c.len-first.result _ (draft_of c.args.emitter.now.body) (draft_of c.flush_and_push.new.self) (draft_of c.push_insn.new.self) _ _ _ c.in_ok-inside.ensures.value c.in_ok-flush_and_push.ensures.draft c.len-split.ensures c.in_ok-push_insn.ensures.draft c.len-first.ensures refl refl refl refl)
-    (omega (arith, c.in_ok-inside.ensures.value)) refl (λ h. h) (omega (arith, c.in_ok-flush_and_push.ensures.long, c.in_ok-push_insn.ensures.long, room_never a)) (λ tree_context s h. h)
+    (drew_never context.unicode context.whole a c.args.slot c.in_ok-inside.inside c.in_ok-begins.begins.0 c.in_ok-begins.begins.1 _ (draft_of c.args.emitter.now.body) _ (draft_of c.begin_atomic_choice.new.body) _ _ _ c.in_ok-inside.ensures.value refl c.in_ok-begins.ensures.split c.in_ok-begins.ensures.draft c.in_ok-begins.ensures.first refl refl refl refl)
+    (omega (arith, c.in_ok-inside.ensures.value)) refl (λ h. h) (omega (arith, c.in_ok-begins.ensures.long, room_never a)) (λ tree_context s h. h)
 
-pub returns-in_err-flush_and_push-clause-full : goal.returns-in_err-flush_and_push-clause-full
-returns-in_err-flush_and_push-clause-full c = late c.from_residual-in_err-flush_and_push.result c.in_err-flush_and_push.field-0.0 _ _ c.from_residual-in_err-flush_and_push.ensures.1 c.in_err-flush_and_push.ensures.full (λ lt. omega (arith, lt))
-
-pub returns-in_err-push_insn-clause-full : goal.returns-in_err-push_insn-clause-full
-returns-in_err-push_insn-clause-full c = late c.from_residual-in_err-push_insn.result c.in_err-push_insn.field-0.0 _ _ c.from_residual-in_err-push_insn.ensures.1 c.in_err-push_insn.ensures.full (λ lt. omega (arith, lt, c.in_ok-flush_and_push.ensures.long, c.in_ok-flush_and_push.ensures.cap))
+pub returns-in_err-begins-clause-full : goal.returns-in_err-begins-clause-full
+returns-in_err-begins-clause-full c = late c.from_residual-in_err-begins.result c.in_err-begins.field-0.0 _ _ c.from_residual-in_err-begins.ensures.1 c.in_err-begins.ensures.full (λ lt. lt)
 
 pub returns-clause-work : goal.returns-clause-work
 returns-clause-work c groups = c.around_body.ensures.work groups
