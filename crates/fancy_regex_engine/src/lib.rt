@@ -9,12 +9,13 @@ pub use fancy_regex_class::{
     CaseiLiteral, CharClassMatcher, ClassError, Counted, RunInput, Span, Steps, fold, is_word,
 };
 pub use fancy_regex_info::{AnalyzeContext, BytesMode, CompileError, CompileOptions, Info};
+pub use fancy_regex_instructions::{
+    AbsentRepeater, CaptureGroupRange, Delegate, Insn, Prog, Repeat, RepeatEpsilon,
+};
 pub use fancy_regex_machine::{
     RunMemory, RunOptions, RuntimeError, run, run_default, run_in, run_spans, run_spans_in,
 };
-pub use fancy_regex_program::{
-    AbsentRepeater, CaptureGroupRange, Delegate, Insn, Prog, Repeat, RepeatEpsilon, compile,
-};
+pub use fancy_regex_program::compile;
 pub use fancy_regex_runner::Easy;
 pub use fancy_regex_sizes::{analyze, can_compile_as_anchored, is_well_formed};
 

@@ -12,7 +12,7 @@ use Rattle.fancy_regex_info.specs.declared.error.CompileError.TheVariants as of_
 use Rattle.fancy_regex_info.specs.declared.options.AnalyzeContext.{AnalyzeContext}
 use Rattle.fancy_regex_info.specs.declared.options.BytesMode.TheVariants.{Unicode}
 use Rattle.fancy_regex_info.specs.declared.options.CompileOptions.{CompileOptions}
-use Rattle.fancy_regex_program.specs.Caps.{IsPastCap}
+use Rattle.fancy_regex_instructions.specs.Caps.{IsPastCap}
 use Rattle.fancy_regex_program.specs.Refusals.{IsRefusal, ReadsClasses}
 use Rattle.fancy_regex_runner.specs.Refusals.{IsTaken, IsCause}
 use Rattle.fancy_regex_meta.specs.Patterns.{read_as}

@@ -6,7 +6,7 @@ ghost use Rattle.fancy_regex_meaning.specs.Choices.{program_nodes};
 ghost use Rattle.fancy_regex_meaning.specs.Groups.{pattern_of};
 ghost use Rattle.fancy_regex_meaning.specs.Searches.{first_match};
 ghost use Rattle.fancy_regex_meaning.specs.SizeLaws.{IsInOrder};
-ghost use Rattle.fancy_regex_program.specs.Caps.{IsPastCap};
+ghost use Rattle.fancy_regex_instructions.specs.Caps.{IsPastCap};
 ghost use Rattle.fancy_regex_program.specs.Refusals.{IsClear, ReadsClasses};
 ghost use Rattle.fancy_regex_info.specs.Analysis.{analysis};
 ghost use Rattle.fancy_regex_sizes.specs.AnalysisErrors.{is_too_complex};
@@ -25,8 +25,9 @@ use crate::options::RegexOptions;
 use crate::seek::seek_table;
 use fancy_regex_class::{RunInput, Steps};
 use fancy_regex_info::{CompileError, CompileOptions, Info};
+use fancy_regex_instructions::Prog;
 use fancy_regex_machine::{RunOptions, run_in, run_spans_in};
-use fancy_regex_program::{Prog, compile};
+use fancy_regex_program::compile;
 use fancy_regex_runner::Easy;
 use std::alloc::Global;
 
@@ -63,7 +64,7 @@ fn compile_options(options: &RegexOptions, calls: bool) -> CompileOptions
 }
 
 impl Strategy {
-    ghost use Rattle.fancy_regex_program.specs.Programs.{RefersToGroups};
+    ghost use Rattle.fancy_regex_instructions.specs.Programs.{RefersToGroups};
     ghost use Rattle.fancy_regex_meta.specs.Strategies.{Executes, StrategyKeepsCap, is_whole, search_of};
     ghost use Rattle.fancy_regex_meta.specs.EasyPatterns.{uses_easy, is_easy_strategy};
     ghost use Rattle.fancy_regex_meta.specs.FoundParts.{found_parts, wanted_parts};

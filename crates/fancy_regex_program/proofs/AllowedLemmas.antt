@@ -10,7 +10,7 @@ use Rattle.fancy_regex_desugar.specs.Unfolded.{Written, cat_all, alt_all, pat_fo
 use Rattle.fancy_regex_info.specs.Infos.{InfoTree}
 use Rattle.fancy_regex_info.specs.declared.info.Info.{Info}
 use Rattle.fancy_regex_program.specs.Known.{info_written, info_call}
-use Rattle.fancy_regex_program.specs.Shapes.{IsAllowed}
+use Rattle.fancy_regex_instructions.specs.Shapes.{IsAllowed}
 
 -- so far, and one item more
 pub allowed_more : (P : Info → Type 0) (xs : List Info) (i : ℕ) (x : Info) → i < length xs → x ≡ get_or xs i x → All P (take i xs) → P x → All P (take (i + 1) xs)

@@ -12,12 +12,12 @@ use Rattle.fancy_regex_desugar.specs.ProgramSizes.{room}
 use Rattle.fancy_regex_desugar.specs.Unfolded.{alt_all}
 use Rattle.fancy_regex_info.specs.Infos.{info_of}
 use Rattle.fancy_regex_info.specs.declared.info.Info.{Info}
-use Rattle.fancy_regex_program.specs.Ops as op
-use Rattle.fancy_regex_program.specs.Code.{slots_in}
+use Rattle.fancy_regex_instructions.specs.Ops as op
+use Rattle.fancy_regex_instructions.specs.Code.{slots_in}
 use Rattle.fancy_regex_program.specs.Extents.{extent}
 use Rattle.fancy_regex_program.specs.Known.{info_written, info_call}
 use Rattle.fancy_regex_program.specs.Refusals.{TreeContext, IsExpandedPart, AreExpandedParts, IsExpandedConditional, IsExpandedTarget}
-use Rattle.fancy_regex_program.specs.Shapes.{IsAllowed}
+use Rattle.fancy_regex_instructions.specs.Shapes.{IsAllowed}
 use Rattle.fancy_regex_program.specs.Tasks.{Progress, progress, closed_by, closing_room, at_others, listed, node_pattern, body_pattern, row_pattern, branches_pattern, past_pattern, past_closing, past_others, past, Leads, LeadsTo}
 use Rattle.fancy_regex_program.specs.Writing.{Draft, draft_of, with_op, closed_draft, added, patched, with_pat, infos_of}
 use Rattle.fancy_regex_program.specs.declared.closing.Closing.{Closing}

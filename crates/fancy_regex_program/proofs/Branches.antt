@@ -6,9 +6,9 @@ use Rattle.fancy_regex_tree.specs.Tree.{Text}
 use Rattle.fancy_regex_class.specs.Classes.{in_class, folded}
 use Rattle.fancy_regex_desugar.specs.CorePatterns.{CorePattern, cat, alt, conditional}
 use Rattle.fancy_regex_desugar.specs.Unfolded.{Written, cat_all, alt_all}
-use Rattle.fancy_regex_program.specs.Ops as op
-use Rattle.fancy_regex_program.specs.Ops.{Op}
-use Rattle.fancy_regex_program.specs.Code.{waits, flushed, slots_in, code_of}
+use Rattle.fancy_regex_instructions.specs.Ops as op
+use Rattle.fancy_regex_instructions.specs.Ops.{Op}
+use Rattle.fancy_regex_instructions.specs.Code.{waits, flushed, slots_in, code_of}
 use Rattle.fancy_regex_program.specs.Writing.{Draft, with_op, closed_draft, added, patched, with_pat, with_choice}
 use Rattle.fancy_regex_program.proofs.Drafts.{same_draft, closed_twice, length_with_op, pat_cat, pat_nothing}
 

@@ -3,7 +3,7 @@ use Rattle.std.proofs.Common.{◌≡◌, ℕ, ◌<◌, ◌≤◌, Bool, true, fa
 use Rattle.fancy_regex_sizes.specs.AnalysisErrors.{is_too_complex}
 use Rattle.fancy_regex_info.specs.declared.error.CompileError.{CompileError}
 use Rattle.fancy_regex_info.specs.declared.error.CompileError.TheVariants.{Memory}
-use Rattle.fancy_regex_program.specs.Caps.{cap_of, IsWithinCap, IsPastCap, capped_error}
+use Rattle.fancy_regex_instructions.specs.Caps.{cap_of, IsWithinCap, IsPastCap, capped_error}
 
 pub within : (most : Option ℕ) (size : ℕ) → size ≤ cap_of most → IsWithinCap most size
 within None size le = tt

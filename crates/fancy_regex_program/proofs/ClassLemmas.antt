@@ -24,9 +24,9 @@ use Rattle.fancy_regex_sizes.specs.UnsupportedParts.{is_unsupported}
 use Rattle.fancy_regex_info.specs.Views.{pattern_in}
 use Rattle.fancy_regex_sizes.specs.EmittedParts.{skips_children, IsEmitted, the_root, child, body, SomeEmittedPart}
 use Rattle.fancy_regex_program.specs.Refusals.{Inside, is_class, IsClear, ReadsClasses}
-use Rattle.fancy_regex_program.specs.Shapes.{IsReadable, IsAllowed}
+use Rattle.fancy_regex_instructions.specs.Shapes.{IsReadable, IsAllowed}
 use Rattle.fancy_regex_program.proofs.ClearLemmas.{part_node}
-use Rattle.fancy_regex_program.proofs.LazyLemmas.{searched_easy, searched_classes}
+use Rattle.fancy_regex_instructions.proofs.LazyLemmas.{searched_easy, searched_classes}
 use Rattle.std.proofs.lemmas.List.Elements.{All-contains, Contains-append_left, Contains-append_right}
 use Rattle.fancy_regex_meaning.specs.Groups.{pattern_of}
 use Rattle.fancy_regex_info.specs.Easy.{is_easy, all_easy}

@@ -10,20 +10,20 @@ use Rattle.fancy_regex_desugar.specs.ProgramSizes.{room}
 use Rattle.fancy_regex_desugar.specs.Unfolded.{body_of}
 use Rattle.fancy_regex_info.specs.Infos.{info_of}
 use Rattle.fancy_regex_info.specs.declared.info.Info.{Info}
-use Rattle.fancy_regex_program.specs.Ops as op
-use Rattle.fancy_regex_program.specs.Ops.{op_of}
-use Rattle.fancy_regex_program.specs.Parts.{IsDelegateOf}
+use Rattle.fancy_regex_instructions.specs.Ops as op
+use Rattle.fancy_regex_instructions.specs.Ops.{op_of}
+use Rattle.fancy_regex_instructions.specs.Parts.{IsDelegateOf}
 use Rattle.fancy_regex_program.specs.Refusals.{TreeContext, IsExpandedBody}
-use Rattle.fancy_regex_program.specs.Shapes.{IsAllowed}
+use Rattle.fancy_regex_instructions.specs.Shapes.{IsAllowed}
 use Rattle.fancy_regex_program.specs.Tasks.{LeadsTo, node_pattern, body_pattern}
 use Rattle.fancy_regex_program.specs.Writing.{Wrote, draft_of, added}
 use Rattle.std.specs.declared.alloc.Global.{Global}
 use Rattle.std.specs.declared.sync.Arc.{Arc}
-use Rattle.fancy_regex_program.specs.declared.delegate.Delegate.{Delegate}
+use Rattle.fancy_regex_instructions.specs.declared.delegate.Delegate.{Delegate}
 use Rattle.fancy_regex_program.specs.declared.emitter.CompileContext.{CompileContext}
 use Rattle.fancy_regex_program.specs.declared.emitter.Emitter.{Emitter}
 use Rattle.fancy_regex_program.specs.declared.emitter.Scope.{Scope}
-use Rattle.fancy_regex_program.specs.declared.insn.Insn.TheVariants as insn
+use Rattle.fancy_regex_instructions.specs.declared.insn.Insn.TheVariants as insn
 use Rattle.fancy_regex_program.specs.declared.task.Step.{Step}
 use Rattle.fancy_regex_program.specs.declared.task.Task.TheVariants as task
 use Rattle.fancy_regex_program.specs.declared.task.Tasks.TheVariants as tasks

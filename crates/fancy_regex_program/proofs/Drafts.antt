@@ -5,9 +5,9 @@ use Rattle.std.proofs.Math.Seq.{set-append_seam, drop-append_seam}
 use Rattle.fancy_regex_tree.specs.Tree.{Text, Tree}
 use Rattle.fancy_regex_class.specs.Classes.{in_class, folded}
 use Rattle.fancy_regex_desugar.specs.CorePatterns.{CorePattern, literal, nothing, read, keep_out, fail, cat, alt, group, ahead, never, back, atomic, delegate, tail, repeat, conditional, absent}
-use Rattle.fancy_regex_program.specs.Ops as op
-use Rattle.fancy_regex_program.specs.Ops.{Op}
-use Rattle.fancy_regex_program.specs.Code.{waits, flushed, slots_in, is_uncounted, loop_entry, loop_head, code_of}
+use Rattle.fancy_regex_instructions.specs.Ops as op
+use Rattle.fancy_regex_instructions.specs.Ops.{Op}
+use Rattle.fancy_regex_instructions.specs.Code.{waits, flushed, slots_in, is_uncounted, loop_entry, loop_head, code_of}
 use Rattle.fancy_regex_program.specs.Writing.{Draft, with_op, with_char, closed_draft, added, patched, ended_by, ended, with_pat, with_choice}
 
 pub same_draft : {a b : List Op} {s t : Text} → a ≡ b → s ≡ t → ◌≡◌ {A = Draft} (record { ops = a; text = s }) (record { ops = b; text = t })

@@ -2,9 +2,9 @@
 use Rattle.std.proofs.Common.{◌≡◌, ℕ, ◌+◌, ◌-◌, ◌*◌, ◌<◌, Bool, true, false, cond, List, [], ◌∷◌, ◌++◌, length, drop, Option, Some, None, refl, sym, ap, ap₂, ◌∙◌, arith}
 use Rattle.fancy_regex_desugar.specs.CorePatterns.{CorePattern, literal, nothing, read, keep_out, fail, cat, group, ahead, never, back, atomic, repeat, conditional, absent}
 use Rattle.fancy_regex_desugar.specs.Unfolded.{Written, cat_all, alt_all}
-use Rattle.fancy_regex_program.specs.Ops as op
-use Rattle.fancy_regex_program.specs.Ops.{Op}
-use Rattle.fancy_regex_program.specs.Code.{slots_in, is_uncounted, loop_entry, loop_head}
+use Rattle.fancy_regex_instructions.specs.Ops as op
+use Rattle.fancy_regex_instructions.specs.Ops.{Op}
+use Rattle.fancy_regex_instructions.specs.Code.{slots_in, is_uncounted, loop_entry, loop_head}
 use Rattle.fancy_regex_program.specs.Writing.{Draft, draft_of, with_op, with_char, closed_draft, added, patched, with_pat, with_choice, Wrote, WroteClosed, WroteChoice}
 use Rattle.fancy_regex_program.specs.declared.emitter.Emitter.{Emitter}
 use Rattle.fancy_regex_program.proofs.Drafts.{same_draft, pat_nothing, pat_cat, pat_fail, pat_back, pat_group, pat_ahead, pat_atomic, pat_never, pat_counted, pat_loop, pat_absent}

@@ -20,16 +20,16 @@ use Rattle.fancy_regex_desugar.specs.CorePatterns.{CorePattern, any, literal, cl
 use Rattle.fancy_regex_desugar.specs.Unfolded.{Written}
 use Rattle.fancy_regex_info.specs.declared.error.CompileError.{CompileError}
 use Rattle.fancy_regex_info.specs.declared.error.CompileError.TheVariants.{InnerError, InvalidBackref, FeatureNotYetSupported, UnresolvedAstNode}
-use Rattle.fancy_regex_program.specs.Ops as op
-use Rattle.fancy_regex_program.specs.Ops.{Op, op_of, among_scalars}
-use Rattle.fancy_regex_program.specs.Code.{slots_in, code_of}
+use Rattle.fancy_regex_instructions.specs.Ops as op
+use Rattle.fancy_regex_instructions.specs.Ops.{Op, op_of, among_scalars}
+use Rattle.fancy_regex_instructions.specs.Code.{slots_in, code_of}
 use Rattle.fancy_regex_program.specs.Known.{front_of}
 use Rattle.fancy_regex_program.specs.Refusals.{IsUnfit, IsNoClass, IsNoSingle, IsNoLeaf, is_single, is_leaf}
 use Rattle.fancy_regex_program.specs.Refusals.{is_class as is_class_node}
-use Rattle.fancy_regex_program.specs.Shapes.{IsAllowed}
+use Rattle.fancy_regex_instructions.specs.Shapes.{IsAllowed}
 use Rattle.fancy_regex_program.specs.Writing.{Draft, added, with_pat, IsInsn}
-use Rattle.fancy_regex_program.specs.declared.insn.Insn.{Insn}
-use Rattle.fancy_regex_program.specs.declared.insn.Insn.TheVariants as insn
+use Rattle.fancy_regex_instructions.specs.declared.insn.Insn.{Insn}
+use Rattle.fancy_regex_instructions.specs.declared.insn.Insn.TheVariants as insn
 use Rattle.fancy_regex_program.proofs.Drafts.{alone}
 
 module _ (u : Bool) where

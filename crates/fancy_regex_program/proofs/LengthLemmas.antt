@@ -9,10 +9,10 @@ use Rattle.fancy_regex_desugar.specs.ProgramSizes.{room}
 use Rattle.fancy_regex_desugar.specs.Unfolded.{core_pattern_of}
 use Rattle.fancy_regex_desugar.proofs.ProgramSizeProofs.{pattern_size_is_bounded}
 use Rattle.fancy_regex_info.specs.Views.{pattern_in}
-use Rattle.fancy_regex_program.specs.Code.{waits, flushed, code_of, opening, closing, program_of}
-use Rattle.fancy_regex_program.specs.Ops.{op_of}
-use Rattle.fancy_regex_program.specs.Programs.{IsMadeFrom}
-use Rattle.fancy_regex_program.specs.declared.prog.Prog.{Prog}
+use Rattle.fancy_regex_instructions.specs.Code.{waits, flushed, code_of, opening, closing, program_of}
+use Rattle.fancy_regex_instructions.specs.Ops.{op_of}
+use Rattle.fancy_regex_instructions.specs.Programs.{IsMadeFrom}
+use Rattle.fancy_regex_instructions.specs.declared.prog.Prog.{Prog}
 use Rattle.fancy_regex_program.proofs.RoomLemmas.{code_fits}
 
 opening_long : (has_member : Text → Bool → ℕ → Bool) (fold : ℕ → ℕ) (whole anchored : Bool) → length (opening has_member fold whole anchored) ≤ 2

@@ -1,10 +1,7 @@
-mod LazyLemmas
-mod DelegateLemmas
 mod PartLemmas
 mod DelegateSteps
 mod TailSteps
 mod TailEnds
-mod ReadingLemmas
 mod Drafts
 mod Branches
 mod KindLemmas
@@ -29,9 +26,4 @@ mod LengthLemmas
 mod CapLemmas
 mod WorkLemmas
 mod StepLemmas
-mod StartLemmas
-pub mod BodyStartLemmas
-mod SpanLemmas
-pub mod SpanPlaces
 mod BranchSteps
-pub mod Sending

@@ -1,6 +1,6 @@
 -- Which parts are delegated, and why one is refused.
 use Rattle.std.proofs.Common.{◌≡◌, ℕ, zero, suc, ◌+◌, ◌-◌, ◌<◌, Bool, true, false, not, cond, true≢false, List, [], ◌∷◌, length, map, Some, None, Vec, Global, refl, sym, ap, ◌∙◌, subst, arith, ⊎_elim}
-use Rattle.std.specs.Prelude.{◌==◌, ◌&&◌, ◌||◌, nat_lt, nat_le, min, bytes_eq, chars, count_by, slice_get, string_bytes}
+use Rattle.std.specs.Prelude.{◌==◌, ◌&&◌, ◌||◌, nat_lt, nat_le, bytes_eq, chars, count_by, slice_get, string_bytes}
 use Rattle.std.specs.List.{Contains}
 use Rattle.std.proofs.lemmas.Bool.Decides.{nat_tests}
 use Rattle.std.proofs.lemmas.List.Elements.{Contains-append_cases}
@@ -12,30 +12,26 @@ use Rattle.fancy_regex_tree.specs.declared.expr.Expr.{Expr}
 use Rattle.fancy_regex_tree.specs.declared.expr.Expr.TheVariants as view
 use Rattle.fancy_regex_tree.specs.Traversal.{nodes}
 use Rattle.fancy_regex_tree.specs.Printable.{is_printable}
-use Rattle.fancy_regex_meaning.specs.Sizes.{unbounded, weight}
 use Rattle.fancy_regex_meaning.specs.Groups.{pattern_of, group_count}
 use Rattle.fancy_regex_class.specs.Classes.{class_text}
 use Rattle.fancy_regex_class.specs.Matchers.{RefusesText}
 use Rattle.fancy_regex_info.specs.Easy.{is_easy, all_easy}
 use Rattle.fancy_regex_runner.specs.Plain.{has_no_iteration, classes, row_classes}
-use Rattle.fancy_regex_runner.specs.Refusals.{ShowsClass, IsCause, greatest_weight}
 use Rattle.fancy_regex_sizes.specs.AnalysisErrors.{is_too_complex}
 use Rattle.fancy_regex_sizes.specs.NodeErrors.{is_invalid_node}
 use Rattle.fancy_regex_sizes.specs.EmittedParts.{some_descendant, some_of_row, some_emitted}
 use Rattle.fancy_regex_info.specs.References.{is_read}
 use Rattle.fancy_regex_info.specs.Analysis.{analysis}
 use Rattle.fancy_regex_info.specs.Infos.{InfoTree, properties_in}
-use Rattle.fancy_regex_info.specs.declared.options.BytesMode.TheVariants.{Unicode}
-use Rattle.fancy_regex_info.specs.declared.options.CompileOptions.{CompileOptions}
 use Rattle.fancy_regex_info.specs.declared.error.CompileError.{CompileError}
-use Rattle.fancy_regex_info.specs.declared.error.CompileError.TheVariants.{InnerError, FeatureNotYetSupported, PatternTooComplex, Memory}
+use Rattle.fancy_regex_info.specs.declared.error.CompileError.TheVariants.{InnerError, Memory}
 use Rattle.fancy_regex_desugar.specs.Delegates.{is_choice, own_properties, is_light_part, is_searchable, ends_in_choice, row_ends_in_choice, searched, offers_choices, is_delegated}
 use Rattle.fancy_regex_desugar.proofs.DelegateProofs.{part_of, searched_can_be}
-use Rattle.fancy_regex_program.specs.Parts.{IsPartCause}
+use Rattle.fancy_regex_instructions.specs.Parts.{IsPartCause}
 use Rattle.fancy_regex_program.specs.Refusals.{Inside, is_class, IsReason, TreeContext, IsAnalyzed, ExpandedPart, IsExpandedBody}
 use Rattle.fancy_regex_program.proofs.KnownLemmas.{own}
 use Rattle.fancy_regex_program.proofs.TreeLemmas.{tree_concat}
-use Rattle.fancy_regex_program.proofs.LazyLemmas.{searched_easy, searched_classes, searched_printable}
+use Rattle.fancy_regex_instructions.proofs.LazyLemmas.{searched_easy, searched_classes, searched_printable}
 
 or_left : (a b : Bool) → a ≡ true → (a || b) ≡ true
 or_left true b h = refl
@@ -196,20 +192,6 @@ module _ (for_any : Bool) (t : Tree) where
   is_part offers light printable =
       ap (λ b. b && (is_light_part (own_properties (searched for_any t)) && is_printable (searched for_any t))) offers
       ∙ ap (λ b. b && is_printable (searched for_any t)) light ∙ searched_printable for_any t ∙ printable
-
--- what is light is not too heavy for the runner
-light_enough : (w : ℕ) → nat_le (min unbounded w) 4096 ≡ true → greatest_weight < w + 2 → ⊥
-light_enough w light heavy = grind (arith, nat_tests)
-
-pub part_cause : (u for_any : Bool) (t : Tree) (options : CompileOptions) → options.unicode ≡ u → options.bytes_mode ≡ Unicode → is_delegated for_any t ≡ true →
-    (e : CompileError) → IsCause options (pattern_of (searched for_any t)) e → IsPartCause u for_any t e
-part_cause u for_any t options same mode d (InnerError shown) h = (d, subst (λ v. ShowsClass v (classes (searched for_any t)) (string_bytes shown)) same h)
-part_cause u for_any t options same mode d (FeatureNotYetSupported shown) h = absurd (h.1 mode)
-part_cause u for_any t options same mode d PatternTooComplex h =
-    let sought = searched for_any t in
-    absurd (light_enough (weight (pattern_of sought).groups sought) (part_of sought (searched_can_be for_any t d)).light h)
-part_cause u for_any t options same mode d Memory h = tt
-part_cause u for_any t options same mode d _ h = absurd h
 
 pub part_fits : (u for_any : Bool) (t : Tree) (e : CompileError) → IsPartCause u for_any t e → is_too_complex e ≡ false
 part_fits u for_any t (InnerError shown) h = refl

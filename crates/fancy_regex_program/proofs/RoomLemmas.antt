@@ -17,15 +17,15 @@ use Rattle.fancy_regex_info.specs.Infos.{InfoTree}
 use Rattle.fancy_regex_info.specs.declared.error.CompileError.{CompileError}
 use Rattle.fancy_regex_info.specs.declared.info.Info.{Info}
 use Rattle.fancy_regex_sizes.proofs.PartErrorLemmas.{gives}
-use Rattle.fancy_regex_program.specs.Ops as op
-use Rattle.fancy_regex_program.specs.Ops.{Op, op_of}
-use Rattle.fancy_regex_program.specs.Code.{Code, waits, flushed, slots_in, one, behind, closed, alt_code, group_code, ahead_code, never_code, atomic_code, tail_code, repeat_code, loop_code, conditional_code, absent_code, leaf_op, code_of}
+use Rattle.fancy_regex_instructions.specs.Ops as op
+use Rattle.fancy_regex_instructions.specs.Ops.{Op, op_of}
+use Rattle.fancy_regex_instructions.specs.Code.{Code, waits, flushed, slots_in, one, behind, closed, alt_code, group_code, ahead_code, never_code, atomic_code, tail_code, repeat_code, loop_code, conditional_code, absent_code, leaf_op, code_of}
 use Rattle.fancy_regex_program.specs.Extents.{extent, IsFull}
 use Rattle.fancy_regex_program.specs.Known.{front_of, info_written, info_call}
 use Rattle.fancy_regex_program.specs.Writing.{Draft, draft_of, with_op, closed_draft, added, patched, ended_by, ended, with_pat, with_choice, Wrote, WroteClosed, WroteChoice, IsInsn}
 use Rattle.fancy_regex_program.specs.declared.program_builder.ProgramBuilder.{ProgramBuilder}
 use Rattle.fancy_regex_program.specs.declared.emitter.Emitter.{Emitter}
-use Rattle.fancy_regex_program.specs.declared.insn.Insn.{Insn}
+use Rattle.fancy_regex_instructions.specs.declared.insn.Insn.{Insn}
 use Rattle.fancy_regex_program.proofs.Branches.{choices, set_right}
 use Rattle.fancy_regex_program.proofs.EmitLemmas.{Chosen}
 use Rattle.fancy_regex_program.proofs.RowLemmas.{call_opens}

@@ -17,7 +17,7 @@ use Rattle.fancy_regex_desugar.specs.Unfolded.{Written, cat_all, alt_all, repeat
 use Rattle.fancy_regex_info.specs.Infos.{InfoTree}
 use Rattle.fancy_regex_info.specs.declared.info.Info.{Info}
 use Rattle.fancy_regex_info.specs.declared.info.Info.TheViews.{out-Info}
-use Rattle.fancy_regex_program.specs.Ops as op
+use Rattle.fancy_regex_instructions.specs.Ops as op
 use Rattle.fancy_regex_program.specs.Known.{info_written, info_call}
 use Rattle.fancy_regex_program.specs.Writing.{Draft, draft_of, added, patched, with_pat, with_choice, Wrote, WroteClosed, WroteChoice}
 use Rattle.fancy_regex_program.specs.declared.emitter.Emitter.{Emitter}

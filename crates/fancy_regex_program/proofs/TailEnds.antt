@@ -4,9 +4,9 @@ use Rattle.std.specs.Prelude.{slice_get, option_map}
 use Rattle.std.proofs.lemmas.List.{map-set, set-set, length-map}
 use Rattle.std.proofs.lemmas.Option.{slice_get-map, slice_get_past}
 use Rattle.fancy_regex_tree.specs.Tree.{Text}
-use Rattle.fancy_regex_program.specs.Ops.{Op, op_of}
+use Rattle.fancy_regex_instructions.specs.Ops.{Op, op_of}
 use Rattle.fancy_regex_program.specs.Writing.{Draft, patched, ends_at, ended_by, ended}
-use Rattle.fancy_regex_program.specs.declared.insn.Insn.{Insn}
+use Rattle.fancy_regex_instructions.specs.declared.insn.Insn.{Insn}
 use Rattle.fancy_regex_program.proofs.Drafts.{same_draft}
 
 abbrev draft : List Op → Text → Draft

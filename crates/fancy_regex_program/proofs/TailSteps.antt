@@ -32,25 +32,25 @@ use Rattle.fancy_regex_info.specs.declared.info.Info.TheViews.{out-Info}
 use Rattle.fancy_regex_runner.specs.Plain.{classes, row_classes}
 use Rattle.fancy_regex_sizes.specs.EmittedParts.{SomeEmittedPart}
 use Rattle.fancy_regex_sizes.specs.NodeErrors.{is_invalid_node}
-use Rattle.fancy_regex_program.specs.Ops as op
-use Rattle.fancy_regex_program.specs.Ops.{op_of}
-use Rattle.fancy_regex_program.specs.Code.{slots_in}
+use Rattle.fancy_regex_instructions.specs.Ops as op
+use Rattle.fancy_regex_instructions.specs.Ops.{op_of}
+use Rattle.fancy_regex_instructions.specs.Code.{slots_in}
 use Rattle.fancy_regex_program.specs.Extents.{extent}
 use Rattle.fancy_regex_program.specs.Known.{info_written, info_written_all, is_plain_info, are_plain_infos, info_begins_tail, tree_in, trees_in, plain_row, info_tail, info_whole, info_call}
-use Rattle.fancy_regex_program.specs.Parts.{IsDelegateOf, IsDelegateIfAny, IsPartCause}
+use Rattle.fancy_regex_instructions.specs.Parts.{IsDelegateOf, IsDelegateIfAny, IsPartCause}
 use Rattle.fancy_regex_program.specs.Refusals.{is_class, IsReason, TreeContext, IsAnalyzed, ExpandedPart, IsExpandedPart, AreExpandedParts}
-use Rattle.fancy_regex_program.specs.Shapes.{IsAllowed}
+use Rattle.fancy_regex_instructions.specs.Shapes.{IsAllowed}
 use Rattle.fancy_regex_program.specs.Tails.{row_trees, IsPlainFrom, SplitsRow}
 use Rattle.fancy_regex_program.specs.Tasks.{Progress, progress, listed, row_pattern, tail_pattern, whole_pattern, past_pattern, past, Leads, LeadsTo}
 use Rattle.fancy_regex_program.specs.Writing.{Draft, draft_of, with_op, closed_draft, ended, with_pat, infos_of, part}
 use Rattle.std.specs.declared.alloc.Global.{Global}
 use Rattle.std.specs.declared.sync.Arc.{Arc}
 use Rattle.fancy_regex_program.specs.declared.closing.Closing.TheVariants as ends
-use Rattle.fancy_regex_program.specs.declared.delegate.Delegate.{Delegate}
+use Rattle.fancy_regex_instructions.specs.declared.delegate.Delegate.{Delegate}
 use Rattle.fancy_regex_program.specs.declared.emitter.CompileContext.{CompileContext}
 use Rattle.fancy_regex_program.specs.declared.emitter.Emitter.{Emitter}
 use Rattle.fancy_regex_program.specs.declared.emitter.Scope.{Scope}
-use Rattle.fancy_regex_program.specs.declared.insn.Insn.TheVariants as insn
+use Rattle.fancy_regex_instructions.specs.declared.insn.Insn.TheVariants as insn
 use Rattle.fancy_regex_program.specs.declared.task.Step.{Step}
 use Rattle.fancy_regex_program.specs.declared.task.Task.TheVariants as task
 use Rattle.fancy_regex_program.specs.declared.task.Tasks.TheVariants as tasks

@@ -6,14 +6,14 @@ use Rattle.fancy_regex_desugar.specs.CorePatterns.{CorePattern}
 use Rattle.fancy_regex_desugar.specs.Unfolded.{core_pattern_of}
 use Rattle.fancy_regex_info.specs.Analysis.{analysis}
 use Rattle.fancy_regex_info.specs.Infos.{InfoTree}
-use Rattle.fancy_regex_program.specs.Ops.{Op}
-use Rattle.fancy_regex_program.specs.Code.{flushed, waits, code_of, opening, closing, program_of}
+use Rattle.fancy_regex_instructions.specs.Ops.{Op}
+use Rattle.fancy_regex_instructions.specs.Code.{flushed, waits, code_of, opening, closing, program_of}
 use Rattle.fancy_regex_info.specs.Views.{pattern_in}
 use Rattle.fancy_regex_program.specs.Known.{info_whole, info_call, most_calls_in, groups_in, pat_with, pat_in}
-use Rattle.fancy_regex_program.specs.Programs.{IsWhole, IsMadeFrom}
-use Rattle.fancy_regex_program.specs.Shapes.{IsAllowed}
+use Rattle.fancy_regex_instructions.specs.Programs.{IsWhole, IsMadeFrom}
+use Rattle.fancy_regex_instructions.specs.Shapes.{IsAllowed}
 use Rattle.fancy_regex_program.specs.Writing.{Draft, closed_draft, with_pat}
-use Rattle.fancy_regex_program.specs.declared.prog.Prog.{Prog}
+use Rattle.fancy_regex_instructions.specs.declared.prog.Prog.{Prog}
 use Rattle.fancy_regex_program.proofs.KnownLemmas.{pat_is}
 use Rattle.fancy_regex_program.proofs.WritableLemmas.{can_be_written}
 

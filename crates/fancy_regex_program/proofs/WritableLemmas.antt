@@ -19,8 +19,8 @@ use Rattle.fancy_regex_desugar.proofs.StepBackProofs.{pattern_steps_back_only_fi
 use Rattle.fancy_regex_sizes.specs.NodeErrors.{some_node, some_node_of, shows, is_no_group}
 use Rattle.fancy_regex_info.specs.Views.{pattern_in}
 use Rattle.fancy_regex_info.specs.declared.error.CompileError.TheVariants.{InvalidBackref}
-use Rattle.fancy_regex_program.specs.Programs.{RefersToGroups, CanBeWritten}
-use Rattle.fancy_regex_program.specs.Shapes.{KeepsNothing, IsAllowed, IsWritable}
+use Rattle.fancy_regex_instructions.specs.Programs.{RefersToGroups, CanBeWritten}
+use Rattle.fancy_regex_instructions.specs.Shapes.{KeepsNothing, IsAllowed, IsWritable}
 
 -- where the kept start may not be set, it stays as it is
 keeps_nothing : (unicode : Bool) (p : CorePattern) → IsAllowed unicode false p → KeepsNothing p

@@ -8,13 +8,13 @@ use Rattle.fancy_regex_desugar.specs.ProgramSizes.{room}
 use Rattle.fancy_regex_desugar.specs.Unfolded.{cat_all, alt_all, body_of}
 use Rattle.fancy_regex_info.specs.Infos.{InfoTree, InfoTrees, known, no_infos, more_infos, infos, info_of}
 use Rattle.fancy_regex_info.specs.declared.info.Info.{Info}
-use Rattle.fancy_regex_program.specs.Ops as op
-use Rattle.fancy_regex_program.specs.Code.{slots_in, is_uncounted, loop_entry, loop_head}
+use Rattle.fancy_regex_instructions.specs.Ops as op
+use Rattle.fancy_regex_instructions.specs.Code.{slots_in, is_uncounted, loop_entry, loop_head}
 use Rattle.fancy_regex_program.specs.Extents.{extent}
 use Rattle.fancy_regex_program.specs.Known.{plain_row, info_call, info_whole}
 use Rattle.fancy_regex_program.specs.Tails.{row_trees}
 use Rattle.fancy_regex_program.specs.Refusals.{TreeContext, IsAnalyzed, IsExpandedPart, AreExpandedParts, IsExpandedBody}
-use Rattle.fancy_regex_program.specs.Shapes.{IsAllowed}
+use Rattle.fancy_regex_instructions.specs.Shapes.{IsAllowed}
 use Rattle.fancy_regex_program.specs.Writing.{Draft, draft_of, with_op, closed_draft, patched, ended, with_pat, infos_of, part, side}
 use Rattle.fancy_regex_program.specs.declared.closing.Closing.{Closing}
 use Rattle.fancy_regex_program.specs.declared.closing.Closing.TheVariants as closing

@@ -7,11 +7,11 @@ use Rattle.fancy_regex_desugar.specs.CorePatterns.{CorePattern}
 use Rattle.fancy_regex_desugar.specs.Unfolded.{Written}
 use Rattle.fancy_regex_info.specs.Infos.{InfoTree, info_of}
 use Rattle.fancy_regex_info.specs.declared.info.Info.{Info}
-use Rattle.fancy_regex_program.specs.Ops.{Op, op_of, ops_of, tail, split, jump}
-use Rattle.fancy_regex_program.specs.Code.{flushed, waits, slots_in, code_of}
+use Rattle.fancy_regex_instructions.specs.Ops.{Op, op_of, ops_of, tail, split, jump}
+use Rattle.fancy_regex_instructions.specs.Code.{flushed, waits, slots_in, code_of}
 use Rattle.fancy_regex_program.specs.Known.{front_of, info_written, info_call}
-use Rattle.fancy_regex_program.specs.Shapes.{IsAllowed}
-use Rattle.fancy_regex_program.specs.declared.insn.Insn.{Insn}
+use Rattle.fancy_regex_instructions.specs.Shapes.{IsAllowed}
+use Rattle.fancy_regex_instructions.specs.declared.insn.Insn.{Insn}
 use Rattle.fancy_regex_program.specs.declared.program_builder.ProgramBuilder.{ProgramBuilder}
 use Rattle.fancy_regex_program.specs.declared.emitter.Emitter.{Emitter}
 use Rattle.fancy_regex_program.specs.declared.emitter.CompileContext.{CompileContext}

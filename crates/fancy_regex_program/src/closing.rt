@@ -1,20 +1,19 @@
 //! The ends of constructs: what is written behind their parts, and what is patched in front of them then.
 
 ghost use Rattle.std.specs.Prelude.{◌≡◌, ◌≤◌, ◌<◌, ◌+◌, true, OnOk, IfOk, IfErr};
-ghost use Rattle.fancy_regex_program.specs.Code.{split_by, loop_entry, loop_head};
+ghost use Rattle.fancy_regex_instructions.specs.Code.{split_by, loop_entry, loop_head};
 ghost use Rattle.fancy_regex_program.specs.Extents.{IsFull};
-ghost use Rattle.fancy_regex_program.specs.Machine.{unset};
-ghost use Rattle.fancy_regex_program.specs.Ops as op;
-ghost use Rattle.fancy_regex_program.specs.Ops.{op_of};
+ghost use Rattle.fancy_regex_instructions.specs.Machine.{unset};
+ghost use Rattle.fancy_regex_instructions.specs.Ops as op;
+ghost use Rattle.fancy_regex_instructions.specs.Ops.{op_of};
 ghost use Rattle.fancy_regex_program.specs.Refusals.{IsMemoryOrTooComplex};
 ghost use Rattle.fancy_regex_program.specs.Tasks.{closed_by, closing_room};
 ghost use Rattle.fancy_regex_program.specs.Writing.{draft_of};
 ghost use Rattle.fancy_regex_program.specs.declared.closing.Closing.TheVariants as ends;
 
-use crate::insn::{AbsentRepeater, Insn, Repeat, RepeatEpsilon};
 use crate::program_builder::ProgramBuilder;
-use crate::reading::is_uncounted;
 use fancy_regex_info::CompileError;
+use fancy_regex_instructions::{AbsentRepeater, Insn, Repeat, RepeatEpsilon, is_uncounted};
 use std::alloc::{AllocError, Global};
 
 /// A construct that ends behind the part that was emitted last.

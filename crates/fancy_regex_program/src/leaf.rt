@@ -9,17 +9,17 @@ ghost use Rattle.fancy_regex_desugar.specs.ProgramSizes.{room};
 ghost use Rattle.fancy_regex_desugar.specs.Unfolded.{Written};
 ghost use Rattle.fancy_regex_program.specs.Extents.{IsFull};
 ghost use Rattle.fancy_regex_program.specs.Known.{front_of};
-ghost use Rattle.fancy_regex_program.specs.Ops as op;
-ghost use Rattle.fancy_regex_program.specs.Ops.{op_of};
+ghost use Rattle.fancy_regex_instructions.specs.Ops as op;
+ghost use Rattle.fancy_regex_instructions.specs.Ops.{op_of};
 ghost use Rattle.fancy_regex_program.specs.Refusals.{IsMissing, IsMissingAs, IsMemoryOrTooComplex, IsNoVerb, IsNoGroup, IsNoSingle, IsNoLeaf};
-ghost use Rattle.fancy_regex_program.specs.Shapes.{IsAllowed};
+ghost use Rattle.fancy_regex_instructions.specs.Shapes.{IsAllowed};
 ghost use Rattle.fancy_regex_program.specs.Writing.{Wrote, IsInsn};
 
 use crate::class_table::ClassTable;
 use crate::emitter::{CompileContext, Emitter, Scope, first_slot};
-use crate::insn::Insn;
 use fancy_regex_class::CaseiLiteral;
 use fancy_regex_info::CompileError;
+use fancy_regex_instructions::Insn;
 use fancy_regex_tree::{BacktrackingControlVerb, Expr};
 use std::alloc::Global;
 

@@ -6,13 +6,13 @@ ghost use Rattle.fancy_regex_sizes.specs.AnalysisErrors.{is_too_complex};
 ghost use Rattle.fancy_regex_runner.specs.Plain.{classes};
 ghost use Rattle.fancy_regex_runner.specs.Refusals.{IsRead};
 ghost use Rattle.fancy_regex_desugar.specs.Delegates.{searched};
-ghost use Rattle.fancy_regex_program.specs.Parts.{IsDelegateIfAny, IsPartCause};
+ghost use Rattle.fancy_regex_instructions.specs.Parts.{IsDelegateIfAny, IsPartCause};
 ghost use Rattle.fancy_regex_program.specs.Tails.{row_trees};
 
-use crate::delegate::Delegate;
 use crate::parts::delegate_of;
 use crate::tail::row_tree;
 use fancy_regex_info::{CompileError, Info};
+use fancy_regex_instructions::Delegate;
 use fancy_regex_tree::Expr;
 use std::alloc::Global;
 use std::sync::Arc;

@@ -6,18 +6,15 @@ ghost use Rattle.fancy_regex_tree.specs.Tree.{tree_of};
 ghost use Rattle.fancy_regex_tree.specs.Traversal.{tree_at};
 ghost use Rattle.fancy_regex_info.specs.Analysis.{analysis};
 ghost use Rattle.fancy_regex_info.specs.Infos.{info_of, properties_in};
-ghost use Rattle.fancy_regex_info.specs.declared.info.Info.{out-Info};
 ghost use Rattle.fancy_regex_desugar.specs.Delegates as delegates;
 ghost use Rattle.fancy_regex_sizes.specs.AnalysisErrors.{is_too_complex};
-ghost use Rattle.fancy_regex_program.specs.Parts.{IsDelegateOf, IsDelegateIfAny, IsPartCause};
+ghost use Rattle.fancy_regex_instructions.specs.Parts.{IsDelegateIfAny, IsPartCause};
 
-use crate::body_starts::body_starts;
-use crate::delegate::Delegate;
 use crate::lazy::lazy_copy;
 use fancy_regex_info::{
-    AnalyzeContext, CompileError, CompileOptions, Info, analyze_tree, group_call_sizes, groups_of,
+    AnalyzeContext, CompileError, Info, analyze_tree, group_call_sizes, groups_of,
 };
-use fancy_regex_runner::Easy;
+use fancy_regex_instructions::Delegate;
 use fancy_regex_tree::Expr;
 use std::alloc::{AllocError, Global};
 
@@ -74,45 +71,8 @@ fn searched_delegate(
     if !part.is_printable(alloc)? {
         return Ok(None);
     }
-    let made = new_delegate(alloc, part, searched, &info, for_any, unicode)?;
+    let made = Delegate::new(alloc, part, searched, &info, for_any, unicode)?;
     Ok(Some(made))
-}
-
-/// The part with its printed text, the states that it is searched with, which are those of the analyzed tree, and what is known
-/// of the bytes that a match of this tree begins with. The error is `InnerError` with the text of a class that `regex` refuses,
-/// or `Memory`.
-fn new_delegate(
-    alloc: Global,
-    part: &Expr,
-    searched: &Expr,
-    info: &Info<'_>,
-    for_any: bool,
-    unicode: bool,
-) -> Result<Delegate, CompileError>
-    requires searched { tree_of searched.now ≡ delegates.searched for_any (tree_of part.now) }
-    requires easy { (out-Info info.now).hard ≡ false }
-    requires info { info_of info.now ≡ analysis false (delegates.searched for_any (tree_of part.now)) }
-    requires delegated { delegates.is_delegated for_any (tree_of part.now) ≡ true }
-    ensures value { IfOk result (IsDelegateOf unicode for_any (tree_of part.now)) }
-    ensures refused { IfErr result (IsPartCause unicode for_any (tree_of part.now)) }
-{
-    let options = CompileOptions {
-        unicode,
-        ..CompileOptions::default()
-    };
-    let easy = Easy::new(alloc, info, &options)?;
-    let starts = body_starts(alloc, searched, unicode)?;
-    let mut pattern = String::new(alloc);
-    part.to_str(&mut pattern, 0)?;
-    let part = part.try_clone(alloc)?;
-    Ok(Delegate {
-        alloc,
-        part,
-        for_any,
-        pattern,
-        easy,
-        starts,
-    })
 }
 
 /// Whether the part has enough alternations and quantifiers, or with `for_any` ends in one. The error is want of memory.

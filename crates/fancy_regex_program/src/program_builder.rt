@@ -2,8 +2,8 @@
 
 ghost use Rattle.std.specs.Prelude.{◌≤◌, length};
 
-use crate::insn::Insn;
 use crate::literal_table::LiteralTable;
+use fancy_regex_instructions::Insn;
 use std::alloc::Global;
 
 /// The instructions so far, their literals, and the literal text after them that is not yet an instruction, so that adjacent

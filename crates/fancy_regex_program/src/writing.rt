@@ -2,16 +2,16 @@
 
 ghost use Rattle.std.specs.Prelude.{◌≡◌, ◌≤◌, ◌+◌, false, length, [], OnOk, IfErr};
 ghost use Rattle.fancy_regex_sizes.specs.AnalysisErrors.{is_too_complex};
-ghost use Rattle.fancy_regex_program.specs.Caps.{cap_of};
+ghost use Rattle.fancy_regex_instructions.specs.Caps.{cap_of};
 ghost use Rattle.fancy_regex_program.specs.Extents.{extent, IsFull};
-ghost use Rattle.fancy_regex_program.specs.Ops.{op_of, ops_of};
+ghost use Rattle.fancy_regex_instructions.specs.Ops.{op_of, ops_of};
 ghost use Rattle.fancy_regex_program.specs.Refusals.{IsMemoryOrTooComplex};
 ghost use Rattle.fancy_regex_program.specs.Writing.{draft_of, with_op, with_char, closed_draft, added, patched, ended, ends_at};
 
-use crate::insn::Insn;
 use crate::literal_table::LiteralTable;
 use crate::program_builder::ProgramBuilder;
 use fancy_regex_info::CompileError;
+use fancy_regex_instructions::Insn;
 use std::alloc::Global;
 use std::mem;
 

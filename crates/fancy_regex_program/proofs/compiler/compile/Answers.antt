@@ -14,8 +14,8 @@ use Rattle.fancy_regex_program.proofs.WholeLemmas.{made_from, pat_gathered}
 use Rattle.fancy_regex_desugar.specs.ProgramSizes.{room}
 use Rattle.fancy_regex_desugar.proofs.ProgramSizeProofs.{pattern_size_is_bounded}
 use Rattle.fancy_regex_sizes.proofs.PartErrorLemmas.{gives}
-use Rattle.fancy_regex_program.specs.Programs.{IsTooLong}
-use Rattle.fancy_regex_program.specs.Shapes.{IsAllowed}
+use Rattle.fancy_regex_instructions.specs.Programs.{IsTooLong}
+use Rattle.fancy_regex_instructions.specs.Shapes.{IsAllowed}
 use Rattle.fancy_regex_program.specs.Refusals.{IsClear, IsRefusal}
 use Rattle.fancy_regex_info.specs.Analysis.{analysis}
 use Rattle.fancy_regex_info.specs.declared.error.CompileError.{CompileError}

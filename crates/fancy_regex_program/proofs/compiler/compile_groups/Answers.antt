@@ -1,9 +1,9 @@
-use Rattle.std.proofs.Common.{◌≡◌, ◌+◌, sym, subst, map, length, true, false}
+use Rattle.std.proofs.Common.{◌≡◌, ◌+◌, ap, sym, subst, map, length, true, false}
 use Rattle.fancy_regex_desugar.specs.ProgramSizes.{room}
 use Rattle.fancy_regex_sizes.specs.AnalysisErrors.{is_too_complex}
 use Rattle.fancy_regex_info.specs.Infos.{info_of}
 use Rattle.fancy_regex_info.specs.declared.error.CompileError.{CompileError}
-use Rattle.fancy_regex_program.specs.Caps.{IsPastCap}
+use Rattle.fancy_regex_instructions.specs.Caps.{IsPastCap, IsWithinCap}
 use Rattle.fancy_regex_program.specs.Known.{pat_with}
 use Rattle.fancy_regex_program.specs.Writing.{info_at}
 use Rattle.fancy_regex_program.specs.Refusals.{IsReasonWhere, IsExpandedPart}
@@ -11,7 +11,10 @@ use Rattle.fancy_regex_program.proofs.CapLemmas.{within, past, handed}
 use Rattle.fancy_regex_program.proofs.compiler.compile_groups.Goals as goal
 
 pub returns-clause-cap : goal.returns-clause-cap
-returns-clause-cap c = within c.args.options.now.max_prog_size (length c.in-Ok.written.0.items) c.in-Ok.ensures.cap
+returns-clause-cap c =
+    let most = c.args.options.now.max_prog_size in
+    subst (IsWithinCap most) (ap (λ b. length b.items) (sym c.in_ok-prog.ensures.body))
+    (within most (length c.in-Ok.written.0.items) c.in-Ok.ensures.cap)
 
 pub returns-in-Err-clause-full : goal.returns-in-Err-clause-full
 returns-in-Err-clause-full c =

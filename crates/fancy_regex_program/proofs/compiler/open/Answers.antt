@@ -1,7 +1,7 @@
 use Rattle.std.proofs.Common.{◌≡◌, ℕ, Bool, true, false, cond, [], sym, ap, ◌∙◌}
 use Rattle.fancy_regex_tree.specs.Tree.{Text}
-use Rattle.fancy_regex_program.specs.Ops as op
-use Rattle.fancy_regex_program.specs.Code.{opening}
+use Rattle.fancy_regex_instructions.specs.Ops as op
+use Rattle.fancy_regex_instructions.specs.Code.{opening}
 use Rattle.fancy_regex_program.specs.Writing.{Draft, draft_of, with_op}
 use Rattle.fancy_regex_program.proofs.compiler.open.Goals as goal
 use Rattle.fancy_regex_program.proofs.compiler.open.Goals.{then-not-anchored+in_ok-push_insn, else-not-anchored, then-whole+in_ok-push_insn-2, else-whole}

@@ -3,9 +3,9 @@ use Rattle.std.proofs.lemmas.List.{length-map}
 use Rattle.fancy_regex_class.specs.Classes.{in_class, folded}
 use Rattle.fancy_regex_desugar.specs.CorePatterns.{CorePattern}
 use Rattle.fancy_regex_info.specs.Infos.{info_of}
-use Rattle.fancy_regex_program.specs.Code.{slots_in, program_of}
+use Rattle.fancy_regex_instructions.specs.Code.{slots_in, program_of}
 use Rattle.fancy_regex_program.specs.Known.{most_calls_in}
-use Rattle.fancy_regex_program.specs.Shapes.{IsAllowed}
+use Rattle.fancy_regex_instructions.specs.Shapes.{IsAllowed}
 use Rattle.fancy_regex_program.specs.Writing.{draft_of, info_at, infos_of}
 use Rattle.fancy_regex_program.proofs.WholeLemmas.{program_is, body_is}
 use Rattle.fancy_regex_desugar.specs.ProgramSizes.{room}

@@ -2,7 +2,7 @@ use Rattle.std.proofs.Common.{rules, ◌≡◌, ℕ, ◌+◌, ◌<◌, ◌≤◌
 use Rattle.fancy_regex_desugar.specs.ProgramSizes.{room}
 use Rattle.fancy_regex_info.specs.Infos.{info_of}
 use Rattle.fancy_regex_program.specs.Refusals.{TreeContext, IsExpandedPart, IsReasonWhere}
-use Rattle.fancy_regex_program.specs.Shapes.{IsAllowed}
+use Rattle.fancy_regex_instructions.specs.Shapes.{IsAllowed}
 use Rattle.fancy_regex_program.specs.Tasks.{Leads, whole_pattern, past_pattern, progress, listed, tasks_work, AreAllowedTasks, AreExpandedTasks}
 use Rattle.fancy_regex_program.specs.Writing.{draft_of, infos_of}
 use Rattle.fancy_regex_program.specs.declared.task.Task.{Task}

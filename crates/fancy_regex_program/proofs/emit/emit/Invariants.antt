@@ -2,7 +2,7 @@ use Rattle.std.proofs.Common.{◌≡◌, false}
 use Rattle.fancy_regex_desugar.specs.ProgramSizes.{room}
 use Rattle.fancy_regex_info.specs.Infos.{info_of}
 use Rattle.fancy_regex_program.specs.Refusals.{IsExpandedPart}
-use Rattle.fancy_regex_program.specs.Shapes.{IsAllowed}
+use Rattle.fancy_regex_instructions.specs.Shapes.{IsAllowed}
 use Rattle.fancy_regex_program.specs.Tasks.{Leads, whole_pattern, past_pattern, progress, tasks_work}
 use Rattle.fancy_regex_program.specs.Writing.{infos_of}
 use Rattle.fancy_regex_program.proofs.emit.emit.Given as goal

@@ -5,11 +5,11 @@ use Rattle.std.specs.declared.sync.Arc.{Arc}
 use Rattle.fancy_regex_tree.specs.Tree.{Tree, tree_of}
 use Rattle.fancy_regex_desugar.specs.Delegates.{is_delegated}
 use Rattle.fancy_regex_info.specs.Infos.{info_of}
-use Rattle.fancy_regex_program.specs.Parts.{IsDelegateOf, IsDelegateIfAny}
+use Rattle.fancy_regex_instructions.specs.Parts.{IsDelegateOf, IsDelegateIfAny}
 use Rattle.fancy_regex_program.specs.Refusals.{IsReasonWhere, IsExpandedBody}
 use Rattle.fancy_regex_program.specs.Tasks.{listed, node_pattern, tasks_work}
 use Rattle.fancy_regex_program.specs.Writing.{infos_of}
-use Rattle.fancy_regex_program.specs.declared.delegate.Delegate.{Delegate}
+use Rattle.fancy_regex_instructions.specs.declared.delegate.Delegate.{Delegate}
 use Rattle.fancy_regex_program.specs.declared.emitter.Emitter.{Emitter}
 use Rattle.fancy_regex_program.specs.declared.task.Step.{Step}
 use Rattle.fancy_regex_program.specs.declared.task.Task.{Task}

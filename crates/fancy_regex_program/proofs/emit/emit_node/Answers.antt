@@ -10,7 +10,7 @@ use Rattle.fancy_regex_info.specs.Infos.{InfoTree, properties_in, info_of}
 use Rattle.fancy_regex_info.specs.declared.info.Info.TheViews.{out-Info}
 use Rattle.fancy_regex_program.specs.Known.{info_call}
 use Rattle.fancy_regex_program.specs.Refusals.{IsReasonWhere, IsExpandedPart, AreExpandedParts, IsExpandedBody, IsExpandedRepeat, IsExpandedAbsent, IsExpandedConditional, IsExpandedTarget, looks_behind}
-use Rattle.fancy_regex_program.specs.Shapes.{IsAllowed}
+use Rattle.fancy_regex_instructions.specs.Shapes.{IsAllowed}
 use Rattle.fancy_regex_program.specs.Tasks.{node_pattern, body_pattern, row_pattern, branches_pattern, listed, tasks_work, info_work, call_work, LeadsTo}
 use Rattle.fancy_regex_program.specs.Writing.{Wrote, infos_of, info_at, part}
 use Rattle.fancy_regex_program.specs.declared.emitter.CompileContext.{CompileContext}

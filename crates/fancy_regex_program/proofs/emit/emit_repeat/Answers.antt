@@ -4,7 +4,7 @@ use Rattle.fancy_regex_desugar.specs.ProgramSizes.{room}
 use Rattle.fancy_regex_desugar.specs.Unfolded.{repeated}
 use Rattle.fancy_regex_info.specs.Infos.{info_of}
 use Rattle.fancy_regex_program.specs.Refusals.{IsExpandedPart, IsExpandedRepeat}
-use Rattle.fancy_regex_program.specs.Shapes.{IsAllowed}
+use Rattle.fancy_regex_instructions.specs.Shapes.{IsAllowed}
 use Rattle.fancy_regex_program.specs.Tasks.{node_pattern, tasks_work, listed}
 use Rattle.fancy_regex_program.specs.declared.emitter.CompileContext.{CompileContext}
 use Rattle.fancy_regex_program.specs.declared.task.Step.{Step}

@@ -5,7 +5,7 @@ use Rattle.fancy_regex_info.specs.Infos.{info_of}
 use Rattle.fancy_regex_info.specs.declared.info.Info.TheViews.{out-Info}
 use Rattle.fancy_regex_program.specs.Known.{info_call}
 use Rattle.fancy_regex_program.specs.Refusals.{TreeContext, IsExpandedPart}
-use Rattle.fancy_regex_program.specs.Shapes.{IsAllowed}
+use Rattle.fancy_regex_instructions.specs.Shapes.{IsAllowed}
 use Rattle.fancy_regex_program.specs.Tails.{SplitsRow}
 use Rattle.fancy_regex_program.specs.Tasks.{node_pattern, whole_pattern, past_pattern, progress, infos_work, task_work, Leads}
 use Rattle.fancy_regex_program.specs.Writing.{infos_of}

@@ -2,7 +2,7 @@ use Rattle.std.proofs.Common.{map, sym, ap, ◌∙◌}
 use Rattle.std.proofs.lemmas.List.{take_all}
 use Rattle.fancy_regex_tree.specs.Tree.{tree_of, trees}
 use Rattle.fancy_regex_desugar.specs.Delegates.{lazily}
-use Rattle.fancy_regex_program.proofs.LazyLemmas.{lazily_of_all}
+use Rattle.fancy_regex_instructions.proofs.LazyLemmas.{lazily_of_all}
 use Rattle.fancy_regex_program.proofs.lazy.+lazy.Goals as goal
 
 pub lazy_copies-returns : goal.lazy_copies-returns

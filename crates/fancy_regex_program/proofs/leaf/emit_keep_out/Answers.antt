@@ -1,6 +1,6 @@
 use Rattle.std.proofs.Common.{◌≡◌, ℕ, Bool, sym, ap, ◌∙◌, cond, arith}
 use Rattle.fancy_regex_desugar.specs.CorePatterns.{keep_out}
-use Rattle.fancy_regex_program.specs.Ops as op
+use Rattle.fancy_regex_instructions.specs.Ops as op
 use Rattle.fancy_regex_program.specs.Writing.{Wrote, draft_of, added, closed_draft}
 use Rattle.fancy_regex_program.specs.declared.emitter.Emitter.{Emitter}
 use Rattle.fancy_regex_program.proofs.Drafts.{pat_keep}

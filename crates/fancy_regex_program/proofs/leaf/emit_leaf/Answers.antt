@@ -4,7 +4,7 @@ use Rattle.fancy_regex_tree.specs.Tree.{tree_of}
 use Rattle.fancy_regex_desugar.specs.CorePatterns.{read, literal}
 use Rattle.fancy_regex_program.specs.Known.{front_of}
 use Rattle.fancy_regex_program.specs.Refusals.{IsNoLeaf}
-use Rattle.fancy_regex_program.specs.Shapes.{IsAllowed}
+use Rattle.fancy_regex_instructions.specs.Shapes.{IsAllowed}
 use Rattle.fancy_regex_program.specs.Writing.{Wrote}
 use Rattle.fancy_regex_program.proofs.TreeLemmas.{tree_literal, tree_keep_out}
 use Rattle.fancy_regex_desugar.specs.ProgramSizes.{room}

@@ -6,7 +6,7 @@ use Rattle.fancy_regex_program.specs.Extents.{IsFull}
 use Rattle.fancy_regex_program.specs.Known.{front_of}
 use Rattle.fancy_regex_program.specs.Writing.{Wrote, draft_of, with_pat}
 use Rattle.fancy_regex_program.specs.declared.emitter.Emitter.{Emitter}
-use Rattle.fancy_regex_program.specs.declared.insn.Insn.TheVariants as insn
+use Rattle.fancy_regex_instructions.specs.declared.insn.Insn.TheVariants as insn
 use Rattle.fancy_regex_program.proofs.Drafts.{pat_wait}
 use Rattle.fancy_regex_program.proofs.LeafLemmas.{leaf_caseless}
 use Rattle.fancy_regex_program.proofs.RoomLemmas.{late, room_leaf}

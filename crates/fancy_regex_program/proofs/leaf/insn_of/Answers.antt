@@ -3,9 +3,9 @@ use Rattle.fancy_regex_tree.specs.Tree as tree
 use Rattle.fancy_regex_tree.specs.Tree.{tree_of}
 use Rattle.fancy_regex_class.specs.Classes.{is_class}
 use Rattle.fancy_regex_class.specs.Matchers.{IsMatcherOf}
-use Rattle.fancy_regex_program.specs.Ops as op
+use Rattle.fancy_regex_instructions.specs.Ops as op
 use Rattle.fancy_regex_program.specs.Refusals.{IsUnfit, IsNoSingle, IsNoClass}
-use Rattle.fancy_regex_program.specs.declared.insn.Insn.TheVariants as insn
+use Rattle.fancy_regex_instructions.specs.declared.insn.Insn.TheVariants as insn
 use Rattle.fancy_regex_program.proofs.TreeLemmas.{tree_any, tree_assertion, tree_newline, tree_delegate, tree_backref, tree_continue, tree_exists, tree_verb}
 use Rattle.fancy_regex_program.proofs.LeafLemmas.{unfit_leaf, class_refused, leaf_any, leaf_assertion, leaf_newline, leaf_continue, leaf_verb, leaf_backref, leaf_exists, leaf_class}
 use Rattle.fancy_regex_program.proofs.KindLemmas.{no_single}

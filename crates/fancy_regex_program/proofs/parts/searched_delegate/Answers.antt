@@ -22,13 +22,13 @@ returns-then-not-branch-clause-value c =
     let off : is_printable t ≡ false = search rules in
     unprintable c.args.for_any t off
 
-pub new_delegate-requires-clause-info : goal.new_delegate-requires-clause-info
-new_delegate-requires-clause-info c =
+pub new-requires-clause-info : goal.new-requires-clause-info
+new-requires-clause-info c =
     let plain : c.default.result.explicit_capture_group_0 ≡ false = search rules in
     c.in_ok-info.ensures ∙ ap (λ b. analysis b (tree_of c.args.searched.now)) plain ∙ ap (analysis false) c.requires.searched
 
-pub new_delegate-requires-clause-delegated : goal.new_delegate-requires-clause-delegated
-new_delegate-requires-clause-delegated c =
+pub new-requires-clause-delegated : goal.new-requires-clause-delegated
+new-requires-clause-delegated c =
     let t = tree_of c.args.part.now in
     let sought = delegates.searched c.args.for_any t in
     let plain : c.default.result.explicit_capture_group_0 ≡ false = search rules in

@@ -3,8 +3,8 @@ use Rattle.std.proofs.lemmas.Result.{MatchResult-from_err}
 use Rattle.fancy_regex_tree.specs.Tree.{Tree}
 use Rattle.fancy_regex_meaning.specs.Choices.{program_nodes}
 use Rattle.fancy_regex_meaning.specs.Groups.{pattern_of}
-use Rattle.fancy_regex_program.specs.Caps.{IsPastCap}
-use Rattle.fancy_regex_program.specs.Programs.{KeepsCap}
+use Rattle.fancy_regex_instructions.specs.Caps.{IsPastCap}
+use Rattle.fancy_regex_instructions.specs.Programs.{KeepsCap}
 use Rattle.fancy_regex_program.specs.Refusals.{IsClear, ReadsClasses}
 use Rattle.fancy_regex_sizes.specs.AnalysisErrors.{is_too_complex}
 use Rattle.fancy_regex_info.specs.Analysis.{analysis}

@@ -1,6 +1,6 @@
 use Rattle.std.proofs.Common.{false, subst}
 use Rattle.std.specs.Prelude.{option_map, IfOk, IfErr}
-use Rattle.fancy_regex_program.specs.Parts.{IsDelegateIfAny, IsPartCause}
+use Rattle.fancy_regex_instructions.specs.Parts.{IsDelegateIfAny, IsPartCause}
 use Rattle.fancy_regex_program.proofs.part_table.PartTable.delegate_row.Goals as goal
 
 pub returns-clause-value : goal.returns-clause-value

@@ -3,7 +3,7 @@ use Rattle.std.specs.Prelude.{slice_get}
 use Rattle.std.proofs.lemmas.List.{length-map}
 use Rattle.std.proofs.lemmas.Option.{slice_get-get_or}
 use Rattle.fancy_regex_program.specs.Extents.{extent}
-use Rattle.fancy_regex_program.specs.Ops.{op_of}
+use Rattle.fancy_regex_instructions.specs.Ops.{op_of}
 use Rattle.fancy_regex_program.specs.Writing.{draft_of, ends_at}
 use Rattle.fancy_regex_program.proofs.RoomLemmas.{extent_ended}
 use Rattle.fancy_regex_program.proofs.TailEnds.{ended_there, ended_nowhere}

@@ -1,8 +1,8 @@
 use Rattle.std.proofs.Common.{arith, sym, ap, ◌∙◌, [], ◌∷◌, ◌++◌, append-nil, chars, string_bytes, string_len, length, ◌≡◌, rules}
 use Rattle.std.proofs.lemmas.Str.{IsUtf8-string_bytes, chars-nil}
-use Rattle.fancy_regex_program.specs.Ops.{op_of, ops_of}
-use Rattle.fancy_regex_program.specs.Ops as op
-use Rattle.fancy_regex_program.specs.Code.{flushed}
+use Rattle.fancy_regex_instructions.specs.Ops.{op_of, ops_of}
+use Rattle.fancy_regex_instructions.specs.Ops as op
+use Rattle.fancy_regex_instructions.specs.Code.{flushed}
 use Rattle.fancy_regex_program.specs.Writing.{closed_draft, with_op}
 use Rattle.fancy_regex_program.proofs.Drafts.{same_draft}
 use Rattle.fancy_regex_program.proofs.TextLemmas.{no_text, some_text}

@@ -1,6 +1,6 @@
 use Rattle.std.proofs.Common.{ap, map, ◌∙◌, chars}
 use Rattle.std.proofs.lemmas.Str.{chars-nil}
-use Rattle.fancy_regex_program.specs.Ops.{op_of}
+use Rattle.fancy_regex_instructions.specs.Ops.{op_of}
 use Rattle.fancy_regex_program.proofs.Drafts.{same_draft}
 use Rattle.fancy_regex_program.proofs.program_builder.ProgramBuilder.new.Goals as goal
 

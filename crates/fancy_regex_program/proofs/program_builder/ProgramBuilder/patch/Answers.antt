@@ -1,6 +1,6 @@
 use Rattle.std.proofs.Common.{refl, sym, ap, map, ◌∙◌, ◌≤◌, length, arith}
 use Rattle.std.proofs.lemmas.List.{map-set, set_past, length-map}
-use Rattle.fancy_regex_program.specs.Ops.{op_of}
+use Rattle.fancy_regex_instructions.specs.Ops.{op_of}
 use Rattle.fancy_regex_program.specs.Writing.{patched}
 use Rattle.fancy_regex_program.proofs.Drafts.{same_draft}
 use Rattle.fancy_regex_program.specs.Extents.{extent}

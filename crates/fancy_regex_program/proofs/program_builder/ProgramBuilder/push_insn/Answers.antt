@@ -1,6 +1,6 @@
 use Rattle.std.proofs.Common.{rules, arith, ◌≡◌, length, refl, ap, map, ◌∙◌, [], ◌∷◌}
 use Rattle.std.proofs.lemmas.List.{map-append, length-map}
-use Rattle.fancy_regex_program.specs.Ops.{op_of}
+use Rattle.fancy_regex_instructions.specs.Ops.{op_of}
 use Rattle.fancy_regex_program.specs.Writing.{with_op}
 use Rattle.fancy_regex_program.proofs.Drafts.{same_draft}
 use Rattle.fancy_regex_program.specs.Extents.{extent}

@@ -1,0 +1,14 @@
+pub mod Ops
+pub mod Machine
+pub mod Reading
+pub mod Code
+pub mod SlotLayout
+pub mod Shapes
+pub mod Caps
+pub mod BodyStarts
+pub mod Parts
+pub mod Programs
+pub mod Starts
+pub mod StartPaths
+pub mod SpanCode
+pub mod SlotReads

@@ -1,0 +1,22 @@
+//! The instructions of the backtracking machine, the programs that they make up, and what a run of them is. A part of a pattern that
+//! is searched in linear time is an operand of an instruction, with its states. A program has two tables that are made of its
+//! instructions: of the ASCII characters that a match may start with, and the instructions of runs that answer only the span of
+//! a match.
+#![tactic(auto)]
+
+mod body_starts;
+mod delegate;
+mod delegate_builder;
+mod insn;
+mod prog;
+mod range;
+mod reading;
+mod spans;
+mod starts;
+
+pub use delegate::Delegate;
+pub use insn::{AbsentRepeater, Insn, Repeat, RepeatEpsilon};
+pub use prog::Prog;
+pub use range::CaptureGroupRange;
+pub use reading::is_uncounted;
+pub use spans::SpanCode;
