@@ -17,7 +17,7 @@ use Rattle.fancy_regex_meaning.proofs.EachLemmas.{Each-cond, Each-for_some}
 use Rattle.fancy_regex_meaning.proofs.ListProofs.{advances}
 use Rattle.fancy_regex_meaning.proofs.NextBoundaryLemmas.{char_of}
 use Rattle.fancy_regex_info.specs.declared.error.CompileError.TheVariants.{RepeatBoundsReversed}
-use Rattle.fancy_regex_sizes.specs.NodeErrors.{some_node, shows}
+use Rattle.fancy_regex_analysis.specs.NodeErrors.{some_node, shows}
 use Rattle.fancy_regex_bytes.specs.ByteSets.{Bytes, has}
 use Rattle.fancy_regex_bytes.specs.declared.byte_set.ByteSet.{ByteSet}
 use Rattle.fancy_regex_bytes.specs.StartBytes.{StartBytesHold}

@@ -4,7 +4,7 @@ use Rattle.std.proofs.lemmas.Bool.{or_parts}
 use Rattle.fancy_regex_tree.specs.Tree.{Tree, Trees, concat, alt, group, look_around, repeat, atomic_group, conditional, absent_repeater}
 use Rattle.fancy_regex_tree.specs.Tree.{absent_expression, absent_stopper, define_group, ast_group, no_trees, more_trees}
 use Rattle.fancy_regex_meaning.specs.SizeLaws.{EachRepeat, EachRepeatInRow, IsInOrder}
-use Rattle.fancy_regex_sizes.specs.NodeErrors.{some_node, some_node_of}
+use Rattle.fancy_regex_analysis.specs.NodeErrors.{some_node, some_node_of}
 
 module _ (p : Tree → Bool) (told : (t : Tree) (lo hi : ℕ) (greedy : Bool) → p (repeat t lo hi greedy) ≡ false → lo ≤ hi) where
   mutual

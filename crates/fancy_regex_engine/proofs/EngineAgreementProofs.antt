@@ -5,7 +5,7 @@ use Rattle.std.specs.List.{filter}
 use Rattle.fancy_regex_meaning.specs.Groups.{Pattern}
 use Rattle.fancy_regex_meaning.specs.Positions.{boundaries}
 use Rattle.fancy_regex_meaning.specs.Searches.{Match, Search, first_match, first_some, match_at}
-use Rattle.fancy_regex_instructions.specs.Machine.{tried}
+use Rattle.fancy_regex_program.specs.Machine.{tried}
 use Rattle.fancy_regex_class.specs.RunInputs.{setting_for, search_for, group_slots, match_slots}
 use Rattle.fancy_regex_class.specs.declared.input.RunInput.{RunInput}
 use Rattle.fancy_regex_machine.specs.SearchAnswers.{match_places}

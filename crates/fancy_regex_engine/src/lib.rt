@@ -5,19 +5,19 @@
 
 ghost use Rattle.fancy_regex_engine.specs.EngineAgreement.{EnginesAgree};
 
+pub use fancy_regex_analysis::{analyze, can_compile_as_anchored, is_well_formed};
 pub use fancy_regex_class::{
     CaseiLiteral, CharClassMatcher, ClassError, Counted, RunInput, Span, Steps, fold, is_word,
 };
+pub use fancy_regex_compiler::compile;
 pub use fancy_regex_info::{AnalyzeContext, BytesMode, CompileError, CompileOptions, Info};
-pub use fancy_regex_instructions::{
-    AbsentRepeater, CaptureGroupRange, Delegate, Insn, Prog, Repeat, RepeatEpsilon,
-};
+pub use fancy_regex_linear::Easy;
 pub use fancy_regex_machine::{
     RunMemory, RunOptions, RuntimeError, run, run_default, run_in, run_spans, run_spans_in,
 };
-pub use fancy_regex_program::compile;
-pub use fancy_regex_runner::Easy;
-pub use fancy_regex_sizes::{analyze, can_compile_as_anchored, is_well_formed};
+pub use fancy_regex_program::{
+    AbsentRepeater, CaptureGroupRange, Delegate, Insn, Prog, Repeat, RepeatEpsilon,
+};
 
 /// Wherever both succeed, a run of a pattern's program and an `Easy` search of the same pattern return the same spans of all
 /// groups. The run must try every start position (no table of first bytes to seek) and must admit empty matches.

@@ -1,8 +1,8 @@
 //! Tests of the analysis on trees that no parser makes, and of the trees that are well-formed. Such a tree is a parsed one that is
 //! changed.
 
+use fancy_regex_analysis::{analyze, can_compile_as_anchored, is_well_formed};
 use fancy_regex_info::{AnalyzeContext, CompileError};
-use fancy_regex_sizes::{analyze, can_compile_as_anchored, is_well_formed};
 use fancy_regex_tree::{Assertion, Expr, ExprTree};
 use std::alloc::Global;
 use std::collections::BTreeSet;

@@ -1,9 +1,9 @@
 //! The programs that are tested.
 
+use fancy_regex_analysis::analyze;
+use fancy_regex_compiler::compile;
 use fancy_regex_info::{AnalyzeContext, CompileOptions};
-use fancy_regex_instructions::Prog;
-use fancy_regex_program::compile;
-use fancy_regex_sizes::analyze;
+use fancy_regex_program::Prog;
 use fancy_regex_tree::Expr;
 use std::alloc::Global;
 

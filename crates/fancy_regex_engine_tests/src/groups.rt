@@ -3,10 +3,10 @@
 use crate::compiled::{Text, program};
 use fancy_regex_class::{RunInput, Span};
 use fancy_regex_info::CompileOptions;
-use fancy_regex_instructions::Prog;
 use fancy_regex_machine::{
     RunMemory, RunOptions, RuntimeError, run, run_default, run_in, run_spans_in,
 };
+use fancy_regex_program::Prog;
 use std::alloc::Global;
 
 /// How a run has to end.

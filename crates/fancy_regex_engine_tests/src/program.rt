@@ -2,7 +2,7 @@
 
 use crate::compiled::{Text, program};
 use fancy_regex_info::CompileOptions;
-use fancy_regex_instructions::{CaptureGroupRange, Insn, Prog};
+use fancy_regex_program::{CaptureGroupRange, Insn, Prog};
 use std::alloc::Global;
 
 /// An instruction.

@@ -1,10 +1,10 @@
 //! Searches of the runner in one memory, in turn, and the modes that it refuses.
 
 use crate::compiled::Text;
+use fancy_regex_analysis::analyze;
 use fancy_regex_class::{RunInput, Span, Steps};
 use fancy_regex_info::{AnalyzeContext, BytesMode, CompileError, CompileOptions};
-use fancy_regex_runner::{Easy, SearchMemory};
-use fancy_regex_sizes::analyze;
+use fancy_regex_linear::{Easy, SearchMemory};
 use fancy_regex_tree::Expr;
 use std::alloc::Global;
 

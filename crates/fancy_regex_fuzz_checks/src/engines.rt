@@ -7,12 +7,12 @@ use crate::searches::span;
 use fancy_regex::{
     Captures, CompileError, Error, Expr, ExprTree, Regex, RegexInput, Result, Steps,
 };
+use fancy_regex_analysis::analyze;
 use fancy_regex_class::{RunInput, Span};
+use fancy_regex_compiler::compile;
 use fancy_regex_info::{AnalyzeContext, CompileOptions, Info};
+use fancy_regex_linear::Easy;
 use fancy_regex_machine::{RunOptions, run};
-use fancy_regex_program::compile;
-use fancy_regex_runner::Easy;
-use fancy_regex_sizes::analyze;
 use std::alloc::Global;
 
 /// Which engine runs a pattern.

@@ -3,9 +3,9 @@
 
 use crate::outcome::{Attempt, BEFORE, Ending, Text, appended, ending_of, first_wrong};
 use fancy_regex::{Error, Result};
+use fancy_regex_analysis::analyze;
+use fancy_regex_compiler::compile;
 use fancy_regex_info::{AnalyzeContext, CompileError, CompileOptions, Info};
-use fancy_regex_program::compile;
-use fancy_regex_sizes::analyze;
 use fancy_regex_tree::{Expr, ExprTree};
 use std::alloc::Global;
 

@@ -13,7 +13,7 @@ use Rattle.regex_hir.proofs.TextLemmas.{char_at_fits, char_at_parts}
 use Rattle.regex_hir.proofs.Utf8Lemmas.{char_at_cases, IsOneByteAt, IsTwoBytesAt, IsThreeBytesAt, IsFourBytesAt}
 use Rattle.fancy_regex_meaning.proofs.BoundaryLemmas.{IsCharBoundary-of_test}
 use Rattle.fancy_regex_meaning.specs.Ways.{Setting}
-use Rattle.fancy_regex_instructions.specs.Machine.{is_valid_offset, is_valid_span}
+use Rattle.fancy_regex_program.specs.Machine.{is_valid_offset, is_valid_span}
 use Rattle.regex_hir.proofs.OptionLemmas.{none_of_no_value, option_or_cases}
 
 -- the lead byte of a character is no continuation byte

@@ -1,9 +1,9 @@
 //! The instructions of absent repeaters, `(?~body)`: they find how far the text goes without a match of the body.
 
 ghost use Rattle.std.specs.Prelude.{◌≡◌, ◌+◌, ◌^◌, ◌<◌, ℕ, length, Some, IfOk, slice_index};
-ghost use Rattle.fancy_regex_instructions.specs.Machine as machine;
-ghost use Rattle.fancy_regex_instructions.specs.Machine.{act, by_limit, begun, looked, looks, scans, offers};
-ghost use Rattle.fancy_regex_instructions.specs.Ops.{part_of};
+ghost use Rattle.fancy_regex_program.specs.Machine as machine;
+ghost use Rattle.fancy_regex_program.specs.Machine.{act, by_limit, begun, looked, looks, scans, offers};
+ghost use Rattle.fancy_regex_program.specs.Ops.{part_of};
 ghost use Rattle.fancy_regex_machine.specs.RunConfigs.{run_parameters_of};
 ghost use Rattle.fancy_regex_machine.specs.Haystacks.{setting_of_haystack};
 ghost use Rattle.fancy_regex_machine.specs.Steps.{thread_of, IsNotStuck, Does, DoesPart};
@@ -12,7 +12,7 @@ use crate::haystack::Haystack;
 use crate::run_config::RunConfig;
 use crate::sight::{match_any, position_before};
 use crate::step::{Cursor, Next};
-use fancy_regex_instructions::AbsentRepeater;
+use fancy_regex_program::AbsentRepeater;
 use fancy_regex_slots::slots::{Slots, UNSET};
 use std::alloc::AllocError;
 

@@ -1,6 +1,6 @@
 //! The memory that runs share.
 
-use fancy_regex_runner::SearchMemory;
+use fancy_regex_linear::SearchMemory;
 use fancy_regex_slots::slots::Slots;
 use std::alloc::Global;
 

@@ -2,7 +2,7 @@
 
 ghost use Rattle.std.specs.Prelude.{◌≡◌};
 ghost use Rattle.fancy_regex_meaning.specs.Ways as ways;
-ghost use Rattle.fancy_regex_instructions.specs.Machine as machine;
+ghost use Rattle.fancy_regex_program.specs.Machine as machine;
 ghost use Rattle.fancy_regex_machine.specs.Haystacks.{setting_of_haystack};
 
 use crate::assertion::is_before_byte;

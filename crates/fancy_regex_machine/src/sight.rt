@@ -8,8 +8,8 @@ ghost use Rattle.regex_hir.specs.Text as sight;
 ghost use Rattle.fancy_regex_meaning.specs.Positions as places;
 ghost use Rattle.fancy_regex_meaning.specs.Ways.{is_any};
 ghost use Rattle.fancy_regex_class.specs.Matchers.{has, equals_ignoring_case};
-ghost use Rattle.fancy_regex_instructions.specs.Machine as machine;
-ghost use Rattle.fancy_regex_instructions.specs.Ops.{among_scalars};
+ghost use Rattle.fancy_regex_program.specs.Machine as machine;
+ghost use Rattle.fancy_regex_program.specs.Ops.{among_scalars};
 ghost use Rattle.fancy_regex_machine.specs.Haystacks.{setting_of_haystack};
 
 use crate::haystack::Haystack;

@@ -1,10 +1,10 @@
 //! Run-time checks of an instruction's slots. They never fail on a compiled program.
 
 ghost use Rattle.std.specs.Prelude.{◌≡◌, ◌+◌, ◌<◌, ℕ, Bool, length, Some, nat_lt, slice_index, ◌&&◌};
-ghost use Rattle.fancy_regex_instructions.specs.Machine.{act, backref_move, RunParameters};
+ghost use Rattle.fancy_regex_program.specs.Machine.{act, backref_move, RunParameters};
 ghost use Rattle.fancy_regex_slots.specs.Memory.{Thread};
-ghost use Rattle.fancy_regex_instructions.specs.Machine as machine;
-ghost use Rattle.fancy_regex_instructions.specs.Ops.{op_of, part_of};
+ghost use Rattle.fancy_regex_program.specs.Machine as machine;
+ghost use Rattle.fancy_regex_program.specs.Ops.{op_of, part_of};
 ghost use Rattle.fancy_regex_machine.specs.RunConfigs.{run_parameters_of};
 ghost use Rattle.fancy_regex_machine.specs.Haystacks.{setting_of_haystack};
 ghost use Rattle.fancy_regex_machine.specs.Steps.{thread_of, is_not_stuck};
@@ -12,7 +12,7 @@ ghost use Rattle.fancy_regex_machine.specs.Steps.{thread_of, is_not_stuck};
 use crate::haystack::Haystack;
 use crate::run_config::RunConfig;
 use crate::step::Cursor;
-use fancy_regex_instructions::{AbsentRepeater, Insn};
+use fancy_regex_program::{AbsentRepeater, Insn};
 use fancy_regex_slots::slots::{Slots, UNSET};
 
 /// Whether the slots that the instruction names exist and hold what it reads.

@@ -5,7 +5,7 @@ ghost use Rattle.std.specs.List.{filter};
 ghost use Rattle.regex_hir.specs.Text.{is_boundary};
 ghost use Rattle.fancy_regex_meaning.specs.Positions.{boundaries};
 ghost use Rattle.fancy_regex_meaning.specs.Searches.{first_item};
-ghost use Rattle.fancy_regex_instructions.specs.Machine as machine;
+ghost use Rattle.fancy_regex_program.specs.Machine as machine;
 ghost use Rattle.fancy_regex_machine.specs.RunConfigs.{may_start, run_parameters_of};
 
 use crate::run_config::RunConfig;

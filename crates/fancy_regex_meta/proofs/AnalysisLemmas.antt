@@ -13,7 +13,7 @@ use Rattle.fancy_regex_info.specs.declared.info.Info.{Info, out-Info}
 use Rattle.fancy_regex_info.specs.declared.info.Info.TheFolds.{fold_out-Info}
 use Rattle.fancy_regex_info.specs.References.{is_read}
 use Rattle.fancy_regex_info.specs.Views.{pattern_in}
-use Rattle.fancy_regex_runner.specs.Plain.{IsPlain, ArePlain, IsServed, test_of}
+use Rattle.fancy_regex_linear.specs.Plain.{IsPlain, ArePlain, IsServed, test_of}
 use Rattle.fancy_regex_meta.specs.EasyPatterns.{is_easy_tree, uses_easy}
 use Rattle.fancy_regex_meta.specs.declared.options.RegexOptions.{RegexOptions}
 

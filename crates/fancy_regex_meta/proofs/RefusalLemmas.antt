@@ -10,11 +10,11 @@ use Rattle.fancy_regex_tree.specs.Parse.{Parsed, parse}
 use Rattle.fancy_regex_tree.specs.ReferenceSummary.{contains_subroutines}
 use Rattle.fancy_regex_tree.specs.ParseResult.{IsParsed}
 use Rattle.fancy_regex_meaning.specs.Groups.{pattern_of}
-use Rattle.fancy_regex_sizes.specs.AnalysisErrors.{ErrorHolds}
-use Rattle.fancy_regex_sizes.specs.NodeErrors.{is_memory}
+use Rattle.fancy_regex_analysis.specs.AnalysisErrors.{ErrorHolds}
+use Rattle.fancy_regex_analysis.specs.NodeErrors.{is_memory}
 use Rattle.fancy_regex_info.specs.declared.error.CompileError.{CompileError}
 use Rattle.fancy_regex_info.specs.declared.error.CompileError.TheVariants as of_building
-use Rattle.fancy_regex_runner.specs.Refusals.{IsCause}
+use Rattle.fancy_regex_linear.specs.Refusals.{IsCause}
 use Rattle.fancy_regex_meta.specs.ErrorConversions.{from_tree_error, from_compile_error}
 use Rattle.fancy_regex_meta.specs.Patterns.{read_as, reading_of}
 use Rattle.fancy_regex_meta.specs.PatternMatches.{names_in}

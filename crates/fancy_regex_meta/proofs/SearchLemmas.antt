@@ -13,7 +13,7 @@ use Rattle.fancy_regex_meta.specs.Strategies.{search_of, run_input_of, run_optio
 use Rattle.fancy_regex_meta.specs.PatternMatches.{match_from}
 use Rattle.fancy_regex_machine.specs.declared.error.RuntimeError.TheVariants.{BacktrackLimitExceeded, StackOverflow, Memory}
 use Rattle.fancy_regex_machine.proofs.LimitLemmas.{MachinePassesLimit-prop}
-use Rattle.fancy_regex_runner.specs.Find.{attempted}
+use Rattle.fancy_regex_linear.specs.Find.{attempted}
 use Rattle.fancy_regex_meta.specs.SearchLimits.{setting_from, search_at, IsSearchError, IsStrategyError, effective_start, meta_starts_tried}
 use Rattle.fancy_regex_meta.specs.declared.error.Error.{Error}
 use Rattle.fancy_regex_meta.specs.declared.error.Error.TheVariants as told

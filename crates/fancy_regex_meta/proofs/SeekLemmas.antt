@@ -13,8 +13,8 @@ use Rattle.fancy_regex_meaning.proofs.EachLemmas.{Each-weaker}
 use Rattle.fancy_regex_class.specs.RunInputs.{setting_for}
 use Rattle.fancy_regex_class.specs.declared.input.RunInput.{RunInput}
 use Rattle.fancy_regex_info.specs.declared.error.CompileError.TheVariants.{RepeatBoundsReversed}
-use Rattle.fancy_regex_sizes.specs.NodeErrors.{some_node, shows}
-use Rattle.fancy_regex_sizes.proofs.NodeListLemmas.{some_node_is}
+use Rattle.fancy_regex_analysis.specs.NodeErrors.{some_node, shows}
+use Rattle.fancy_regex_analysis.proofs.NodeListLemmas.{some_node_is}
 use Rattle.fancy_regex_bytes.proofs.InOrderLemmas.{in_order}
 use Rattle.fancy_regex_machine.specs.RunConfigs.{may_start}
 use Rattle.fancy_regex_machine.specs.RunArguments.{run_parameters_for}

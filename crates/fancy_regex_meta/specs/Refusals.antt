@@ -6,15 +6,15 @@ use Rattle.fancy_regex_tree.specs.Parse.{Parsed}
 use Rattle.fancy_regex_tree.specs.ReferenceSummary.{named_backref_only, contains_subroutines}
 use Rattle.fancy_regex_meaning.specs.Choices.{program_nodes}
 use Rattle.fancy_regex_meaning.specs.Groups.{pattern_of}
-use Rattle.fancy_regex_sizes.specs.AnalysisErrors.{ErrorHolds, is_too_complex}
+use Rattle.fancy_regex_analysis.specs.AnalysisErrors.{ErrorHolds, is_too_complex}
 use Rattle.fancy_regex_info.specs.declared.error.CompileError.{CompileError}
 use Rattle.fancy_regex_info.specs.declared.error.CompileError.TheVariants as of_building
 use Rattle.fancy_regex_info.specs.declared.options.AnalyzeContext.{AnalyzeContext}
 use Rattle.fancy_regex_info.specs.declared.options.BytesMode.TheVariants.{Unicode}
 use Rattle.fancy_regex_info.specs.declared.options.CompileOptions.{CompileOptions}
-use Rattle.fancy_regex_instructions.specs.Caps.{IsPastCap}
-use Rattle.fancy_regex_program.specs.Refusals.{IsRefusal, ReadsClasses}
-use Rattle.fancy_regex_runner.specs.Refusals.{IsTaken, IsCause}
+use Rattle.fancy_regex_program.specs.Caps.{IsPastCap}
+use Rattle.fancy_regex_compiler.specs.Refusals.{IsRefusal, ReadsClasses}
+use Rattle.fancy_regex_linear.specs.Refusals.{IsTaken, IsCause}
 use Rattle.fancy_regex_meta.specs.Patterns.{read_as}
 use Rattle.fancy_regex_meta.specs.EasyPatterns.{uses_easy}
 use Rattle.fancy_regex_meta.specs.declared.options.RegexOptions.{RegexOptions}

@@ -6,10 +6,10 @@ use Rattle.fancy_regex_meaning.specs.Searches.{Search}
 use Rattle.fancy_regex_meaning.specs.SizeLaws.{IsInOrder}
 use Rattle.fancy_regex_desugar.specs.Unfolded.{core_pattern_of}
 use Rattle.fancy_regex_desugar.specs.Shapes.{StepsBackOnlyFirst}
-use Rattle.fancy_regex_instructions.specs.Programs.{IsProgramOf, KeepsCap}
-use Rattle.fancy_regex_instructions.specs.Shapes.{IsWritable}
-use Rattle.fancy_regex_instructions.specs.declared.prog.Prog.{Prog}
-use Rattle.fancy_regex_runner.specs.Runner.{IsEasyOf}
+use Rattle.fancy_regex_program.specs.Programs.{IsProgramOf, KeepsCap}
+use Rattle.fancy_regex_program.specs.Shapes.{IsWritable}
+use Rattle.fancy_regex_program.specs.declared.prog.Prog.{Prog}
+use Rattle.fancy_regex_linear.specs.Runner.{IsEasyOf}
 use Rattle.fancy_regex_class.specs.declared.input.RunInput.{RunInput}
 use Rattle.fancy_regex_input.specs.declared.config.SearchConfig.{SearchConfig}
 use Rattle.fancy_regex_machine.specs.declared.search.RunOptions.{RunOptions}

@@ -4,7 +4,7 @@ ghost use Rattle.std.specs.Prelude.{◌≡◌, [], option_map, slice_index};
 ghost use Rattle.fancy_regex_meta.specs.FoundParts.{found_parts, parts_in};
 ghost use Rattle.fancy_regex_meta.specs.declared.found.Wanted.TheVariants.{Groups};
 
-use fancy_regex_runner::SearchMemory;
+use fancy_regex_linear::SearchMemory;
 use std::alloc::Global;
 
 /// Which byte offsets of a match a search is asked for.

@@ -1,7 +1,7 @@
 //! The memory that the searches of an iteration share.
 
+use fancy_regex_linear::SearchMemory;
 use fancy_regex_machine::RunMemory;
-use fancy_regex_runner::SearchMemory;
 use std::alloc::Global;
 
 /// What earlier searches allocated, for later ones to use again: of the linear-time matcher, and of the backtracking machine.

@@ -15,11 +15,11 @@ use crate::found::{FoundMatch, Wanted};
 use crate::memory::MetaMemory;
 use crate::options::RegexOptions;
 use crate::strategy::Strategy;
+use fancy_regex_analysis::analyze;
 use fancy_regex_class::{RunInput, Span, Steps};
 use fancy_regex_info::AnalyzeContext;
 use fancy_regex_input::SearchConfig;
 use fancy_regex_meaning::laws_of_groups;
-use fancy_regex_sizes::analyze;
 use fancy_regex_tree::{ExprTree, NamedGroups};
 use std::alloc::Global;
 

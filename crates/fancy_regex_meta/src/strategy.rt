@@ -6,16 +6,16 @@ ghost use Rattle.fancy_regex_meaning.specs.Choices.{program_nodes};
 ghost use Rattle.fancy_regex_meaning.specs.Groups.{pattern_of};
 ghost use Rattle.fancy_regex_meaning.specs.Searches.{first_match};
 ghost use Rattle.fancy_regex_meaning.specs.SizeLaws.{IsInOrder};
-ghost use Rattle.fancy_regex_instructions.specs.Caps.{IsPastCap};
-ghost use Rattle.fancy_regex_program.specs.Refusals.{IsClear, ReadsClasses};
+ghost use Rattle.fancy_regex_program.specs.Caps.{IsPastCap};
+ghost use Rattle.fancy_regex_compiler.specs.Refusals.{IsClear, ReadsClasses};
 ghost use Rattle.fancy_regex_info.specs.Analysis.{analysis};
-ghost use Rattle.fancy_regex_sizes.specs.AnalysisErrors.{is_too_complex};
+ghost use Rattle.fancy_regex_analysis.specs.AnalysisErrors.{is_too_complex};
 ghost use Rattle.fancy_regex_info.specs.Infos.{info_of};
 ghost use Rattle.fancy_regex_info.specs.declared.options.BytesMode.TheVariants.{Unicode};
 ghost use Rattle.fancy_regex_info.specs.declared.info.Info.{out-Info};
 ghost use Rattle.fancy_regex_class.specs.RunInputs.{setting_for};
-ghost use Rattle.fancy_regex_runner.specs.Refusals.{IsTaken, IsCause};
-ghost use Rattle.fancy_regex_runner.specs.Runner.{IsEasyOf};
+ghost use Rattle.fancy_regex_linear.specs.Refusals.{IsTaken, IsCause};
+ghost use Rattle.fancy_regex_linear.specs.Runner.{IsEasyOf};
 ghost use Rattle.fancy_regex_meta.specs.Refusals.{compile_options_of, IsCompileRefusal};
 
 use crate::error::Result;
@@ -24,11 +24,11 @@ use crate::memory::MetaMemory;
 use crate::options::RegexOptions;
 use crate::seek::seek_table;
 use fancy_regex_class::{RunInput, Steps};
+use fancy_regex_compiler::compile;
 use fancy_regex_info::{CompileError, CompileOptions, Info};
-use fancy_regex_instructions::Prog;
+use fancy_regex_linear::Easy;
 use fancy_regex_machine::{RunOptions, run_in, run_spans_in};
-use fancy_regex_program::compile;
-use fancy_regex_runner::Easy;
+use fancy_regex_program::Prog;
 use std::alloc::Global;
 
 /// What executes a compiled pattern.
@@ -64,7 +64,7 @@ fn compile_options(options: &RegexOptions, calls: bool) -> CompileOptions
 }
 
 impl Strategy {
-    ghost use Rattle.fancy_regex_instructions.specs.Programs.{RefersToGroups};
+    ghost use Rattle.fancy_regex_program.specs.Programs.{RefersToGroups};
     ghost use Rattle.fancy_regex_meta.specs.Strategies.{Executes, StrategyKeepsCap, is_whole, search_of};
     ghost use Rattle.fancy_regex_meta.specs.EasyPatterns.{uses_easy, is_easy_strategy};
     ghost use Rattle.fancy_regex_meta.specs.FoundParts.{found_parts, wanted_parts};

@@ -1,29 +1,9 @@
-mod PartLemmas
-mod DelegateSteps
-mod TailSteps
-mod TailEnds
-mod Drafts
-mod Branches
-mod KindLemmas
-mod KnownLemmas
-mod TreeLemmas
-mod LeafLemmas
-mod EmitLemmas
-mod NodeLemmas
-mod EndLemmas
-mod RefusalLemmas
-mod ClearLemmas
-mod TreeContextLemmas
-mod TextLemmas
-mod GroupLemmas
-mod RowLemmas
-mod AllowedLemmas
-mod WritableLemmas
-mod WholeLemmas
-mod ClassLemmas
-mod RoomLemmas
-mod LengthLemmas
-mod CapLemmas
-mod WorkLemmas
-mod StepLemmas
-mod BranchSteps
+pub mod LazyLemmas
+mod DelegateLemmas
+mod PartCauses
+mod ReadingLemmas
+mod StartLemmas
+pub mod BodyStartLemmas
+mod SpanLemmas
+pub mod SpanPlaces
+pub mod Sending

@@ -1,21 +1,22 @@
-//! The compiler from an analyzed pattern to a program of the backtracking machine. Subroutine calls are inlined, so the length of
-//! a program is bounded by sixteen instructions for each node with calls inlined, and sixteen more; a cap on the length is kept.
+//! The instructions of the backtracking machine, the programs that they make up, and what a run of them is. A part of a pattern that
+//! is searched in linear time is an operand of an instruction, with its states. A program has two tables that are made of its
+//! instructions: of the ASCII characters that a match may start with, and the instructions of runs that answer only the span of
+//! a match.
 #![tactic(auto)]
 
-mod class_table;
-mod closing;
-mod compiler;
-mod emit;
-mod emitter;
-mod groups;
-mod lazy;
-mod leaf;
-mod literal_table;
-mod part_table;
-mod parts;
-mod program_builder;
-mod tail;
-mod task;
-mod writing;
+mod body_starts;
+mod delegate;
+mod delegate_builder;
+mod insn;
+mod prog;
+mod range;
+mod reading;
+mod spans;
+mod starts;
 
-pub use compiler::compile;
+pub use delegate::Delegate;
+pub use insn::{AbsentRepeater, Insn, Repeat, RepeatEpsilon};
+pub use prog::Prog;
+pub use range::CaptureGroupRange;
+pub use reading::is_uncounted;
+pub use spans::SpanCode;

@@ -12,7 +12,7 @@ use Rattle.fancy_regex_meaning.specs.Ways.{MatchState, Moves, Setting, with_posi
 use Rattle.fancy_regex_meaning.specs.Ways as row
 use Rattle.fancy_regex_meaning.specs.Choices.{absent_choices}
 use Rattle.fancy_regex_meaning.proofs.EachLemmas.{Each-weaker, Each-filter, numbers_within, boundaries_within}
-use Rattle.fancy_regex_instructions.specs.Machine.{unset, lower}
+use Rattle.fancy_regex_program.specs.Machine.{unset, lower}
 use Rattle.fancy_regex_program_laws.proofs.Denote.{below}
 use Rattle.fancy_regex_program_laws.proofs.Runs.{lt_yes, lt_no, lt_is}
 use Rattle.fancy_regex_program_laws.proofs.Trail.{Open, Close, At, Trail, Trails, states, opened, trail_ends, silent, lowest, trail_look, trail_absent, states_append, opened_append}

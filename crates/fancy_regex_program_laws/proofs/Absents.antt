@@ -6,10 +6,10 @@ use Rattle.std.specs.Str.{IsUtf8, IsCharBoundary}
 use Rattle.fancy_regex_meaning.specs.Positions.{boundaries, position_before}
 use Rattle.fancy_regex_meaning.specs.Ways.{MatchState, with_position}
 use Rattle.fancy_regex_slots.specs.Memory.{Thread}
-use Rattle.fancy_regex_instructions.specs.Ops as op
-use Rattle.fancy_regex_instructions.specs.Ops.{Op}
-use Rattle.fancy_regex_instructions.specs.Machine.{unset, RunParameters, RunState, Move, Limited, goes, forks, fails, by_limit, at_op, at_position, moved, wrote_at, begun, looked, looks, lowers, scans, offers, offers_here, offers_below, match_char, before, act, exec, in_front}
-use Rattle.fancy_regex_instructions.specs.SlotLayout.{slots_of_way}
+use Rattle.fancy_regex_program.specs.Ops as op
+use Rattle.fancy_regex_program.specs.Ops.{Op}
+use Rattle.fancy_regex_program.specs.Machine.{unset, RunParameters, RunState, Move, Limited, goes, forks, fails, by_limit, at_op, at_position, moved, wrote_at, begun, looked, looks, lowers, scans, offers, offers_here, offers_below, match_char, before, act, exec, in_front}
+use Rattle.fancy_regex_program.specs.SlotLayout.{slots_of_way}
 use Rattle.fancy_regex_program_laws.proofs.Denote.{Tale, Follow, Run, opens, closes, below, end_ends, end_seen, end_looked, end_look, end_absent}
 use Rattle.fancy_regex_program_laws.proofs.Runs.{above_refl, above_cons, Same, same_refl, same_trans, same_set, thread, lt_yes, lt_no, lt_is, Within, Sound, known, Comes, Pops, Follows, pops_to, pops_scan, forked, by_move, Exits, exits_later, Does}
 use Rattle.fancy_regex_program_laws.proofs.ProgramParts.{HasAt, has_back, plain_at, with_slot_is}
@@ -117,14 +117,14 @@ module _ (code : List Op) (r : RunParameters) (whole : Bool) (count : ℕ) (utf8
       tries q m rest y cut above_base room fits later =
           let u : Thread = thread (pc + 1) q m in
           body.by (slot + 2) (with_position w q) m (u ∷ rest) (closes y) end_seen (omega arith) (omega arith) room (placed_at w q sound cut) fits
-          (pops_scan code r whole count u rest y (ap Rattle.fancy_regex_instructions.specs.Machine.is_start at_scan) (ap Rattle.fancy_regex_instructions.specs.Machine.is_scan at_scan) later)
+          (pops_scan code r whole count u rest y (ap Rattle.fancy_regex_program.specs.Machine.is_start at_scan) (ap Rattle.fancy_regex_program.specs.Machine.is_scan at_scan) later)
           (record {
             plain = plain_at code (pc + 2 + length b) (op.absent_limit (slot + 1)) at_limit refl refl;
             go = λ v n stack z on sound' fits' same above pops'.
                 let h : Thread = thread (pc + 2 + length b) v.position n in
                 by_move code r whole count h stack (op.absent_limit (slot + 1)) (by_limit (lowers v.position)) (end_seen v z) at_limit sound'.cuts.0
                 (with_slot_is (slot + 1) h _ (omega (arith, same.long)))
-                (λ held. pops' (record { kept = held.kept; limit = Rattle.fancy_regex_instructions.specs.Machine.lower held.limit v.position }));
+                (λ held. pops' (record { kept = held.kept; limit = Rattle.fancy_regex_program.specs.Machine.lower held.limit v.position }));
           })
 
       -- it looks on from a place where its body was tried

@@ -10,7 +10,7 @@ use Rattle.fancy_regex_desugar.specs.CorePatterns.{CorePattern, nothing, read, g
 use Rattle.fancy_regex_desugar.specs.Delegates.{first_end, first_end_until}
 use Rattle.fancy_regex_desugar.specs.CoreWays.{passes}
 use Rattle.fancy_regex_program_laws.specs.ProgramLaws.{FoundMatch}
-use Rattle.fancy_regex_instructions.specs.Machine.{unset, lower, match_char, match_text, match_newline, match_backref}
+use Rattle.fancy_regex_program.specs.Machine.{unset, lower, match_char, match_text, match_newline, match_backref}
 
 -- what is told of a run: its answer, and how many branches it opens, where either is claimed
 pub record Told : Type 0 where

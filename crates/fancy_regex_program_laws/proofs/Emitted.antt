@@ -14,12 +14,12 @@ use Rattle.fancy_regex_desugar.specs.CorePatterns.{any, literal, class, CorePatt
 use Rattle.fancy_regex_desugar.specs.Delegates.{first_end, first_end_until, tail_bound}
 use Rattle.fancy_regex_desugar.specs.Shapes.{StepsBackOnlyFirst}
 use Rattle.fancy_regex_slots.specs.Memory.{Thread}
-use Rattle.fancy_regex_instructions.specs.Ops as op
-use Rattle.fancy_regex_instructions.specs.Ops.{Op, among_scalars}
-use Rattle.fancy_regex_instructions.specs.Machine.{unset, RunParameters, goes, goes_to, wrote, match_char, match_text, match_newline, is_start, is_scan}
-use Rattle.fancy_regex_instructions.specs.Code.{Code, waits, flushed, slots_in, closed, is_uncounted, loop_entry, code_of}
-use Rattle.fancy_regex_instructions.specs.SlotLayout.{slots_of_way}
-use Rattle.fancy_regex_instructions.specs.Shapes.{IsWritable}
+use Rattle.fancy_regex_program.specs.Ops as op
+use Rattle.fancy_regex_program.specs.Ops.{Op, among_scalars}
+use Rattle.fancy_regex_program.specs.Machine.{unset, RunParameters, goes, goes_to, wrote, match_char, match_text, match_newline, is_start, is_scan}
+use Rattle.fancy_regex_program.specs.Code.{Code, waits, flushed, slots_in, closed, is_uncounted, loop_entry, code_of}
+use Rattle.fancy_regex_program.specs.SlotLayout.{slots_of_way}
+use Rattle.fancy_regex_program.specs.Shapes.{IsWritable}
 use Rattle.fancy_regex_program_laws.proofs.Denote.{Tale, Follow, Run, end_to, end_text, ending}
 use Rattle.fancy_regex_program_laws.proofs.PairsInSlots.{take_kept}
 use Rattle.fancy_regex_program_laws.proofs.Runs.{above_refl, same_refl, same_set_below, thread, Sound, Comes, Pops, by_move, Exits, exits_at, exits_later, comes_at, Does}

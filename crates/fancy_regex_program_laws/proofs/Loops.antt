@@ -5,10 +5,10 @@ use Rattle.std.proofs.lemmas.List.{take-set-le}
 use Rattle.std.proofs.lemmas.Bool.Decides.{nat_tests}
 use Rattle.fancy_regex_meaning.specs.Ways.{MatchState}
 use Rattle.fancy_regex_slots.specs.Memory.{Thread, truncated}
-use Rattle.fancy_regex_instructions.specs.Ops as op
-use Rattle.fancy_regex_instructions.specs.Ops.{Op}
-use Rattle.fancy_regex_instructions.specs.Machine.{unset, RunParameters, Move, goes, forks, cuts, at_op, wrote, with_room, forks_by, repeat_move, repeat_epsilon_move, next_count, marked, stuck, act}
-use Rattle.fancy_regex_instructions.specs.SlotLayout.{slots_of_way}
+use Rattle.fancy_regex_program.specs.Ops as op
+use Rattle.fancy_regex_program.specs.Ops.{Op}
+use Rattle.fancy_regex_program.specs.Machine.{unset, RunParameters, Move, goes, forks, cuts, at_op, wrote, with_room, forks_by, repeat_move, repeat_epsilon_move, next_count, marked, stuck, act}
+use Rattle.fancy_regex_program.specs.SlotLayout.{slots_of_way}
 use Rattle.fancy_regex_program_laws.proofs.Denote.{Tale, Follow, Run, opens, end_pick, end_upto, end_loop, end_times}
 use Rattle.fancy_regex_program_laws.proofs.Runs.{Above, above_refl, above_trans, above_cons, lowered_above, Same, same_refl, same_trans, same_lower, same_set, thread, lt_yes, lt_no, lt_is, eq_yes, eq_self, eq_other, eq_no, IsPlain, Sound, Comes, Pops, Follows, pops_to, forked, goes_cut, by_move, Exits, exits_later, comes_at, Does}
 use Rattle.fancy_regex_program_laws.proofs.ProgramParts.{HasAt, has_front, has_back, StartsPlain, plain_from, plain_at, with_slot_is}

@@ -2,8 +2,8 @@
 use Rattle.std.proofs.Common.{◌≡◌, ℕ, zero, suc, ◌+◌, ◌*◌, ◌<◌, ◌≤◌, Bool, true, false, List, [], ◌∷◌, length, take, get_or, set, Option, Some, None, refl, sym, ap, ◌∙◌, arith, get_or-set_other}
 use Rattle.std.proofs.Math.Seq.{take-set-lt}
 use Rattle.fancy_regex_meaning.specs.Ways.{Pairs, MatchState, set_pair, pair_of}
-use Rattle.fancy_regex_instructions.specs.Machine.{unset}
-use Rattle.fancy_regex_instructions.specs.SlotLayout.{slots_of_way}
+use Rattle.fancy_regex_program.specs.Machine.{unset}
+use Rattle.fancy_regex_program.specs.SlotLayout.{slots_of_way}
 use Rattle.fancy_regex_class.specs.RunInputs.{group_slots}
 
 pub set_commutes : (xs : List ℕ) (i j a b : ℕ) → (i ≡ j → ⊥) → set (set xs i a) j b ≡ set (set xs j b) i a

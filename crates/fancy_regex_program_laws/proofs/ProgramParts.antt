@@ -8,10 +8,10 @@ use Rattle.std.specs.Str.{IsUtf8}
 use Rattle.fancy_regex_meaning.specs.Ways.{MatchState, with_position, set_pair}
 use Rattle.fancy_regex_meaning.proofs.ForwardProofs.{keeps_cuts}
 use Rattle.fancy_regex_slots.specs.Memory.{Thread, truncated}
-use Rattle.fancy_regex_instructions.specs.Ops as op
-use Rattle.fancy_regex_instructions.specs.Ops.{Op}
-use Rattle.fancy_regex_instructions.specs.Machine.{unset, RunParameters, Move, goes, forks, fails, cuts, cut_fails, at_op, moved, wrote, slot_of, with_slot, goes_if, goes_to, goes_past, tail_move, match_char, match_text, match_newline, is_start, is_scan, act, pop, exec}
-use Rattle.fancy_regex_instructions.specs.SlotLayout.{slots_of_way}
+use Rattle.fancy_regex_program.specs.Ops as op
+use Rattle.fancy_regex_program.specs.Ops.{Op}
+use Rattle.fancy_regex_program.specs.Machine.{unset, RunParameters, Move, goes, forks, fails, cuts, cut_fails, at_op, moved, wrote, slot_of, with_slot, goes_if, goes_to, goes_past, tail_move, match_char, match_text, match_newline, is_start, is_scan, act, pop, exec}
+use Rattle.fancy_regex_program.specs.SlotLayout.{slots_of_way}
 use Rattle.fancy_regex_program_laws.proofs.Denote.{Run, opens, end_to, end_within, end_if}
 use Rattle.fancy_regex_program_laws.proofs.PairsInSlots.{take_pair}
 use Rattle.fancy_regex_program_laws.proofs.Runs.{above_refl, above_trans, above_cons, lowered_above, Same, same_refl, same_trans, same_lower, same_set, same_set_below, thread, lt_yes, IsPlain, Sound, Comes, Follows, pops_to, forked, goes_cut, fails_cut, by_move, exits_later, comes_at, Does, base}
@@ -57,7 +57,7 @@ pub plain_at : (code : List Op) (pc : ℕ) (x : Op) → slice_get code pc ≡ So
 plain_at code pc x at a b = record { start = ap is_start at ∙ a; scan = ap is_scan at ∙ b }
 
 pub with_slot_is : (slot : ℕ) (t : Thread) (m : Move) → slot < length t.slots → with_slot slot t m ≡ m
-with_slot_is slot t m lt = ap (λ b. cond b m Rattle.fancy_regex_instructions.specs.Machine.stuck) (lt_yes slot (length t.slots) lt)
+with_slot_is slot t m lt = ap (λ b. cond b m Rattle.fancy_regex_program.specs.Machine.stuck) (lt_yes slot (length t.slots) lt)
 
 module _ (code : List Op) (r : RunParameters) (whole : Bool) (count : ℕ) where
   abbrev text : List ℕ

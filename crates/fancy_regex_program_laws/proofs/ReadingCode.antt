@@ -7,10 +7,10 @@ use Rattle.std.proofs.lemmas.Bool.Decides.{nat_tests}
 use Rattle.std.proofs.lemmas.Option.{none-some, same_Some, slice_get_past}
 use Rattle.fancy_regex_tree.specs.Tree.{Text}
 use Rattle.fancy_regex_desugar.specs.CorePatterns.{CorePattern, nothing, read, general_newline, check, continue, keep_out, fail, cat, alt, group, ahead, never, back, atomic, delegate, tail, repeat, backref, exists, conditional, absent}
-use Rattle.fancy_regex_instructions.specs.Ops as op
-use Rattle.fancy_regex_instructions.specs.Ops.{Op}
-use Rattle.fancy_regex_instructions.specs.Code.{Code, waits, flushed, slots_in, closed, is_uncounted, code_of}
-use Rattle.fancy_regex_instructions.specs.Reading.{stays, passing_of, reads_past, reads_from, reading_depth, always_reads}
+use Rattle.fancy_regex_program.specs.Ops as op
+use Rattle.fancy_regex_program.specs.Ops.{Op}
+use Rattle.fancy_regex_program.specs.Code.{Code, waits, flushed, slots_in, closed, is_uncounted, code_of}
+use Rattle.fancy_regex_program.specs.Reading.{stays, passing_of, reads_past, reads_from, reading_depth, always_reads}
 use Rattle.fancy_regex_program_laws.proofs.Runs.{lt_is}
 use Rattle.fancy_regex_program_laws.proofs.ProgramParts.{HasAt, has_front, has_back, has_all}
 use Rattle.fancy_regex_program_laws.proofs.TakesSome.{TakesSome}

@@ -15,10 +15,10 @@ use Rattle.fancy_regex_meaning.specs.WayLaws.{Each, HasCharBoundaries, IsForward
 use Rattle.fancy_regex_meaning.proofs.ForwardProofs.{keeps_cuts, ways_cut_well}
 use Rattle.fancy_regex_desugar.specs.Delegates.{first_end, first_end_until}
 use Rattle.fancy_regex_slots.specs.Memory.{Thread}
-use Rattle.fancy_regex_instructions.specs.Ops as op
-use Rattle.fancy_regex_instructions.specs.Ops.{Op}
-use Rattle.fancy_regex_instructions.specs.Machine.{unset, RunParameters, goes, fails, goes_if, moved, stuck, match_char, match_text, match_newline, match_backref, is_valid_span, backref_move, is_valid_offset, act}
-use Rattle.fancy_regex_instructions.specs.SlotLayout.{slots_of_way}
+use Rattle.fancy_regex_program.specs.Ops as op
+use Rattle.fancy_regex_program.specs.Ops.{Op}
+use Rattle.fancy_regex_program.specs.Machine.{unset, RunParameters, goes, fails, goes_if, moved, stuck, match_char, match_text, match_newline, match_backref, is_valid_span, backref_move, is_valid_offset, act}
+use Rattle.fancy_regex_program.specs.SlotLayout.{slots_of_way}
 use Rattle.fancy_regex_program_laws.proofs.Denote.{end_if, end_again}
 use Rattle.fancy_regex_program_laws.proofs.DelegatedWays.{ends_onward, ends_cut, ends_until_onward, ends_until_cut}
 use Rattle.fancy_regex_program_laws.proofs.PairsInSlots.{start_of, end_of, laid_start, laid_end}

@@ -11,10 +11,10 @@ use Rattle.regex_hir.specs.Text.{is_boundary}
 use Rattle.fancy_regex_meaning.specs.Ways.{MatchState}
 use Rattle.fancy_regex_meaning.specs.WayLaws.{HasCharBoundaries}
 use Rattle.fancy_regex_slots.specs.Memory.{Thread, truncated}
-use Rattle.fancy_regex_instructions.specs.Ops.{Op}
-use Rattle.fancy_regex_instructions.specs.Machine.{RunParameters, Ending, ended, tick, back, RunState, Move, forks, cuts, cut_fails, is_valid_offset, is_start, is_scan, act, pop, follow, exec}
+use Rattle.fancy_regex_program.specs.Ops.{Op}
+use Rattle.fancy_regex_program.specs.Machine.{RunParameters, Ending, ended, tick, back, RunState, Move, forks, cuts, cut_fails, is_valid_offset, is_start, is_scan, act, pop, follow, exec}
 use Rattle.fancy_regex_program_laws.specs.ProgramLaws.{found_by_thread}
-use Rattle.fancy_regex_instructions.specs.SlotLayout.{slots_of_way}
+use Rattle.fancy_regex_program.specs.SlotLayout.{slots_of_way}
 use Rattle.fancy_regex_program_laws.proofs.Denote.{Told, Known, Tale, Follow, Run, opens, closes}
 
 -- the stack is the rest with more on it

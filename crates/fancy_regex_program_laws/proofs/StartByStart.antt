@@ -7,9 +7,9 @@ use Rattle.fancy_regex_meaning.specs.Ways.{MatchState}
 use Rattle.fancy_regex_meaning.specs.Searches.{Search, first_some, first_item, farther, first_longest, chosen, is_admitted}
 use Rattle.fancy_regex_desugar.specs.CorePatterns.{CorePattern}
 use Rattle.fancy_regex_desugar.specs.Delegates.{tail_bound}
-use Rattle.fancy_regex_instructions.specs.Machine.{unset, RunParameters}
-use Rattle.fancy_regex_instructions.specs.SlotLayout.{slots_of_match}
-use Rattle.fancy_regex_instructions.specs.Shapes.{IsWritable}
+use Rattle.fancy_regex_program.specs.Machine.{unset, RunParameters}
+use Rattle.fancy_regex_program.specs.SlotLayout.{slots_of_match}
+use Rattle.fancy_regex_program.specs.Shapes.{IsWritable}
 use Rattle.fancy_regex_program_laws.specs.ProgramLaws.{FoundMatch, entry_way, way_at, choices_up_to}
 use Rattle.fancy_regex_program_laws.proofs.Denote.{Told, Known, Tale, Follow, opens}
 use Rattle.fancy_regex_program_laws.proofs.Runs.{lt_yes, lt_no}

@@ -13,8 +13,8 @@ use Rattle.fancy_regex_meaning.proofs.EachLemmas.{Each-weaker, Each-append, Each
 use Rattle.fancy_regex_desugar.specs.CorePatterns.{CorePattern, nothing, read, general_newline, check, continue, keep_out, fail, cat, alt, group, ahead, never, back, atomic, delegate, tail, repeat, backref, exists, conditional, absent}
 use Rattle.fancy_regex_desugar.specs.CoreWays.{passes, core_ways}
 use Rattle.fancy_regex_desugar.specs.Shapes.{StepsBackOnlyFirst}
-use Rattle.fancy_regex_instructions.specs.Machine.{unset}
-use Rattle.fancy_regex_instructions.specs.Shapes.{IsWritable}
+use Rattle.fancy_regex_program.specs.Machine.{unset}
+use Rattle.fancy_regex_program.specs.Shapes.{IsWritable}
 use Rattle.fancy_regex_program_laws.proofs.Denote.{Tale, Follow, opens, closes, ending}
 use Rattle.fancy_regex_program_laws.proofs.Trail.{Open, Close, At, Trail, folded, states, trail, ending_trail}
 use Rattle.fancy_regex_program_laws.proofs.WaysOf.{first_kept, Onward, follows_onward, keep_due, keep_up_to, keep_loop, leads_onward, states_trail}

@@ -10,7 +10,7 @@ use Rattle.regex_hir.proofs.TextLemmas.{char_at_fits, char_at_parts}
 use Rattle.fancy_regex_meaning.specs.Positions.{numbers_from, boundaries, position_before}
 use Rattle.fancy_regex_class.proofs.AdjacentCharLemmas.{char_before_past}
 use Rattle.fancy_regex_meaning.proofs.NextBoundaryLemmas.{next_place, end_place}
-use Rattle.fancy_regex_instructions.specs.Machine.{match_char}
+use Rattle.fancy_regex_program.specs.Machine.{match_char}
 use Rattle.fancy_regex_program_laws.proofs.Runs.{boundary_is}
 
 -- What comes behind a place: nothing, or the next place, which is one character on, and the places behind that.

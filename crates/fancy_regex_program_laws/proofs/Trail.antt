@@ -8,7 +8,7 @@ use Rattle.fancy_regex_meaning.specs.Ways.{MatchState, Setting, with_position, s
 use Rattle.fancy_regex_desugar.specs.CorePatterns.{CorePattern, nothing, read, general_newline, check, continue, keep_out, fail, cat, alt, group, ahead, never, back, atomic, delegate, tail, repeat, backref, exists, conditional, absent}
 use Rattle.fancy_regex_desugar.specs.Delegates.{first_end, first_end_until}
 use Rattle.fancy_regex_desugar.specs.CoreWays.{passes}
-use Rattle.fancy_regex_instructions.specs.Machine.{unset, lower, match_char, match_newline, match_backref}
+use Rattle.fancy_regex_program.specs.Machine.{unset, lower, match_char, match_newline, match_backref}
 use Rattle.fancy_regex_program_laws.specs.ProgramLaws.{FoundMatch}
 use Rattle.fancy_regex_program_laws.proofs.Denote.{Known, Tale, Follow, Run, one_more, one_less, opens, closes, below, end_ends, end_seen, end_look, end_absent, end_to, end_within, end_pick, end_upto, end_loop, end_times, end_again, ending}
 

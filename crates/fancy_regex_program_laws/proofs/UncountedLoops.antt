@@ -3,11 +3,11 @@ use Rattle.std.proofs.Common.{◌≡◌, ℕ, zero, suc, ◌+◌, ◌-◌, ◌*�
 use Rattle.std.specs.Prelude.{slice_get, ◌==◌, nat_lt}
 use Rattle.fancy_regex_meaning.specs.Ways.{MatchState}
 use Rattle.fancy_regex_slots.specs.Memory.{Thread}
-use Rattle.fancy_regex_instructions.specs.Ops as op
-use Rattle.fancy_regex_instructions.specs.Ops.{Op}
-use Rattle.fancy_regex_instructions.specs.Code.{split_by, loop_entry, loop_head}
-use Rattle.fancy_regex_instructions.specs.Machine.{unset, RunParameters, goes, at_op, forks_by, act}
-use Rattle.fancy_regex_instructions.specs.SlotLayout.{slots_of_way}
+use Rattle.fancy_regex_program.specs.Ops as op
+use Rattle.fancy_regex_program.specs.Ops.{Op}
+use Rattle.fancy_regex_program.specs.Code.{split_by, loop_entry, loop_head}
+use Rattle.fancy_regex_program.specs.Machine.{unset, RunParameters, goes, at_op, forks_by, act}
+use Rattle.fancy_regex_program.specs.SlotLayout.{slots_of_way}
 use Rattle.fancy_regex_program_laws.proofs.Denote.{Tale, Follow, Run, opens, untold, end_pick, end_loop, end_times}
 use Rattle.fancy_regex_program_laws.proofs.Runs.{above_refl, above_trans, same_refl, thread, lt_yes, lt_is, eq_other, IsPlain, Sound, Comes, Pops, by_move, Exits, exits_later, comes_at, Does}
 use Rattle.fancy_regex_program_laws.proofs.ProgramParts.{HasAt, has_front, has_back, StartsPlain, plain_from, plain_at}

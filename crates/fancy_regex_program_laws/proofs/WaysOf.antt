@@ -15,9 +15,9 @@ use Rattle.fancy_regex_meaning.proofs.EachLemmas.{Each-weaker, Each-append, Each
 use Rattle.fancy_regex_desugar.specs.CorePatterns.{CorePattern, nothing, read, general_newline, check, continue, keep_out, fail, cat, alt, group, ahead, never, back, atomic, delegate, tail, repeat, backref, exists, conditional, absent}
 use Rattle.fancy_regex_desugar.specs.Delegates.{first_end, first_end_until}
 use Rattle.fancy_regex_desugar.specs.CoreWays.{passes, end_ways, core_ways, core_choices}
-use Rattle.fancy_regex_instructions.specs.Machine.{unset, match_char, match_newline, match_backref}
+use Rattle.fancy_regex_program.specs.Machine.{unset, match_char, match_newline, match_backref}
 use Rattle.fancy_regex_desugar.specs.Shapes.{StepsBackOnlyFirst}
-use Rattle.fancy_regex_instructions.specs.Shapes.{KeepsNothing, IsWritable}
+use Rattle.fancy_regex_program.specs.Shapes.{KeepsNothing, IsWritable}
 use Rattle.fancy_regex_program_laws.proofs.ReadingOperations.{newline_way}
 use Rattle.fancy_regex_program_laws.proofs.Trail.{Open, Close, At, Trail, Trails, spliced, states, opened, cut_first, trail_to, trail_within, trail_if, trail_pick, trail_upto, trail_loop, trail_times, trail_again, trail, states_append, opened_append}
 use Rattle.fancy_regex_program_laws.proofs.DelegatedWays.{ends_onward, ends_until_onward}

@@ -15,11 +15,11 @@ use Rattle.fancy_regex_meaning.proofs.BoundaryLemmas.{IsCharBoundary-of_test}
 use Rattle.fancy_regex_desugar.specs.CorePatterns.{CorePattern}
 use Rattle.fancy_regex_desugar.specs.Delegates.{tail_bound}
 use Rattle.fancy_regex_slots.specs.Memory.{Thread}
-use Rattle.fancy_regex_instructions.specs.Ops as op
-use Rattle.fancy_regex_instructions.specs.Ops.{Op}
-use Rattle.fancy_regex_instructions.specs.Machine.{unset, RunParameters, Ending, ended, initial_run_state, Move, goes, forks, fails, accepts, wrote, act, with_slot, starts_here, next_start, farther, is_start, is_scan, back, pop, exec, run, anchored_by, tried, first_thread}
-use Rattle.fancy_regex_instructions.specs.Code.{slots_in, opening, closing, program_of}
-use Rattle.fancy_regex_instructions.specs.SlotLayout.{slots_of_way, slots_of_match}
+use Rattle.fancy_regex_program.specs.Ops as op
+use Rattle.fancy_regex_program.specs.Ops.{Op}
+use Rattle.fancy_regex_program.specs.Machine.{unset, RunParameters, Ending, ended, initial_run_state, Move, goes, forks, fails, accepts, wrote, act, with_slot, starts_here, next_start, farther, is_start, is_scan, back, pop, exec, run, anchored_by, tried, first_thread}
+use Rattle.fancy_regex_program.specs.Code.{slots_in, opening, closing, program_of}
+use Rattle.fancy_regex_program.specs.SlotLayout.{slots_of_way, slots_of_match}
 use Rattle.fancy_regex_class.specs.RunInputs.{group_slots}
 use Rattle.fancy_regex_program_laws.specs.ProgramLaws.{FoundMatch, found_by_thread, entry_way, way_at, choices_up_to, first_group_number, RunRequirements, attempted_starts, Terminates, ProgramsAnswerSearches}
 use Rattle.fancy_regex_program_laws.proofs.Denote.{Tale, Follow, ending}

@@ -9,10 +9,10 @@ use Rattle.fancy_regex_desugar.specs.CorePatterns.{CorePattern}
 use Rattle.fancy_regex_desugar.specs.CoreWays.{core_ways, core_choices}
 use Rattle.fancy_regex_desugar.specs.Delegates.{tail_bound}
 use Rattle.fancy_regex_desugar.specs.Shapes.{StepsBackOnlyFirst}
-use Rattle.fancy_regex_instructions.specs.Machine.{unset, RunParameters, Ending, anchored_by, tried, run}
-use Rattle.fancy_regex_instructions.specs.Code.{slots_in, program_of}
-use Rattle.fancy_regex_instructions.specs.SlotLayout.{slots_of_match}
-use Rattle.fancy_regex_instructions.specs.Shapes.{IsWritable}
+use Rattle.fancy_regex_program.specs.Machine.{unset, RunParameters, Ending, anchored_by, tried, run}
+use Rattle.fancy_regex_program.specs.Code.{slots_in, program_of}
+use Rattle.fancy_regex_program.specs.SlotLayout.{slots_of_match}
+use Rattle.fancy_regex_program.specs.Shapes.{IsWritable}
 
 -- the state at a start position q: no group is set
 abbrev pub entry_way : ℕ → ℕ → MatchState

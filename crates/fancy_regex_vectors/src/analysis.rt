@@ -5,12 +5,12 @@ use crate::case::{Case, flags_of};
 use crate::layout::{append_layout, append_repeats};
 use crate::quoted::put_error;
 use fancy_regex::{Error, Expr, RuntimeError};
+use fancy_regex_analysis::analyze;
 use fancy_regex_class::{RunInput, Span};
+use fancy_regex_compiler::compile;
 use fancy_regex_info::{AnalyzeContext, CompileOptions, Info};
-use fancy_regex_instructions::Prog;
 use fancy_regex_machine::{RunOptions, run};
-use fancy_regex_program::compile;
-use fancy_regex_sizes::analyze;
+use fancy_regex_program::Prog;
 use std::alloc::{AllocError, Global};
 use std::fmt::Write;
 

@@ -1,6 +1,6 @@
 //! Programs as text.
 
-use fancy_regex_instructions::{Insn, Prog};
+use fancy_regex_program::{Insn, Prog};
 use std::alloc::AllocError;
 use std::fmt::Write;
 

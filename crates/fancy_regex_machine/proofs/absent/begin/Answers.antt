@@ -1,7 +1,7 @@
 use Rattle.std.proofs.Common.{◌≡◌, ◌+◌, ◌∷◌, ◌∙◌, sym, ap}
 use Rattle.std.specs.Prelude.{slice_set}
 use Rattle.fancy_regex_slots.specs.Memory.{Memory, Thread}
-use Rattle.fancy_regex_instructions.specs.Machine.{unset, RunState}
+use Rattle.fancy_regex_program.specs.Machine.{unset, RunState}
 use Rattle.fancy_regex_machine.specs.Steps.{thread_of}
 use Rattle.fancy_regex_machine.proofs.absent.begin.Goals as goal
 

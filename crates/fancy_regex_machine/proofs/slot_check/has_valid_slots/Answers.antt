@@ -1,7 +1,7 @@
 use Rattle.std.proofs.Common.{◌≡◌, ◌+◌, ◌∙◌, Some, length, nat_lt, slice_index, sym, ap}
-use Rattle.fancy_regex_instructions.specs.Machine.{act, backref_move}
-use Rattle.fancy_regex_instructions.specs.Ops.{op_of}
-use Rattle.fancy_regex_instructions.specs.declared.insn.Insn.{Insn}
+use Rattle.fancy_regex_program.specs.Machine.{act, backref_move}
+use Rattle.fancy_regex_program.specs.Ops.{op_of}
+use Rattle.fancy_regex_program.specs.declared.insn.Insn.{Insn}
 use Rattle.fancy_regex_machine.specs.RunConfigs.{run_parameters_of}
 use Rattle.fancy_regex_machine.specs.Haystacks.{setting_of_haystack}
 use Rattle.fancy_regex_machine.specs.Steps.{thread_of, is_not_stuck}

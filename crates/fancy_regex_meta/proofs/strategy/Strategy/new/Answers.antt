@@ -3,15 +3,15 @@ use Rattle.std.proofs.lemmas.Result.{MatchResult-from_err}
 use Rattle.fancy_regex_tree.specs.Tree.{Tree}
 use Rattle.fancy_regex_meaning.specs.Choices.{program_nodes}
 use Rattle.fancy_regex_meaning.specs.Groups.{pattern_of}
-use Rattle.fancy_regex_instructions.specs.Caps.{IsPastCap}
-use Rattle.fancy_regex_instructions.specs.Programs.{KeepsCap}
-use Rattle.fancy_regex_program.specs.Refusals.{IsClear, ReadsClasses}
-use Rattle.fancy_regex_sizes.specs.AnalysisErrors.{is_too_complex}
+use Rattle.fancy_regex_program.specs.Caps.{IsPastCap}
+use Rattle.fancy_regex_program.specs.Programs.{KeepsCap}
+use Rattle.fancy_regex_compiler.specs.Refusals.{IsClear, ReadsClasses}
+use Rattle.fancy_regex_analysis.specs.AnalysisErrors.{is_too_complex}
 use Rattle.fancy_regex_info.specs.Analysis.{analysis}
 use Rattle.fancy_regex_info.specs.Infos.{info_of}
 use Rattle.fancy_regex_info.specs.declared.options.CompileOptions.{CompileOptions}
-use Rattle.fancy_regex_sizes.proofs.PartErrorLemmas.{gives}
-use Rattle.fancy_regex_runner.specs.Refusals.{IsTaken, IsCause}
+use Rattle.fancy_regex_analysis.proofs.PartErrorLemmas.{gives}
+use Rattle.fancy_regex_linear.specs.Refusals.{IsTaken, IsCause}
 use Rattle.fancy_regex_meta.specs.Refusals.{compile_options_of, IsCompileRefusal}
 use Rattle.fancy_regex_meta.specs.EasyPatterns.{uses_easy}
 use Rattle.fancy_regex_meta.specs.SeekTables.{IsSeekTable}

@@ -1,0 +1,106 @@
+use Rattle.std.proofs.Common.{◌≡◌, false, length, map, ap, sym, subst, ◌∙◌, arith}
+use Rattle.fancy_regex_tree.specs.Tree.{Tree, tree_of}
+use Rattle.fancy_regex_meaning.specs.Sizes.{size_with}
+use Rattle.fancy_regex_analysis.specs.TerminationFixpoint.{never_ends}
+use Rattle.fancy_regex_info.specs.Infos.{info_of}
+use Rattle.fancy_regex_info.specs.AnalysisRelations.{AreCallSizes}
+use Rattle.fancy_regex_info.specs.Views.{size_at, body_tree}
+use Rattle.fancy_regex_analysis.specs.NodeErrors.{some_node, is_invalid_node}
+use Rattle.fancy_regex_analysis.specs.UnsupportedParts.{is_unsupported}
+use Rattle.fancy_regex_analysis.specs.EmittedParts.{some_emitted, IsWhole}
+use Rattle.fancy_regex_analysis.specs.declared.emitted.Inside.{Inside}
+use Rattle.fancy_regex_analysis.proofs.AnalysisErrorLemmas.{Told, node_told, root_told, start_told, part_told, none_passed, no_stopped_part}
+use Rattle.fancy_regex_analysis.proofs.PartErrorLemmas.{gives}
+use Rattle.fancy_regex_info.proofs.AnalyzeTreeLemmas.{length_trees}
+use Rattle.fancy_regex_analysis.proofs.analysis.analyze.Goals as goal
+
+pub returns-in_err-check_nodes-clause-refused : goal.returns-in_err-check_nodes-clause-refused
+returns-in_err-check_nodes-clause-refused c =
+    let e = c.in_err-check_nodes.field-0.0 in
+    let t = tree_of c.args.tree.now.expr in
+    let mark = c.args.tree.now.named_backref_only in
+    let gs = c.in_ok-groups.groups in
+    gives c.from_residual-in_err-check_nodes.result e (Told c.args.context mark t) c.from_residual-in_err-check_nodes.ensures.1
+    (node_told c.args.context mark t c.len.result e
+    (omega (arith, c.len.ensures, gs.ok.0, length_trees gs.items, ap length c.in_ok-groups.ensures)) c.in_err-check_nodes.ensures.refused)
+
+pub returns-in_err-check_root-clause-refused : goal.returns-in_err-check_root-clause-refused
+returns-in_err-check_root-clause-refused c =
+    let e = c.in_err-check_root.field-0.0 in
+    let t = tree_of c.args.tree.now.expr in
+    let mark = c.args.tree.now.named_backref_only in
+    gives c.from_residual-in_err-check_root.result e (Told c.args.context mark t) c.from_residual-in_err-check_root.ensures.1
+    (root_told c.args.context mark t (info_of c.in_ok-info.info) e c.in_ok-info.ensures c.in_err-check_root.ensures.refused)
+
+pub returns-in_err-check_left_recursion-clause-refused : goal.returns-in_err-check_left_recursion-clause-refused
+returns-in_err-check_left_recursion-clause-refused c =
+    let e = c.in_err-check_left_recursion.field-0.0 in
+    let t = tree_of c.args.tree.now.expr in
+    let mark = c.args.tree.now.named_backref_only in
+    let gs = c.deref-5.result.now in
+    let sizes = c.deref-6.result.now in
+    let known : AreCallSizes (map body_tree gs) sizes =
+    subst (λ g. AreCallSizes (map body_tree g) sizes) (c.deref-2.ensures.value ∙ sym c.deref-5.ensures.value)
+    (subst (λ s. AreCallSizes (map body_tree c.deref-2.result.now) s) (sym c.deref-6.ensures.value) c.in_ok-sizes.ensures) in
+    gives c.from_residual-in_err-check_left_recursion.result e (Told c.args.context mark t) c.from_residual-in_err-check_left_recursion.ensures.1
+    (start_told c.args.context mark t (map body_tree gs) sizes e (ap (map body_tree) c.deref-5.ensures.value ∙ c.in_ok-groups.ensures) known
+    c.in_err-check_left_recursion.ensures.refused)
+
+pub returns-in_err-check_emitted_parts-clause-refused : goal.returns-in_err-check_emitted_parts-clause-refused
+returns-in_err-check_emitted_parts-clause-refused c =
+    let e = c.in_err-check_emitted_parts.field-0.0 in
+    let t = tree_of c.args.tree.now.expr in
+    let mark = c.args.tree.now.named_backref_only in
+    let gs = c.deref-7.result.now in
+    let sizes = c.deref-8.result.now in
+    let known : AreCallSizes (map body_tree gs) sizes =
+    subst (λ g. AreCallSizes (map body_tree g) sizes) (c.deref-2.ensures.value ∙ sym c.deref-7.ensures.value)
+    (subst (λ s. AreCallSizes (map body_tree c.deref-2.result.now) s) (sym c.deref-8.ensures.value) c.in_ok-sizes.ensures) in
+    gives c.from_residual-in_err-check_emitted_parts.result e (Told c.args.context mark t) c.from_residual-in_err-check_emitted_parts.ensures.1
+    (part_told c.args.context mark t (map body_tree gs) sizes e (ap (map body_tree) c.deref-7.ensures.value ∙ c.in_ok-groups.ensures) known
+    c.in_err-check_emitted_parts.ensures.refused)
+
+pub returns-clause-complete : goal.returns-clause-complete
+returns-clause-complete c =
+    let t = tree_of c.args.tree.now.expr in
+    let mark = c.args.tree.now.named_backref_only in
+    let own = c.in_ok-groups.groups in
+    let gs = c.deref-5.result.now in
+    let sizes = c.deref-6.result.now in
+    let known : AreCallSizes (map body_tree gs) sizes =
+    subst (λ g. AreCallSizes (map body_tree g) sizes) (c.deref-2.ensures.value ∙ sym c.deref-5.ensures.value)
+    (subst (λ s. AreCallSizes (map body_tree c.deref-2.result.now) s) (sym c.deref-6.ensures.value) c.in_ok-sizes.ensures) in
+    none_passed c.args.context mark t (map body_tree gs) sizes (info_of c.in_ok-info.info) c.len.result
+    (ap (map body_tree) c.deref-5.ensures.value ∙ c.in_ok-groups.ensures) known c.in_ok-info.ensures
+    (omega (arith, c.len.ensures, own.ok.0, length_trees own.items, ap length c.in_ok-groups.ensures))
+    c.if-tree.false c.in_ok-check_nodes.ensures.complete
+    (ap (λ g. never_ends (map body_tree g) t) (c.deref-5.ensures.value ∙ sym c.deref.ensures.value) ∙ c.in_ok-check_termination.ensures.complete)
+    c.in_ok-check_root.ensures.complete
+    (λ k lt. c.in_ok-check_left_recursion.ensures.complete k (omega (arith, lt, length_trees gs)))
+    (subst (λ g. (i : Inside) (u : Tree) → IsWhole (map body_tree g) t i u → some_emitted (is_unsupported (size_with (size_at sizes))) i u ≡ false)
+    (c.deref-7.ensures.value ∙ sym c.deref-5.ensures.value)
+    (subst (λ s. (i : Inside) (u : Tree) → IsWhole (map body_tree c.deref-7.result.now) t i u → some_emitted (is_unsupported (size_with (size_at s))) i u ≡ false)
+    (c.deref-8.ensures.value ∙ sym c.deref-6.ensures.value) c.in_ok-check_emitted_parts.ensures.complete))
+
+pub returns-clause-nodes : goal.returns-clause-nodes
+returns-clause-nodes c =
+    let t = tree_of c.args.tree.now.expr in
+    let own = c.in_ok-groups.groups in
+    subst (λ n. some_node (is_invalid_node n) t ≡ false)
+    (omega (arith, c.len.ensures, own.ok.0, length_trees own.items, ap length c.in_ok-groups.ensures))
+    c.in_ok-check_nodes.ensures.complete
+
+pub returns-clause-parts : goal.returns-clause-parts
+returns-clause-parts c =
+    let t = tree_of c.args.tree.now.expr in
+    let gs = c.deref-5.result.now in
+    let sizes = c.deref-6.result.now in
+    let known : AreCallSizes (map body_tree gs) sizes =
+    subst (λ g. AreCallSizes (map body_tree g) sizes) (c.deref-2.ensures.value ∙ sym c.deref-5.ensures.value)
+    (subst (λ s. AreCallSizes (map body_tree c.deref-2.result.now) s) (sym c.deref-6.ensures.value) c.in_ok-sizes.ensures) in
+    no_stopped_part c.args.context c.args.tree.now.named_backref_only t (map body_tree gs) sizes
+    (ap (map body_tree) c.deref-5.ensures.value ∙ c.in_ok-groups.ensures) known
+    (subst (λ g. (i : Inside) (u : Tree) → IsWhole (map body_tree g) t i u → some_emitted (is_unsupported (size_with (size_at sizes))) i u ≡ false)
+    (c.deref-7.ensures.value ∙ sym c.deref-5.ensures.value)
+    (subst (λ s. (i : Inside) (u : Tree) → IsWhole (map body_tree c.deref-7.result.now) t i u → some_emitted (is_unsupported (size_with (size_at s))) i u ≡ false)
+    (c.deref-8.ensures.value ∙ sym c.deref-6.ensures.value) c.in_ok-check_emitted_parts.ensures.complete))

@@ -1,0 +1,61 @@
+-- The program of a whole pattern, and that of a tree.
+use Rattle.std.proofs.Common.{◌≡◌, ℕ, ◌+◌, ◌*◌, Bool, true, not, List, [], ◌++◌, length, map, refl, sym, ap, ap₂, subst, ◌∙◌, append_assoc}
+use Rattle.fancy_regex_tree.specs.Tree.{Tree}
+use Rattle.fancy_regex_class.specs.Classes.{in_class, folded}
+use Rattle.fancy_regex_desugar.specs.CorePatterns.{CorePattern}
+use Rattle.fancy_regex_desugar.specs.Unfolded.{core_pattern_of}
+use Rattle.fancy_regex_info.specs.Analysis.{analysis}
+use Rattle.fancy_regex_info.specs.Infos.{InfoTree}
+use Rattle.fancy_regex_program.specs.Ops.{Op}
+use Rattle.fancy_regex_program.specs.Code.{flushed, waits, code_of, opening, closing, program_of}
+use Rattle.fancy_regex_info.specs.Views.{pattern_in}
+use Rattle.fancy_regex_compiler.specs.Known.{info_whole, info_call, most_calls_in, groups_in, pat_with, pat_in}
+use Rattle.fancy_regex_program.specs.Programs.{IsWhole, IsMadeFrom}
+use Rattle.fancy_regex_program.specs.Shapes.{IsAllowed}
+use Rattle.fancy_regex_compiler.specs.Writing.{Draft, closed_draft, with_pat}
+use Rattle.fancy_regex_program.specs.declared.prog.Prog.{Prog}
+use Rattle.fancy_regex_compiler.proofs.KnownLemmas.{pat_is}
+use Rattle.fancy_regex_compiler.proofs.WritableLemmas.{can_be_written}
+
+flat : (o c f e : List Op) → ((o ++ c) ++ f) ++ e ≡ o ++ ((c ++ f) ++ e)
+flat o c f e = simp append_assoc
+
+-- what stands once the body is closed and the end is written
+pub program_is : (u w anchored : Bool) (p : CorePattern) (groups slot : ℕ) (d1 d2 : Draft) (ops : List Op) → slot ≡ 2 * groups →
+    d1 ≡ record { ops = opening (in_class u) (folded u) w anchored; text = [] } → d2 ≡ with_pat u w p slot d1 →
+    ops ≡ (closed_draft d2).ops ++ closing (in_class u) (folded u) w → ops ≡ program_of (in_class u) (folded u) w anchored groups p
+unfolding closed_draft with_pat program_of
+program_is u w anchored p groups slot d1 d2 ops es e1 e2 e3 =
+    let o = opening (in_class u) (folded u) w anchored in
+    let begun : Draft = record { ops = o; text = [] } in
+    let c = code_of (in_class u) (folded u) w p [] (length o) (2 * groups) in
+    let e = closing (in_class u) (folded u) w in
+    e3 ∙ ap (λ d. (closed_draft d).ops ++ e) (e2 ∙ ap₂ (λ s d. with_pat u w p s d) es e1) ∙ flat o c (flushed (waits p [])) e
+
+-- the pattern of the body, where no call is open
+pub body_is : (groups : List InfoTree) (x : InfoTree) (calls : ℕ) (opened : List ℕ) → calls ≡ most_calls_in groups → opened ≡ [] →
+    info_whole (info_call groups calls opened) x ≡ pat_with groups x
+body_is groups x calls opened ec eo = ap₂ (λ m o. info_whole (info_call groups m o) x) ec eo
+
+in_is_with : (whole : Bool) (x : InfoTree) → pat_in whole x ≡ pat_with (groups_in whole x) x
+unfolding pat_in
+in_is_with whole x = refl
+
+-- the pattern of the tree, by the groups that were gathered
+pub pat_gathered : (groups : List InfoTree) (x : InfoTree) (whole explicit : Bool) (t : Tree) → groups ≡ groups_in whole x → whole ≡ not explicit →
+    x ≡ analysis explicit t → pat_with groups x ≡ core_pattern_of (pattern_in explicit t)
+pat_gathered groups x whole explicit t eg ew ex =
+    ap (λ gs. pat_with gs x) eg ∙ sym (in_is_with whole x) ∙ ap₂ pat_in ew ex ∙ pat_is explicit t
+
+-- what is written of the tree's pattern is the tree's program
+pub made_from : (prog : Prog) (anchored explicit : Bool) (t : Tree) (p : CorePattern) →
+    prog.anchored ≡ anchored → IsWhole prog.unicode prog.whole anchored prog.groups p prog.body.items prog.slots →
+    p ≡ core_pattern_of (pattern_in explicit t) →
+    prog.groups ≡ length (pattern_in explicit t).groups → prog.whole ≡ not explicit → IsAllowed prog.unicode true p → IsMadeFrom prog anchored explicit t
+made_from prog anchored explicit t p anchored_is wrote is groups whole allowed =
+    let all = subst (λ q. IsWhole prog.unicode prog.whole anchored prog.groups q prog.body.items prog.slots) is wrote in
+    record {
+      program = record { anchored_is = anchored_is; body = all.ops; slots = all.slots_are; groups = groups };
+      whole = whole;
+      written = can_be_written prog.unicode explicit t (subst (IsAllowed prog.unicode true) is allowed);
+    }

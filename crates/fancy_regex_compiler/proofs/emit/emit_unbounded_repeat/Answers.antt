@@ -1,0 +1,24 @@
+use Rattle.std.proofs.Common.{false, None, refl, arith}
+use Rattle.fancy_regex_desugar.specs.CorePatterns.{repeat}
+use Rattle.fancy_regex_info.specs.Infos.{info_of}
+use Rattle.fancy_regex_compiler.specs.Refusals.{IsExpandedPart}
+use Rattle.fancy_regex_compiler.specs.Tasks.{node_pattern}
+use Rattle.fancy_regex_compiler.specs.Writing.{draft_of}
+use Rattle.fancy_regex_compiler.proofs.EmitLemmas.{drew_loop}
+use Rattle.fancy_regex_compiler.proofs.RoomLemmas.{late, room_repeat}
+use Rattle.fancy_regex_compiler.proofs.StepLemmas.{leads_around}
+use Rattle.fancy_regex_compiler.proofs.emit.emit_unbounded_repeat.Goals as goal
+
+pub returns-clause-leads : goal.returns-clause-leads
+returns-clause-leads c context =
+    let a = node_pattern context c.args.child.now false c.args.scope c.args.emitter.now.opened.items in
+    leads_around context c.args.emitter.now (record { body = c.begin_loop.new.body; classes = c.args.emitter.now.classes; opened = c.args.emitter.now.opened; parts = c.args.emitter.now.parts }) c.args.slot c.args.scope.may_keep (repeat a c.args.lo None c.args.greedy)
+    (λ tree_context. IsExpandedPart tree_context c.args.scope.may_keep c.args.scope.may_be_absent false (info_of c.args.child.now)) c.around.result c.in_ok-inside.inside _ _ _ _ c.around.ensures.tasks c.around.ensures.slot
+    (drew_loop context.unicode context.whole a c.args.lo c.args.greedy c.args.slot c.in_ok-inside.inside c.in_ok-check.check c.in_ok-head.head _ (draft_of c.args.emitter.now.body) _ (draft_of c.begin_loop.new.body) _ _ _ c.in_ok-check.ensures.value c.in_ok-inside.ensures.value refl c.in_ok-head.ensures.head c.in_ok-head.ensures.draft refl refl refl refl)
+    (omega (arith, c.in_ok-inside.ensures.value)) refl (λ h. (c.requires, h)) (omega (arith, c.in_ok-head.ensures.long, room_repeat a c.args.lo None c.args.greedy)) (λ tree_context s h. h)
+
+pub returns-in_err-head-clause-full : goal.returns-in_err-head-clause-full
+returns-in_err-head-clause-full c = late c.from_residual-in_err-head.result c.in_err-head.field-0.0 _ _ c.from_residual-in_err-head.ensures.1 c.in_err-head.ensures.full (λ lt. lt)
+
+pub returns-clause-work : goal.returns-clause-work
+returns-clause-work c groups = c.around.ensures.work groups

@@ -1,0 +1,7 @@
+pub mod Known
+pub mod Writing
+pub mod Groups
+pub mod Extents
+pub mod Refusals
+pub mod Tasks
+pub mod Tails

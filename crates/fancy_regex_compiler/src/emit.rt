@@ -1,0 +1,1077 @@
+//! Instructions of the nodes of an analyzed tree. What is left to emit stands on a stack of tasks, so nothing recurses. Each
+//! function takes the first free slot and returns the next one; the errors are those of `compile`.
+
+ghost use Rattle.std.specs.Prelude.{◌≡◌, Bool, ◌≤◌, ◌<◌, ◌+◌, ℕ, List, [], ◌∷◌, ◌++◌, length, false, true, slice_get, IfOk, IfErr, OnOk, Some, None};
+ghost use Rattle.fancy_regex_meaning.specs.Ways.{is_at_call_limit as is_full_of};
+ghost use Rattle.fancy_regex_desugar.specs.CorePatterns as pat;
+ghost use Rattle.fancy_regex_desugar.specs.ProgramSizes.{room};
+ghost use Rattle.fancy_regex_desugar.specs.Unfolded.{repeated, look};
+ghost use Rattle.fancy_regex_tree.specs.Tree.{tree_of};
+ghost use Rattle.fancy_regex_analysis.specs.AnalysisErrors.{is_too_complex};
+ghost use Rattle.fancy_regex_info.specs.Infos.{InfoTree, info_of};
+ghost use Rattle.fancy_regex_info.specs.declared.info.Info.TheViews.{out-Info};
+ghost use Rattle.fancy_regex_compiler.specs.Extents.{IsFull, extent};
+ghost use Rattle.fancy_regex_compiler.specs.Known.{info_call};
+ghost use Rattle.fancy_regex_program.specs.Machine.{unset};
+ghost use Rattle.fancy_regex_program.specs.Ops as op;
+ghost use Rattle.fancy_regex_program.specs.Ops.{end_atomic, op_of};
+ghost use Rattle.fancy_regex_compiler.specs.Refusals.{IsMemoryOrTooComplex, IsReasonWhere, IsExpandedPart, AreExpandedParts, IsExpandedBody, IsExpandedRepeat, IsExpandedAbsent};
+ghost use Rattle.fancy_regex_compiler.specs.Refusals.{IsExpandedConditional, IsExpandedTarget, looks_behind};
+ghost use Rattle.fancy_regex_program.specs.Shapes.{IsAllowed};
+ghost use Rattle.fancy_regex_compiler.specs.Tasks.{listed, node_pattern, body_pattern, row_pattern, whole_pattern, tail_pattern, branches_pattern, past_pattern, past_others, progress, task_room, IsExpandedTask};
+ghost use Rattle.fancy_regex_compiler.specs.Tasks.{Leads, LeadsTo, LeadsOn, call_work, info_work, infos_work, task_work, tasks_work};
+ghost use Rattle.fancy_regex_compiler.specs.Writing.{Wrote, added, draft_of, with_op, closed_draft, infos_of, part};
+ghost use Rattle.fancy_regex_compiler.specs.declared.emitter.CompileContext.{CompileContext as TheContext};
+ghost use Rattle.fancy_regex_compiler.specs.declared.emitter.Emitter.{Emitter as TheEmitter};
+ghost use Rattle.fancy_regex_program.specs.declared.insn.Insn.TheVariants as the_insn;
+ghost use Rattle.fancy_regex_compiler.specs.declared.task.Task.TheVariants as the_task;
+
+use crate::closing::{Closing, absent_step, close};
+use crate::emitter::{CompileContext, Emitter, Scope, first_slot, past_slots};
+use crate::leaf::{emit_leaf, not_supported};
+use crate::program_builder::ProgramBuilder;
+use crate::tail::tail_from;
+use crate::task::{Step, Task, Tasks};
+use fancy_regex_info::{CompileError, Info};
+use fancy_regex_program::{AbsentRepeater, Delegate, Insn};
+use fancy_regex_tree::{Absent, Expr, LookAround};
+use std::alloc::{AllocError, Global};
+use std::slice;
+use std::sync::Arc;
+
+/// How often one group may be inlined inside of itself.
+pub(crate) const OPEN_CALLS_OF_ONE: usize = 19;
+
+/// Emits a whole pattern; `slot` is the first free slot. Returns the first free slot after it.
+pub(crate) fn emit<'i, 'e>(
+    context: &CompileContext<'_, 'i, 'e>,
+    emitter: &mut Emitter,
+    info: &'i Info<'e>,
+    scope: Scope,
+    slot: usize,
+) -> Result<usize, CompileError>
+    ensures cap { emitter.new.body.cap ≡ emitter.old.body.cap }
+    ensures full { IfErr result (IsFull emitter.old.body (room (whole_pattern context.now info.now scope emitter.old.opened.items))) }
+    ensures wrote { IfOk result (λ after. Wrote context.now.unicode context.now.whole emitter.old emitter.new slot after
+        (whole_pattern context.now info.now scope emitter.old.opened.items)) }
+    ensures allowed { IfOk result (λ after. IsAllowed context.now.unicode scope.may_keep
+        (whole_pattern context.now info.now scope emitter.old.opened.items)) }
+    ensures refused { IfErr result (IsReasonWhere context.now.unicode (infos_of context.now)
+        (λ tree_context. IsExpandedPart tree_context scope.may_keep scope.may_be_absent false (info_of info.now))) }
+{
+    let mut tasks = Vec::new(context.alloc);
+    tasks.push(Task::Whole { info, scope })?;
+    let mut next = slot;
+    while let Some(task) = tasks.pop() {
+        let step = emit_task(context, emitter, task, next)?;
+        add_tasks(&mut tasks, step.tasks)?;
+        next = step.slot;
+    }
+    Ok(next)
+}
+
+/// The task of a node that does not go back first.
+fn node<'i, 'e>(info: &'i Info<'e>, scope: Scope) -> Task<'i, 'e>
+    ensures { result ≡ the_task.Node info.entry false scope }
+{
+    Task::Node {
+        info,
+        behind: false,
+        scope,
+    }
+}
+
+/// Adds tasks to those that are left. The error is want of memory.
+fn add_tasks<'i, 'e>(left: &mut Vec<Task<'i, 'e>>, tasks: Tasks<'i, 'e>) -> Result<(), AllocError>
+    ensures { IfOk result (λ _. left.new.items ≡ left.old.items ++ listed tasks.entry) }
+{
+    match tasks {
+        Tasks::Nothing => {}
+        Tasks::One(task) => left.push(task)?,
+        Tasks::Two { first, then } => {
+            left.push(then)?;
+            left.push(first)?;
+        }
+    }
+    Ok(())
+}
+
+/// A step that leads to these tasks, and needs no slot.
+fn leads_to<'i, 'e>(slot: usize, tasks: Tasks<'i, 'e>) -> Step<'i, 'e>
+    ensures { result ≡ record { slot = slot; tasks = tasks.entry } }
+{
+    Step { slot, tasks }
+}
+
+/// Emits what a task has of its own.
+fn emit_task<'i, 'e>(
+    context: &CompileContext<'_, 'i, 'e>,
+    emitter: &mut Emitter,
+    task: Task<'i, 'e>,
+    slot: usize,
+) -> Result<Step<'i, 'e>, CompileError>
+    ensures cap { emitter.new.body.cap ≡ emitter.old.body.cap }
+    ensures full { IfErr result (IsFull emitter.old.body (task_room context.now task.entry emitter.old.opened.items)) }
+    ensures leads { IfOk result (LeadsOn context.now task.entry emitter.old emitter.new slot) }
+    ensures refused { IfErr result (IsReasonWhere context.now.unicode (infos_of context.now)
+        (λ tree_context. IsExpandedTask tree_context task.entry)) }
+    ensures work { IfOk result (λ step. tasks_work (infos_of context.now) (listed step.tasks) < task_work (infos_of context.now) task.entry) }
+{
+    match task {
+        Task::Node {
+            info,
+            behind,
+            scope,
+        } => emit_ahead_or_behind(context, emitter, info, behind, scope, slot),
+        Task::Body {
+            body,
+            for_any,
+            info,
+            scope,
+        } => emit_body(context, emitter, body, for_any, info, scope, slot),
+        Task::Whole { info, scope } => {
+            let tasks = whole(context.alloc, info, scope)?;
+            Ok(leads_to(slot, tasks))
+        }
+        Task::Tail { parts, scope } => emit_tail(context, emitter, parts, scope, slot),
+        Task::Row { parts, scope } => Ok(leads_to(slot, row(parts, scope))),
+        Task::Branches {
+            branches,
+            behind,
+            scope,
+        } => emit_branches(emitter, branches, behind, scope, slot),
+        Task::Otherwise {
+            split,
+            first,
+            branches,
+            behind,
+            scope,
+        } => emit_otherwise(emitter, (split, first), branches, behind, scope, slot),
+        Task::Tested {
+            slot: kept,
+            split,
+            first,
+            yes,
+            no,
+            scope,
+        } => emit_tested(emitter, kept, (split, first), (yes, no), scope, slot),
+        Task::Close(closing) => {
+            close(&mut emitter.body, closing)?;
+            Ok(leads_to(slot, Tasks::Nothing))
+        }
+        Task::EndCall => {
+            emitter.opened.pop();
+            Ok(leads_to(slot, Tasks::Nothing))
+        }
+    }
+}
+
+/// The parts of a whole pattern: those of a concatenation before its tail, and that tail; or its root. The error is want of memory.
+fn whole<'i, 'e>(
+    alloc: Global,
+    info: &'i Info<'e>,
+    scope: Scope,
+) -> Result<Tasks<'i, 'e>, AllocError>
+    ensures leads { IfOk result (λ tasks. (context : TheContext) (e : TheEmitter) (slot : ℕ) → Leads context e e slot slot (listed tasks)
+        (past_pattern context (whole_pattern context info.now scope e.opened.items) (progress e slot))
+        (IsAllowed context.unicode scope.may_keep (whole_pattern context info.now scope e.opened.items)) (room (whole_pattern context info.now scope e.opened.items))
+        (λ tree_context. IsExpandedPart tree_context scope.may_keep scope.may_be_absent false (info_of info.now))) }
+    ensures work { IfOk result (λ tasks. (groups : List InfoTree) → tasks_work groups (listed tasks) < 10 + info_work groups scope info.now) }
+{
+    match info.expr {
+        Expr::Concat(_) => {
+            let begin = tail_from(alloc, &info.children)?;
+            let (parts, last) = info.children.split_at(begin);
+            Ok(Tasks::Two {
+                first: Task::Row { parts, scope },
+                then: Task::Tail { parts: last, scope },
+            })
+        }
+        _ => Ok(Tasks::One(node(info, scope))),
+    }
+}
+
+/// Emits the tail of a whole pattern, behind one instruction if it is delegated.
+fn emit_tail<'i, 'e>(
+    context: &CompileContext<'_, 'i, 'e>,
+    emitter: &mut Emitter,
+    parts: &'i [Info<'e>],
+    scope: Scope,
+    slot: usize,
+) -> Result<Step<'i, 'e>, CompileError>
+    ensures cap { emitter.new.body.cap ≡ emitter.old.body.cap }
+    ensures full { IfErr result (IsFull emitter.old.body (room (tail_pattern context.now parts.now scope emitter.old.opened.items))) }
+    ensures leads { IfOk result (LeadsTo context.now
+        (tail_pattern context.now parts.now scope emitter.old.opened.items) scope.may_keep
+        (λ tree_context. AreExpandedParts tree_context scope.may_keep scope.may_be_absent false parts.now) emitter.old emitter.new slot) }
+    ensures refused { IfErr result (IsReasonWhere context.now.unicode (infos_of context.now)
+        (λ tree_context. AreExpandedParts tree_context scope.may_keep scope.may_be_absent false parts.now)) }
+    ensures work { IfOk result (λ step. (groups : List InfoTree) → tasks_work groups (listed step.tasks) ≤ 1 + infos_work groups scope parts.now) }
+{
+    let row = Task::Row { parts, scope };
+    match emitter
+        .parts
+        .delegate_row(context.alloc, parts, context.unicode)?
+    {
+        Some(part) => {
+            let begin = begin_tail(&mut emitter.body, part)?;
+            Ok(leads_to(
+                slot,
+                Tasks::Two {
+                    first: row,
+                    then: Task::Close(Closing::Tail { begin }),
+                },
+            ))
+        }
+        None => Ok(leads_to(slot, Tasks::One(row))),
+    }
+}
+
+/// Appends the instruction that begins a delegated tail, whose end is set later. Returns its index.
+fn begin_tail(body: &mut ProgramBuilder, part: Arc<Delegate>) -> Result<usize, CompileError>
+    ensures begin { IfOk result (λ begin. begin ≡ length (closed_draft (draft_of body.old)).ops) }
+    ensures draft { OnOk result (draft_of body.new ≡ with_op (op_of (the_insn.DelegateTail part 0)) (closed_draft (draft_of body.old))) }
+    ensures cap { body.new.cap ≡ body.old.cap }
+    ensures long { OnOk result (extent (draft_of body.new) ≡ extent (draft_of body.old) + 1) }
+    ensures full { IfErr result (IsFull body.old 1) }
+    ensures refused { IfErr result IsMemoryOrTooComplex }
+{
+    body.flush()?;
+    let begin = body.len();
+    body.push_insn(Insn::DelegateTail { part, end: 0 })?;
+    Ok(begin)
+}
+
+/// The first part of a concatenation, and the others.
+fn row<'i, 'e>(parts: &'i [Info<'e>], scope: Scope) -> Tasks<'i, 'e>
+    ensures leads { (context : TheContext) (e : TheEmitter) (slot : ℕ) → Leads context e e slot slot (listed result)
+        (past_pattern context (row_pattern context parts.now scope e.opened.items) (progress e slot))
+        (IsAllowed context.unicode scope.may_keep (row_pattern context parts.now scope e.opened.items)) (room (row_pattern context parts.now scope e.opened.items))
+        (λ tree_context. AreExpandedParts tree_context scope.may_keep scope.may_be_absent false parts.now) }
+    ensures work { (groups : List InfoTree) → tasks_work groups (listed result) < infos_work groups scope parts.now }
+{
+    match parts.split_first() {
+        Some((info, parts)) => Tasks::Two {
+            first: node(info, scope),
+            then: Task::Row { parts, scope },
+        },
+        None => Tasks::Nothing,
+    }
+}
+
+/// Begins an alternation.
+fn emit_branches<'i, 'e>(
+    emitter: &mut Emitter,
+    branches: &'i [Info<'e>],
+    behind: bool,
+    scope: Scope,
+    slot: usize,
+) -> Result<Step<'i, 'e>, CompileError>
+    ensures cap { emitter.new.body.cap ≡ emitter.old.body.cap }
+    ensures full { IfErr result (λ e. (context : TheContext) → IsFull emitter.old.body (room (branches_pattern context branches.now behind scope emitter.old.opened.items)) e) }
+    ensures leads { IfOk result (λ step. (context : TheContext) → LeadsTo context
+        (branches_pattern context branches.now behind scope emitter.old.opened.items) scope.may_keep
+        (λ tree_context. AreExpandedParts tree_context scope.may_keep scope.may_be_absent behind branches.now) emitter.old emitter.new slot step) }
+    ensures refused { IfErr result IsMemoryOrTooComplex }
+    ensures work { IfOk result (λ step. (groups : List InfoTree) → tasks_work groups (listed step.tasks) < infos_work groups scope branches.now) }
+{
+    let Some((info, others)) = branches.split_first() else {
+        emitter.body.flush_and_push(Insn::Fail)?;
+        return Ok(leads_to(slot, Tasks::Nothing));
+    };
+    let branch = Task::Node {
+        info,
+        behind,
+        scope,
+    };
+    if others.is_empty() {
+        return Ok(leads_to(slot, Tasks::One(branch)));
+    }
+    let begins = begin_choice(&mut emitter.body)?;
+    let (split, first) = begins;
+    let otherwise = Task::Otherwise {
+        split,
+        first,
+        branches: others,
+        behind,
+        scope,
+    };
+    Ok(leads_to(
+        slot,
+        Tasks::Two {
+            first: branch,
+            then: otherwise,
+        },
+    ))
+}
+
+/// Appends a choice whose targets are set later. Returns its index, and that of the instruction behind it.
+fn begin_choice(body: &mut ProgramBuilder) -> Result<(usize, usize), CompileError>
+    ensures split { IfOk result (λ begins. begins.0 ≡ length (closed_draft (draft_of body.old)).ops) }
+    ensures first { IfOk result (λ begins. begins.1 ≡ length (draft_of body.new).ops) }
+    ensures draft { OnOk result (draft_of body.new ≡ with_op (op.split 0 0) (closed_draft (draft_of body.old))) }
+    ensures cap { body.new.cap ≡ body.old.cap }
+    ensures long { OnOk result (extent (draft_of body.new) ≡ extent (draft_of body.old) + 1) }
+    ensures full { IfErr result (IsFull body.old 1) }
+    ensures refused { IfErr result IsMemoryOrTooComplex }
+{
+    body.flush()?;
+    let split = body.len();
+    body.push_insn(Insn::Split(0, 0))?;
+    Ok((split, body.len()))
+}
+
+/// Begins an atomic group that keeps its height in this slot, and appends a choice whose targets are set later. Returns the index of
+/// the choice, and that of the instruction behind it.
+fn begin_atomic_choice(
+    body: &mut ProgramBuilder,
+    slot: usize,
+) -> Result<(usize, usize), CompileError>
+    ensures split { IfOk result (λ begins. begins.0 ≡ length (added (op.begin_atomic slot) (draft_of body.old)).ops) }
+    ensures first { IfOk result (λ begins. begins.1 ≡ length (draft_of body.new).ops) }
+    ensures draft { OnOk result (draft_of body.new ≡ with_op (op.split 0 0) (added (op.begin_atomic slot) (draft_of body.old))) }
+    ensures cap { body.new.cap ≡ body.old.cap }
+    ensures long { OnOk result (extent (draft_of body.new) ≡ extent (draft_of body.old) + 2) }
+    ensures full { IfErr result (IsFull body.old 2) }
+    ensures refused { IfErr result IsMemoryOrTooComplex }
+{
+    body.flush_and_push(Insn::BeginAtomic(slot))?;
+    let split = body.len();
+    body.push_insn(Insn::Split(0, 0))?;
+    Ok((split, body.len()))
+}
+
+/// Appends this instruction, and one behind it that is replaced later, where each iteration of a loop begins. Returns the index of
+/// the latter.
+fn begin_loop(body: &mut ProgramBuilder, begin: Insn) -> Result<usize, CompileError>
+    ensures head { IfOk result (λ head. head ≡ length (added (op_of begin) (draft_of body.old)).ops) }
+    ensures draft { OnOk result (draft_of body.new ≡ with_op op.fail (added (op_of begin) (draft_of body.old))) }
+    ensures cap { body.new.cap ≡ body.old.cap }
+    ensures long { OnOk result (extent (draft_of body.new) ≡ extent (draft_of body.old) + 2) }
+    ensures full { IfErr result (IsFull body.old 2) }
+    ensures refused { IfErr result IsMemoryOrTooComplex }
+{
+    body.flush_and_push(begin)?;
+    let head = body.len();
+    body.push_insn(Insn::Fail)?;
+    Ok(head)
+}
+
+/// Ends a branch by a jump over the others, which is patched later, and goes on with those.
+fn emit_otherwise<'i, 'e>(
+    emitter: &mut Emitter,
+    begins: (usize, usize),
+    branches: &'i [Info<'e>],
+    behind: bool,
+    scope: Scope,
+    slot: usize,
+) -> Result<Step<'i, 'e>, CompileError>
+    ensures cap { emitter.new.body.cap ≡ emitter.old.body.cap }
+    ensures full { IfErr result (IsFull emitter.old.body 1) }
+    ensures leads { IfOk result (λ step. (context : TheContext) → Leads context emitter.old emitter.new slot step.slot (listed step.tasks)
+        (past_others context begins.0 begins.1 (branches_pattern context branches.now behind scope emitter.old.opened.items) (progress emitter.old slot))
+        (IsAllowed context.unicode scope.may_keep (branches_pattern context branches.now behind scope emitter.old.opened.items))
+        (1 + room (branches_pattern context branches.now behind scope emitter.old.opened.items))
+        (λ tree_context. AreExpandedParts tree_context scope.may_keep scope.may_be_absent behind branches.now)) }
+    ensures refused { IfErr result IsMemoryOrTooComplex }
+    ensures work { IfOk result (λ step. (groups : List InfoTree) → tasks_work groups (listed step.tasks) ≤ 1 + infos_work groups scope branches.now) }
+{
+    emitter.body.flush()?;
+    let jump = emitter.body.len();
+    emitter.body.push_insn(Insn::Jmp(0))?;
+    let second = emitter.body.len();
+    let (split, first) = begins;
+    emitter.body.patch(split, Insn::Split(first, second));
+    let others = Task::Branches {
+        branches,
+        behind,
+        scope,
+    };
+    Ok(leads_to(
+        slot,
+        Tasks::Two {
+            first: others,
+            then: Task::Close(Closing::Alternatives { jump }),
+        },
+    ))
+}
+
+/// Ends the condition of a conditional, and goes on with what is matched where it matches.
+fn emit_tested<'i, 'e>(
+    emitter: &mut Emitter,
+    kept: usize,
+    begins: (usize, usize),
+    branches: (&'i Info<'e>, &'i Info<'e>),
+    scope: Scope,
+    slot: usize,
+) -> Result<Step<'i, 'e>, CompileError>
+    ensures cap { emitter.new.body.cap ≡ emitter.old.body.cap }
+    ensures full { IfErr result (IsFull emitter.old.body 1) }
+    ensures leads { IfOk result (λ step. (context : TheContext) → Leads context emitter.old emitter.new slot step.slot (listed step.tasks)
+        (past_others context begins.0 begins.1 (node_pattern context branches.entry.1.now false scope emitter.old.opened.items)
+        (past_pattern context (node_pattern context branches.entry.0.now false scope emitter.old.opened.items)
+        (record { draft = with_op (end_atomic kept) (closed_draft (draft_of emitter.old.body)); slot = slot; opened = emitter.old.opened.items })))
+        (IsAllowed context.unicode scope.may_keep (node_pattern context branches.entry.0.now false scope emitter.old.opened.items)
+        × IsAllowed context.unicode scope.may_keep (node_pattern context branches.entry.1.now false scope emitter.old.opened.items))
+        (2 + (room (node_pattern context branches.entry.0.now false scope emitter.old.opened.items) + room (node_pattern context branches.entry.1.now false scope emitter.old.opened.items)))
+        (λ tree_context. IsExpandedPart tree_context scope.may_keep scope.may_be_absent false (info_of branches.entry.0.now)
+        × IsExpandedPart tree_context scope.may_keep scope.may_be_absent false (info_of branches.entry.1.now))) }
+    ensures refused { IfErr result IsMemoryOrTooComplex }
+    ensures work { IfOk result (λ step. (groups : List InfoTree) → tasks_work groups (listed step.tasks) ≤
+        7 + (info_work groups scope branches.entry.0.now + info_work groups scope branches.entry.1.now)) }
+{
+    emitter.body.flush_and_push(Insn::EndAtomic(kept))?;
+    let (split, first) = begins;
+    let (yes, no) = branches;
+    let otherwise = Task::Otherwise {
+        split,
+        first,
+        branches: slice::from_ref(no),
+        behind: false,
+        scope,
+    };
+    Ok(leads_to(
+        slot,
+        Tasks::Two {
+            first: node(yes, scope),
+            then: otherwise,
+        },
+    ))
+}
+
+/// Emits a node; with `behind` it first goes back by its own length.
+fn emit_ahead_or_behind<'i, 'e>(
+    context: &CompileContext<'_, 'i, 'e>,
+    emitter: &mut Emitter,
+    info: &'i Info<'e>,
+    behind: bool,
+    scope: Scope,
+    slot: usize,
+) -> Result<Step<'i, 'e>, CompileError>
+    ensures cap { emitter.new.body.cap ≡ emitter.old.body.cap }
+    ensures full { IfErr result (IsFull emitter.old.body (room (node_pattern context.now info.now behind scope emitter.old.opened.items))) }
+    ensures leads { IfOk result (LeadsTo context.now
+        (node_pattern context.now info.now behind scope emitter.old.opened.items) scope.may_keep
+        (λ tree_context. IsExpandedPart tree_context scope.may_keep scope.may_be_absent behind (info_of info.now)) emitter.old emitter.new slot) }
+    ensures refused { IfErr result (IsReasonWhere context.now.unicode (infos_of context.now)
+        (λ tree_context. IsExpandedPart tree_context scope.may_keep scope.may_be_absent behind (info_of info.now))) }
+    ensures work { IfOk result (λ step. tasks_work (infos_of context.now) (listed step.tasks) < info_work (infos_of context.now) scope info.now) }
+{
+    if behind {
+        emit_look_behind_body(context, emitter, info, scope, slot)
+    } else {
+        emit_node(context, emitter, info, scope, slot)
+    }
+}
+
+/// Emits the body of a look-behind: goes back by its length, then matches it. In an alternation of unequal lengths each branch
+/// goes back by its own. The error is `LookBehindNotConst` for a body of variable length.
+fn emit_look_behind_body<'i, 'e>(
+    context: &CompileContext<'_, 'i, 'e>,
+    emitter: &mut Emitter,
+    info: &'i Info<'e>,
+    scope: Scope,
+    slot: usize,
+) -> Result<Step<'i, 'e>, CompileError>
+    ensures cap { emitter.new.body.cap ≡ emitter.old.body.cap }
+    ensures full { IfErr result (IsFull emitter.old.body (room (node_pattern context.now info.now true scope emitter.old.opened.items))) }
+    ensures leads { IfOk result (LeadsTo context.now
+        (node_pattern context.now info.now true scope emitter.old.opened.items) scope.may_keep
+        (λ tree_context. IsExpandedPart tree_context scope.may_keep scope.may_be_absent true (info_of info.now)) emitter.old emitter.new slot) }
+    ensures refused { IfErr result (IsReasonWhere context.now.unicode (infos_of context.now)
+        (λ tree_context. IsExpandedPart tree_context scope.may_keep scope.may_be_absent true (info_of info.now))) }
+    ensures work { IfOk result (λ step. tasks_work (infos_of context.now) (listed step.tasks) < info_work (infos_of context.now) scope info.now) }
+{
+    if info.const_size {
+        emitter.body.flush_and_push(Insn::GoBack(info.min_size))?;
+        return emit_node(context, emitter, info, scope, slot);
+    }
+    match info.expr {
+        Expr::Alt(_) => Ok(leads_to(
+            slot,
+            Tasks::One(Task::Branches {
+                branches: &info.children,
+                behind: true,
+                scope,
+            }),
+        )),
+        _ => Err(CompileError::LookBehindNotConst),
+    }
+}
+
+/// Emits what a node has of its own.
+fn emit_node<'i, 'e>(
+    context: &CompileContext<'_, 'i, 'e>,
+    emitter: &mut Emitter,
+    info: &'i Info<'e>,
+    scope: Scope,
+    slot: usize,
+) -> Result<Step<'i, 'e>, CompileError>
+    ensures cap { emitter.new.body.cap ≡ emitter.old.body.cap }
+    ensures full { IfErr result (IsFull emitter.old.body (room (node_pattern context.now info.now false scope emitter.old.opened.items))) }
+    ensures leads { IfOk result (LeadsTo context.now
+        (node_pattern context.now info.now false scope emitter.old.opened.items) scope.may_keep
+        (λ tree_context. IsExpandedPart tree_context scope.may_keep scope.may_be_absent false (info_of info.now)) emitter.old emitter.new slot) }
+    ensures refused { IfErr result (IsReasonWhere context.now.unicode (infos_of context.now)
+        (λ tree_context. IsExpandedPart tree_context scope.may_keep scope.may_be_absent false (info_of info.now))) }
+    ensures work { IfOk result (λ step. tasks_work (infos_of context.now) (listed step.tasks) < info_work (infos_of context.now) scope info.now) }
+{
+    match info.expr {
+        Expr::Empty => Ok(leads_to(slot, Tasks::Nothing)),
+        Expr::Concat(_) => Ok(leads_to(
+            slot,
+            Tasks::One(Task::Row {
+                parts: &info.children,
+                scope,
+            }),
+        )),
+        Expr::Alt(_) => Ok(leads_to(
+            slot,
+            Tasks::One(Task::Branches {
+                branches: &info.children,
+                behind: false,
+                scope,
+            }),
+        )),
+        Expr::Group(_) => {
+            let child = child_at(info, 0)?;
+            emit_group(emitter, child, info.start_group(), scope, slot)
+        }
+        Expr::LookAround(body, how) => {
+            let child = child_at(info, 0)?;
+            emit_look_around(emitter, body, child, *how, scope, slot)
+        }
+        Expr::Repeat { lo, hi, greedy, .. } => {
+            let child = child_at(info, 0)?;
+            emit_repeat(emitter, child, (*lo, *hi), *greedy, scope, slot)
+        }
+        Expr::AtomicGroup(body) => {
+            let child = child_at(info, 0)?;
+            emit_atomic(emitter, body, child, scope, slot)
+        }
+        Expr::Conditional { condition, .. } => {
+            let tested = child_at(info, 0)?;
+            let branches = (child_at(info, 1)?, child_at(info, 2)?);
+            emit_conditional(emitter, condition, tested, branches, scope, slot)
+        }
+        Expr::SubroutineCall(target) => emit_call(context, emitter, *target, scope, slot),
+        Expr::Absent(absent) => match absent {
+            Absent::Repeater(_) => {
+                let child = child_at(info, 0)?;
+                emit_absent(context, emitter, child, scope, slot)
+            }
+            _ => Err(not_supported(context.alloc, "absent operator")),
+        },
+        Expr::DefineGroup { .. } => Ok(leads_to(slot, Tasks::Nothing)),
+        leaf => {
+            emit_leaf(context, emitter, leaf, scope)?;
+            Ok(leads_to(slot, Tasks::Nothing))
+        }
+    }
+}
+
+/// The child at this index. The error is `UnresolvedAstNode` if there is none; a parsed tree has it.
+fn child_at<'i, 'e>(info: &'i Info<'e>, place: usize) -> Result<&'i Info<'e>, CompileError>
+    ensures value { IfOk result (λ child. slice_get (out-Info info.now).children.items place ≡ Some child.now) }
+    ensures full { IfErr result (λ e. is_too_complex e ≡ false) }
+    ensures refused { IfErr result (λ e. slice_get (out-Info info.now).children.items place ≡ None) }
+{
+    match info.children.get(place) {
+        Some(child) => Ok(child),
+        None => Err(CompileError::UnresolvedAstNode),
+    }
+}
+
+/// Begins the capture group of this number.
+fn emit_group<'i, 'e>(
+    emitter: &mut Emitter,
+    child: &'i Info<'e>,
+    number: usize,
+    scope: Scope,
+    slot: usize,
+) -> Result<Step<'i, 'e>, CompileError>
+    ensures cap { emitter.new.body.cap ≡ emitter.old.body.cap }
+    ensures full { IfErr result (IsFull emitter.old.body 2) }
+    ensures leads { IfOk result (λ step. (context : TheContext) → LeadsTo context
+        (pat.group number (node_pattern context child.now false scope emitter.old.opened.items)) scope.may_keep
+        (λ tree_context. IsExpandedPart tree_context scope.may_keep scope.may_be_absent false (info_of child.now)) emitter.old emitter.new slot step) }
+    ensures refused { IfErr result IsMemoryOrTooComplex }
+    ensures work { IfOk result (λ step. (groups : List InfoTree) → tasks_work groups (listed step.tasks) ≤ 1 + info_work groups scope child.now) }
+{
+    let inside = past_slots(slot, 1)?;
+    let start = first_slot(number)?;
+    let end = past_slots(start, 1)?;
+    emitter.body.flush_and_push(Insn::Save(slot))?;
+    let closing = Closing::Group {
+        kept: slot,
+        start,
+        end,
+    };
+    Ok(around(child, false, scope, closing, inside))
+}
+
+/// A step to the part of a construct, and then to its end.
+fn around<'i, 'e>(
+    info: &'i Info<'e>,
+    behind: bool,
+    scope: Scope,
+    closing: Closing,
+    slot: usize,
+) -> Step<'i, 'e>
+    ensures tasks { listed result.tasks ≡ the_task.Close closing ∷ the_task.Node info.entry behind scope ∷ [] }
+    ensures slot { result.slot ≡ slot }
+    ensures work { (groups : List InfoTree) → tasks_work groups (listed result.tasks) ≤ 1 + info_work groups scope info.now }
+{
+    let first = Task::Node {
+        info,
+        behind,
+        scope,
+    };
+    let then = Task::Close(closing);
+    Step {
+        slot,
+        tasks: Tasks::Two { first, then },
+    }
+}
+
+/// A step to the body of a construct, of which only the first way matters, or with `for_any` only whether there is one, and then to the
+/// end of the construct.
+fn around_body<'i, 'e>(
+    body: &'e Expr,
+    for_any: bool,
+    info: &'i Info<'e>,
+    scope: Scope,
+    closing: Closing,
+    slot: usize,
+) -> Step<'i, 'e>
+    ensures tasks { listed result.tasks ≡ the_task.Close closing ∷ the_task.Body body.entry for_any info.entry scope ∷ [] }
+    ensures slot { result.slot ≡ slot }
+    ensures work { (groups : List InfoTree) → tasks_work groups (listed result.tasks) ≤ 2 + info_work groups scope info.now }
+{
+    let first = Task::Body {
+        body,
+        for_any,
+        info,
+        scope,
+    };
+    let then = Task::Close(closing);
+    Step {
+        slot,
+        tasks: Tasks::Two { first, then },
+    }
+}
+
+/// Emits a body of which only the first way matters, or with `for_any` only whether there is one: one instruction if it is delegated.
+fn emit_body<'i, 'e>(
+    context: &CompileContext<'_, 'i, 'e>,
+    emitter: &mut Emitter,
+    body: &'e Expr,
+    for_any: bool,
+    info: &'i Info<'e>,
+    scope: Scope,
+    slot: usize,
+) -> Result<Step<'i, 'e>, CompileError>
+    ensures cap { emitter.new.body.cap ≡ emitter.old.body.cap }
+    ensures full { IfErr result (IsFull emitter.old.body (room (body_pattern context.now for_any body.now info.now scope emitter.old.opened.items))) }
+    ensures leads { IfOk result (LeadsTo context.now
+        (body_pattern context.now for_any body.now info.now scope emitter.old.opened.items) scope.may_keep
+        (λ tree_context. IsExpandedBody tree_context scope.may_keep scope.may_be_absent false (tree_of body.now) (info_of info.now)) emitter.old emitter.new slot) }
+    ensures refused { IfErr result (IsReasonWhere context.now.unicode (infos_of context.now)
+        (λ tree_context. IsExpandedBody tree_context scope.may_keep scope.may_be_absent false (tree_of body.now) (info_of info.now))) }
+    ensures work { IfOk result (λ step. (groups : List InfoTree) → tasks_work groups (listed step.tasks) ≤ info_work groups scope info.now) }
+{
+    match emitter
+        .parts
+        .delegate(context.alloc, body, for_any, context.unicode)?
+    {
+        Some(part) => {
+            emitter.body.flush_and_push(Insn::Delegate(part))?;
+            Ok(leads_to(slot, Tasks::Nothing))
+        }
+        None => Ok(leads_to(slot, Tasks::One(node(info, scope)))),
+    }
+}
+
+/// Begins an atomic group.
+fn emit_atomic<'i, 'e>(
+    emitter: &mut Emitter,
+    body: &'e Expr,
+    child: &'i Info<'e>,
+    scope: Scope,
+    slot: usize,
+) -> Result<Step<'i, 'e>, CompileError>
+    ensures cap { emitter.new.body.cap ≡ emitter.old.body.cap }
+    ensures full { IfErr result (IsFull emitter.old.body 2) }
+    ensures leads { IfOk result (λ step. (context : TheContext) → LeadsTo context
+        (pat.atomic (body_pattern context false body.now child.now scope emitter.old.opened.items)) scope.may_keep
+        (λ tree_context. IsExpandedBody tree_context scope.may_keep scope.may_be_absent false (tree_of body.now) (info_of child.now)) emitter.old emitter.new slot step) }
+    ensures refused { IfErr result IsMemoryOrTooComplex }
+    ensures work { IfOk result (λ step. (groups : List InfoTree) → tasks_work groups (listed step.tasks) ≤ 2 + info_work groups scope child.now) }
+{
+    let inside = past_slots(slot, 1)?;
+    emitter.body.flush_and_push(Insn::BeginAtomic(slot))?;
+    let closing = Closing::AtomicGroup { slot };
+    Ok(around_body(body, false, child, scope, closing, inside))
+}
+
+/// Begins a look-around.
+fn emit_look_around<'i, 'e>(
+    emitter: &mut Emitter,
+    body: &'e Expr,
+    child: &'i Info<'e>,
+    how: LookAround,
+    scope: Scope,
+    slot: usize,
+) -> Result<Step<'i, 'e>, CompileError>
+    ensures cap { emitter.new.body.cap ≡ emitter.old.body.cap }
+    ensures full { IfErr result (IsFull emitter.old.body 2) }
+    ensures leads { IfOk result (λ step. (context : TheContext) → LeadsTo context
+        (look (tree_of body.now) how (part context scope emitter.old.opened.items child.now)) scope.may_keep
+        (λ tree_context. IsExpandedBody tree_context false scope.may_be_absent (looks_behind how) (tree_of body.now) (info_of child.now)) emitter.old emitter.new slot step) }
+    ensures refused { IfErr result IsMemoryOrTooComplex }
+    ensures work { IfOk result (λ step. (groups : List InfoTree) → tasks_work groups (listed step.tasks) ≤ 2 + info_work groups scope child.now) }
+{
+    match how {
+        LookAround::LookAhead => emit_positive_look_ahead(emitter, body, child, scope, slot),
+        LookAround::LookAheadNeg => emit_negative_look_ahead(emitter, body, child, scope, slot),
+        LookAround::LookBehind => emit_positive_look_behind(emitter, child, scope, slot),
+        LookAround::LookBehindNeg => emit_negative_look_behind(emitter, child, scope, slot),
+    }
+}
+
+/// Begins a positive look-ahead.
+fn emit_positive_look_ahead<'i, 'e>(
+    emitter: &mut Emitter,
+    body: &'e Expr,
+    info: &'i Info<'e>,
+    scope: Scope,
+    slot: usize,
+) -> Result<Step<'i, 'e>, CompileError>
+    ensures cap { emitter.new.body.cap ≡ emitter.old.body.cap }
+    ensures full { IfErr result (IsFull emitter.old.body 2) }
+    ensures leads { IfOk result (λ step. (context : TheContext) → LeadsTo context
+        (pat.ahead (body_pattern context true body.now info.now scope emitter.old.opened.items)) scope.may_keep
+        (λ tree_context. IsExpandedBody tree_context false scope.may_be_absent false (tree_of body.now) (info_of info.now)) emitter.old emitter.new slot step) }
+    ensures refused { IfErr result IsMemoryOrTooComplex }
+    ensures work { IfOk result (λ step. (groups : List InfoTree) → tasks_work groups (listed step.tasks) ≤ 2 + info_work groups scope info.now) }
+{
+    let inside = past_slots(slot, 1)?;
+    emitter.body.flush_and_push(Insn::Save(slot))?;
+    let closing = Closing::PositiveLookAround { slot };
+    let looking = Scope {
+        may_keep: false,
+        ..scope
+    };
+    Ok(around_body(body, true, info, looking, closing, inside))
+}
+
+/// Begins a positive look-behind.
+fn emit_positive_look_behind<'i, 'e>(
+    emitter: &mut Emitter,
+    info: &'i Info<'e>,
+    scope: Scope,
+    slot: usize,
+) -> Result<Step<'i, 'e>, CompileError>
+    ensures cap { emitter.new.body.cap ≡ emitter.old.body.cap }
+    ensures full { IfErr result (IsFull emitter.old.body 2) }
+    ensures leads { IfOk result (λ step. (context : TheContext) → LeadsTo context
+        (pat.ahead (node_pattern context info.now true scope emitter.old.opened.items)) scope.may_keep
+        (λ tree_context. IsExpandedPart tree_context false scope.may_be_absent true (info_of info.now)) emitter.old emitter.new slot step) }
+    ensures refused { IfErr result IsMemoryOrTooComplex }
+    ensures work { IfOk result (λ step. (groups : List InfoTree) → tasks_work groups (listed step.tasks) ≤ 1 + info_work groups scope info.now) }
+{
+    let inside = past_slots(slot, 1)?;
+    emitter.body.flush_and_push(Insn::Save(slot))?;
+    let looking = Scope {
+        may_keep: false,
+        ..scope
+    };
+    Ok(around(
+        info,
+        true,
+        looking,
+        Closing::PositiveLookAround { slot },
+        inside,
+    ))
+}
+
+/// Begins a negative look-ahead.
+fn emit_negative_look_ahead<'i, 'e>(
+    emitter: &mut Emitter,
+    body: &'e Expr,
+    info: &'i Info<'e>,
+    scope: Scope,
+    slot: usize,
+) -> Result<Step<'i, 'e>, CompileError>
+    ensures cap { emitter.new.body.cap ≡ emitter.old.body.cap }
+    ensures full { IfErr result (IsFull emitter.old.body 2) }
+    ensures leads { IfOk result (λ step. (context : TheContext) → LeadsTo context
+        (pat.never (body_pattern context true body.now info.now scope emitter.old.opened.items)) scope.may_keep
+        (λ tree_context. IsExpandedBody tree_context false scope.may_be_absent false (tree_of body.now) (info_of info.now)) emitter.old emitter.new slot step) }
+    ensures refused { IfErr result IsMemoryOrTooComplex }
+    ensures work { IfOk result (λ step. (groups : List InfoTree) → tasks_work groups (listed step.tasks) ≤ 2 + info_work groups scope info.now) }
+{
+    let inside = past_slots(slot, 1)?;
+    let begins = begin_atomic_choice(&mut emitter.body, slot)?;
+    let (split, first) = begins;
+    let closing = Closing::NegativeLookAround { slot, split, first };
+    let looking = Scope {
+        may_keep: false,
+        ..scope
+    };
+    Ok(around_body(body, true, info, looking, closing, inside))
+}
+
+/// Begins a negative look-behind.
+fn emit_negative_look_behind<'i, 'e>(
+    emitter: &mut Emitter,
+    info: &'i Info<'e>,
+    scope: Scope,
+    slot: usize,
+) -> Result<Step<'i, 'e>, CompileError>
+    ensures cap { emitter.new.body.cap ≡ emitter.old.body.cap }
+    ensures full { IfErr result (IsFull emitter.old.body 2) }
+    ensures leads { IfOk result (λ step. (context : TheContext) → LeadsTo context
+        (pat.never (node_pattern context info.now true scope emitter.old.opened.items)) scope.may_keep
+        (λ tree_context. IsExpandedPart tree_context false scope.may_be_absent true (info_of info.now)) emitter.old emitter.new slot step) }
+    ensures refused { IfErr result IsMemoryOrTooComplex }
+    ensures work { IfOk result (λ step. (groups : List InfoTree) → tasks_work groups (listed step.tasks) ≤ 1 + info_work groups scope info.now) }
+{
+    let inside = past_slots(slot, 1)?;
+    let begins = begin_atomic_choice(&mut emitter.body, slot)?;
+    let (split, first) = begins;
+    let closing = Closing::NegativeLookAround { slot, split, first };
+    let looking = Scope {
+        may_keep: false,
+        ..scope
+    };
+    Ok(around(info, true, looking, closing, inside))
+}
+
+/// Begins a quantifier; the greatest count `usize::MAX` is no bound. A body that is repeated zero times is left out. The error
+/// is `RepeatBoundsReversed` if the least count exceeds the greatest, and `Memory` for a least count of `usize::MAX`.
+fn emit_repeat<'i, 'e>(
+    emitter: &mut Emitter,
+    child: &'i Info<'e>,
+    bounds: (usize, usize),
+    greedy: bool,
+    scope: Scope,
+    slot: usize,
+) -> Result<Step<'i, 'e>, CompileError>
+    ensures cap { emitter.new.body.cap ≡ emitter.old.body.cap }
+    ensures full { IfErr result (λ e. (context : TheContext) →
+        IsFull emitter.old.body (room (repeated (node_pattern context child.now false scope emitter.old.opened.items) bounds.0 bounds.1 greedy)) e) }
+    ensures leads { IfOk result (λ step. (context : TheContext) → LeadsTo context
+        (repeated (node_pattern context child.now false scope emitter.old.opened.items) bounds.0 bounds.1 greedy) scope.may_keep
+        (λ tree_context. IsExpandedRepeat tree_context scope.may_keep scope.may_be_absent bounds.0 bounds.1 (info_of child.now)) emitter.old emitter.new slot step) }
+    ensures refused { IfErr result (λ e. (unicode : Bool) (groups : List InfoTree) → IsReasonWhere unicode groups
+        (λ tree_context. IsExpandedRepeat tree_context scope.may_keep scope.may_be_absent bounds.0 bounds.1 (info_of child.now)) e) }
+    ensures work { IfOk result (λ step. (groups : List InfoTree) → tasks_work groups (listed step.tasks) ≤ 1 + info_work groups scope child.now) }
+{
+    let (lo, hi) = bounds;
+    if lo > hi {
+        return Err(CompileError::RepeatBoundsReversed);
+    }
+    if hi == 0 {
+        return Ok(leads_to(slot, Tasks::Nothing));
+    }
+    if lo == usize::MAX {
+        return Err(CompileError::Memory);
+    }
+    if hi == usize::MAX {
+        emit_unbounded_repeat(emitter, child, lo, greedy, scope, slot)
+    } else {
+        emit_bounded_repeat(emitter, child, (lo, hi), greedy, scope, slot)
+    }
+}
+
+/// Begins a bounded repeat.
+fn emit_bounded_repeat<'i, 'e>(
+    emitter: &mut Emitter,
+    child: &'i Info<'e>,
+    bounds: (usize, usize),
+    greedy: bool,
+    scope: Scope,
+    slot: usize,
+) -> Result<Step<'i, 'e>, CompileError>
+    ensures cap { emitter.new.body.cap ≡ emitter.old.body.cap }
+    ensures full { IfErr result (IsFull emitter.old.body 2) }
+    ensures leads { IfOk result (λ step. (context : TheContext) → LeadsTo context
+        (pat.repeat (node_pattern context child.now false scope emitter.old.opened.items) bounds.0 (Some bounds.1) greedy) scope.may_keep
+        (λ tree_context. IsExpandedPart tree_context scope.may_keep scope.may_be_absent false (info_of child.now)) emitter.old emitter.new slot step) }
+    ensures refused { IfErr result IsMemoryOrTooComplex }
+    ensures work { IfOk result (λ step. (groups : List InfoTree) → tasks_work groups (listed step.tasks) ≤ 1 + info_work groups scope child.now) }
+{
+    let inside = past_slots(slot, 1)?;
+    let head = begin_loop(&mut emitter.body, Insn::BeginRepeat(slot))?;
+    let closing = Closing::BoundedRepeat {
+        head,
+        bounds,
+        greedy,
+        slot,
+    };
+    Ok(around(child, false, scope, closing, inside))
+}
+
+/// Begins an unbounded repeat.
+fn emit_unbounded_repeat<'i, 'e>(
+    emitter: &mut Emitter,
+    child: &'i Info<'e>,
+    lo: usize,
+    greedy: bool,
+    scope: Scope,
+    slot: usize,
+) -> Result<Step<'i, 'e>, CompileError>
+    requires { lo < unset }
+    ensures cap { emitter.new.body.cap ≡ emitter.old.body.cap }
+    ensures full { IfErr result (IsFull emitter.old.body 2) }
+    ensures leads { IfOk result (λ step. (context : TheContext) → LeadsTo context
+        (pat.repeat (node_pattern context child.now false scope emitter.old.opened.items) lo None greedy) scope.may_keep
+        (λ tree_context. IsExpandedPart tree_context scope.may_keep scope.may_be_absent false (info_of child.now)) emitter.old emitter.new slot step) }
+    ensures refused { IfErr result IsMemoryOrTooComplex }
+    ensures work { IfOk result (λ step. (groups : List InfoTree) → tasks_work groups (listed step.tasks) ≤ 1 + info_work groups scope child.now) }
+{
+    let check = past_slots(slot, 1)?;
+    let inside = past_slots(slot, 2)?;
+    let head = begin_loop(&mut emitter.body, Insn::Fail)?;
+    let closing = Closing::UnboundedRepeat {
+        head,
+        lo,
+        greedy,
+        slot,
+        check,
+    };
+    Ok(around(child, false, scope, closing, inside))
+}
+
+/// Begins a conditional, whose condition has this body: the first branch if it matches, the second if it does not.
+fn emit_conditional<'i, 'e>(
+    emitter: &mut Emitter,
+    body: &'e Expr,
+    condition: &'i Info<'e>,
+    branches: (&'i Info<'e>, &'i Info<'e>),
+    scope: Scope,
+    slot: usize,
+) -> Result<Step<'i, 'e>, CompileError>
+    ensures cap { emitter.new.body.cap ≡ emitter.old.body.cap }
+    ensures full { IfErr result (IsFull emitter.old.body 2) }
+    ensures leads { IfOk result (λ step. (context : TheContext) → LeadsTo context
+        (pat.conditional (body_pattern context false body.now condition.now scope emitter.old.opened.items) (node_pattern context branches.entry.0.now false scope emitter.old.opened.items)
+        (node_pattern context branches.entry.1.now false scope emitter.old.opened.items)) scope.may_keep
+        (λ tree_context. IsExpandedConditional tree_context scope.may_keep scope.may_be_absent (tree_of body.now) (info_of condition.now) (info_of branches.entry.0.now) (info_of branches.entry.1.now))
+        emitter.old emitter.new slot step) }
+    ensures refused { IfErr result IsMemoryOrTooComplex }
+    ensures work { IfOk result (λ step. (groups : List InfoTree) → tasks_work groups (listed step.tasks) ≤
+        9 + (info_work groups scope condition.now + (info_work groups scope branches.entry.0.now + info_work groups scope branches.entry.1.now))) }
+{
+    let (yes, no) = branches;
+    let inside = past_slots(slot, 1)?;
+    let begins = begin_atomic_choice(&mut emitter.body, slot)?;
+    let (split, first) = begins;
+    let tested = Task::Tested {
+        slot,
+        split,
+        first,
+        yes,
+        no,
+        scope,
+    };
+    Ok(leads_to(
+        inside,
+        Tasks::Two {
+            first: Task::Body {
+                body,
+                for_any: false,
+                info: condition,
+                scope,
+            },
+            then: tested,
+        },
+    ))
+}
+
+/// Begins a subroutine call, which is inlined: the body of its target, or `Fail` where the target is inlined inside of itself
+/// as often as is allowed. The error is `SubroutineCallTargetNotFound` if there is no such group.
+fn emit_call<'i, 'e>(
+    context: &CompileContext<'_, 'i, 'e>,
+    emitter: &mut Emitter,
+    target: usize,
+    scope: Scope,
+    slot: usize,
+) -> Result<Step<'i, 'e>, CompileError>
+    ensures cap { emitter.new.body.cap ≡ emitter.old.body.cap }
+    ensures full { IfErr result (IsFull emitter.old.body (room (info_call (infos_of context.now) scope.calls_left emitter.old.opened.items target))) }
+    ensures leads { IfOk result (LeadsTo context.now
+        (info_call (infos_of context.now) scope.calls_left emitter.old.opened.items target) scope.may_keep
+        (λ tree_context. IsExpandedTarget tree_context scope.may_keep scope.may_be_absent (infos_of context.now) target) emitter.old emitter.new slot) }
+    ensures refused { IfErr result (IsReasonWhere context.now.unicode (infos_of context.now)
+        (λ tree_context. IsExpandedTarget tree_context scope.may_keep scope.may_be_absent (infos_of context.now) target)) }
+    ensures work { IfOk result (λ step. tasks_work (infos_of context.now) (listed step.tasks) ≤ call_work (infos_of context.now) scope.calls_left target) }
+{
+    if target >= context.groups.len() {
+        return Err(CompileError::SubroutineCallTargetNotFound(format!(in context.alloc;
+            "{target}"
+        )?));
+    }
+    let body = context.groups[target];
+    if is_at_call_limit(&emitter.opened, target) || scope.calls_left == 0 {
+        emitter.body.flush_and_push(Insn::Fail)?;
+        return Ok(leads_to(slot, Tasks::Nothing));
+    }
+    emitter.opened.push(target)?;
+    let called = Scope {
+        calls_left: scope.calls_left - 1,
+        ..scope
+    };
+    Ok(leads_to(
+        slot,
+        Tasks::Two {
+            first: node(body, called),
+            then: Task::EndCall,
+        },
+    ))
+}
+
+/// Whether the target is inlined as often as is allowed.
+fn is_at_call_limit(opened: &[usize], target: usize) -> bool
+    ensures { result ≡ is_full_of opened.now target }
+{
+    opened.iter().filter(|k| **k == target).count() >= OPEN_CALLS_OF_ONE
+}
+
+/// Begins an absent repeater. The error is `FeatureNotYetSupported` inside of another one.
+fn emit_absent<'i, 'e>(
+    context: &CompileContext<'_, '_, '_>,
+    emitter: &mut Emitter,
+    child: &'i Info<'e>,
+    scope: Scope,
+    slot: usize,
+) -> Result<Step<'i, 'e>, CompileError>
+    ensures cap { emitter.new.body.cap ≡ emitter.old.body.cap }
+    ensures full { IfErr result (IsFull emitter.old.body 2) }
+    ensures leads { IfOk result (λ step. (context : TheContext) → LeadsTo context
+        (pat.absent (node_pattern context child.now false scope emitter.old.opened.items)) scope.may_keep
+        (λ tree_context. IsExpandedAbsent tree_context scope.may_be_absent (info_of child.now)) emitter.old emitter.new slot step) }
+    ensures refused { IfErr result (λ e. (unicode : Bool) (groups : List InfoTree) → IsReasonWhere unicode groups
+        (λ tree_context. IsExpandedAbsent tree_context scope.may_be_absent (info_of child.now)) e) }
+    ensures work { IfOk result (λ step. (groups : List InfoTree) → tasks_work groups (listed step.tasks) ≤ 1 + info_work groups scope child.now) }
+{
+    if !scope.may_be_absent {
+        return Err(not_supported(context.alloc, "absent operator"));
+    }
+    let limit = past_slots(slot, 1)?;
+    let inside = past_slots(slot, 2)?;
+    let within = Scope {
+        may_keep: false,
+        may_be_absent: false,
+        ..scope
+    };
+    let begin = absent_step(context.alloc, AbsentRepeater::Begin { start: slot, limit })?;
+    let scan = begin_loop(&mut emitter.body, begin)?;
+    let closing = Closing::AbsentRepeater {
+        scan,
+        start: slot,
+        limit,
+    };
+    Ok(around(child, false, within, closing, inside))
+}

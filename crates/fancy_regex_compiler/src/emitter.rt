@@ -1,0 +1,72 @@
+//! The state of the compiler while it emits a program.
+
+ghost use Rattle.std.specs.Prelude.{◌≡◌, ◌+◌, ◌*◌, false, IfOk, IfErr};
+ghost use Rattle.fancy_regex_analysis.specs.AnalysisErrors.{is_too_complex};
+ghost use Rattle.fancy_regex_compiler.specs.Refusals.{IsMemoryOrTooComplex};
+
+use crate::class_table::ClassTable;
+use crate::part_table::PartTable;
+use crate::program_builder::ProgramBuilder;
+use fancy_regex_info::{CompileError, Info};
+use std::alloc::Global;
+
+/// What is fixed for one compilation.
+#[derive(Clone, Copy)]
+pub(crate) struct CompileContext<'g, 'i, 'e> {
+    /// Where the program is allocated.
+    pub alloc: Global,
+    /// The body of each group by its number; the whole pattern for group 0 if that is the whole match.
+    pub groups: &'g Vec<&'i Info<'e>>,
+    /// Whether group 0 is the whole match.
+    pub whole: bool,
+    /// Whether classes and case folding follow Unicode.
+    pub unicode: bool,
+}
+
+/// The program so far, and the calls that are being inlined.
+#[derive(Drop)]
+pub(crate) struct Emitter {
+    /// The instructions so far.
+    pub body: ProgramBuilder,
+    /// The classes that were read so far.
+    pub classes: ClassTable,
+    /// The parts that were delegated so far.
+    pub parts: PartTable,
+    /// The targets of the open calls, the innermost last.
+    pub opened: Vec<usize>,
+}
+
+/// The context of a subexpression.
+#[derive(Clone, Copy)]
+pub(crate) struct Scope {
+    /// How many more calls may be inlined inside of each other here.
+    pub calls_left: usize,
+    /// Whether `\K` is allowed: no look-around and no absent repeater encloses this.
+    pub may_keep: bool,
+    /// Whether an absent repeater is allowed: no other one encloses this.
+    pub may_be_absent: bool,
+}
+
+/// The slot `count` slots after this one. The error is `Memory` if it exceeds `usize`.
+pub(crate) fn past_slots(slot: usize, count: usize) -> Result<usize, CompileError>
+    ensures value { IfOk result (λ after. after ≡ slot + count) }
+    ensures full { IfErr result (λ e. is_too_complex e ≡ false) }
+    ensures refused { IfErr result IsMemoryOrTooComplex }
+{
+    match slot.checked_add(count) {
+        Some(after) => Ok(after),
+        None => Err(CompileError::Memory),
+    }
+}
+
+/// The first of the two slots of a group. The error is `Memory` if it exceeds `usize`.
+pub(crate) fn first_slot(group: usize) -> Result<usize, CompileError>
+    ensures value { IfOk result (λ slot. slot ≡ 2 * group) }
+    ensures full { IfErr result (λ e. is_too_complex e ≡ false) }
+    ensures refused { IfErr result IsMemoryOrTooComplex }
+{
+    match group.checked_mul(2) {
+        Some(slot) => Ok(slot),
+        None => Err(CompileError::Memory),
+    }
+}

@@ -1,0 +1,230 @@
+-- The translation of a list of trees, one by one.
+use Rattle.std.proofs.Common.{◌≡◌, ◌==◌, not, zero, suc, ℕ, ◌+◌, ◌<◌, ◌≤◌, ◌||◌, ◌&&◌, Bool, List, [], ◌∷◌, ◌++◌, length, map, take, get_or, refl, sym, ap, ap₂, ◌∙◌, arith, length-append, ne_eqb, Result, Ok, Err, IfOk}
+use Rattle.std.proofs.lemmas.List.{take_more, take_all, map-append, append_assoc, append-nil}
+use Rattle.std.specs.List.{Contains}
+use Rattle.std.proofs.lemmas.List.Elements.{All-nil, All-cons, All-append, Contains-append_left, Contains-append_right}
+use Rattle.std.proofs.Math.Bool.{or_assoc, and_assoc, and-true}
+use Rattle.regex_class.proofs.RangesLemmas.{or-false}
+use Rattle.fancy_regex_tree.specs.Tree.{Tree, Text, trees, tree_of}
+use Rattle.fancy_regex_tree.specs.declared.expr.Expr.{Expr}
+use Rattle.fancy_regex_meaning.specs.Groups.{group_count, row_group_count}
+use Rattle.fancy_regex_class.specs.declared.class.CharClassMatcher.{CharClassMatcher}
+use Rattle.fancy_regex_class.specs.Matchers.{IsMatcherOf}
+use Rattle.fancy_regex_info.specs.declared.error.CompileError.{CompileError}
+use Rattle.fancy_regex_info.specs.declared.error.CompileError.TheVariants.{InnerError, Memory}
+use Rattle.fancy_regex_linear.specs.Re.{Re, cats, alts, cat, alt, shape, shapes}
+use Rattle.fancy_regex_linear.specs.declared.node.Node.{Node}
+use Rattle.fancy_regex_linear.specs.Program.{IsSound, never_empty}
+use Rattle.fancy_regex_linear.specs.Plain.{IsPlain, ArePlain, classes, row_classes, re_of, row_of, branches_of}
+use Rattle.fancy_regex_linear.specs.Easy.{HaveMatchers}
+use Rattle.fancy_regex_linear.specs.Refusals.{IsRead, IsClassCause}
+use Rattle.fancy_regex_linear.specs.Translation.{all_trees, Extends, row_list, all_move, AreSound, BuildsRow}
+use Rattle.fancy_regex_linear.specs.declared.build.Translator.{Translator}
+
+-- what follows of what was answered
+pub if_ok : {X E : Type 0} {P Q : X → Type 0} (r : Result X E) → ((x : X) → P x → Q x) → IfOk r P → IfOk r Q
+if_ok (Ok x) f h = f x h
+if_ok (Err e) f h = tt
+
+-- a row with one more tree is plain if both are
+pub plain_more : (ts : List Tree) (t : Tree) → ArePlain (trees (ts ++ t ∷ [])) → ArePlain (trees ts) × IsPlain t
+plain_more [] t p = (tt, p.0)
+plain_more (u ∷ ts) t p = let rest = plain_more ts t p.1 in ((p.0, rest.0), rest.1)
+
+-- one more tree of a row
+pub trees_more : (es : List Expr) (i : ℕ) (x : Expr) → i < length es → x ≡ get_or es i x
+    → map tree_of (take (i + 1) es) ≡ map tree_of (take i es) ++ tree_of x ∷ []
+trees_more es i x h e =
+    ap (map tree_of) (take_more es i x h ∙ ap (λ y. take i es ++ y ∷ []) (sym e)) ∙ map-append tree_of (take i es) (x ∷ [])
+
+module _ (unicode : Bool) where
+  serve_more : (ms : List CharClassMatcher) (cs : List (Text × Bool)) (m : CharClassMatcher) (c : Text × Bool) → HaveMatchers unicode ms cs
+      → IsMatcherOf m unicode c.0 c.1 → HaveMatchers unicode (ms ++ m ∷ []) (cs ++ c ∷ [])
+  serve_more [] [] m c s h = (h, tt)
+  serve_more (n ∷ ms) (d ∷ cs) m c s h = (s.0, serve_more ms cs m c s.1 h)
+  serve_more [] (d ∷ cs) m c s h = absurd s
+  serve_more (n ∷ ms) [] m c s h = absurd s
+
+  -- one more matcher
+  pub extends_more : (ms : List CharClassMatcher) (m : CharClassMatcher) (class : Text) (casei : Bool) → IsMatcherOf m unicode class casei
+      → IsRead unicode (class, casei) → Extends unicode ms (ms ++ m ∷ []) ((class, casei) ∷ [])
+  extends_more ms m class casei h r = record {
+    count = length-append ms (m ∷ []);
+    serve = λ ds s. serve_more ms ds m (class, casei) s h;
+    read = All-cons (IsRead unicode) (class, casei) [] r (All-nil (IsRead unicode));
+  }
+
+  -- first these classes, and then those
+  pub extends_both : (a b c : List CharClassMatcher) (cs ds : List (Text × Bool)) → Extends unicode a b cs → Extends unicode b c ds
+      → Extends unicode a c (cs ++ ds)
+  extends_both a b c cs ds x y = record {
+    count = omega (arith, x.count, y.count, length-append cs ds);
+    serve = λ es s. rw (← append_assoc es cs ds) (y.serve (es ++ cs) (x.serve es s));
+    read = All-append (IsRead unicode) cs ds x.read y.read;
+  }
+
+-- the groups and classes of a row, with one more tree
+pub groups_more : (ts : List Tree) (t : Tree) → row_group_count (trees (ts ++ t ∷ [])) ≡ row_group_count (trees ts) + group_count t
+unfolding group_count
+groups_more [] t = omega arith
+groups_more (u ∷ ts) t = omega (arith, groups_more ts t)
+
+-- the groups of a row are counted tree by tree
+pub count_step : (es : List Expr) (i : ℕ) (e : Expr) (sum n : ℕ) → i < length es → e ≡ get_or es i e
+    → (ArePlain (trees (map tree_of (take i es))) → sum ≡ row_group_count (trees (map tree_of (take i es))))
+    → (IsPlain (tree_of e) → n ≡ group_count (tree_of e))
+    → ArePlain (trees (map tree_of (take (i + 1) es))) → sum + n ≡ row_group_count (trees (map tree_of (take (i + 1) es)))
+count_step es i e sum n h is done one =
+    rw (trees_more es i e h is)
+    (λ (plain : ArePlain (trees (map tree_of (take i es) ++ tree_of e ∷ []))).
+    let both = plain_more (map tree_of (take i es)) (tree_of e) plain in
+    omega (arith, done both.0, one both.1, groups_more (map tree_of (take i es)) (tree_of e)))
+
+pub count_whole : (es : List Expr) (i sum : ℕ) → length es ≤ i → (ArePlain (trees (map tree_of (take i es))) → sum ≡ row_group_count (trees (map tree_of (take i es))))
+    → ArePlain (all_trees es) → sum ≡ row_group_count (all_trees es)
+count_whole es i sum h done = rw (take_all i es h) at done
+
+pub classes_more : (ts : List Tree) (t : Tree) → row_classes (trees (ts ++ t ∷ [])) ≡ row_classes (trees ts) ++ classes t
+unfolding classes
+classes_more [] t = append-nil (classes t)
+classes_more (u ∷ ts) t =
+    ap (λ cs. classes u ++ cs) (classes_more ts t) ∙ sym (append_assoc (classes u) (row_classes (trees ts)) (classes t))
+
+module _ (unicode : Bool) (groups : List Tree) where
+  pub list_more : (ts : List Tree) (t : Tree) (n k : ℕ)
+      → row_list unicode groups n k (ts ++ t ∷ [])
+      ≡ row_list unicode groups n k ts ++ re_of unicode groups (n + row_group_count (trees ts)) (k + length (row_classes (trees ts))) t ∷ []
+  unfolding row_list group_count classes
+  list_more [] t n k =
+      let a : n ≡ n + 0 = omega arith in
+      let b : k ≡ k + 0 = omega arith in
+      ap₂ (λ (x y : ℕ). re_of unicode groups x y t ∷ []) a b
+  list_more (u ∷ ts) t n k =
+      let a : n + group_count u + row_group_count (trees ts) ≡ n + (group_count u + row_group_count (trees ts)) = omega arith in
+      let b : k + length (classes u) + length (row_classes (trees ts)) ≡ k + length (classes u ++ row_classes (trees ts)) =
+      omega (arith, length-append (classes u) (row_classes (trees ts))) in
+      ap (λ xs. re_of unicode groups n k u ∷ xs)
+      (list_more ts t (n + group_count u) (k + length (classes u))
+      ∙ ap₂ (λ (x y : ℕ). row_list unicode groups (n + group_count u) (k + length (classes u)) ts ++ re_of unicode groups x y t ∷ []) a b)
+
+  -- a row, and the branches of an alternation
+  pub row_is : (ts : List Tree) (n k : ℕ) → cats (row_list unicode groups n k ts) ≡ row_of unicode groups n k (trees ts)
+  unfolding row_list re_of
+  row_is [] n k = refl
+  row_is (t ∷ ts) n k = ap (cat (re_of unicode groups n k t)) (row_is ts _ _)
+
+  pub branches_is : (ts : List Tree) (n k : ℕ) → alts (row_list unicode groups n k ts) ≡ branches_of unicode groups n k (trees ts)
+  unfolding row_list re_of
+  branches_is [] n k = refl
+  branches_is (t ∷ []) n k = refl
+  branches_is (t ∷ u ∷ ts) n k = ap (alt (re_of unicode groups n k t)) (branches_is (u ∷ ts) _ _)
+
+-- a concatenation consumes a character if one of its children does
+pub row_moves : (xs : List Re) (x : Re) → never_empty (cats (xs ++ x ∷ [])) ≡ (never_empty (cats xs) || never_empty x)
+unfolding never_empty
+row_moves [] x = or-false (never_empty x)
+row_moves (y ∷ xs) x =
+    ap (λ b. never_empty y || b) (row_moves xs x) ∙ sym (or_assoc (never_empty y) (never_empty (cats xs)) (never_empty x))
+
+-- branches do if each of them does
+pub all_moves : (xs : List Re) (x : Re) → all_move (xs ++ x ∷ []) ≡ (all_move xs && never_empty x)
+unfolding all_move
+all_moves [] x = and-true (never_empty x)
+all_moves (y ∷ xs) x = ap (λ b. never_empty y && b) (all_moves xs x) ∙ sym (and_assoc (never_empty y) (all_move xs) (never_empty x))
+
+each_branch : (x : Re) (xs : List Re) → never_empty (alts (x ∷ xs)) ≡ all_move (x ∷ xs)
+unfolding all_move never_empty
+each_branch x [] = sym (and-true (never_empty x))
+each_branch x (y ∷ ys) = ap (λ b. never_empty x && b) (each_branch y ys)
+
+pub branches_move : (xs : List Re) → never_empty (alts xs) ≡ (all_move xs && not (length xs == 0))
+unfolding all_move never_empty
+branches_move [] = refl
+branches_move (x ∷ xs) =
+    each_branch x xs ∙ sym (ap (λ b. all_move (x ∷ xs) && not b) (ne_eqb (suc (length xs)) 0 (omega arith)) ∙ and-true (all_move (x ∷ xs)))
+
+-- one more sound pattern
+sound_more : (xs : List Re) (x : Re) → AreSound xs → IsSound x → AreSound (xs ++ x ∷ [])
+sound_more [] x h k = (k, tt)
+sound_more (y ∷ ys) x h k = (h.0, sound_more ys x h.1 k)
+
+-- a row, and branches, are sound if each of their parts is
+pub row_sound : (xs : List Re) → AreSound xs → IsSound (cats xs)
+row_sound [] h = tt
+row_sound (x ∷ xs) h = (h.0, row_sound xs h.1)
+
+pub branches_sound : (xs : List Re) → AreSound xs → IsSound (alts xs)
+branches_sound [] h = tt
+branches_sound (x ∷ []) h = h.0
+branches_sound (x ∷ y ∷ ys) h = (h.0, branches_sound (y ∷ ys) h.1)
+
+-- a class of one tree of a row is a class of the row
+class_in : (es : List Expr) (i : ℕ) (x : Expr) (c : Text × Bool) → i < length es → Contains (classes (tree_of (get_or es i x))) c
+    → Contains (row_classes (all_trees es)) c
+unfolding classes
+class_in [] i x c h there = absurd (omega arith)
+class_in (e ∷ es) zero x c h there = Contains-append_left (classes (tree_of e)) (row_classes (all_trees es)) c there
+class_in (e ∷ es) (suc i) x c h there =
+    Contains-append_right (classes (tree_of e)) (row_classes (all_trees es)) c (class_in es i x c (omega arith) there)
+
+-- a cause among some classes is one among more of them
+cause_more : (unicode : Bool) (cs ds : List (Text × Bool)) (error : CompileError) → ((c : Text × Bool) → Contains cs c → Contains ds c)
+    → IsClassCause unicode cs error → IsClassCause unicode ds error
+cause_more unicode cs ds (InnerError shown) into h =
+    record { class = h.class; is_there = into h.class h.is_there; is_shown = h.is_shown; refused = h.refused }
+cause_more unicode cs ds Memory into h = tt
+cause_more unicode cs ds _ into h = absurd h
+
+pub cause_in_row : (unicode : Bool) (es : List Expr) (i : ℕ) (x : Expr) (error : CompileError) → i < length es → x ≡ get_or es i x
+    → IsClassCause unicode (classes (tree_of x)) error → IsClassCause unicode (row_classes (all_trees es)) error
+cause_in_row unicode es i x error h is cause =
+    cause_more unicode (classes (tree_of x)) (row_classes (all_trees es)) error (λ c there. class_in es i x c h (rw is at there)) cause
+
+-- no tree of a row was walked over
+pub row_none : (translator : Translator) → BuildsRow translator translator [] []
+unfolding row_list group_count classes
+row_none translator = record {
+  unicode = refl;
+  matchers = record { count = omega arith; serve = λ ds s. rw (append-nil ds) s; read = All-nil (IsRead translator.unicode) };
+  sound = tt;
+  groups = λ plain. omega arith;
+  patterns = λ plain groups. refl;
+}
+
+-- one more was
+pub row_step : (before mid after : Translator) (ts : List Tree) (xs : List Re) (t : Tree) (x : Re) → BuildsRow before mid ts xs
+    → after.unicode ≡ mid.unicode → (IsPlain t → after.next_group ≡ mid.next_group + group_count t)
+    → Extends mid.unicode mid.matchers.items after.matchers.items (classes t) → IsSound x
+    → (IsPlain t → (groups : List Tree) → x ≡ re_of mid.unicode groups mid.next_group (length mid.matchers.items) t)
+    → BuildsRow before after (ts ++ t ∷ []) (xs ++ x ∷ [])
+row_step before mid after ts xs t x done unicode groups matchers sound pattern =
+    let more : Extends before.unicode mid.matchers.items after.matchers.items (classes t) = rw done.unicode at matchers in
+    record {
+      unicode = unicode ∙ done.unicode;
+      matchers = rw (classes_more ts t) (extends_both before.unicode _ _ _ (row_classes (trees ts)) (classes t) done.matchers more);
+      sound = sound_more xs x done.sound sound;
+      groups = λ plain. let both = plain_more ts t plain in omega (arith, groups both.1, done.groups both.0, groups_more ts t);
+      patterns = λ plain gs.
+          let both = plain_more ts t plain in
+          ap₂ (λ (ys : List Re) (y : Re). ys ++ y ∷ []) (done.patterns both.0 gs)
+          (pattern both.1 gs
+          ∙ ap (λ b. re_of b gs mid.next_group (length mid.matchers.items) t) done.unicode
+          ∙ ap₂ (λ (a b : ℕ). re_of before.unicode gs a b t) (done.groups both.0) done.matchers.count)
+          ∙ sym (list_more before.unicode gs ts t before.next_group (length before.matchers.items));
+    }
+
+-- the same of the nodes of expressions
+pub nodes_step : (before mid after : Translator) (es : List Expr) (i : ℕ) (e : Expr) (nodes now : List Node) (node : Node) → i < length es
+    → e ≡ get_or es i e → now ≡ nodes ++ node ∷ [] → BuildsRow before mid (map tree_of (take i es)) (shapes nodes)
+    → after.unicode ≡ mid.unicode → (IsPlain (tree_of e) → after.next_group ≡ mid.next_group + group_count (tree_of e))
+    → Extends mid.unicode mid.matchers.items after.matchers.items (classes (tree_of e)) → IsSound (shape node)
+    → (IsPlain (tree_of e) → (groups : List Tree) → shape node ≡ re_of mid.unicode groups mid.next_group (length mid.matchers.items) (tree_of e))
+    → BuildsRow before after (map tree_of (take (i + 1) es)) (shapes now)
+nodes_step before mid after es i e nodes now node h is added done unicode groups matchers sound pattern =
+    rw (trees_more es i e h is, added, map-append shape nodes (node ∷ []))
+    (row_step before mid after (map tree_of (take i es)) (shapes nodes) (tree_of e) (shape node) done unicode groups matchers sound pattern)
+
+-- all of them were
+pub row_whole : (before after : Translator) (es : List Expr) (i : ℕ) (xs : List Re) → length es ≤ i
+    → BuildsRow before after (map tree_of (take i es)) xs → BuildsRow before after (map tree_of es) xs
+row_whole before after es i xs h done = rw (take_all i es h) at done

@@ -1,0 +1,225 @@
+-- What the pattern of a plain tree is: sound, no heavier than the tree, and numbered from its first group on.
+use Rattle.std.proofs.Common.{◌≡◌, ◌≢◌, ℕ, zero, suc, ◌+◌, ◌*◌, ◌-◌, ◌<◌, ◌≤◌, ◌==◌, min, max, Bool, true, false, cond, not, ◌&&◌, ◌||◌, List, length, Option, Some, None, nat_lt, refl, sym, ap, ap₂, ◌∙◌, arith, eq-eqb, ne_eqb, lt-ltb, true≢false}
+use Rattle.std.proofs.Math.Nat.{mul-le-mul_left}
+use Rattle.fancy_regex_tree.specs.Tree.{Tree, Trees, empty, any, assertion, literal, concat, alt, group, repeat, delegate, no_trees, more_trees}
+use Rattle.fancy_regex_meaning.specs.Groups.{group_count}
+use Rattle.fancy_regex_meaning.specs.Sizes.{Size, size_with, concat_size, alternation_size, size, size_through, may_be_empty, unbounded, bound_of, weights, branch_gaps}
+use Rattle.fancy_regex_meaning.specs.Sizes as sizes
+use Rattle.fancy_regex_linear.specs.Re.{Re, nothing, read, test, cat}
+use Rattle.fancy_regex_linear.specs.Re as re
+use Rattle.fancy_regex_linear.specs.Meaning.{is_unbounded}
+use Rattle.fancy_regex_linear.specs.Program.{never_empty, IsSound, weight, repeat_weight}
+use Rattle.fancy_regex_linear.specs.Plain.{IsPlain, ArePlain, test_of, served, has_no_iteration, unless, classes, re_of, row_of, branches_of}
+use Rattle.fancy_regex_states.specs.declared.atom.Test.{Test}
+use Rattle.fancy_regex_linear.proofs.CarryLemmas.{Lacks}
+
+lacks_served : (m : ℕ) (o : Option Test) → Lacks m (served o)
+lacks_served m None = tt
+lacks_served m (Some t) = tt
+
+sound_served : (o : Option Test) → IsSound (served o)
+sound_served None = tt
+sound_served (Some t) = tt
+
+weight_served : (o : Option Test) → weight (served o) ≤ 1
+unfolding weight
+weight_served None = omega arith
+weight_served (Some t) = omega arith
+
+never_served : (o : Option Test) → never_empty (served o) ≡ false
+unfolding never_empty
+never_served None = refl
+never_served (Some t) = refl
+
+-- a repeat that is left out
+out_lacks : (m : ℕ) (b : Bool) (x : Re) → Lacks m x → Lacks m (unless b x)
+out_lacks m true x h = tt
+out_lacks m false x h = h
+
+out_sound : (b : Bool) (x : Re) → IsSound x → IsSound (unless b x)
+out_sound true x h = tt
+out_sound false x h = h
+
+out_light : (b : Bool) (x : Re) (n : ℕ) → weight x ≤ n → weight (unless b x) ≤ n
+unfolding weight
+out_light true x n h = omega arith
+out_light false x n h = h
+
+-- a repeat without rounds is never sure to move
+out_moves : (lo hi : ℕ) (greedy strict : Bool) (x : Re) → never_empty (unless (has_no_iteration lo hi) (re.repeat lo hi greedy strict x)) ≡ (nat_lt 0 lo && never_empty x)
+unfolding never_empty
+out_moves zero zero greedy strict x = refl
+out_moves zero (suc hi) greedy strict x = rw (ne_eqb (suc hi) 0 (omega arith)) refl
+out_moves (suc lo) hi greedy strict x = rw (ne_eqb (suc lo) 0 (omega arith)) refl
+
+module _ (unicode : Bool) (groups : List Tree) where
+  mutual
+    unfolding re_of
+
+    -- groups before the first are not in it
+    pub lacks : (m n k : ℕ) (t : Tree) → m < n → Lacks m (re_of unicode groups n k t)
+    lacks m n k empty h = tt
+    lacks m n k (any newline crlf) h = tt
+    lacks m n k (literal val casei) h = tt
+    lacks m n k (delegate class casei) h = tt
+    lacks m n k (assertion a) h = lacks_served m (test_of a)
+    lacks m n k (concat ts) h = row_lacks m n k ts h
+    lacks m n k (alt ts) h = branches_lack m n k ts h
+    lacks m n k (group t) h = (λ e. omega arith, lacks m (n + 1) k t (omega arith))
+    lacks m n k (repeat t lo hi greedy) h = out_lacks m (has_no_iteration lo hi) _ (lacks m n k t h)
+    lacks m n k _ h = tt
+
+    row_lacks : (m n k : ℕ) (ts : Trees) → m < n → Lacks m (row_of unicode groups n k ts)
+    row_lacks m n k no_trees h = tt
+    row_lacks m n k (more_trees t ts) h = (lacks m n k t h, row_lacks m _ _ ts (omega arith))
+
+    branches_lack : (m n k : ℕ) (ts : Trees) → m < n → Lacks m (branches_of unicode groups n k ts)
+    branches_lack m n k no_trees h = tt
+    branches_lack m n k (more_trees t no_trees) h = lacks m n k t h
+    branches_lack m n k (more_trees t (more_trees u us)) h = (lacks m n k t h, branches_lack m _ _ (more_trees u us) (omega arith))
+
+-- when a sum, a least and a product that stop at a bound are zero
+above_zero : (n : ℕ) → (suc n == 0) ≡ false
+above_zero n = ne_eqb (suc n) 0 (omega arith)
+
+sum_zero : (a b : ℕ) → (min unbounded (a + b) == 0) ≡ ((a == 0) && (b == 0))
+sum_zero zero zero = refl
+sum_zero zero (suc b) = ne_eqb _ 0 (omega arith) ∙ sym (above_zero b)
+sum_zero (suc a) b = ne_eqb _ 0 (omega arith) ∙ sym (ap (λ x. x && (b == 0)) (above_zero a))
+
+least_zero : (a b : ℕ) → (min a b == 0) ≡ ((a == 0) || (b == 0))
+least_zero zero b = eq-eqb _ 0 (omega arith)
+least_zero (suc a) zero = eq-eqb _ 0 (omega arith) ∙ sym (ap (λ x. x || true) (above_zero a))
+least_zero (suc a) (suc b) = ne_eqb _ 0 (omega arith) ∙ sym (ap₂ ◌||◌ (above_zero a) (above_zero b))
+
+product_zero : (a b : ℕ) → (min unbounded (a * b) == 0) ≡ ((a == 0) || (b == 0))
+product_zero zero b = eq-eqb _ 0 (omega arith)
+product_zero (suc a) zero = eq-eqb _ 0 (omega arith) ∙ sym (ap (λ x. x || true) (above_zero a))
+product_zero (suc a) (suc b) = ne_eqb _ 0 (omega arith) ∙ sym (ap₂ ◌||◌ (above_zero a) (above_zero b))
+
+not_or : (a b : Bool) → (not a && not b) ≡ not (a || b)
+not_or true b = refl
+not_or false b = refl
+
+not_and : (a b : Bool) → (not a || not b) ≡ not (a && b)
+not_and true b = refl
+not_and false b = refl
+
+zero_test : (n : ℕ) → (n == 0) ≡ not (nat_lt 0 n)
+zero_test zero = refl
+zero_test (suc n) = ne_eqb (suc n) 0 (omega arith) ∙ sym (ap not (lt-ltb 0 (suc n) (omega arith)))
+
+module _ (unicode : Bool) (groups : List Tree) (call : ℕ → Size) where
+  mutual
+    unfolding re_of size_with never_empty
+
+    -- a plain tree may be empty exactly where its pattern may
+    empties : (n k : ℕ) (t : Tree) → IsPlain t → ((size_with call t).least == 0) ≡ not (never_empty (re_of unicode groups n k t))
+    empties n k empty p = refl
+    empties n k (any newline crlf) p = refl
+    empties n k (literal val casei) p = refl
+    empties n k (delegate class casei) p = refl
+    empties n k (assertion a) p = sym (ap not (never_served (test_of a)))
+    empties n k (concat ts) p = row_empties n k ts p
+    empties n k (alt ts) p = branch_empties n k ts p.0 p.1
+    empties n k (group t) p = empties (n + 1) k t p
+    empties n k (repeat t lo hi greedy) p =
+        product_zero lo (size_with call t).least ∙ ap₂ ◌||◌ (zero_test lo) (empties n k t p) ∙ not_and (nat_lt 0 lo) _ ∙ sym (ap not (out_moves lo hi greedy _ _))
+    empties n k _ p = absurd p
+
+    row_empties : (n k : ℕ) (ts : Trees) → ArePlain ts → ((concat_size call ts).least == 0) ≡ not (never_empty (row_of unicode groups n k ts))
+    row_empties n k no_trees p = refl
+    row_empties n k (more_trees t ts) p =
+        sum_zero (size_with call t).least (concat_size call ts).least ∙ ap₂ ◌&&◌ (empties n k t p.0) (row_empties _ _ ts p.1) ∙ not_or _ _
+
+    branch_empties : (n k : ℕ) (ts : Trees) → (ts ≢ no_trees) → ArePlain ts → ((alternation_size call ts).least == 0) ≡ not (never_empty (branches_of unicode groups n k ts))
+    branch_empties n k no_trees some p = absurd (some refl)
+    branch_empties n k (more_trees t no_trees) some p = empties n k t p.0
+    branch_empties n k (more_trees t (more_trees u us)) some p =
+        least_zero (size_with call t).least (alternation_size call (more_trees u us)).least
+        ∙ ap₂ ◌||◌ (empties n k t p.0) (branch_empties _ _ (more_trees u us) (λ e. cc) p.1) ∙ not_and _ _
+
+not_twice : (b : Bool) → not (not b) ≡ b
+not_twice true = refl
+not_twice false = refl
+
+not_not : (b c : Bool) → b ≡ not c → not b ≡ true → c ≡ true
+not_not true c e h = absurd (true≢false (sym h))
+not_not false true e h = refl
+not_not false false e h = absurd (true≢false (sym e))
+
+module _ (unicode : Bool) (groups : List Tree) where
+  empties_through : (m n k : ℕ) (t : Tree) → IsPlain t → ((size_through groups m t).least == 0) ≡ not (never_empty (re_of unicode groups n k t))
+  unfolding size_through
+  empties_through zero n k t p = empties unicode groups _ n k t p
+  empties_through (suc m) n k t p = empties unicode groups _ n k t p
+
+  -- the body of a repeat that may not be empty never is
+  never : (n k : ℕ) (t : Tree) → IsPlain t → not (may_be_empty groups t) ≡ true → never_empty (re_of unicode groups n k t) ≡ true
+  unfolding size
+  never n k t p h = not_not _ _ (empties_through (length groups) n k t p) h
+
+  -- and one that may not be is never empty
+  pub flag_is : (n k : ℕ) (t : Tree) → IsPlain t → not (may_be_empty groups t) ≡ never_empty (re_of unicode groups n k t)
+  unfolding size
+  flag_is n k t p = ap not (empties_through (length groups) n k t p) ∙ not_twice _
+
+  mutual
+    unfolding re_of
+
+    pub sound : (n k : ℕ) (t : Tree) → IsPlain t → IsSound (re_of unicode groups n k t)
+    sound n k empty p = tt
+    sound n k (any newline crlf) p = tt
+    sound n k (literal val casei) p = tt
+    sound n k (delegate class casei) p = tt
+    sound n k (assertion a) p = sound_served (test_of a)
+    sound n k (concat ts) p = row_sound n k ts p
+    sound n k (alt ts) p = branches_sound n k ts p.1
+    sound n k (group t) p = sound (n + 1) k t p
+    sound n k (repeat t lo hi greedy) p = out_sound (has_no_iteration lo hi) _ (never n k t p, sound n k t p)
+    sound n k _ p = absurd p
+
+    row_sound : (n k : ℕ) (ts : Trees) → ArePlain ts → IsSound (row_of unicode groups n k ts)
+    row_sound n k no_trees p = tt
+    row_sound n k (more_trees t ts) p = (sound n k t p.0, row_sound _ _ ts p.1)
+
+    branches_sound : (n k : ℕ) (ts : Trees) → ArePlain ts → IsSound (branches_of unicode groups n k ts)
+    branches_sound n k no_trees p = tt
+    branches_sound n k (more_trees t no_trees) p = sound n k t p.0
+    branches_sound n k (more_trees t (more_trees u us)) p = (sound n k t p.0, branches_sound _ _ (more_trees u us) p.1)
+
+  -- a repeat of what is lighter is lighter
+  lighter : (u b : Bool) (lo hi v w : ℕ) → v ≤ w
+      → repeat_weight u (not b) lo hi v ≤ sizes.repeat_weight groups lo (cond u None (Some hi)) w b
+  unfolding repeat_weight
+  lighter true true lo hi v w h = omega (arith, mul-le-mul_left (lo + 2) h)
+  lighter true false lo hi v w h = omega (arith, mul-le-mul_left (max lo 1) h)
+  lighter false b lo hi v w h =
+      let more : v + 3 ≤ w + 3 = omega arith in
+      omega (arith, mul-le-mul_left lo h, mul-le-mul_left (hi - lo) more)
+
+  mutual
+    unfolding re_of weight sizes.weight
+
+    pub light : (n k : ℕ) (t : Tree) → IsPlain t → weight (re_of unicode groups n k t) ≤ sizes.weight groups t
+    light n k empty p = omega arith
+    light n k (any newline crlf) p = omega arith
+    light n k (literal val casei) p = omega arith
+    light n k (delegate class casei) p = omega arith
+    light n k (assertion a) p = weight_served (test_of a)
+    light n k (concat ts) p = omega (arith, row_light n k ts p)
+    light n k (alt ts) p = branches_light n k ts p.0 p.1
+    light n k (group t) p = omega (arith, light (n + 1) k t p)
+    light n k (repeat t lo hi greedy) p =
+        out_light (has_no_iteration lo hi) _ _ (lighter (is_unbounded hi) (may_be_empty groups t) lo hi _ _ (light n k t p))
+    light n k _ p = absurd p
+
+    row_light : (n k : ℕ) (ts : Trees) → ArePlain ts → weight (row_of unicode groups n k ts) ≤ weights groups ts
+    row_light n k no_trees p = omega arith
+    row_light n k (more_trees t ts) p = omega (arith, light n k t p.0, row_light (n + group_count t) (k + length (classes t)) ts p.1)
+
+    branches_light : (n k : ℕ) (ts : Trees) → (ts ≢ no_trees) → ArePlain ts → weight (branches_of unicode groups n k ts) ≤ weights groups ts + 3 * branch_gaps groups ts
+    branches_light n k no_trees some p = absurd (some refl)
+    branches_light n k (more_trees t no_trees) some p = omega (arith, light n k t p.0)
+    branches_light n k (more_trees t (more_trees u us)) some p =
+        omega (arith, light n k t p.0, branches_light (n + group_count t) (k + length (classes t)) (more_trees u us) (λ e. cc) p.1)

@@ -1,0 +1,262 @@
+-- A start that the table of first characters refuses has no match.
+use Rattle.std.proofs.Common.{◌≡◌, ℕ, zero, suc, ◌+◌, ◌*◌, ◌<◌, ◌≤◌, ◌⊎◌, Bool, true, false, List, length, Option, Some, None, refl, sym, ap, ap₂, subst, ◌∙◌, inl, inr, arith, lt-ltb, IsUtf8, IsCharBoundary}
+use Rattle.std.proofs.lemmas.Bool.{and_left}
+use Rattle.std.proofs.lemmas.Bool.{cond-true}
+use Rattle.std.specs.Char.{len_utf8}
+use Rattle.std.specs.Prelude.{is_none, option_map, unwrap_or, IfSome, slice_index_or}
+use Rattle.std.proofs.Math.Bool.{Bool-set}
+use mathlib.Core.HLevel.{Π_prop, Unit-prop, ⊥_prop}
+use mathlib.Core.Logic.{∥∥₁_elim}
+use Rattle.regex_hir.specs.Text.{char_at, char_before}
+use Rattle.fancy_regex_class.specs.declared.class.CharClassMatcher.{CharClassMatcher}
+use Rattle.fancy_regex_states.specs.First.{state_at, MayHold, Leads, Reaches, here, onward, CannotRead, CannotBegin, CannotGoOn, CannotFollow, IsTableOf}
+use Rattle.fancy_regex_states.specs.declared.atom.Test.{Test}
+use Rattle.fancy_regex_states.specs.declared.atom.Test.TheVariants.{StartText}
+use Rattle.fancy_regex_states.specs.declared.first.FirstChars.{FirstChars}
+use Rattle.fancy_regex_states.specs.declared.rules.Rules.{Rules}
+use Rattle.fancy_regex_states.specs.declared.state.State.{State}
+use Rattle.fancy_regex_states.specs.declared.state.State.TheVariants.{Split, Enter, Leave, Match}
+use Rattle.fancy_regex_states.specs.declared.state.State.TheVariants as S
+use Rattle.fancy_regex_linear.specs.Meaning.{View, reads}
+use Rattle.fancy_regex_linear.specs.Attempt.{Continuation, Trace, write, score, better_trace}
+use Rattle.fancy_regex_linear.specs.CharTests.{Shows}
+use Rattle.fancy_regex_linear.specs.Program.{NamesBelow, visit}
+use Rattle.fancy_regex_linear.specs.Search.{AllAgree, AllFail, Reaches as Attains, Explains, RefusesAscii}
+use Rattle.fancy_regex_linear.specs.Visited.{Has}
+use Rattle.fancy_regex_class.proofs.AdjacentCharLemmas.{boundary_past_ascii}
+use Rattle.fancy_regex_linear.specs.Starts.{LeadsToVisited, LeadsInto, HasRefusedPair}
+use Rattle.fancy_regex_linear.specs.declared.starts.PairAhead.{PairAhead}
+use Rattle.fancy_regex_states.specs.declared.atom.Leaf.{Leaf}
+use Rattle.fancy_regex_linear.specs.declared.visited.Visited.{Visited}
+use Rattle.fancy_regex_linear.specs.declared.search.SearchContext.{SearchContext}
+use Rattle.fancy_regex_linear.proofs.CharTestLemmas.{before_some}
+use Rattle.fancy_regex_linear.proofs.DfsLemmas.{guard_yes, guard_no}
+
+CannotRead-prop : (unicode : Bool) (matchers : List CharClassMatcher) (after : Option ℕ) (state : State) → IsProp (CannotRead unicode matchers after state)
+CannotRead-prop unicode matchers after (S.Read leaf next) = Bool-set _ _
+CannotRead-prop unicode matchers after (S.Look check next) = Unit-prop
+CannotRead-prop unicode matchers after (Split first second) = Unit-prop
+CannotRead-prop unicode matchers after (Enter g next) = Unit-prop
+CannotRead-prop unicode matchers after (Leave g next) = Unit-prop
+CannotRead-prop unicode matchers after Match = ⊥_prop
+
+-- what the states' table says of a character holds
+pub table_says : (unicode : Bool) (matchers : List CharClassMatcher) (states : List State) (entry : ℕ) (after : Option ℕ) (table : FirstChars)
+    → ∥ IfSome (Some table) (IsTableOf unicode matchers states entry) ∥₁ → (IsTableOf unicode matchers states entry table → CannotBegin unicode matchers states entry after)
+    → CannotBegin unicode matchers states entry after
+table_says unicode matchers states entry after table is says =
+    ∥∥₁_elim is (Π_prop λ q. Π_prop λ _. CannotRead-prop unicode matchers after (state_at states q)) says
+
+true_or_false : (b : Bool) → (b ≡ true) ⊎ (b ≡ false)
+true_or_false true = inl refl
+true_or_false false = inr refl
+
+none_saved : (slot i : ℕ) (a : Option Trace) → a ≡ None → write slot i a ≡ None
+none_saved slot i a e = ap (write slot i) e
+
+none_better : (longest : Bool) (a b : Option Trace) → a ≡ None → b ≡ None → better_trace longest a b ≡ None
+none_better longest a b e f = ap₂ (better_trace longest) e f
+
+module _ (view : View) (stop : ℕ) (states : List State) (go : ℕ → Continuation) (matchers : List CharClassMatcher) (rules : Rules) (entry at : ℕ) (before after : Option ℕ)
+    (behind : is_none before ≡ false) (shows : Shows matchers rules view at before after) where
+  -- an assertion that cannot hold behind a character does not hold
+  holds_not : (check : Test) → (view.holds check at ≡ false) ⊎ MayHold check
+  holds_not StartText = inl (shows.holds StartText ∙ and_left _ _ behind)
+  holds_not check = inr tt
+
+  -- what a state that reads comes to, or one that is final
+  abbrev pub ReadFails : ℕ → State → Type 0
+  ReadFails q (S.Read leaf next) = (go q at).answer ≡ None
+  ReadFails q Match = ⊥
+  ReadFails q _ = Unit {0}
+
+  -- a state fails that does not read, where those fail that it leads to
+  one_fails : (n q : ℕ) (state : State) → NamesBelow (length states) state → go q at ≡ visit view stop go state at → (go q at).depth < suc n
+      → ReadFails q state
+      → ((p : ℕ) → Leads state p → p < length states → (go p at).depth < n → (go p at).answer ≡ None)
+      → (go q at).answer ≡ None
+  one_fails n q (S.Read leaf next) names e d fails later = fails
+  one_fails n q (S.Look check next) names e d fails later =
+      elim (true_or_false (view.holds check at)) [
+        | inl is ↦
+            let on = guard_yes (go q at) (go next at) (view.holds check at) e is in
+            elim (holds_not check) [
+              | inl never ↦ guard_no (go q at) (go next at) (view.holds check at) e never
+              | inr may ↦ on.0 ∙ later next (may, refl) names (omega (arith, on.1, d))
+            ]
+        | inr never ↦ guard_no (go q at) (go next at) (view.holds check at) e never
+      ]
+  one_fails n q (Split first second) names e d fails later =
+      let deep : (go q at).depth ≡ (go first at).depth + (go second at).depth + 1 = ap (λ r. r.depth) e in
+      let found : (go q at).answer ≡ better_trace view.longest (go first at).answer (go second at).answer = ap (λ r. r.answer) e in
+      found ∙ none_better view.longest (go first at).answer (go second at).answer (later first (inl refl) names.0 (omega arith)) (later second (inr refl) names.1 (omega arith))
+  one_fails n q (Enter g next) names e d fails later =
+      let deep : (go q at).depth ≡ (go next at).depth + 1 = ap (λ r. r.depth) e in
+      let found : (go q at).answer ≡ write (2 * g) at (go next at).answer = ap (λ r. r.answer) e in
+      found ∙ none_saved (2 * g) at (go next at).answer (later next refl names (omega arith))
+  one_fails n q (Leave g next) names e d fails later =
+      let deep : (go q at).depth ≡ (go next at).depth + 1 = ap (λ r. r.depth) e in
+      let found : (go q at).answer ≡ write (2 * g + 1) at (go next at).answer = ap (λ r. r.answer) e in
+      found ∙ none_saved (2 * g + 1) at (go next at).answer (later next refl names (omega arith))
+  one_fails n q Match names e d fails later = absurd fails
+
+  reached_fails : AllAgree view stop states go → at ≤ stop → ((q : ℕ) → q < length states → Reaches states entry q → ReadFails q (state_at states q))
+      → (n q : ℕ) → q < length states → Reaches states entry q → (go q at).depth < n → (go q at).answer ≡ None
+  reached_fails agree inside fails zero q lt from d = absurd (omega arith)
+  reached_fails agree inside fails (suc n) q lt from d =
+      one_fails n q (state_at states q) (agree q lt).names ((agree q lt).does at inside) d (fails q lt from)
+      (λ p leads low less. reached_fails agree inside fails n p low (onward q p from leads) less)
+
+  -- no match begins at a place where all fail that read
+  pub readers_fail : AllAgree view stop states go → at ≤ stop → entry < length states → ((q : ℕ) → q < length states → Reaches states entry q → ReadFails q (state_at states q))
+      → (go entry at).answer ≡ None
+  readers_fail agree inside low fails =
+      reached_fails agree inside fails ((go entry at).depth + 1) entry low here (omega arith)
+
+  -- what does not read the character fails
+  refused_reader : (q : ℕ) (state : State) → go q at ≡ visit view stop go state at → CannotRead rules.unicode matchers after state → ReadFails q state
+  unfolding reads
+  refused_reader q (S.Read leaf next) e cannot = guard_no (go q at) (go next (view.next at)) (reads view stop leaf at) e (and_left _ _ (shows.has leaf ∙ cannot))
+  refused_reader q (S.Look check next) e cannot = tt
+  refused_reader q (Split first second) e cannot = tt
+  refused_reader q (Enter g next) e cannot = tt
+  refused_reader q (Leave g next) e cannot = tt
+  refused_reader q Match e cannot = cannot
+
+  -- no match begins at a place that is refused
+  pub refused_fails : AllAgree view stop states go → at ≤ stop → entry < length states → CannotBegin rules.unicode matchers states entry after
+      → (go entry at).answer ≡ None
+  refused_fails agree inside low cannot =
+      readers_fail agree inside low (λ q lt from. refused_reader q (state_at states q) ((agree q lt).does at inside) (cannot q from))
+
+-- a state that reads fails where no way goes on behind what it reads
+followed_reader : (view : View) (stop : ℕ) (states : List State) (go : ℕ → Continuation) (matchers : List CharClassMatcher) (rules : Rules) (entry at : ℕ) (before after : Option ℕ)
+    (behind : is_none before ≡ false) (shows : Shows matchers rules view at before after) (two second : Option ℕ) (last : is_none two ≡ false)
+    (further : Shows matchers rules view (view.next at) two second) → AllAgree view stop states go → view.next at ≤ stop → (q : ℕ) (state : State)
+    → NamesBelow (length states) state → go q at ≡ visit view stop go state at → CannotGoOn rules.unicode matchers states second state
+    → ReadFails view stop states go matchers rules entry at before after behind shows q state
+followed_reader view stop states go matchers rules entry at before after behind shows two second last further agree inside q (S.Read leaf next) names e cannot =
+    elim (true_or_false (reads view stop leaf at)) [
+      | inl passes ↦
+          (guard_yes (go q at) (go next (view.next at)) (reads view stop leaf at) e passes).0
+          ∙ refused_fails view stop states go matchers rules next (view.next at) two second last further agree inside names cannot
+      | inr never ↦ guard_no (go q at) (go next (view.next at)) (reads view stop leaf at) e never
+    ]
+followed_reader view stop states go matchers rules entry at before after behind shows two second last further agree inside q (S.Look check next) names e cannot = tt
+followed_reader view stop states go matchers rules entry at before after behind shows two second last further agree inside q (Split one other) names e cannot = tt
+followed_reader view stop states go matchers rules entry at before after behind shows two second last further agree inside q (Enter g next) names e cannot = tt
+followed_reader view stop states go matchers rules entry at before after behind shows two second last further agree inside q (Leave g next) names e cannot = tt
+followed_reader view stop states go matchers rules entry at before after behind shows two second last further agree inside q Match names e cannot = cannot
+
+CannotBegin-prop : (unicode : Bool) (matchers : List CharClassMatcher) (states : List State) (entry : ℕ) (after : Option ℕ) → IsProp (CannotBegin unicode matchers states entry after)
+CannotBegin-prop unicode matchers states entry after = Π_prop λ q. Π_prop λ _. CannotRead-prop unicode matchers after (state_at states q)
+
+CannotGoOn-prop : (unicode : Bool) (matchers : List CharClassMatcher) (states : List State) (after : Option ℕ) (state : State) → IsProp (CannotGoOn unicode matchers states after state)
+CannotGoOn-prop unicode matchers states after (S.Read leaf next) = CannotBegin-prop unicode matchers states next after
+CannotGoOn-prop unicode matchers states after (S.Look check next) = Unit-prop
+CannotGoOn-prop unicode matchers states after (Split first second) = Unit-prop
+CannotGoOn-prop unicode matchers states after (Enter g next) = Unit-prop
+CannotGoOn-prop unicode matchers states after (Leave g next) = Unit-prop
+CannotGoOn-prop unicode matchers states after Match = ⊥_prop
+
+-- what the states' table says of a second character holds
+pub second_says : (unicode : Bool) (matchers : List CharClassMatcher) (states : List State) (entry : ℕ) (after : Option ℕ) (table : FirstChars)
+    → ∥ IfSome (Some table) (IsTableOf unicode matchers states entry) ∥₁ → (IsTableOf unicode matchers states entry table → CannotFollow unicode matchers states entry after)
+    → CannotFollow unicode matchers states entry after
+second_says unicode matchers states entry after table is says =
+    ∥∥₁_elim is (Π_prop λ q. Π_prop λ _. CannotGoOn-prop unicode matchers states after (state_at states q)) says
+
+-- what the marks say of a character holds
+pub marks_say : (unicode : Bool) (matchers : List CharClassMatcher) (states : List State) (entry : ℕ) (marks : List Bool) → ∥ RefusesAscii unicode matchers states entry marks ∥₁
+    → (c : ℕ) → c < 128 → slice_index_or marks c false ≡ true → CannotBegin unicode matchers states entry (Some c)
+marks_say unicode matchers states entry marks is c low marked =
+    ∥∥₁_elim is (Π_prop λ q. Π_prop λ _. CannotRead-prop unicode matchers (Some c) (state_at states q)) (λ refuses. refuses c low marked)
+
+-- no match begins where this character is refused, behind another character of the text
+pub start_fails : (context : SearchContext) (text : List ℕ) (view : View) (go : ℕ → Continuation) → Explains context text view go → IsUtf8 text
+    → (at : ℕ) (after : Option ℕ) → IsCharBoundary text at → 0 < at → at ≤ context.stop → context.entry < length context.states.now → char_at text at ≡ after
+    → CannotBegin context.rules.unicode context.matchers.now context.states.now context.entry after → (go context.entry at).answer ≡ None
+start_fails context text view go explains u at after b some high low is cannot =
+    let before = before_some text at u b some in
+    refused_fails view context.stop context.states.now go context.matchers.now context.rules context.entry at (char_before text at) (char_at text at)
+    (ap is_none before.1) (explains.shows at b) explains.agree high low
+    (subst (CannotBegin context.rules.unicode context.matchers.now context.states.now context.entry) (sym is) cannot)
+
+-- no match begins where the character behind is second in none, behind another character of the text
+pub pair_fails : (context : SearchContext) (text : List ℕ) (view : View) (go : ℕ → Continuation) → Explains context text view go → IsUtf8 text
+    → (at : ℕ) → IsCharBoundary text at → 0 < at → context.entry < length context.states.now → HasRefusedPair context text at → (go context.entry at).answer ≡ None
+pair_fails context text view go explains u at b some low pair =
+    let c : ℕ = pair.first.0 in
+    let long : len_utf8 c ≡ 1 = cond-true _ _ _ (lt-ltb c 0x80 pair.first.1) in
+    let behind : view.next at ≡ at + 1 = (explains.shows at b).next ∙ ap (λ o. at + unwrap_or (option_map len_utf8 o) 1) pair.first.2 ∙ ap (λ n. at + n) long in
+    let bound : IsCharBoundary text (at + 1) = boundary_past_ascii text at c u b pair.first.1 pair.first.2 in
+    let before = before_some text at u b some in
+    let two = before_some text (at + 1) u bound (omega arith) in
+    let high : at ≤ context.stop = omega (arith, pair.inside) in
+    let further : Shows context.matchers.now context.rules view (view.next at) (char_before text (at + 1)) (char_at text (at + 1)) =
+    subst (λ (j : ℕ). Shows context.matchers.now context.rules view j (char_before text (at + 1)) (char_at text (at + 1))) (sym behind) (explains.shows (at + 1) bound) in
+    let cannot : CannotFollow context.rules.unicode context.matchers.now context.states.now context.entry (char_at text (at + 1)) =
+    subst (CannotFollow context.rules.unicode context.matchers.now context.states.now context.entry) (sym pair.second.2) pair.second.3 in
+    readers_fail view context.stop context.states.now go context.matchers.now context.rules context.entry at (char_before text at) (char_at text at)
+    (ap is_none before.1) (explains.shows at b) explains.agree high low
+    (λ q lt from.
+    followed_reader view context.stop context.states.now go context.matchers.now context.rules context.entry at (char_before text at) (char_at text at)
+    (ap is_none before.1) (explains.shows at b) (char_before text (at + 1)) (char_at text (at + 1)) (ap is_none two.1) further explains.agree
+    (subst (λ (j : ℕ). j ≤ context.stop) (sym behind) (omega (arith, pair.inside))) q (state_at context.states.now q) (explains.agree q lt).names
+    ((explains.agree q lt).does at high) (cannot q from))
+
+none_attained : (longest : Bool) (a : Option Trace) → ((r : ℕ) → Attains longest r a → ⊥) → a ≡ None
+none_attained longest None h = refl
+none_attained longest (Some t) h = absurd (h (score longest t.end) (omega arith))
+
+-- a marked pair fails where all do
+all_failed : (longest : Bool) (go : ℕ → Continuation) (Seen : ℕ → ℕ → Type 0) (q i : ℕ) → AllFail longest go Seen → Seen q i → (go q i).answer ≡ None
+all_failed longest go Seen q i failed seen =
+    none_attained longest (go q i).answer (λ r ok. elim (failed q i r seen ok) [ inl good ↦ good | inr below ↦ below ])
+
+-- a state that reads fails where the next one does behind the character
+pub read_into : (context : SearchContext) (q : ℕ) (leaf : Leaf) (next : ℕ) → q < length context.states.now → next < length context.states.now
+    → state_at context.states.now q ≡ S.Read leaf next → LeadsInto context q (record { state = next; past = 1 })
+read_into context q leaf next low below is = record {
+  below = below;
+  past = omega arith;
+  fails = λ text view go explains i high b c small here none.
+      let long : len_utf8 c ≡ 1 = cond-true _ _ _ (lt-ltb c 0x80 small) in
+      let behind : view.next i ≡ i + 1 = (explains.shows i b).next ∙ ap (λ o. i + unwrap_or (option_map len_utf8 o) 1) here ∙ ap (λ n. i + n) long in
+      let does : go q i ≡ visit view context.stop go (S.Read leaf next) i =
+      (explains.agree q low).does i high ∙ ap (λ s. visit view context.stop go s i) is in
+      elim (true_or_false (reads view context.stop leaf i)) [
+        | inl passes ↦
+            (guard_yes (go q i) (go next (view.next i)) (reads view context.stop leaf i) does passes).0
+            ∙ ap (λ j. (go next j).answer) behind
+            ∙ none
+        | inr never ↦ guard_no (go q i) (go next (view.next i)) (reads view context.stop leaf i) does never
+      ];
+}
+
+-- a state leads to itself
+pub stays_into : (context : SearchContext) (q : ℕ) → q < length context.states.now → LeadsInto context q (record { state = q; past = 0 })
+stays_into context q low = record {
+  below = low;
+  past = omega arith;
+  fails = λ text view go explains i high b c small here none. let same : i + 0 ≡ i = omega arith in subst (λ (j : ℕ). (go q j).answer ≡ None) same none;
+}
+
+-- so does the start of a group before it
+pub enters_into : (context : SearchContext) (q g p : ℕ) (pair : PairAhead) → q < length context.states.now → state_at context.states.now q ≡ Enter g p
+    → LeadsInto context p pair → LeadsInto context q pair
+enters_into context q g p pair low is into = record {
+  below = into.below;
+  past = into.past;
+  fails = λ text view go explains i high b c small here none.
+      ap (λ r. r.answer) ((explains.agree q low).does i high ∙ ap (λ s. visit view context.stop go s i) is)
+      ∙ none_saved (2 * g) i (go p i).answer (into.fails text view go explains i high b c small here none);
+}
+
+-- no match begins where the character leads to a pair that was visited, and failed
+pub visited_fails : (context : SearchContext) (text : List ℕ) (view : View) (go : ℕ → Continuation) → Explains context text view go
+    → (visited : Visited) → AllFail view.longest go (Has visited) → (at : ℕ) → IsCharBoundary text at → at ≤ context.stop
+    → LeadsToVisited context text visited at → (go context.entry at).answer ≡ None
+visited_fails context text view go explains visited failed at b high to =
+    to.into.fails text view go explains at high b to.behind.0 to.behind.1 to.behind.2
+    (all_failed view.longest go (Has visited) to.pair.state (at + to.pair.past) failed to.behind.3)

@@ -1,0 +1,30 @@
+-- What each kind of node and of expression is in mathematics.
+use Rattle.std.proofs.Common.{◌≡◌, ℕ, Bool, Vec, Box, Global, sym, ap, ◌∙◌}
+use Rattle.fancy_regex_tree.specs.Tree.{Tree, absent_tree, ast_tree, node_tree, tree_of, concat, alt}
+use Rattle.fancy_regex_tree.specs.declared.expr.Expr.{Expr}
+use Rattle.fancy_regex_tree.specs.declared.expr.Expr.TheVariants as expr
+use Rattle.fancy_regex_tree.specs.declared.expr.Absent.TheOpen.{Expr-F}
+use Rattle.fancy_regex_tree.specs.declared.expr.Absent.TheFolds.{fold-roll-Expr}
+use Rattle.fancy_regex_linear.specs.Re.{Re, repeat, cats, alts, node_shape, shape, shapes}
+use Rattle.fancy_regex_linear.specs.Translation.{all_trees}
+use Rattle.fancy_regex_linear.specs.declared.node.Node.{Node, Node-F, fold-roll-Node}
+use Rattle.fancy_regex_linear.specs.declared.node.Node.TheVariants as node
+
+pub tree_concat : (children : Vec Expr Global) → tree_of (expr.Concat children) ≡ concat (all_trees children.items)
+tree_concat children =
+    ap tree_of (sym (expr.rolls-Concat children)) ∙ fold-roll-Expr Tree (ℕ → Tree) Tree absent_tree ast_tree node_tree (Expr-F.Concat children)
+
+pub tree_alt : (children : Vec Expr Global) → tree_of (expr.Alt children) ≡ alt (all_trees children.items)
+tree_alt children =
+    ap tree_of (sym (expr.rolls-Alt children)) ∙ fold-roll-Expr Tree (ℕ → Tree) Tree absent_tree ast_tree node_tree (Expr-F.Alt children)
+
+pub shape_concat : (parts : Vec Node Global) → shape (node.Concat parts) ≡ cats (shapes parts.items)
+shape_concat parts = ap shape (sym (node.rolls-Concat parts)) ∙ fold-roll-Node Re node_shape (Node-F.Concat parts)
+
+pub shape_alt : (parts : Vec Node Global) → shape (node.Alt parts) ≡ alts (shapes parts.items)
+shape_alt parts = ap shape (sym (node.rolls-Alt parts)) ∙ fold-roll-Node Re node_shape (Node-F.Alt parts)
+
+pub shape_repeat : (body : Box Node Global) (lo hi : ℕ) (greedy moves : Bool)
+    → shape (node.Repeat body lo hi greedy moves) ≡ repeat lo hi greedy moves (shape body.value)
+shape_repeat body lo hi greedy moves =
+    ap shape (sym (node.rolls-Repeat body lo hi greedy moves)) ∙ fold-roll-Node Re node_shape (Node-F.Repeat body lo hi greedy moves)

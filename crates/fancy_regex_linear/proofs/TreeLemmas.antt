@@ -1,0 +1,230 @@
+-- The states of a tree do what trying it does.
+use Rattle.std.proofs.Common.{◌≡◌, ℕ, ◌+◌, ◌*◌, ◌<◌, List, length, refl, sym, ap, ap₂, ◌∙◌, inr, ⊎_elim, arith}
+use Rattle.std.proofs.lemmas.Bool.{cases_lt}
+use Rattle.fancy_regex_linear.specs.Meaning.{View, is_unbounded}
+use Rattle.fancy_regex_linear.specs.Attempt.{AttemptResult, Continuation, guard, either, save, pick, attempt}
+use Rattle.fancy_regex_linear.specs.Program.{IsSound, push, emitted, emitted_both, emitted_both_group, AgreeBut}
+use Rattle.fancy_regex_linear.specs.Re.{Re, nothing, read, test, cat, alt, group, repeat}
+use Rattle.fancy_regex_states.specs.declared.state.State.{State}
+use Rattle.fancy_regex_states.specs.declared.state.State.TheVariants.{Split, Enter, Leave, Match}
+use Rattle.fancy_regex_states.specs.declared.state.State.TheVariants as S
+use Rattle.fancy_regex_linear.proofs.AgreeLemmas.{guard_cong, reads_below, pick_same, pick_moved, attempt_agree, attempt_moves}
+use Rattle.fancy_regex_linear.proofs.EmitLemmas.{length-push, push_done, Done}
+use Rattle.fancy_regex_linear.proofs.RepeatLemmas.{Emits, EmitsTwo, seq_done, seq_two_done, repeat_done, repeat_two_done}
+
+module _ (view : View) (stop : ℕ) where
+  -- a tree from i, where nothing was moved yet
+  abbrev pub fresh : Re → Continuation → Continuation → Continuation
+  fresh t same moved i = attempt view stop t (pick i same moved) i
+
+  abbrev EmitsBoth : Re → Type 1
+  EmitsBoth t = EmitsTwo view stop (emitted_both t) (attempt view stop t)
+
+  pub emit_done : ((t : Re) → IsSound t → EmitsBoth t) → (t : Re) → IsSound t → Emits view stop (emitted t) (attempt view stop t)
+  unfolding emitted attempt
+  emit_done both nothing sound Open states go next before inside = record {
+    next_go = go;
+    kept = λ q h. refl;
+    longer = omega arith;
+    agree = before;
+    entry = inside;
+    means = λ i b. refl;
+  }
+  emit_done both (read leaf) sound Open states go next before inside =
+      let p = push_done view stop Open states go (S.Read leaf next) (attempt view stop (read leaf) (go next)) before (inr (inside, λ i b. refl)) in
+      let len = length-push states (S.Read leaf next) in
+      record { next_go = p.next_go; kept = p.kept; longer = omega arith; agree = p.agree; entry = omega arith; means = λ i b. ap (λ f. f i) p.here }
+  emit_done both (test check) sound Open states go next before inside =
+      let p = push_done view stop Open states go (S.Look check next) (attempt view stop (test check) (go next)) before (inr (inside, λ i b. refl)) in
+      let len = length-push states (S.Look check next) in
+      record { next_go = p.next_go; kept = p.kept; longer = omega arith; agree = p.agree; entry = omega arith; means = λ i b. ap (λ f. f i) p.here }
+  emit_done both (cat a b) sound Open states go next before inside =
+      seq_done view stop (emitted a) (emitted b) (attempt view stop a) (attempt view stop b) (attempt_agree view stop a) (emit_done both a sound.0) (emit_done both b sound.1)
+      Open states go next before inside
+  emit_done both (alt a b) sound Open states go next before inside =
+      let d = emit_done both b sound.1 Open states go next before inside in
+      let second = emitted b states next in
+      let e = emit_done both a sound.0 Open second.0 d.next_go next d.agree (omega (arith, d.longer)) in
+      let first = emitted a second.0 next in
+      let state : State = Split first.1 second.1 in
+      let p = push_done view stop Open first.0 e.next_go state (attempt view stop (alt a b) (go next)) e.agree
+      (inr (
+        (e.entry, omega (arith, d.entry, e.longer)),
+        λ i h.
+            ap₂ (either view.longest)
+            (ap (λ k. attempt view stop a k i) (sym (d.kept next inside)) ∙ sym (e.means i h))
+            (sym (d.means i h) ∙ ap (λ f. f i) (sym (e.kept second.1 d.entry))),
+      )) in
+      let len = length-push first.0 state in
+      record {
+        next_go = p.next_go;
+        kept = λ q h. p.kept q (omega (arith, d.longer, e.longer)) ∙ e.kept q (omega (arith, d.longer)) ∙ d.kept q h;
+        longer = omega (arith, d.longer, e.longer);
+        agree = p.agree;
+        entry = omega arith;
+        means = λ i h. ap (λ f. f i) p.here;
+      }
+  emit_done both (group g a) sound Open states go next before inside =
+      let close : State = Leave g next in
+      let c = push_done view stop Open states go close (λ j. save (2 * g + 1) j (go next j)) before (inr (inside, λ i b. refl)) in
+      let clen = length-push states close in
+      let d = emit_done both a sound Open (push states close) c.next_go (length states) c.agree (omega arith) in
+      let body = emitted a (push states close) (length states) in
+      let open_state : State = Enter g body.1 in
+      let p = push_done view stop Open body.0 d.next_go open_state (attempt view stop (group g a) (go next)) d.agree
+      (inr (d.entry, λ i h. ap (save (2 * g) i) (ap (λ k. attempt view stop a k i) (sym c.here) ∙ sym (d.means i h)))) in
+      let len = length-push body.0 open_state in
+      record {
+        next_go = p.next_go;
+        kept = λ q h. p.kept q (omega (arith, d.longer)) ∙ d.kept q (omega arith) ∙ c.kept q h;
+        longer = omega (arith, d.longer);
+        agree = p.agree;
+        entry = omega arith;
+        means = λ i h. ap (λ f. f i) p.here;
+      }
+  emit_done both (repeat lo hi greedy strict a) sound Open states go next before inside =
+      repeat_done view stop (emitted a) (emitted_both a) (attempt view stop a) (attempt_agree view stop a) (emit_done both a sound.1) (both a sound.1)
+      (is_unbounded hi) strict (λ e. attempt_moves view stop a (sound.0 e)) lo hi greedy Open states go next before inside
+
+  -- what follows is applied on both sides of a pick
+  pick_map : (f : ℕ → AttemptResult → AttemptResult) (i : ℕ) (same moved same2 moved2 : Continuation) (j : ℕ) → same2 j ≡ f j (same j) → moved2 j ≡ f j (moved j)
+      → pick i same2 moved2 j ≡ f j (pick i same moved j)
+  pick_map f i same moved same2 moved2 j e m =
+      ⊎_elim
+      (λ lt. pick_moved i same2 moved2 j lt ∙ m ∙ ap (f j) (sym (pick_moved i same moved j lt)))
+      (λ ge. pick_same i same2 moved2 j ge ∙ e ∙ ap (f j) (sym (pick_same i same moved j ge)))
+      (cases_lt i j)
+
+  pub emit_both_done : (t : Re) → IsSound t → EmitsBoth t
+  unfolding emitted_both emitted_both_group attempt
+  emit_both_done nothing sound Open states go same moved before a_in b_in = record {
+    next_go = go;
+    kept = λ q h. refl;
+    longer = omega arith;
+    agree = before;
+    same_in = a_in;
+    moved_in = b_in;
+    same_means = λ i h. sym (pick_same i (go same) (go moved) i (omega arith));
+    moved_means = λ i h. refl;
+  }
+  emit_both_done (read leaf) sound Open states go same moved before a_in b_in =
+      let p = push_done view stop Open states go (S.Read leaf moved) (attempt view stop (read leaf) (go moved)) before (inr (b_in, λ i b. refl)) in
+      let len = length-push states (S.Read leaf moved) in
+      record {
+        next_go = p.next_go;
+        kept = p.kept;
+        longer = omega arith;
+        agree = p.agree;
+        same_in = omega arith;
+        moved_in = omega arith;
+        same_means = λ i h. ap (λ f. f i) p.here ∙ guard_cong _ _ _ (λ e. sym (pick_moved i (go same) (go moved) (view.next i) (reads_below view stop leaf i e).0));
+        moved_means = λ i h. ap (λ f. f i) p.here;
+      }
+  emit_both_done (test check) sound Open states go same moved before a_in b_in =
+      let one : State = S.Look check same in
+      let two : State = S.Look check moved in
+      let p = push_done view stop Open states go one (attempt view stop (test check) (go same)) before (inr (a_in, λ i b. refl)) in
+      let len = length-push states one in
+      let q = push_done view stop Open (push states one) p.next_go two (attempt view stop (test check) (go moved)) p.agree
+      (inr (omega arith, λ i b. ap (λ f. guard (view.holds check i) (f i)) (sym (p.kept moved b_in)))) in
+      let len2 = length-push (push states one) two in
+      record {
+        next_go = q.next_go;
+        kept = λ r h. q.kept r (omega arith) ∙ p.kept r h;
+        longer = omega arith;
+        agree = q.agree;
+        same_in = omega arith;
+        moved_in = omega arith;
+        same_means = λ i h. ap (λ f. f i) (q.kept (length states) (omega arith) ∙ p.here)
+            ∙ ap (guard (view.holds check i)) (sym (pick_same i (go same) (go moved) i (omega arith)));
+        moved_means = λ i h. ap (λ f. f i) q.here;
+      }
+  emit_both_done (cat a b) sound Open states go same moved before a_in b_in =
+      seq_two_done view stop (emitted_both a) (emitted_both b) (attempt view stop a) (attempt view stop b) (attempt_agree view stop a) (attempt_agree view stop b)
+      (emit_both_done a sound.0) (emit_both_done b sound.1) Open states go same moved before a_in b_in
+  emit_both_done (alt a b) sound Open states go same moved before a_in b_in =
+      let d = emit_both_done b sound.1 Open states go same moved before a_in b_in in
+      let second = emitted_both b states same moved in
+      let e = emit_both_done a sound.0 Open second.0 d.next_go same moved d.agree (omega (arith, d.longer)) (omega (arith, d.longer)) in
+      let first = emitted_both a second.0 same moved in
+      let one : State = Split first.1 second.1 in
+      let two : State = Split first.2 second.2 in
+      let p = push_done view stop Open first.0 e.next_go one (fresh (alt a b) (go same) (go moved)) e.agree
+      (inr (
+        (e.same_in, omega (arith, d.same_in, e.longer)),
+        λ i h.
+            ap₂ (either view.longest)
+            (ap₂ (λ k l. fresh a k l i) (sym (d.kept same a_in)) (sym (d.kept moved b_in)) ∙ sym (e.same_means i h))
+            (sym (d.same_means i h) ∙ ap (λ f. f i) (sym (e.kept second.1 d.same_in))),
+      )) in
+      let len = length-push first.0 one in
+      let q = push_done view stop Open (push first.0 one) p.next_go two (attempt view stop (alt a b) (go moved)) p.agree
+      (inr (
+        (omega (arith, e.moved_in), omega (arith, d.moved_in, e.longer)),
+        λ i h.
+            ap₂ (either view.longest)
+            (ap (λ k. attempt view stop a k i) (sym (d.kept moved b_in)) ∙ sym (e.moved_means i h) ∙ ap (λ f. f i) (sym (p.kept first.2 e.moved_in)))
+            (sym (d.moved_means i h) ∙ ap (λ f. f i) (sym (p.kept second.2 (omega (arith, d.moved_in, e.longer)) ∙ e.kept second.2 d.moved_in))),
+      )) in
+      let len2 = length-push (push first.0 one) two in
+      record {
+        next_go = q.next_go;
+        kept = λ r h. q.kept r (omega (arith, d.longer, e.longer)) ∙ p.kept r (omega (arith, d.longer, e.longer)) ∙ e.kept r (omega (arith, d.longer)) ∙ d.kept r h;
+        longer = omega (arith, d.longer, e.longer);
+        agree = q.agree;
+        same_in = omega arith;
+        moved_in = omega arith;
+        same_means = λ i h. ap (λ f. f i) (q.kept (length first.0) (omega arith) ∙ p.here);
+        moved_means = λ i h. ap (λ f. f i) q.here;
+      }
+  emit_both_done (group g a) sound Open states go same moved before a_in b_in =
+      let s1 : State = Leave g same in
+      let s2 : State = Leave g moved in
+      let c1 = push_done view stop Open states go s1 (λ j. save (2 * g + 1) j (go same j)) before (inr (a_in, λ i b. refl)) in
+      let l1 = length-push states s1 in
+      let one = push states s1 in
+      let c2 = push_done view stop Open one c1.next_go s2 (λ j. save (2 * g + 1) j (go moved j)) c1.agree
+      (inr (omega arith, λ i b. ap (λ f. save (2 * g + 1) i (f i)) (sym (c1.kept moved b_in)))) in
+      let l2 = length-push one s2 in
+      let two = push one s2 in
+      let d = emit_both_done a sound Open two c2.next_go (length states) (length one) c2.agree (omega arith) (omega arith) in
+      let body = emitted_both a two (length states) (length one) in
+      let at_same : c2.next_go (length states) ≡ (λ j. save (2 * g + 1) j (go same j)) = c2.kept (length states) (omega arith) ∙ c1.here in
+      let s3 : State = Enter g body.1 in
+      let s4 : State = Enter g body.2 in
+      let p = push_done view stop Open body.0 d.next_go s3 (fresh (group g a) (go same) (go moved)) d.agree
+      (inr (
+        d.same_in,
+        λ i h. ap (save (2 * g) i)
+            (attempt_agree view stop a _ _ i h (λ j c k. sym (pick_map (λ r v. save (2 * g + 1) r v) i (go same) (go moved) _ _ j
+            (ap (λ f. f j) at_same) (ap (λ f. f j) c2.here)))
+            ∙ sym (d.same_means i h)),
+      )) in
+      let l3 = length-push body.0 s3 in
+      let three = push body.0 s3 in
+      let q = push_done view stop Open three p.next_go s4 (attempt view stop (group g a) (go moved)) p.agree
+      (inr (
+        omega (arith, d.moved_in),
+        λ i h. ap (save (2 * g) i)
+            (ap (λ k. attempt view stop a k i) (sym c2.here) ∙ sym (d.moved_means i h) ∙ ap (λ f. f i) (sym (p.kept body.2 d.moved_in))),
+      )) in
+      let l4 = length-push three s4 in
+      record {
+        next_go = q.next_go;
+        kept = λ r h. q.kept r (omega (arith, d.longer)) ∙ p.kept r (omega (arith, d.longer)) ∙ d.kept r (omega arith) ∙ c2.kept r (omega arith) ∙ c1.kept r h;
+        longer = omega (arith, d.longer);
+        agree = q.agree;
+        same_in = omega arith;
+        moved_in = omega arith;
+        same_means = λ i h. ap (λ f. f i) (q.kept (length body.0) (omega arith) ∙ p.here);
+        moved_means = λ i h. ap (λ f. f i) q.here;
+      }
+  emit_both_done (repeat lo hi greedy strict a) sound Open states go same moved before a_in b_in =
+      repeat_two_done view stop (emitted_both a) (attempt view stop a) (attempt_agree view stop a) (emit_both_done a sound.1)
+      (is_unbounded hi) strict (λ e. attempt_moves view stop a (sound.0 e)) lo hi greedy Open states go same moved before a_in b_in
+
+  -- the states of a tree, with nothing open
+  pub emit_means : (t : Re) → IsSound t → (states : List State) (go : ℕ → Continuation) (next : ℕ)
+      → AgreeBut view stop (λ _. ⊥) states go → next < length states
+      → Done view stop (λ _. ⊥) states go (emitted t states next) (attempt view stop t (go next))
+  emit_means t sound states go next before inside = emit_done emit_both_done t sound (λ _. ⊥) states go next before inside

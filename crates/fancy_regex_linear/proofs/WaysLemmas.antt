@@ -1,0 +1,187 @@
+-- Trying a tree finds the first of its ways from which the rest goes on.
+use Rattle.std.proofs.Common.{◌≡◌, ℕ, zero, suc, ◌+◌, ◌*◌, ◌-◌, ◌<◌, ◌≤◌, Bool, true, false, List, [], ◌∷◌, ◌++◌, map, Option, Some, None, if◌then◌else◌, nat_lt, arith, set, refl, sym, ap, ap₂, ◌∙◌, ⊎_elim, lt-ltb, le-ltb}
+use Rattle.std.proofs.lemmas.Bool.{cases_lt}
+use Rattle.fancy_regex_linear.specs.Meaning.{Spot, View, each, in_order, after_round, loop_ways, times_ways, upto_ways, tail_ways, is_unbounded, reads, ways}
+use Rattle.fancy_regex_linear.specs.Attempt.{apply, land}
+use Rattle.fancy_regex_linear.specs.Attempt.{Trace, AttemptResult, Continuation, score, better, better_trace, better_spot, failed, guard, write, save, prefer, pick, rounds, times_try, upto_try, tail_try, attempt}
+use Rattle.fancy_regex_linear.specs.Re.{Re, nothing, read, test, cat, alt, group, repeat}
+use Rattle.fancy_regex_linear.proofs.AgreeLemmas.{pick_same, pick_moved}
+
+pub better-None : {A : Type 0} (rank : A → ℕ) (a : Option A) → better rank a None ≡ a
+better-None rank None = refl
+better-None rank (Some x) = refl
+
+-- the one that stays
+pub better_stays : {A : Type 0} (rank : A → ℕ) (x y : A) → rank y ≤ rank x → better rank (Some x) (Some y) ≡ Some x
+better_stays rank x y h = ap (λ t. if t then Some y else Some x) (le-ltb (rank x) (rank y) h)
+
+-- the one that gives way
+pub better_goes : {A : Type 0} (rank : A → ℕ) (x y : A) → rank x < rank y → better rank (Some x) (Some y) ≡ Some y
+better_goes rank x y h = ap (λ t. if t then Some y else Some x) (lt-ltb (rank x) (rank y) h)
+
+some_assoc : {A : Type 0} (rank : A → ℕ) (x y z : A)
+    → better rank (better rank (Some x) (Some y)) (Some z) ≡ better rank (Some x) (better rank (Some y) (Some z))
+some_assoc rank x y z =
+    ⊎_elim
+    (λ (xy : rank x < rank y).
+    ap (λ o. better rank o (Some z)) (better_goes rank x y xy)
+    ∙ ⊎_elim
+    (λ (yz : rank y < rank z).
+    better_goes rank y z yz ∙ sym (ap (better rank (Some x)) (better_goes rank y z yz) ∙ better_goes rank x z (omega arith)))
+    (λ (zy : rank z ≤ rank y).
+    better_stays rank y z zy ∙ sym (ap (better rank (Some x)) (better_stays rank y z zy) ∙ better_goes rank x y xy))
+    (cases_lt (rank y) (rank z)))
+    (λ (yx : rank y ≤ rank x).
+    ap (λ o. better rank o (Some z)) (better_stays rank x y yx)
+    ∙ ⊎_elim
+    (λ (yz : rank y < rank z). sym (ap (better rank (Some x)) (better_goes rank y z yz)))
+    (λ (zy : rank z ≤ rank y).
+    better_stays rank x z (omega arith) ∙ sym (ap (better rank (Some x)) (better_stays rank y z zy) ∙ better_stays rank x y yx))
+    (cases_lt (rank y) (rank z)))
+    (cases_lt (rank x) (rank y))
+
+pub better_assoc : {A : Type 0} (rank : A → ℕ) (a b c : Option A) → better rank (better rank a b) c ≡ better rank a (better rank b c)
+better_assoc rank None b c = refl
+better_assoc rank (Some x) None c = refl
+better_assoc rank (Some x) (Some y) None = better-None rank (better rank (Some x) (Some y))
+better_assoc rank (Some x) (Some y) (Some z) = some_assoc rank x y z
+
+if_land : (slots : List ℕ) (test : Bool) (s t : Trace) → land slots (if test then Some s else Some t) ≡ (if test then land slots (Some s) else land slots (Some t))
+if_land slots true s t = refl
+if_land slots false s t = refl
+
+pub land_better : (longest : Bool) (slots : List ℕ) (a b : Option Trace)
+    → land slots (better_trace longest a b) ≡ better_spot longest (land slots a) (land slots b)
+unfolding land
+land_better longest slots None b = refl
+land_better longest slots (Some s) None = refl
+land_better longest slots (Some s) (Some t) = if_land slots (nat_lt (score longest s.end) (score longest t.end)) t s
+
+pub land_write : (slots : List ℕ) (slot i : ℕ) (o : Option Trace) → land slots (write slot i o) ≡ land (set slots slot i) o
+unfolding land apply
+land_write slots slot i None = refl
+land_write slots slot i (Some t) = refl
+
+-- where the rest goes from a way
+abbrev pub onward : Continuation → Spot → Option Spot
+onward k w = land w.slots (k w.at).answer
+
+module _ (longest : Bool) where
+  -- what is best of where f leads from these
+  unfoldable pub best_from : (Spot → Option Spot) → List Spot → Option Spot
+  best_from f [] = None
+  best_from f (w ∷ ws) = better_spot longest (f w) (best_from f ws)
+
+  first_cong : (f g : Spot → Option Spot) (ws : List Spot) → ((w : Spot) → f w ≡ g w) → best_from f ws ≡ best_from g ws
+  unfolding best_from
+  first_cong f g [] h = refl
+  first_cong f g (w ∷ ws) h = ap₂ (better_spot longest) (h w) (first_cong f g ws h)
+
+  first_append : (f : Spot → Option Spot) (us ws : List Spot) → best_from f (us ++ ws) ≡ better_spot longest (best_from f us) (best_from f ws)
+  unfolding best_from
+  first_append f [] ws = refl
+  first_append f (u ∷ us) ws = ap (better_spot longest (f u)) (first_append f us ws) ∙ sym (better_assoc (λ s. score longest s.at) (f u) _ _)
+
+  first_each : (f : Spot → Option Spot) (g : Spot → List Spot) (ws : List Spot) → best_from f (each g ws) ≡ best_from (λ w. best_from f (g w)) ws
+  unfolding best_from
+  first_each f g [] = refl
+  first_each f g (w ∷ ws) = first_append f (g w) (each g ws) ∙ ap (better_spot longest (best_from f (g w))) (first_each f g ws)
+
+  first_map : (f : Spot → Option Spot) (g : Spot → Spot) (ws : List Spot) → best_from f (map g ws) ≡ best_from (λ w. f (g w)) ws
+  unfolding best_from
+  first_map f g [] = refl
+  first_map f g (w ∷ ws) = ap (better_spot longest (f (g w))) (first_map f g ws)
+
+  first_one : (f : Spot → Option Spot) (w : Spot) → best_from f (w ∷ []) ≡ f w
+  unfolding best_from
+  first_one f w = better-None (λ s. score longest s.at) (f w)
+
+  first_guard : (f : Spot → Option Spot) (b : Bool) (w : Spot) (slots : List ℕ) (r : AttemptResult) → f w ≡ land slots r.answer
+      → land slots (guard b r).answer ≡ best_from f (if b then w ∷ [] else [])
+  unfolding best_from land
+  first_guard f true w slots r h = sym (better-None (λ s. score longest s.at) (f w) ∙ h)
+  first_guard f false w slots r h = refl
+
+  -- a try finds the first of these ways from which the rest goes on
+  abbrev pub Lists : (Continuation → Continuation) → (Spot → List Spot) → Type 0
+  Lists body list = (k : Continuation) (s : Spot) → land s.slots (body k s.at).answer ≡ best_from (onward k) (list s)
+
+  one_round : (again : Continuation) (list : Spot → List Spot) (k : Continuation) (s : Spot) → ((w : Spot) → land w.slots (again w.at).answer ≡ best_from (onward k) (list w))
+      → (w : Spot) → onward (pick s.at k again) w ≡ best_from (onward k) (after_round list s w)
+  unfolding after_round
+  one_round again list k s ih w =
+      ⊎_elim
+      (λ (lt : s.at < w.at).
+      ap (λ r. land w.slots r.answer) (pick_moved s.at k again w.at lt) ∙ ih w ∙ (rw (lt-ltb s.at w.at lt)))
+      (λ (ge : w.at ≤ s.at).
+      ap (λ r. land w.slots r.answer) (pick_same s.at k again w.at ge) ∙ (rw (le-ltb s.at w.at ge) (sym (first_one (onward k) w))))
+      (cases_lt s.at w.at)
+
+  rounds_order : (g : Bool) (x y : AttemptResult) (slots : List ℕ) (f : Spot → Option Spot) (us ws : List Spot)
+      → land slots x.answer ≡ best_from f us → land slots y.answer ≡ best_from f ws
+      → land slots (prefer longest g x y).answer ≡ best_from f (in_order g us ws)
+  rounds_order true x y slots f us ws a b = land_better longest slots x.answer y.answer ∙ ap₂ (better_spot longest) a b ∙ sym (first_append f us ws)
+  rounds_order false x y slots f us ws a b = land_better longest slots y.answer x.answer ∙ ap₂ (better_spot longest) b a ∙ sym (first_append f ws us)
+
+  rounds_list : (g : Bool) (body : Continuation → Continuation) (list : Spot → List Spot) → Lists body list → (n : ℕ) → Lists (λ k. rounds longest g body k n) (loop_ways g list n)
+  unfolding rounds loop_ways best_from land
+  rounds_list g body list ih zero k s =
+      rounds_order g _ _ s.slots (onward k) _ _
+      (ih (pick s.at k (λ _. failed)) s
+      ∙ first_cong _ _ (list s) (one_round (λ _. failed) (λ _. []) k s (λ w. refl))
+      ∙ sym (first_each (onward k) (after_round (λ _. []) s) (list s)))
+      (sym (first_one (onward k) s))
+  rounds_list g body list ih (suc n) k s =
+      rounds_order g _ _ s.slots (onward k) _ _
+      (ih (pick s.at k (rounds longest g body k n)) s
+      ∙ first_cong _ _ (list s) (one_round (rounds longest g body k n) (loop_ways g list n) k s (λ w. rounds_list g body list ih n k w))
+      ∙ sym (first_each (onward k) (after_round (loop_ways g list n) s) (list s)))
+      (sym (first_one (onward k) s))
+
+  times_list : (body : Continuation → Continuation) (list : Spot → List Spot) → Lists body list → (last : Continuation → Continuation) (rest : Spot → List Spot) → Lists last rest
+      → (n : ℕ) → Lists (λ k. times_try body n (last k)) (times_ways list n rest)
+  unfolding times_try times_ways
+  times_list body list ih last rest tail zero k s = tail k s
+  times_list body list ih last rest tail (suc n) k s =
+      ih (times_try body n (last k)) s
+      ∙ first_cong _ _ (list s) (λ w. times_list body list ih last rest tail n k w)
+      ∙ sym (first_each (onward k) (times_ways list n rest) (list s))
+
+  upto_list : (g : Bool) (body : Continuation → Continuation) (list : Spot → List Spot) → Lists body list → (n : ℕ) → Lists (upto_try longest g body n) (upto_ways g list n)
+  unfolding upto_try upto_ways
+  upto_list g body list ih zero k s = sym (first_one (onward k) s)
+  upto_list g body list ih (suc n) k s =
+      rounds_order g _ _ s.slots (onward k) _ _
+      (ih (upto_try longest g body n k) s
+      ∙ first_cong _ _ (list s) (λ w. upto_list g body list ih n k w)
+      ∙ sym (first_each (onward k) (upto_ways g list n) (list s)))
+      (sym (first_one (onward k) s))
+
+  tail_list : (u : Bool) (stop : ℕ) (g : Bool) (body : Continuation → Continuation) (list : Spot → List Spot) → Lists body list → (n : ℕ)
+      → Lists (tail_try longest u stop g body n) (tail_ways u stop g list n)
+  unfolding tail_try tail_ways
+  tail_list true stop g body list ih n k s = rounds_list g body list ih (stop - s.at) k s
+  tail_list false stop g body list ih n k s = upto_list g body list ih n k s
+
+module _ (view : View) (stop : ℕ) where
+  pub attempt_lists : (t : Re) → Lists view.longest (attempt view stop t) (ways view stop t)
+  unfolding attempt ways
+  attempt_lists nothing k s = sym (first_one view.longest (onward k) s)
+  attempt_lists (read leaf) k s = first_guard view.longest (onward k) (reads view stop leaf s.at) _ s.slots (k (view.next s.at)) refl
+  attempt_lists (test check) k s = first_guard view.longest (onward k) (view.holds check s.at) _ s.slots (k s.at) refl
+  attempt_lists (cat a b) k s =
+      attempt_lists a (attempt view stop b k) s
+      ∙ first_cong view.longest _ _ (ways view stop a s) (λ w. attempt_lists b k w)
+      ∙ sym (first_each view.longest (onward k) (ways view stop b) (ways view stop a s))
+  attempt_lists (alt a b) k s =
+      land_better view.longest s.slots _ _ ∙ ap₂ (better_spot view.longest) (attempt_lists a k s) (attempt_lists b k s)
+      ∙ sym (first_append view.longest (onward k) (ways view stop a s) (ways view stop b s))
+  attempt_lists (group g a) k s =
+      land_write s.slots (2 * g) s.at _
+      ∙ attempt_lists a (λ j. save (2 * g + 1) j (k j)) (record { at = s.at; slots = set s.slots (2 * g) s.at })
+      ∙ first_cong view.longest _ _ _ (λ w. land_write w.slots (2 * g + 1) w.at _)
+      ∙ sym (first_map view.longest (onward k) _ _)
+  attempt_lists (repeat lo hi g strict a) k s =
+      times_list view.longest (attempt view stop a) (ways view stop a) (attempt_lists a)
+      (tail_try view.longest (is_unbounded hi) stop g (attempt view stop a) (hi - lo)) (tail_ways (is_unbounded hi) stop g (ways view stop a) (hi - lo))
+      (tail_list view.longest (is_unbounded hi) stop g (attempt view stop a) (ways view stop a) (attempt_lists a) (hi - lo)) lo k s

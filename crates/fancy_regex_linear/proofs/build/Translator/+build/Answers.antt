@@ -1,0 +1,157 @@
+use Rattle.std.proofs.Common.{◌≡◌, ℕ, vec_len, Bool, true, false, ◌==◌, ap₂, ◌∙◌, ◌∷◌, [], ◌&&◌, ◌||◌, not, length, map, ap, sym, refl, rules}
+use Rattle.fancy_regex_tree.specs.Tree.{tree_of, concat, alt}
+use Rattle.fancy_regex_linear.specs.Re as re
+use Rattle.fancy_regex_linear.specs.Re.{Re, shape, shapes, cats, alts}
+use Rattle.fancy_regex_meaning.specs.Sizes.{may_be_empty}
+use Rattle.fancy_regex_linear.specs.Program.{never_empty}
+use Rattle.fancy_regex_linear.specs.Plain.{classes, re_of}
+use Rattle.fancy_regex_linear.specs.Refusals.{IsClassCause}
+use Rattle.fancy_regex_linear.specs.Translation.{all_trees, all_move}
+use Rattle.fancy_regex_linear.proofs.PlainLemmas.{flag_is}
+use Rattle.fancy_regex_linear.proofs.BuildLemmas.{row_none, row_sound, branches_sound, cause_in_row, if_ok, nodes_step, row_whole, row_is, branches_is, row_moves, all_moves, branches_move}
+use Rattle.std.proofs.lemmas.List.{map-append, length-map}
+use Rattle.fancy_regex_linear.proofs.ShapeLemmas.{tree_concat, tree_alt, shape_concat, shape_alt, shape_repeat}
+use Rattle.fancy_regex_linear.proofs.build.Translator.+build.Goals as goal
+use Rattle.fancy_regex_linear.proofs.build.Translator.+build.Goals.{row-then-moves, row-else-moves, branches-then-moves, branches-else-moves, branches-then-moves-2, branches-else-moves-2}
+
+pub translated-returns-in-Concat-clause-shape : goal.translated-returns-in-Concat-clause-shape
+unfolding re_of
+translated-returns-in-Concat-clause-shape t c =
+    let e : tree_of c.args.expr.now ≡ concat (all_trees c.deref-in-Concat.result.now) =
+    ap tree_of c.in-Concat.is ∙ tree_concat c.in-Concat.children ∙ ap (λ es. concat (all_trees es)) (sym c.deref-in-Concat.ensures.value) in
+    rw e c.row.ensures.shape
+
+pub translated-returns-in-Alt-clause-shape : goal.translated-returns-in-Alt-clause-shape
+unfolding re_of
+translated-returns-in-Alt-clause-shape t c =
+    let e : tree_of c.args.expr.now ≡ alt (all_trees c.deref-in-Alt.result.now) =
+    ap tree_of c.in-Alt.is ∙ tree_alt c.in-Alt.children ∙ ap (λ es. alt (all_trees es)) (sym c.deref-in-Alt.ensures.value) in
+    rw e (if_ok c.branches.result (λ translated h p groups. h p.1 groups) c.branches.ensures.shape)
+
+pub repeat-returns-clause-shape : goal.repeat-returns-clause-shape
+repeat-returns-clause-shape t c = λ plain groups.
+    let unicode = c.args.self.now.unicode in
+    let n = c.args.self.now.next_group in
+    let k = length c.args.self.now.matchers.items in
+    let child = tree_of c.args.child.now in
+    let flag : c.in_ok-translated.translated.moves ≡ not (may_be_empty groups child) =
+    c.in_ok-translated.ensures.moves ∙ ap never_empty (c.in_ok-translated.ensures.shape plain groups) ∙ sym (flag_is unicode groups n k child plain) in
+    let body : shape c.in_ok-boxed.field-0.value ≡ re_of unicode groups n k child = ap shape c.in_ok-boxed.ensures ∙ c.in_ok-translated.ensures.shape plain groups in
+    rw (sym c.is_never_repeated.ensures ∙ c.if-is_never_repeated.false)
+    (shape_repeat c.in_ok-boxed.field-0 c.args.lo c.args.hi c.args.greedy c.in_ok-translated.translated.moves
+    ∙ ap₂ (λ (b : Bool) (x : Re). re.repeat c.args.lo c.args.hi c.args.greedy b x) flag body)
+
+pub row-loop-i-init : goal.row-loop-i-init
+unfolding never_empty
+row-loop-i-init t c = record { built = rw c.new-parts.ensures.items (row_none c.args.self.now); moves = rw c.new-parts.ensures.items refl }
+
+pub row-loop-i-preserved : goal.row-loop-i-preserved
+row-loop-i-preserved t c =
+    let moves : c.if-moves.moves ≡ (c.loop-i.moves || c.in_ok-translated.translated.moves) =
+    elim c.if-moves.branch as (λ _. c.if-moves.moves ≡ (c.loop-i.moves || c.in_ok-translated.translated.moves)) [
+      | row-then-moves w ↦ let a : c.loop-i.moves ≡ true = w.if-moves.true in w.moves-is ∙ a ∙ sym (ap (λ b. b || c.in_ok-translated.translated.moves) a)
+      | row-else-moves w ↦ let a : c.loop-i.moves ≡ false = w.if-moves.false in w.moves-is ∙ sym (ap (λ b. b || c.in_ok-translated.translated.moves) a)
+    ] in
+    record {
+      built =
+          nodes_step c.args.self.now c.loop-i.self c.translated.new.self c.args.children.now c.loop-i.i c.index-children-i.result c.loop-i.parts.items
+          c.add.new.values.items c.in_ok-translated.translated.node c.loop-i-test.true c.index-children-i.is c.in_ok-add.ensures c.loop-i.invariant.built
+          c.in_ok-translated.ensures.unicode c.in_ok-translated.ensures.groups c.in_ok-translated.ensures.matchers c.in_ok-translated.ensures.sound c.in_ok-translated.ensures.shape;
+      moves =
+          moves
+          ∙ ap₂ ◌||◌ c.loop-i.invariant.moves c.in_ok-translated.ensures.moves
+          ∙ sym (row_moves (shapes c.loop-i.parts.items) (shape c.in_ok-translated.translated.node))
+          ∙ ap (λ xs. never_empty (cats xs)) (sym (ap shapes c.in_ok-add.ensures ∙ map-append shape c.loop-i.parts.items (c.in_ok-translated.translated.node ∷ [])));
+    }
+
+pub row-returns-clause-groups : goal.row-returns-clause-groups
+row-returns-clause-groups t c = (row_whole _ _ c.args.children.now c.loop-i.i _ c.loop-i-test.false c.loop-i.invariant.built).groups
+
+pub row-returns-clause-matchers : goal.row-returns-clause-matchers
+row-returns-clause-matchers t c = (row_whole _ _ c.args.children.now c.loop-i.i _ c.loop-i-test.false c.loop-i.invariant.built).matchers
+
+pub row-returns-clause-sound : goal.row-returns-clause-sound
+row-returns-clause-sound t c =
+    let built = row_whole _ _ c.args.children.now c.loop-i.i _ c.loop-i-test.false c.loop-i.invariant.built in
+    rw (shape_concat c.loop-i.parts) (row_sound (shapes c.loop-i.parts.items) built.sound)
+
+pub row-returns-clause-shape : goal.row-returns-clause-shape
+row-returns-clause-shape t c = λ plain groups.
+    let built = row_whole _ _ c.args.children.now c.loop-i.i _ c.loop-i-test.false c.loop-i.invariant.built in
+    shape_concat c.loop-i.parts
+    ∙ ap cats (built.patterns plain groups)
+    ∙ row_is c.args.self.now.unicode groups (map tree_of c.args.children.now) c.args.self.now.next_group (length c.args.self.now.matchers.items)
+
+pub branches-loop-i-init : goal.branches-loop-i-init
+unfolding all_move
+branches-loop-i-init t c = record { built = rw c.new-parts.ensures.items (row_none c.args.self.now); moves = rw c.new-parts.ensures.items refl }
+
+pub branches-loop-i-preserved : goal.branches-loop-i-preserved
+branches-loop-i-preserved t c =
+    let moves : c.if-moves.moves ≡ (c.loop-i.moves && c.in_ok-translated.translated.moves) =
+    elim c.if-moves.branch as (λ _. c.if-moves.moves ≡ (c.loop-i.moves && c.in_ok-translated.translated.moves)) [
+      | branches-then-moves w ↦ let a : c.loop-i.moves ≡ true = w.if-moves.true in w.moves-is ∙ sym (ap (λ b. b && c.in_ok-translated.translated.moves) a)
+      | branches-else-moves w ↦ let a : c.loop-i.moves ≡ false = w.if-moves.false in w.moves-is ∙ a ∙ sym (ap (λ b. b && c.in_ok-translated.translated.moves) a)
+    ] in
+    record {
+      built =
+          nodes_step c.args.self.now c.loop-i.self c.translated.new.self c.args.children.now c.loop-i.i c.index-children-i.result c.loop-i.parts.items
+          c.add.new.values.items c.in_ok-translated.translated.node c.loop-i-test.true c.index-children-i.is c.in_ok-add.ensures c.loop-i.invariant.built
+          c.in_ok-translated.ensures.unicode c.in_ok-translated.ensures.groups c.in_ok-translated.ensures.matchers c.in_ok-translated.ensures.sound c.in_ok-translated.ensures.shape;
+      moves =
+          moves
+          ∙ ap₂ ◌&&◌ c.loop-i.invariant.moves c.in_ok-translated.ensures.moves
+          ∙ sym (all_moves (shapes c.loop-i.parts.items) (shape c.in_ok-translated.translated.node))
+          ∙ ap all_move (sym (ap shapes c.in_ok-add.ensures ∙ map-append shape c.loop-i.parts.items (c.in_ok-translated.translated.node ∷ [])));
+    }
+
+pub branches-returns-clause-groups : goal.branches-returns-clause-groups
+branches-returns-clause-groups t c = (row_whole _ _ c.args.children.now c.loop-i.i _ c.loop-i-test.false c.loop-i.invariant.built).groups
+
+pub branches-returns-clause-matchers : goal.branches-returns-clause-matchers
+branches-returns-clause-matchers t c = (row_whole _ _ c.args.children.now c.loop-i.i _ c.loop-i-test.false c.loop-i.invariant.built).matchers
+
+pub branches-returns-clause-moves : goal.branches-returns-clause-moves
+branches-returns-clause-moves t c =
+    let some : not (length (shapes c.loop-i.parts.items) == 0) ≡ not c.is_empty-some.result =
+    let same : length (shapes c.loop-i.parts.items) ≡ vec_len c.loop-i.parts = length-map c.loop-i.parts.items shape ∙ (search rules) in
+    ap (λ (n : ℕ). not (n == 0)) same ∙ sym (ap not c.is_empty-some.ensures) in
+    let moves : c.if-moves-2.result ≡ (c.loop-i.moves && not c.is_empty-some.result) =
+    elim c.if-moves-2.branch as (λ _. c.if-moves-2.result ≡ (c.loop-i.moves && not c.is_empty-some.result)) [
+      | branches-then-moves-2 w ↦ let a : c.loop-i.moves ≡ true = w.if-moves-2.true in w.result-is ∙ sym (ap (λ b. b && not c.is_empty-some.result) a)
+      | branches-else-moves-2 w ↦ let a : c.loop-i.moves ≡ false = w.if-moves-2.false in w.result-is ∙ a ∙ sym (ap (λ b. b && not c.is_empty-some.result) a)
+    ] in
+    moves
+    ∙ ap₂ ◌&&◌ c.loop-i.invariant.moves (sym some)
+    ∙ sym (branches_move (shapes c.loop-i.parts.items))
+    ∙ ap never_empty (sym (shape_alt c.loop-i.parts))
+
+pub branches-returns-clause-sound : goal.branches-returns-clause-sound
+branches-returns-clause-sound t c =
+    let built = row_whole _ _ c.args.children.now c.loop-i.i _ c.loop-i-test.false c.loop-i.invariant.built in
+    rw (shape_alt c.loop-i.parts) (branches_sound (shapes c.loop-i.parts.items) built.sound)
+
+pub branches-returns-clause-shape : goal.branches-returns-clause-shape
+branches-returns-clause-shape t c = λ plain groups.
+    let built = row_whole _ _ c.args.children.now c.loop-i.i _ c.loop-i-test.false c.loop-i.invariant.built in
+    shape_alt c.loop-i.parts
+    ∙ ap alts (built.patterns plain groups)
+    ∙ branches_is c.args.self.now.unicode groups (map tree_of c.args.children.now) c.args.self.now.next_group (length c.args.self.now.matchers.items)
+
+pub row-returns-in_err-translated-clause-refused : goal.row-returns-in_err-translated-clause-refused
+row-returns-in_err-translated-clause-refused t c =
+    let cause : IsClassCause c.args.self.now.unicode (classes (tree_of c.index-children-i.result)) c.in_err-translated.field-0.0 =
+    rw c.loop-i.invariant.built.unicode at c.in_err-translated.ensures.refused in
+    let all =
+    cause_in_row c.args.self.now.unicode c.args.children.now c.loop-i.i c.index-children-i.result c.in_err-translated.field-0.0 c.loop-i-test.true
+    c.index-children-i.is cause in
+    search rules
+
+pub branches-returns-in_err-translated-clause-refused : goal.branches-returns-in_err-translated-clause-refused
+branches-returns-in_err-translated-clause-refused t c =
+    let cause : IsClassCause c.args.self.now.unicode (classes (tree_of c.index-children-i.result)) c.in_err-translated.field-0.0 =
+    rw c.loop-i.invariant.built.unicode at c.in_err-translated.ensures.refused in
+    let all =
+    cause_in_row c.args.self.now.unicode c.args.children.now c.loop-i.i c.index-children-i.result c.in_err-translated.field-0.0 c.loop-i-test.true
+    c.index-children-i.is cause in
+    search rules

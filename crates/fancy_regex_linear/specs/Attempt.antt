@@ -1,0 +1,105 @@
+-- An attempt to match a pattern at an offset: its answer, and the depth of its search.
+use Rattle.std.specs.Prelude.{true, false, ℕ, zero, suc, ◌+◌, ◌-◌, ◌*◌, Bool, List, [], ◌∷◌, Option, Some, None, if◌then◌else◌, nat_lt, slice_set}
+use Rattle.fancy_regex_linear.specs.Re.{Re, nothing, read, test, cat, alt, group, repeat}
+use Rattle.fancy_regex_linear.specs.Meaning.{Spot, View, reads, is_unbounded}
+
+-- The trace of a successful attempt: its end, and each (slot, offset) that was written, oldest first.
+pub record Trace : Type 0 where
+  pub end : ℕ
+  pub writes : List (ℕ × ℕ)
+
+-- the answer, and a number that falls along each edge of the search
+pub record AttemptResult : Type 0 where
+  pub answer : Option Trace
+  pub depth : ℕ
+
+abbrev pub Continuation : Type 0
+Continuation = ℕ → AttemptResult
+
+-- how good an end is
+abbrev pub score : Bool → ℕ → ℕ
+score longest end = if longest then end else 0
+
+-- the first, unless the second is there and better
+abbrev pub better : {A : Type 0} → (A → ℕ) → Option A → Option A → Option A
+better rank None b = b
+better rank (Some a) None = Some a
+better rank (Some a) (Some b) = if nat_lt (rank a) (rank b) then Some b else Some a
+
+abbrev pub better_trace : Bool → Option Trace → Option Trace → Option Trace
+better_trace longest = better (λ t. score longest t.end)
+
+abbrev pub better_spot : Bool → Option Spot → Option Spot → Option Spot
+better_spot longest = better (λ s. score longest s.at)
+
+abbrev pub failed : AttemptResult
+failed = record { answer = None; depth = 0 }
+
+abbrev pub accept : Continuation
+accept i = record { answer = Some (record { end = i; writes = [] }); depth = 0 }
+
+abbrev pub guard : Bool → AttemptResult → AttemptResult
+guard b r = if b then record { answer = r.answer; depth = r.depth + 1 } else failed
+
+abbrev pub write : ℕ → ℕ → Option Trace → Option Trace
+write slot i None = None
+write slot i (Some t) = Some (record { end = t.end; writes = (slot, i) ∷ t.writes })
+
+abbrev pub save : ℕ → ℕ → AttemptResult → AttemptResult
+save slot i r = record { answer = write slot i r.answer; depth = r.depth + 1 }
+
+-- after a node that began at i: `same` where it matched the empty string, `moved` where it did not
+unfoldable pub pick : ℕ → Continuation → Continuation → Continuation
+pick i same moved j = if nat_lt i j then moved j else same j
+
+unfoldable pub times_try : (Continuation → Continuation) → ℕ → Continuation → Continuation
+times_try body zero k i = k i
+times_try body (suc n) k i = body (times_try body n k) i
+
+module _ (longest : Bool) where
+  abbrev pub either : AttemptResult → AttemptResult → AttemptResult
+  either a b = record { answer = better_trace longest a.answer b.answer; depth = a.depth + b.depth + 1 }
+
+  -- a greedy loop prefers another round, a lazy one prefers to leave
+  abbrev pub prefer : Bool → AttemptResult → AttemptResult → AttemptResult
+  prefer greedy round leave = if greedy then either round leave else either leave round
+
+  -- A loop of at most n rounds that move.
+  unfoldable pub rounds : Bool → (Continuation → Continuation) → Continuation → ℕ → Continuation
+  rounds greedy body k zero i = prefer greedy (body (pick i k (λ _. failed)) i) (k i)
+  rounds greedy body k (suc n) i = prefer greedy (body (pick i k (rounds greedy body k n)) i) (k i)
+
+  unfoldable pub upto_try : Bool → (Continuation → Continuation) → ℕ → Continuation → Continuation
+  upto_try greedy body zero k i = k i
+  upto_try greedy body (suc n) k i = prefer greedy (body (upto_try greedy body n k) i) (k i)
+
+  -- a loop, with room for the rounds that move
+  abbrev pub star_try : ℕ → Bool → (Continuation → Continuation) → Continuation → Continuation
+  star_try stop greedy body k i = rounds greedy body k (stop - i) i
+
+  -- the rounds at or past the least count: without a bound, or at most n of them
+  unfoldable pub tail_try : Bool → ℕ → Bool → (Continuation → Continuation) → ℕ → Continuation → Continuation
+  tail_try true stop greedy body n k i = star_try stop greedy body k i
+  tail_try false stop greedy body n k i = upto_try greedy body n k i
+
+module _ (view : View) (stop : ℕ) where
+  -- `attempt pattern k i`: match the pattern from i, and then k from where that ended
+  unfoldable pub attempt : Re → Continuation → Continuation
+  attempt nothing k i = k i
+  attempt (read leaf) k i = guard (reads view stop leaf i) (k (view.next i))
+  attempt (test check) k i = guard (view.holds check i) (k i)
+  attempt (cat a b) k i = attempt a (attempt b k) i
+  attempt (alt a b) k i = either view.longest (attempt a k i) (attempt b k i)
+  attempt (group g a) k i = save (2 * g) i (attempt a (λ j. save (2 * g + 1) j (k j)) i)
+  attempt (repeat lo hi greedy strict a) k i =
+      times_try (attempt a) lo (tail_try view.longest (is_unbounded hi) stop greedy (attempt a) (hi - lo) k) i
+
+-- the slots after these writes
+unfoldable pub apply : List (ℕ × ℕ) → List ℕ → List ℕ
+apply [] slots = slots
+apply (w ∷ ws) slots = apply ws (slice_set slots w.0 w.1)
+
+-- where a try ends that has these slots so far
+unfoldable pub land : List ℕ → Option Trace → Option Spot
+land slots None = None
+land slots (Some t) = Some (record { at = t.end; slots = apply t.writes slots })

@@ -1,0 +1,79 @@
+-- What a pattern matches in a range: the list of its matches in the order of preference (the ways).
+use Rattle.std.specs.Prelude.{ℕ, zero, suc, ◌+◌, ◌-◌, ◌*◌, Bool, true, false, ◌&&◌, List, [], ◌∷◌, ◌++◌, map, if◌then◌else◌, nat_lt, nat_le, nat_eq, slice_set}
+use Rattle.fancy_regex_linear.specs.Re.{Re, nothing, read, test, cat, alt, group, repeat}
+use Rattle.fancy_regex_states.specs.declared.atom.Leaf.{Leaf}
+use Rattle.fancy_regex_states.specs.declared.atom.Test.{Test}
+
+-- where a match of a node ends (a byte offset), and the slots then
+pub record Spot : Type 0 where
+  pub at : ℕ
+  pub slots : List ℕ
+
+-- The text as a search reads it, and whether the first or the longest match is wanted.
+pub record View : Type 0 where
+  -- whether the leaf matches the character at this offset
+  pub has : Leaf → ℕ → Bool
+  -- the offset after that character
+  pub next : ℕ → ℕ
+  pub holds : Test → ℕ → Bool
+  -- leftmost-longest matching, instead of leftmost-first
+  pub longest : Bool
+
+abbrev pub each : {A B : Type 0} → (A → List B) → List A → List B
+each f [] = []
+each f (x ∷ xs) = f x ++ each f xs
+
+-- a greedy loop prefers another iteration, a lazy one the exit
+abbrev pub in_order : Bool → List Spot → List Spot → List Spot
+in_order greedy round leave = if greedy then round ++ leave else leave ++ round
+
+-- After an iteration from s to w: one that matched the empty string ends the loop, with its slots.
+unfoldable pub after_round : (Spot → List Spot) → Spot → Spot → List Spot
+after_round again s w = if nat_lt s.at w.at then again w else w ∷ []
+
+-- The ways of a loop with room for n nonempty iterations, where `body` lists the ways of one iteration.
+unfoldable pub loop_ways : Bool → (Spot → List Spot) → ℕ → Spot → List Spot
+loop_ways greedy body zero s = in_order greedy (each (after_round (λ _. []) s) (body s)) (s ∷ [])
+loop_ways greedy body (suc n) s = in_order greedy (each (after_round (loop_ways greedy body n) s) (body s)) (s ∷ [])
+
+-- n mandatory iterations, and then the rest
+unfoldable pub times_ways : (Spot → List Spot) → ℕ → (Spot → List Spot) → Spot → List Spot
+times_ways body zero rest s = rest s
+times_ways body (suc n) rest s = each (times_ways body n rest) (body s)
+
+-- at most n optional iterations
+unfoldable pub upto_ways : Bool → (Spot → List Spot) → ℕ → Spot → List Spot
+upto_ways greedy body zero s = s ∷ []
+upto_ways greedy body (suc n) s = in_order greedy (each (upto_ways greedy body n) (body s)) (s ∷ [])
+
+-- the last value of `usize` is no bound
+abbrev pub is_unbounded : ℕ → Bool
+is_unbounded hi = nat_eq hi 18446744073709551615
+
+-- the iterations past the least count: unbounded, or at most n
+unfoldable pub tail_ways : Bool → ℕ → Bool → (Spot → List Spot) → ℕ → Spot → List Spot
+tail_ways true stop greedy body n s = loop_ways greedy body (stop - s.at) s
+tail_ways false stop greedy body n s = upto_ways greedy body n s
+
+module _ (view : View) (stop : ℕ) where
+  -- whether the leaf matches the character here, which ends by `stop`
+  unfoldable pub reads : Leaf → ℕ → Bool
+  reads leaf i = view.has leaf i && (nat_lt i (view.next i) && nat_le (view.next i) stop)
+
+  -- the ways of a pattern from an offset, in the order of preference
+  unfoldable pub ways : Re → Spot → List Spot
+  ways nothing s = s ∷ []
+  ways (read leaf) s = if reads leaf s.at then record { at = view.next s.at; slots = s.slots } ∷ [] else []
+  ways (test check) s = if view.holds check s.at then s ∷ [] else []
+  ways (cat a b) s = each (ways b) (ways a s)
+  ways (alt a b) s = ways a s ++ ways b s
+  ways (group k a) s =
+      map (λ w. record { at = w.at; slots = slice_set w.slots (2 * k + 1) w.at })
+      (ways a (record { at = s.at; slots = slice_set s.slots (2 * k) s.at }))
+  ways (repeat lo hi greedy strict a) s =
+      times_ways (ways a) lo (tail_ways (is_unbounded hi) stop greedy (ways a) (hi - lo)) s
+
+-- the ways that end by `stop`
+unfoldable pub kept : ℕ → List Spot → List Spot
+kept stop [] = []
+kept stop (w ∷ ws) = if nat_le w.at stop then w ∷ kept stop ws else kept stop ws

@@ -1,0 +1,102 @@
+-- Plain trees, and the patterns of two branches at most that they become.
+use Rattle.std.specs.Prelude.{◌≢◌, ℕ, ◌+◌, Bool, true, false, not, ◌&&◌, List, [], ◌∷◌, ◌++◌, length, Option, Some, None, slice_index, if◌then◌else◌, ◌==◌}
+use Rattle.fancy_regex_tree.specs.Tree.{Tree, Trees, Text, empty, any, assertion, literal, concat, alt, group, repeat, delegate, no_trees, more_trees}
+use Rattle.fancy_regex_tree.specs.declared.expr.Assertion.{Assertion}
+use Rattle.fancy_regex_tree.specs.declared.expr.Assertion.TheVariants as A
+use Rattle.fancy_regex_meaning.specs.Groups.{group_count}
+use Rattle.fancy_regex_meaning.specs.Sizes.{may_be_empty}
+use Rattle.fancy_regex_class.specs.Classes.{folded}
+use Rattle.fancy_regex_linear.specs.Re as re
+use Rattle.fancy_regex_linear.specs.Re.{Re}
+use Rattle.fancy_regex_states.specs.declared.atom.Leaf.TheVariants.{Any, Char, Folded, Class}
+use Rattle.fancy_regex_states.specs.declared.atom.Test.{Test}
+use Rattle.fancy_regex_states.specs.declared.atom.Test.TheVariants.{StartText, EndText, StartLine, EndLine, WordBoundary, NotWordBoundary, LeftWordBoundary, RightWordBoundary}
+
+-- the test of an assertion that the runner serves
+abbrev pub test_of : Assertion → Option Test
+test_of A.StartText = Some StartText
+test_of A.EndText = Some EndText
+test_of (A.StartLine crlf) = Some (StartLine crlf)
+test_of (A.EndLine crlf) = Some (EndLine crlf)
+test_of A.WordBoundary = Some WordBoundary
+test_of A.NotWordBoundary = Some NotWordBoundary
+test_of A.LeftWordBoundary = Some LeftWordBoundary
+test_of A.RightWordBoundary = Some RightWordBoundary
+test_of A.LeftWordHalfBoundary = None
+test_of A.RightWordHalfBoundary = None
+test_of (A.EndTextIgnoreTrailingNewlines crlf) = None
+test_of (A.StartLineOniguruma crlf) = None
+
+abbrev pub IsServed : Option Test → Type 0
+IsServed None = ⊥
+IsServed (Some test) = Unit {0}
+
+-- the trees that the runner serves
+abbrev mutual
+  pub IsPlain : Tree → Type 0
+  IsPlain empty = Unit {0}
+  IsPlain (any newline crlf) = Unit {0}
+  IsPlain (literal val casei) = Unit {0}
+  IsPlain (delegate class casei) = Unit {0}
+  IsPlain (assertion a) = IsServed (test_of a)
+  IsPlain (concat ts) = ArePlain ts
+  IsPlain (alt ts) = (ts ≢ no_trees) × ArePlain ts
+  IsPlain (group t) = IsPlain t
+  IsPlain (repeat t lo hi greedy) = IsPlain t
+  IsPlain _ = ⊥
+
+  pub ArePlain : Trees → Type 0
+  ArePlain no_trees = Unit {0}
+  ArePlain (more_trees t ts) = IsPlain t × ArePlain ts
+
+-- a repeat that has no round at all: nothing is made of its body
+abbrev pub has_no_iteration : ℕ → ℕ → Bool
+has_no_iteration lo hi = (lo == 0) && (hi == 0)
+
+abbrev pub unless : Bool → Re → Re
+unless true x = re.nothing
+unless false x = x
+
+-- the classes of a plain tree in order: the text of each, and whether case is disregarded
+unfoldable mutual
+  pub classes : Tree → List (Text × Bool)
+  classes (delegate class casei) = (class, casei) ∷ []
+  classes (concat ts) = row_classes ts
+  classes (alt ts) = row_classes ts
+  classes (group t) = classes t
+  classes (repeat t lo hi greedy) = if has_no_iteration lo hi then [] else classes t
+  classes _ = []
+
+  pub row_classes : Trees → List (Text × Bool)
+  row_classes no_trees = []
+  row_classes (more_trees t ts) = classes t ++ row_classes ts
+
+abbrev pub served : Option Test → Re
+served None = re.nothing
+served (Some test) = re.test test
+
+module _ (unicode : Bool) (groups : List Tree) where
+  -- the pattern of a plain tree, with the numbers of the group that opens first in it and of its first class
+  unfoldable mutual
+    pub re_of : ℕ → ℕ → Tree → Re
+    re_of n k empty = re.nothing
+    re_of n k (any newline crlf) = re.read (Any newline crlf)
+    re_of n k (literal val casei) = re.read (if casei then Folded (folded unicode (slice_index val 0)) else Char (slice_index val 0))
+    re_of n k (delegate class casei) = re.read (Class k)
+    re_of n k (assertion a) = served (test_of a)
+    re_of n k (concat ts) = row_of n k ts
+    re_of n k (alt ts) = branches_of n k ts
+    re_of n k (group t) = re.group n (re_of (n + 1) k t)
+    re_of n k (repeat t lo hi greedy) =
+        unless (has_no_iteration lo hi) (re.repeat lo hi greedy (not (may_be_empty groups t)) (re_of n k t))
+    re_of n k _ = re.nothing
+
+    pub row_of : ℕ → ℕ → Trees → Re
+    row_of n k no_trees = re.nothing
+    row_of n k (more_trees t ts) = re.cat (re_of n k t) (row_of (n + group_count t) (k + length (classes t)) ts)
+
+    pub branches_of : ℕ → ℕ → Trees → Re
+    branches_of n k no_trees = re.nothing
+    branches_of n k (more_trees t no_trees) = re_of n k t
+    branches_of n k (more_trees t (more_trees u us)) =
+        re.alt (re_of n k t) (branches_of (n + group_count t) (k + length (classes t)) (more_trees u us))

@@ -1,0 +1,242 @@
+-- The states that a tree becomes.
+use Rattle.std.specs.Prelude.{◌≡◌, ℕ, zero, suc, ◌-◌, true, false, ◌&&◌, ◌||◌, max, nat_lt, ◌+◌, ◌*◌, ◌<◌, ◌≤◌, ◌⊎◌, Bool, List, [], ◌∷◌, ◌++◌, length, slice_set, if◌then◌else◌}
+use Rattle.fancy_regex_states.specs.First.{state_at}
+use Rattle.fancy_regex_linear.specs.Attempt.{Continuation, guard, either, save, accept}
+use Rattle.fancy_regex_linear.specs.Meaning.{View, reads, is_unbounded}
+use Rattle.fancy_regex_linear.specs.Re.{Re, nothing, read, test, cat, alt, group, repeat}
+use Rattle.fancy_regex_states.specs.declared.state.State.{State}
+use Rattle.fancy_regex_states.specs.declared.state.State.TheVariants.{Split, Enter, Leave, Match}
+use Rattle.fancy_regex_states.specs.declared.state.State.TheVariants as S
+
+-- the loop at its head: another round, or out
+abbrev pub loop_head : Bool → ℕ → ℕ → State
+loop_head greedy round leave = if greedy then Split round leave else Split leave round
+
+abbrev pub push : List State → State → List State
+push states state = states ++ state ∷ []
+
+-- each way of the pattern moves
+unfoldable pub never_empty : Re → Bool
+never_empty nothing = false
+never_empty (read leaf) = true
+never_empty (test check) = false
+never_empty (cat a b) = never_empty a || never_empty b
+never_empty (alt a b) = never_empty a && never_empty b
+never_empty (group g a) = never_empty a
+never_empty (repeat lo hi greedy strict a) = nat_lt 0 lo && never_empty a
+
+-- a repeat that says of its body that each way moves is right
+abbrev pub IsSound : Re → Type 0
+IsSound nothing = Unit {0}
+IsSound (read leaf) = Unit {0}
+IsSound (test check) = Unit {0}
+IsSound (cat a b) = IsSound a × IsSound b
+IsSound (alt a b) = IsSound a × IsSound b
+IsSound (group g a) = IsSound a
+IsSound (repeat lo hi greedy strict a) = (strict ≡ true → never_empty a ≡ true) × IsSound a
+
+-- how one node is emitted that continues at one state, or at two
+abbrev pub Emitter : Type 0
+Emitter = List State → ℕ → List State × ℕ
+
+abbrev pub BothEmitter : Type 0
+BothEmitter = List State → ℕ → ℕ → List State × ℕ × ℕ
+
+-- n copies in a row
+unfoldable pub emitted_times : Emitter → ℕ → List State → ℕ → List State × ℕ
+emitted_times one zero states next = (states, next)
+emitted_times one (suc n) states next =
+    let rest = emitted_times one n states next in
+    one rest.0 rest.1
+
+unfoldable pub emitted_both_times : BothEmitter → ℕ → List State → ℕ → ℕ → List State × ℕ × ℕ
+emitted_both_times both zero states same moved = (states, same, moved)
+emitted_both_times both (suc n) states same moved =
+    let rest = emitted_both_times both n states same moved in
+    both rest.0 rest.1 rest.2
+
+-- at most n copies, each of which may be left out with those behind it
+unfoldable pub emitted_upto : Bool → Emitter → ℕ → List State → ℕ → List State × ℕ
+emitted_upto greedy one zero states next = (states, next)
+emitted_upto greedy one (suc n) states next =
+    let rest = emitted_upto greedy one n states next in
+    let body = one rest.0 rest.1 in
+    (push body.0 (loop_head greedy body.1 next), length body.0)
+
+unfoldable pub emitted_both_upto : Bool → BothEmitter → ℕ → List State → ℕ → ℕ → List State × ℕ × ℕ
+emitted_both_upto greedy both zero states same moved = (states, same, moved)
+emitted_both_upto greedy both (suc n) states same moved =
+    let rest = emitted_both_upto greedy both n states same moved in
+    let body = both rest.0 rest.1 rest.2 in
+    let head = push body.0 (loop_head greedy body.1 same) in
+    (push head (loop_head greedy body.2 moved), length body.0, length head)
+
+-- a loop over what may be empty: in one copy of the body nothing was moved yet in this round, in the other something was
+unfoldable pub emitted_star : Bool → BothEmitter → List State → ℕ → List State × ℕ
+emitted_star greedy both states next =
+    let body = both (push states Match) next (length states) in
+    (slice_set body.0 (length states) (loop_head greedy body.1 next), length states)
+
+unfoldable pub emitted_both_star : Bool → BothEmitter → List State → ℕ → ℕ → List State × ℕ × ℕ
+emitted_both_star greedy both states same moved =
+    let loop = emitted_star greedy both states moved in
+    let first = both loop.0 same loop.1 in
+    (push first.0 (loop_head greedy first.1 same), length first.0, loop.1)
+
+-- a loop over what is never empty; the numbers are its head, and the body's entry
+unfoldable pub emitted_plus : Bool → Emitter → List State → ℕ → List State × ℕ × ℕ
+emitted_plus greedy one states next =
+    let body = one (push states Match) (length states) in
+    (slice_set body.0 (length states) (loop_head greedy body.1 next), length states, body.1)
+
+-- the numbers are the head, and the body's entries
+unfoldable pub emitted_both_plus : Bool → BothEmitter → List State → ℕ → ℕ → List State × ℕ × ℕ × ℕ
+emitted_both_plus greedy both states same moved =
+    let body = both (push states Match) same (length states) in
+    (slice_set body.0 (length states) (loop_head greedy body.2 moved), length states, body.1, body.2)
+
+-- an unbounded repeat of what is never empty, by its least count
+unfoldable pub emitted_many : ℕ → Bool → Emitter → List State → ℕ → List State × ℕ
+emitted_many zero greedy one states next =
+    let loop = emitted_plus greedy one states next in
+    (loop.0, loop.1)
+emitted_many (suc n) greedy one states next =
+    let loop = emitted_plus greedy one states next in
+    emitted_times one n loop.0 loop.2
+
+unfoldable pub emitted_both_many : ℕ → Bool → BothEmitter → List State → ℕ → ℕ → List State × ℕ × ℕ
+emitted_both_many zero greedy both states same moved =
+    let loop = emitted_both_plus greedy both states same moved in
+    (push loop.0 (loop_head greedy loop.2 same), length loop.0, loop.1)
+emitted_both_many (suc n) greedy both states same moved =
+    let loop = emitted_both_plus greedy both states same moved in
+    emitted_both_times both n loop.0 loop.2 loop.3
+
+unfoldable pub emitted_repeat : Bool → Bool → ℕ → ℕ → Bool → Emitter → BothEmitter → List State → ℕ → List State × ℕ
+emitted_repeat true true lo hi greedy one both states next = emitted_many lo greedy one states next
+emitted_repeat true false lo hi greedy one both states next =
+    let rest = emitted_star greedy both states next in
+    emitted_times one lo rest.0 rest.1
+emitted_repeat false strict lo hi greedy one both states next =
+    let rest = emitted_upto greedy one (hi - lo) states next in
+    emitted_times one lo rest.0 rest.1
+
+unfoldable pub emitted_both_repeat : Bool → Bool → ℕ → ℕ → Bool → BothEmitter → List State → ℕ → ℕ → List State × ℕ × ℕ
+emitted_both_repeat true true lo hi greedy both states same moved = emitted_both_many lo greedy both states same moved
+emitted_both_repeat true false lo hi greedy both states same moved =
+    let rest = emitted_both_star greedy both states same moved in
+    emitted_both_times both lo rest.0 rest.1 rest.2
+emitted_both_repeat false strict lo hi greedy both states same moved =
+    let rest = emitted_both_upto greedy both (hi - lo) states same moved in
+    emitted_both_times both lo rest.0 rest.1 rest.2
+
+-- a capture group
+unfoldable pub emitted_both_group : ℕ → BothEmitter → List State → ℕ → ℕ → List State × ℕ × ℕ
+emitted_both_group g both states same moved =
+    let one = push states (Leave g same) in
+    let two = push one (Leave g moved) in
+    let body = both two (length states) (length one) in
+    let three = push body.0 (Enter g body.1) in
+    (push three (Enter g body.2), length body.0, length three)
+
+-- The states so far, then those of a tree that goes on at two places: `same` where it moved nothing, `moved` where it did.
+-- The two numbers are the entries where nothing was moved yet, and where something was.
+unfoldable pub emitted_both : Re → List State → ℕ → ℕ → List State × ℕ × ℕ
+emitted_both nothing states same moved = (states, same, moved)
+emitted_both (read leaf) states same moved = (push states (S.Read leaf moved), length states, length states)
+emitted_both (test check) states same moved =
+    let one = push states (S.Look check same) in
+    (push one (S.Look check moved), length states, length one)
+emitted_both (cat a b) states same moved =
+    let second = emitted_both b states same moved in
+    emitted_both a second.0 second.1 second.2
+emitted_both (alt a b) states same moved =
+    let second = emitted_both b states same moved in
+    let first = emitted_both a second.0 same moved in
+    let one = push first.0 (Split first.1 second.1) in
+    (push one (Split first.2 second.2), length first.0, length one)
+emitted_both (group g a) states same moved = emitted_both_group g (emitted_both a) states same moved
+emitted_both (repeat lo hi greedy strict a) states same moved =
+    emitted_both_repeat (is_unbounded hi) strict lo hi greedy (emitted_both a) states same moved
+
+-- the states so far, then those of a tree that goes on at `next`; the number is the entry
+unfoldable pub emitted : Re → List State → ℕ → List State × ℕ
+emitted nothing states next = (states, next)
+emitted (read leaf) states next = (push states (S.Read leaf next), length states)
+emitted (test check) states next = (push states (S.Look check next), length states)
+emitted (cat a b) states next =
+    let second = emitted b states next in
+    emitted a second.0 second.1
+emitted (alt a b) states next =
+    let second = emitted b states next in
+    let first = emitted a second.0 next in
+    (push first.0 (Split first.1 second.1), length first.0)
+emitted (group g a) states next =
+    let body = emitted a (push states (Leave g next)) (length states) in
+    (push body.0 (Enter g body.1), length body.0)
+emitted (repeat lo hi greedy strict a) states next =
+    emitted_repeat (is_unbounded hi) strict lo hi greedy (emitted a) (emitted_both a) states next
+
+-- one branch in front of those that are there
+unfoldable pub with_branch : Re → ℕ → List State × ℕ → List State × ℕ
+with_branch x next rest =
+    let first = emitted x rest.0 next in
+    (push first.0 (Split first.1 rest.1), length first.0)
+
+unfoldable pub with_branch_both : Re → ℕ → ℕ → List State × ℕ × ℕ → List State × ℕ × ℕ
+with_branch_both x same moved rest =
+    let first = emitted_both x rest.0 same moved in
+    let one = push first.0 (Split first.1 rest.1) in
+    (push one (Split first.2 rest.2), length first.0, length one)
+
+-- these branches in front of those that are there
+unfoldable pub with_branches : List Re → ℕ → List State × ℕ → List State × ℕ
+with_branches [] next rest = rest
+with_branches (x ∷ xs) next rest = with_branch x next (with_branches xs next rest)
+
+unfoldable pub with_branches_both : List Re → ℕ → ℕ → List State × ℕ × ℕ → List State × ℕ × ℕ
+with_branches_both [] same moved rest = rest
+with_branches_both (x ∷ xs) same moved rest = with_branch_both x same moved (with_branches_both xs same moved rest)
+
+unfoldable pub repeat_weight : Bool → Bool → ℕ → ℕ → ℕ → ℕ
+repeat_weight true true lo hi w = max lo 1 * w + 3
+repeat_weight true false lo hi w = (lo + 2) * w + 4
+repeat_weight false strict lo hi w = max (lo * w + (hi - lo) * (w + 3)) 1
+
+-- how many states a tree may become
+unfoldable pub weight : Re → ℕ
+weight nothing = 0
+weight (read leaf) = 1
+weight (test check) = 1
+weight (cat a b) = weight a + weight b
+weight (alt a b) = weight a + weight b + 3
+weight (group g a) = weight a + 2
+weight (repeat lo hi greedy strict a) = repeat_weight (is_unbounded hi) strict lo hi (weight a)
+
+-- each state that this one names is below n
+abbrev pub NamesBelow : ℕ → State → Type 0
+NamesBelow n (S.Read leaf next) = next < n
+NamesBelow n (S.Look check next) = next < n
+NamesBelow n (Split first second) = (first < n) × (second < n)
+NamesBelow n (Enter g next) = next < n
+NamesBelow n (Leave g next) = next < n
+NamesBelow n Match = Unit {0}
+
+module _ (view : View) (stop : ℕ) where
+  -- what a state gives at i, where `go q` is what the state q gives
+  abbrev pub visit : (ℕ → Continuation) → State → Continuation
+  visit go (S.Read leaf next) i = guard (reads view stop leaf i) (go next (view.next i))
+  visit go (S.Look check next) i = guard (view.holds check i) (go next i)
+  visit go (Split first second) i = either view.longest (go first i) (go second i)
+  visit go (Enter g next) i = save (2 * g) i (go next i)
+  visit go (Leave g next) i = save (2 * g + 1) i (go next i)
+  visit go Match i = accept i
+
+  -- the state q does what `go q` says, as far as the states that it names do
+  pub record Agrees (go : ℕ → Continuation) (count q : ℕ) (state : State) : Type 0 where
+    pub names : NamesBelow count state
+    pub does : (i : ℕ) → i ≤ stop → go q i ≡ visit go state i
+
+  -- all states do, but for the open ones
+  abbrev pub AgreeBut : (ℕ → Type 0) → List State → (ℕ → Continuation) → Type 0
+  AgreeBut Open states go = (q : ℕ) → q < length states → Open q ⊎ Agrees go (length states) q (state_at states q)

@@ -1,0 +1,232 @@
+-- A depth-first search over pairs of a state and a position, which looks at each pair once.
+use Rattle.std.specs.Prelude.{◌≡◌, ℕ, ◌+◌, ◌<◌, ◌≤◌, ◌⊎◌, Bool, true, false, List, [], ◌∷◌, ◌++◌, length, Option, Some, None, slice_set, slice_index_or, IsCharBoundary, IfSome}
+use Rattle.fancy_regex_linear.specs.Meaning.{Spot, View}
+use Rattle.fancy_regex_linear.specs.Attempt.{Trace, Continuation, score, better_spot, land}
+use Rattle.fancy_regex_states.specs.First.{state_at, CannotBegin, IsTableOf}
+use Rattle.fancy_regex_class.specs.declared.class.CharClassMatcher.{CharClassMatcher}
+use Rattle.fancy_regex_linear.specs.Program.{NamesBelow, Agrees}
+use Rattle.fancy_regex_linear.specs.CharTests.{ShowsAll}
+use Rattle.fancy_regex_states.specs.declared.state.State.{State}
+use Rattle.fancy_regex_states.specs.declared.state.State.TheVariants.{Read, Split}
+use Rattle.fancy_regex_states.specs.declared.state.State.TheVariants.{Match as End}
+use Rattle.fancy_regex_states.specs.declared.atom.Leaf.{Leaf}
+use Rattle.fancy_regex_states.specs.CharTests.{leaf_matches_char}
+use Rattle.regex_hir.specs.Text.{is_some_and, char_at}
+use Rattle.std.specs.Char.{len_utf8}
+use Rattle.fancy_regex_linear.specs.declared.class_loop.ClassLoop.{ClassLoop}
+use Rattle.fancy_regex_linear.specs.declared.class_loop.Exit.{Exit}
+use Rattle.fancy_regex_linear.specs.declared.class_loop.Exit.TheVariants.{Match, Reads, Other}
+use Rattle.fancy_regex_linear.specs.declared.class_loop.Place.{Place}
+use Rattle.fancy_regex_linear.specs.declared.scan.Scan.{Scan}
+use Rattle.fancy_regex_linear.specs.declared.class_loop.Stretch.{Stretch}
+use Rattle.fancy_regex_linear.specs.declared.search.SearchContext.{SearchContext}
+use Rattle.fancy_regex_linear.specs.declared.frame.Frame.{Frame}
+use Rattle.fancy_regex_linear.specs.declared.frame.Frame.TheVariants.{Explore, Restore}
+use Rattle.fancy_regex_linear.specs.declared.frame.Next.{Next}
+use Rattle.fancy_regex_linear.specs.declared.frame.Next.TheVariants.{Pair, Back, Matched}
+
+-- the frames with the last one first
+unfoldable pub top_first : List Frame → List Frame
+top_first [] = []
+top_first (f ∷ fs) = top_first fs ++ f ∷ []
+
+-- the slots once every write is undone
+unfoldable pub slots_at_bottom : List Frame → List ℕ → List ℕ
+slots_at_bottom [] slots = slots
+slots_at_bottom (Explore q i ∷ rest) slots = slots_at_bottom rest slots
+slots_at_bottom (Restore slot old ∷ rest) slots = slots_at_bottom rest (slice_set slots slot old)
+
+-- each state names states
+abbrev pub Closed : List State → Type 0
+Closed states = (q : ℕ) → q < length states → NamesBelow (length states) (state_at states q)
+
+-- the state q is the head of a greedy loop over one class
+pub record IsLoop (states : List State) (q : ℕ) (found : ClassLoop) : Type 0 where
+  pub head : state_at states q ≡ Split found.body found.exit
+  pub body : state_at states found.body ≡ Read found.leaf q
+  pub below : (found.body < length states) × (found.exit < length states)
+
+-- q is a state, and i a place of the text between `base` and `stop`
+pub record IsPair (text : List ℕ) (count stop base q i : ℕ) : Type 0 where
+  pub state : q < count
+  pub low : base ≤ i
+  pub high : i ≤ stop
+  pub boundary : IsCharBoundary text i
+
+-- the state q at a place from `from` on, with the character there
+pub record IsPlace (text : List ℕ) (count stop base q from : ℕ) (place : Place) : Type 0 where
+  pub onward : from ≤ place.at
+  pub pair : IsPair text count stop base q place.at
+  pub after : place.after ≡ char_at text place.at
+  pub next : IfSome place.after (λ c. IsCharBoundary text (place.at + len_utf8 c))
+
+abbrev pub AllWithin : List ℕ → ℕ → ℕ → ℕ → List Frame → Type 0
+AllWithin text count stop base [] = Unit {0}
+AllWithin text count stop base (Explore q i ∷ rest) = IsPair text count stop base q i × AllWithin text count stop base rest
+AllWithin text count stop base (Restore slot old ∷ rest) = AllWithin text count stop base rest
+
+-- all states do what `go` says
+abbrev pub AllAgree : View → ℕ → List State → (ℕ → Continuation) → Type 0
+AllAgree view stop states go = (q : ℕ) → q < length states → Agrees view stop go (length states) q (state_at states q)
+
+-- The view says what looks at the text show, and the states do what `go` says.
+pub record Explains (context : SearchContext) (text : List ℕ) (view : View) (go : ℕ → Continuation) : Type 0 where
+  pub longest : view.longest ≡ context.rules.longest
+  pub shows : ShowsAll context.matchers.now context.rules text view
+  pub agree : AllAgree view context.stop context.states.now go
+
+-- The state reads by this leaf, if it is one that reads: it fails at a character that the leaf does not match.
+abbrev pub IsReader : SearchContext → ℕ → Exit → Type 0
+IsReader context q Match = ⊥
+IsReader context q (Reads leaf) = (text : List ℕ) (view : View) (go : ℕ → Continuation) → Explains context text view go
+    → (i : ℕ) → i ≤ context.stop → IsCharBoundary text i → is_some_and (char_at text i) (leaf_matches_char context.rules.unicode context.matchers.now leaf) ≡ false
+    → (go q i).answer ≡ None
+IsReader context q Other = Unit {0}
+
+-- what stands behind a loop: a match, where the first is wanted, or what reads
+abbrev pub IsExit : SearchContext → ℕ → Exit → Type 0
+IsExit context q Match = (state_at context.states.now q ≡ End) × (context.rules.longest ≡ false)
+IsExit context q (Reads leaf) = IsReader context q (Reads leaf)
+IsExit context q Other = Unit {0}
+
+-- a loop over this leaf reads the character, which is ASCII, and the exit is of no use before it
+abbrev pub IsUseless : SearchContext → Exit → ℕ → Type 0
+IsUseless context Match c = Unit {0}
+IsUseless context (Reads leaf) c = leaf_matches_char context.rules.unicode context.matchers.now leaf c ≡ false
+IsUseless context Other c = ⊥
+
+abbrev pub GoesOn : SearchContext → Leaf → Exit → Option ℕ → Type 0
+GoesOn context leaf exit None = ⊥
+GoesOn context leaf exit (Some c) = (c < 128) × (leaf_matches_char context.rules.unicode context.matchers.now leaf c ≡ true) × IsUseless context exit c
+
+-- the stretch has this ASCII character
+abbrev pub IsOver : Stretch → ℕ → Type 0
+IsOver stretch c = (slice_index_or stretch.members.now c false ≡ true) × IfSome stretch.wanted (λ w. w ≡ c → ⊥)
+
+-- a loop over this leaf reads on over what the stretch has, and the exit is of no use there
+abbrev pub IsStretch : SearchContext → Leaf → Exit → Stretch → Type 0
+IsStretch context leaf exit stretch = (c : ℕ) → c < 128 → IsOver stretch c → GoesOn context leaf exit (Some c)
+
+-- the pattern is one character, and behind it a greedy loop over one class, and the first match is wanted
+pub record IsScan (context : SearchContext) (scan : Scan) : Type 0 where
+  pub entry : state_at context.states.now context.entry ≡ Read scan.leaf scan.head
+  pub head : scan.head < length context.states.now
+  pub is_loop : IsLoop context.states.now scan.head scan.found
+  pub exit : IsExit context scan.found.exit Match
+  pub stretch : IsStretch context scan.found.leaf Match scan.stretch
+
+-- an ASCII character stands at i that the stretch has
+pub record HasOver (text : List ℕ) (stretch : Stretch) (i : ℕ) : Type 0 where
+  pub boundary : IsCharBoundary text i
+  pub c : ℕ
+  pub small : c < 128
+  pub here : char_at text i ≡ Some c
+  pub over : IsOver stretch c
+
+-- the table of first characters, if there is one, is that of the states
+abbrev pub HasTable : SearchContext → Type 0
+HasTable context = ∥ IfSome context.first.now (IsTableOf context.rules.unicode context.matchers.now context.states.now context.entry) ∥₁
+
+-- the ASCII characters that are marked begin no match, behind another character
+abbrev pub RefusesAscii : Bool → List CharClassMatcher → List State → ℕ → List Bool → Type 0
+RefusesAscii unicode matchers states entry marks =
+    (c : ℕ) → c < 128 → slice_index_or marks c false ≡ true → CannotBegin unicode matchers states entry (Some c)
+
+-- those that are marked are refused by the states
+abbrev pub HasMarks : SearchContext → Type 0
+HasMarks context = ∥ RefusesAscii context.rules.unicode context.matchers.now context.states.now context.entry context.refused.now ∥₁
+
+-- there is an end that scores r at least
+abbrev pub Reaches : Bool → ℕ → Option Trace → Type 0
+Reaches longest r None = ⊥
+Reaches longest r (Some t) = r ≤ score longest t.end
+
+abbrev pub IsAsGood : Bool → ℕ → Option Spot → Type 0
+IsAsGood longest r None = ⊥
+IsAsGood longest r (Some s) = r ≤ score longest s.at
+
+module _ (longest : Bool) (go : ℕ → Continuation) where
+  -- the best success on the stack
+  unfoldable pub pending : List Frame → List ℕ → Option Spot
+  pending [] slots = None
+  pending (Explore q i ∷ rest) slots = better_spot longest (land slots (go q i).answer) (pending rest slots)
+  pending (Restore slot old ∷ rest) slots = pending rest (slice_set slots slot old)
+
+  -- some pair on the stack reaches r, and it and those above it are less than d deep
+  abbrev pub ReachesBelow : ℕ → ℕ → List Frame → Type 0
+  ReachesBelow d r [] = ⊥
+  ReachesBelow d r (Explore q i ∷ rest) = ((go q i).depth < d) × (Reaches longest r (go q i).answer ⊎ ReachesBelow d r rest)
+  ReachesBelow d r (Restore slot old ∷ rest) = ReachesBelow d r rest
+
+  -- what a marked pair reaches, the best so far reaches or the stack answers for
+  abbrev pub Covers : (ℕ → ℕ → Type 0) → Option Spot → List Frame → Type 0
+  Covers Seen best stack = (q i r : ℕ) → Seen q i → Reaches longest r (go q i).answer
+      → IsAsGood longest r best ⊎ ReachesBelow (go q i).depth r stack
+
+  -- The state of a search for `goal`, where `best` was found so far.
+  pub record Dfs (goal best : Option Spot) (bottom : List ℕ) (Seen : ℕ → ℕ → Type 0) (stack : List Frame) (slots : List ℕ) : Type 0 where
+    pub value : better_spot longest best (pending stack slots) ≡ goal
+    pub covers : Covers Seen best stack
+    pub unwinds : slots_at_bottom stack slots ≡ bottom
+
+  -- the same after a pair at position i was looked at
+  abbrev pub After : Next → ℕ → Option Spot → Option Spot → List ℕ → (ℕ → ℕ → Type 0) → List Frame → List ℕ → Type 0
+  After (Pair q j) i goal best bottom Seen stack slots = Dfs goal best bottom Seen (Explore q j ∷ stack) slots
+  After Back i goal best bottom Seen stack slots = Dfs goal best bottom Seen stack slots
+  After Matched i goal best bottom Seen stack slots =
+      Dfs goal (better_spot longest best (Some (record { at = i; slots = slots }))) bottom Seen stack slots
+
+  -- the same after the head of a loop was visited: its body and its exit at this place are next
+  abbrev pub AtHead : ClassLoop → Option Place → Option Spot → Option Spot → List ℕ → (ℕ → ℕ → Type 0) → List Frame → List ℕ → Type 0
+  AtHead found None goal best bottom Seen stack slots = Dfs goal best bottom Seen stack slots
+  AtHead found (Some place) goal best bottom Seen stack slots =
+      Dfs goal best bottom Seen (Explore found.body place.at ∷ Explore found.exit place.at ∷ stack) slots
+
+  -- each marked pair fails
+  abbrev pub AllFail : (ℕ → ℕ → Type 0) → Type 0
+  AllFail Seen = Covers Seen None []
+
+abbrev pub NextWithin : List ℕ → ℕ → ℕ → ℕ → Next → Type 0
+NextWithin text count stop base (Pair q j) = IsPair text count stop base q j
+NextWithin text count stop base Back = Unit {0}
+NextWithin text count stop base Matched = Unit {0}
+
+-- how many frames a visit may leave: no more than it marks pairs, and where it leads on, it marks some
+abbrev pub Progresses : Next → ℕ → ℕ → ℕ → ℕ → Type 0
+Progresses (Pair q j) marked now_marked len now_len = (marked < now_marked) × (now_len + marked ≤ len + now_marked)
+Progresses Back marked now_marked len now_len = (marked ≤ now_marked) × (now_len + marked ≤ len + now_marked)
+Progresses Matched marked now_marked len now_len = (marked ≤ now_marked) × (now_len + marked ≤ len + now_marked)
+
+-- how many frames a step over one state may leave
+abbrev pub Grows : Next → ℕ → ℕ → Type 0
+Grows (Pair q j) len now_len = now_len ≤ len + 1
+Grows Back len now_len = now_len ≡ len
+Grows Matched len now_len = now_len ≡ len
+
+-- the stack before its top was taken off; empty if it had none
+abbrev pub put_back : Option (ℕ × ℕ) → List Frame → List Frame
+put_back None rest = []
+put_back (Some top) rest = Explore top.0 top.1 ∷ rest
+
+-- the stack and the slots, once each `Restore` at the top is carried out
+unfoldable pub resume_result : List Frame → List ℕ → List Frame × List ℕ
+resume_result [] slots = ([], slots)
+resume_result (Explore state at ∷ rest) slots = (Explore state at ∷ rest, slots)
+resume_result (Restore slot old ∷ rest) slots = resume_result rest (slice_set slots slot old)
+
+-- where a way ended, with the slots then
+abbrev pub ended : Option ℕ → List ℕ → Option Spot
+ended None slots = None
+ended (Some end) slots = Some (record { at = end; slots = slots })
+
+-- The pair comes to the same as where it leads by the character there, which is no deeper.
+abbrev pub LeadsTo : (ℕ → Continuation) → ℕ → ℕ → Next → Type 0
+LeadsTo go q i (Pair p j) = ((go p j).answer ≡ (go q i).answer) × ((go p j).depth ≤ (go q i).depth)
+LeadsTo go q i Back = (go q i).answer ≡ None
+LeadsTo go q i Matched = ⊥
+
+-- the frames, and the next pair on top if there is one
+abbrev pub with_next : Next → List Frame → List Frame
+with_next (Pair q i) rest = Explore q i ∷ rest
+with_next Back rest = rest
+with_next Matched rest = rest

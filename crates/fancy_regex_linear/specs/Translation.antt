@@ -1,0 +1,47 @@
+-- How an easy pattern is translated.
+use Rattle.std.specs.Prelude.{◌≡◌, ℕ, ◌+◌, ◌&&◌, true, Bool, List, [], ◌∷◌, ◌++◌, length, map, All}
+use Rattle.fancy_regex_tree.specs.Tree.{Tree, Trees, Text, trees, tree_of}
+use Rattle.fancy_regex_tree.specs.declared.expr.Expr.{Expr}
+use Rattle.fancy_regex_meaning.specs.Groups.{group_count, row_group_count}
+use Rattle.fancy_regex_class.specs.declared.class.CharClassMatcher.{CharClassMatcher}
+use Rattle.fancy_regex_linear.specs.Re.{Re}
+use Rattle.fancy_regex_linear.specs.Plain.{ArePlain, classes, row_classes, re_of}
+use Rattle.fancy_regex_linear.specs.Program.{IsSound, never_empty}
+use Rattle.fancy_regex_linear.specs.Easy.{HaveMatchers}
+use Rattle.fancy_regex_linear.specs.Refusals.{IsRead}
+use Rattle.fancy_regex_linear.specs.declared.build.Translator.{Translator}
+
+-- the trees of a row
+abbrev pub all_trees : List Expr → Trees
+all_trees es = trees (map tree_of es)
+
+-- the matchers of these classes were appended
+pub record Extends (unicode : Bool) (before after : List CharClassMatcher) (cs : List (Text × Bool)) : Type 0 where
+  pub count : length after ≡ length before + length cs
+  pub serve : (ds : List (Text × Bool)) → HaveMatchers unicode before ds → HaveMatchers unicode after (ds ++ cs)
+  pub read : All (IsRead unicode) cs
+
+-- the patterns of a row, with the numbers of the group that opens first in it and of its first class
+unfoldable pub row_list : Bool → List Tree → ℕ → ℕ → List Tree → List Re
+row_list unicode groups n k [] = []
+row_list unicode groups n k (t ∷ ts) =
+    re_of unicode groups n k t ∷ row_list unicode groups (n + group_count t) (k + length (classes t)) ts
+
+-- each of the patterns consumes a character
+unfoldable pub all_move : List Re → Bool
+all_move [] = true
+all_move (x ∷ xs) = never_empty x && all_move xs
+
+-- each of the patterns is sound
+abbrev pub AreSound : List Re → Type 0
+AreSound [] = Unit {0}
+AreSound (x ∷ xs) = IsSound x × AreSound xs
+
+-- The translation of these trees gave these patterns, and numbered the groups and classes of the trees.
+pub record BuildsRow (before after : Translator) (ts : List Tree) (xs : List Re) : Type 0 where
+  pub unicode : after.unicode ≡ before.unicode
+  pub matchers : Extends before.unicode before.matchers.items after.matchers.items (row_classes (trees ts))
+  pub sound : AreSound xs
+  pub groups : ArePlain (trees ts) → after.next_group ≡ before.next_group + row_group_count (trees ts)
+  pub patterns : ArePlain (trees ts) → (groups : List Tree)
+      → xs ≡ row_list before.unicode groups before.next_group (length before.matchers.items) ts

@@ -1,0 +1,361 @@
+//! Translation of an easy syntax tree to nodes and class matchers.
+
+ghost use Rattle.std.specs.Prelude.{◌≡◌, ◌+◌, true, false, ◌++◌, ◌∷◌, [], List, length, not, All, OnOk, IfOk, IfErr, IfSome, chars, string_bytes, slice_index, if◌then◌else◌};
+ghost use Rattle.fancy_regex_tree.specs.Tree.{Tree, tree_of};
+ghost use Rattle.fancy_regex_meaning.specs.Groups.{group_count, row_group_count};
+ghost use Rattle.fancy_regex_class.specs.Classes.{folded};
+ghost use Rattle.fancy_regex_linear.specs.Re.{shape};
+ghost use Rattle.fancy_regex_linear.specs.Re as re;
+ghost use Rattle.fancy_regex_states.specs.declared.atom.Leaf.TheVariants as leaf;
+ghost use Rattle.fancy_regex_meaning.specs.Sizes.{may_be_empty};
+ghost use Rattle.fancy_regex_linear.specs.Program.{IsSound, never_empty};
+ghost use Rattle.fancy_regex_linear.specs.Plain.{test_of as test_of_assertion, IsPlain, ArePlain, has_no_iteration, unless, classes, row_classes, re_of, row_of, branches_of};
+ghost use Rattle.fancy_regex_linear.specs.Translation.{all_trees, Extends};
+ghost use Rattle.fancy_regex_linear.specs.Refusals.{IsRead, IsClassCause};
+ghost use Rattle.fancy_regex_info.specs.declared.error.CompileError.TheVariants as errors;
+ghost use Rattle.fancy_regex_class.specs.Matchers.{IsMatcherOf};
+
+use crate::node::Node;
+use fancy_regex_class::{CharClassMatcher, ClassError, fold};
+use fancy_regex_info::CompileError;
+use fancy_regex_states::{Leaf, Test};
+use fancy_regex_tree::{Assertion, Expr};
+use std::alloc::{AllocError, Global};
+
+/// The state of the translation. For a tree that is not easy the result has no meaning.
+#[derive(Drop)]
+pub struct Translator {
+    /// Where the nodes are allocated.
+    pub alloc: Global,
+    /// Whether classes and case folding follow Unicode.
+    pub unicode: bool,
+    /// The number of the next capture group.
+    pub next_group: usize,
+    /// The matchers of the classes, in order.
+    pub matchers: Vec<CharClassMatcher>,
+}
+
+/// A translated expression.
+#[derive(Drop)]
+pub struct Translated {
+    /// Its node.
+    pub node: Node,
+    /// Whether each match of it consumes a character.
+    pub moves: bool,
+}
+
+impl Translated {
+    /// An expression that may match the empty string.
+    fn still(node: Node) -> Translated
+        ensures { (result.node ≡ node) × (result.moves ≡ false) }
+    {
+        Translated { node, moves: false }
+    }
+
+    /// An expression that always consumes a character.
+    fn moving(node: Node) -> Translated
+        ensures { (result.node ≡ node) × (result.moves ≡ true) }
+    {
+        Translated { node, moves: true }
+    }
+}
+
+/// The test of an assertion, or `None` if the runner does not support it.
+fn test_of(assertion: Assertion) -> Option<Test>
+    ensures { result ≡ test_of_assertion assertion }
+{
+    match assertion {
+        Assertion::StartText => Some(Test::StartText),
+        Assertion::EndText => Some(Test::EndText),
+        Assertion::StartLine { crlf } => Some(Test::StartLine { crlf }),
+        Assertion::EndLine { crlf } => Some(Test::EndLine { crlf }),
+        Assertion::WordBoundary => Some(Test::WordBoundary),
+        Assertion::NotWordBoundary => Some(Test::NotWordBoundary),
+        Assertion::LeftWordBoundary => Some(Test::LeftWordBoundary),
+        Assertion::RightWordBoundary => Some(Test::RightWordBoundary),
+        Assertion::LeftWordHalfBoundary
+        | Assertion::RightWordHalfBoundary
+        | Assertion::EndTextIgnoreTrailingNewlines { .. }
+        | Assertion::StartLineOniguruma { .. } => None,
+    }
+}
+
+/// Appends a value. The error is want of memory.
+fn add<T: Drop>(values: &mut Vec<T>, value: T) -> Result<(), AllocError>
+    ensures { OnOk result (values.new.items ≡ values.old.items ++ value ∷ []) }
+{
+    values.push(value)?;
+    Ok(())
+}
+
+/// The node in a box. The error is want of memory.
+fn boxed(alloc: Global, node: Node) -> Result<Box<Node>, AllocError>
+    ensures { IfOk result (λ b. b.value ≡ node) }
+{
+    Ok(Box::new(alloc, node)?)
+}
+
+/// The matcher of a class. The error is `InnerError` with the text of a class that `regex` refuses, or `Memory`.
+fn matcher(
+    alloc: Global,
+    class: &str,
+    casei: bool,
+    unicode: bool,
+) -> Result<CharClassMatcher, CompileError>
+    ensures members { IfOk result (λ m. IsMatcherOf m unicode (chars class.now) casei) }
+    ensures read { IfOk result (λ _. IsRead unicode (chars class.now, casei)) }
+    ensures refused { IfErr result (IsClassCause unicode ((chars class.now, casei) ∷ [])) }
+{
+    match CharClassMatcher::new(alloc, class, casei, unicode) {
+        Ok(matcher) => Ok(matcher),
+        Err(ClassError::InnerError(shown)) => Err(CompileError::InnerError(shown)),
+        Err(ClassError::Memory) => Err(CompileError::Memory),
+    }
+}
+
+impl Translator {
+    /// The state before the first tree. With an explicit group 0 the groups count from 0, else from 1.
+    pub fn new(alloc: Global, unicode: bool, explicit_capture_group_0: bool) -> Translator
+        ensures unicode { result.unicode ≡ unicode }
+        ensures first { result.next_group ≡ (if explicit_capture_group_0 then 0 else 1) }
+        ensures matchers { result.matchers.items ≡ [] }
+    {
+        Translator {
+            alloc,
+            unicode,
+            next_group: if explicit_capture_group_0 { 0 } else { 1 },
+            matchers: Vec::new(alloc),
+        }
+    }
+
+    /// Translates an expression; its groups and classes are numbered after those so far. What is not easy is left out. The
+    /// error is `InnerError` with the text of a class that `regex` refuses, or `Memory`.
+    #[cycle(build)]
+    #[tactic(auto, unfolding(crate::specs::Plain::re_of, crate::specs::Plain::classes, fancy_regex_meaning::specs::Groups::group_count, crate::specs::Program::never_empty))]
+    pub fn translated(&mut self, expr: &Expr) -> Result<Translated, CompileError>
+        ensures unicode { self.new.unicode ≡ self.old.unicode }
+        ensures groups { IfOk result (λ _. IsPlain (tree_of expr.now) → self.new.next_group ≡ self.old.next_group + group_count (tree_of expr.now)) }
+        ensures matchers { IfOk result (λ _. Extends self.old.unicode self.old.matchers.items self.new.matchers.items (classes (tree_of expr.now))) }
+        ensures moves { IfOk result (λ translated. translated.moves ≡ never_empty (shape translated.node)) }
+        ensures sound { IfOk result (λ translated. IsSound (shape translated.node)) }
+        ensures refused { IfErr result (IsClassCause self.old.unicode (classes (tree_of expr.now))) }
+        ensures shape { IfOk result (λ translated. IsPlain (tree_of expr.now) → (groups : List Tree) → shape translated.node
+            ≡ re_of self.old.unicode groups self.old.next_group (length self.old.matchers.items) (tree_of expr.now)) }
+    {
+        match expr {
+            Expr::Any { newline, crlf } => Ok(Translated::moving(Node::Read(Leaf::Any {
+                newline: *newline,
+                crlf: *crlf,
+            }))),
+            Expr::Literal { val, casei } => Ok(Translated::moving(Node::Read(self.literal(
+                val, *casei,
+            )))),
+            Expr::Delegate { inner, casei } => self.class(inner, *casei),
+            Expr::Assertion(assertion) => match test_of(*assertion) {
+                Some(test) => Ok(Translated::still(Node::Look(test))),
+                None => Ok(Translated::still(Node::Empty)),
+            },
+            Expr::Concat(children) => self.row(children),
+            Expr::Alt(children) => self.branches(children),
+            Expr::Group(child) => self.group(child),
+            Expr::Repeat {
+                child,
+                lo,
+                hi,
+                greedy,
+            } => self.repeat(child, *lo, *hi, *greedy),
+            _ => Ok(Translated::still(Node::Empty)),
+        }
+    }
+
+    /// The character test of a literal.
+    fn literal(&self, val: &str, casei: bool) -> Leaf
+        ensures { result ≡ (if casei then leaf.Folded (folded self.now.unicode (slice_index (chars val.now) 0))
+            else leaf.Char (slice_index (chars val.now) 0)) }
+    {
+        let c = match val.chars().next() {
+            Some(c) => c,
+            None => '\0',
+        };
+        if casei {
+            Leaf::Folded(fold(c, self.unicode))
+        } else {
+            Leaf::Char(c)
+        }
+    }
+
+    /// Translates a character class, and adds its matcher.
+    fn class(&mut self, class: &str, casei: bool) -> Result<Translated, CompileError>
+        ensures unicode { self.new.unicode ≡ self.old.unicode }
+        ensures groups { self.new.next_group ≡ self.old.next_group }
+        ensures matchers { IfOk result (λ _. Extends self.old.unicode self.old.matchers.items self.new.matchers.items ((chars class.now, casei) ∷ [])) }
+        ensures moves { IfOk result (λ translated. translated.moves ≡ true) }
+        ensures refused { IfErr result (IsClassCause self.old.unicode ((chars class.now, casei) ∷ [])) }
+        ensures node { IfOk result (λ translated. shape translated.node ≡ re.read (leaf.Class (length self.old.matchers.items))) }
+    {
+        let number = self.matchers.len();
+        let matcher = matcher(self.alloc, class, casei, self.unicode)?;
+        add(&mut self.matchers, matcher)?;
+        Ok(Translated::moving(Node::Read(Leaf::Class(number))))
+    }
+
+    /// Translates a concatenation: it always consumes a character if one of its children does.
+    #[cycle(build)]
+    fn row(&mut self, children: &[Expr]) -> Result<Translated, CompileError>
+        ensures unicode { self.new.unicode ≡ self.old.unicode }
+        ensures groups { IfOk result (λ _. ArePlain (all_trees children.now) → self.new.next_group ≡ self.old.next_group + row_group_count (all_trees children.now)) }
+        ensures matchers { IfOk result (λ _. Extends self.old.unicode self.old.matchers.items self.new.matchers.items (row_classes (all_trees children.now))) }
+        ensures moves { IfOk result (λ translated. translated.moves ≡ never_empty (shape translated.node)) }
+        ensures sound { IfOk result (λ translated. IsSound (shape translated.node)) }
+        ensures refused { IfErr result (IsClassCause self.old.unicode (row_classes (all_trees children.now))) }
+        ensures shape { IfOk result (λ translated. ArePlain (all_trees children.now) → (groups : List Tree) → shape translated.node
+            ≡ row_of self.old.unicode groups self.old.next_group (length self.old.matchers.items) (all_trees children.now)) }
+    {
+        let mut parts = Vec::new(self.alloc);
+        let mut moves = false;
+        for i in 0..children.len() {
+            let translated = self.translated(&children[i])?;
+            moves = moves || translated.moves;
+            add(&mut parts, translated.node)?;
+        }
+        Ok(Translated {
+            node: Node::Concat(parts),
+            moves,
+        })
+    }
+
+    /// Translates an alternation: it always consumes a character if each of its branches does.
+    #[cycle(build)]
+    fn branches(&mut self, children: &[Expr]) -> Result<Translated, CompileError>
+        ensures unicode { self.new.unicode ≡ self.old.unicode }
+        ensures groups { IfOk result (λ _. ArePlain (all_trees children.now) → self.new.next_group ≡ self.old.next_group + row_group_count (all_trees children.now)) }
+        ensures matchers { IfOk result (λ _. Extends self.old.unicode self.old.matchers.items self.new.matchers.items (row_classes (all_trees children.now))) }
+        ensures moves { IfOk result (λ translated. translated.moves ≡ never_empty (shape translated.node)) }
+        ensures sound { IfOk result (λ translated. IsSound (shape translated.node)) }
+        ensures refused { IfErr result (IsClassCause self.old.unicode (row_classes (all_trees children.now))) }
+        ensures shape { IfOk result (λ translated. ArePlain (all_trees children.now) → (groups : List Tree) → shape translated.node
+            ≡ branches_of self.old.unicode groups self.old.next_group (length self.old.matchers.items) (all_trees children.now)) }
+    {
+        let mut parts = Vec::new(self.alloc);
+        let mut moves = true;
+        for i in 0..children.len() {
+            let translated = self.translated(&children[i])?;
+            moves = moves && translated.moves;
+            add(&mut parts, translated.node)?;
+        }
+        let some = !parts.is_empty();
+        Ok(Translated {
+            node: Node::Alt(parts),
+            moves: moves && some,
+        })
+    }
+
+    /// Translates a capture group, which has the next number.
+    #[cycle(build)]
+    #[tactic(auto, unfolding(crate::specs::Program::never_empty))]
+    fn group(&mut self, child: &Expr) -> Result<Translated, CompileError>
+        ensures unicode { self.new.unicode ≡ self.old.unicode }
+        ensures groups { IfOk result (λ _. IsPlain (tree_of child.now) → self.new.next_group ≡ self.old.next_group + (group_count (tree_of child.now) + 1)) }
+        ensures matchers { IfOk result (λ _. Extends self.old.unicode self.old.matchers.items self.new.matchers.items (classes (tree_of child.now))) }
+        ensures moves { IfOk result (λ translated. translated.moves ≡ never_empty (shape translated.node)) }
+        ensures sound { IfOk result (λ translated. IsSound (shape translated.node)) }
+        ensures refused { IfErr result (IsClassCause self.old.unicode (classes (tree_of child.now))) }
+        ensures shape { IfOk result (λ translated. IsPlain (tree_of child.now) → (groups : List Tree) → shape translated.node
+            ≡ re.group self.old.next_group (re_of self.old.unicode groups (self.old.next_group + 1) (length self.old.matchers.items) (tree_of child.now))) }
+    {
+        let number = self.next_group;
+        self.next_group = number.checked_add(1).ok_or(CompileError::Memory)?;
+        let translated = self.translated(child)?;
+        Ok(Translated {
+            node: Node::Group {
+                number,
+                body: boxed(self.alloc, translated.node)?,
+            },
+            moves: translated.moves,
+        })
+    }
+
+    /// Translates a quantifier. A body that is repeated zero times is left out, but its groups are counted.
+    #[cycle(build)]
+    #[tactic(auto, unfolding(crate::specs::Program::never_empty))]
+    fn repeat(
+        &mut self,
+        child: &Expr,
+        lo: usize,
+        hi: usize,
+        greedy: bool,
+    ) -> Result<Translated, CompileError>
+        ensures unicode { self.new.unicode ≡ self.old.unicode }
+        ensures groups { IfOk result (λ _. IsPlain (tree_of child.now) → self.new.next_group ≡ self.old.next_group + group_count (tree_of child.now)) }
+        ensures matchers { IfOk result (λ _. Extends self.old.unicode self.old.matchers.items self.new.matchers.items (if has_no_iteration lo hi then [] else classes (tree_of child.now))) }
+        ensures sound { IfOk result (λ translated. IsSound (shape translated.node)) }
+        ensures moves { IfOk result (λ translated. translated.moves ≡ never_empty (shape translated.node)) }
+        ensures refused { IfErr result (IsClassCause self.old.unicode (if has_no_iteration lo hi then [] else classes (tree_of child.now))) }
+        ensures shape { IfOk result (λ translated. IsPlain (tree_of child.now) → (groups : List Tree) → shape translated.node
+            ≡ unless (has_no_iteration lo hi) (re.repeat lo hi greedy (not (may_be_empty groups (tree_of child.now))) (re_of self.old.unicode groups self.old.next_group (length self.old.matchers.items) (tree_of child.now)))) }
+    {
+        if is_never_repeated(lo, hi) {
+            self.skip_groups(child)?;
+            return Ok(Translated::still(Node::Empty));
+        }
+        let translated = self.translated(child)?;
+        Ok(Translated {
+            node: Node::Repeat {
+                body: boxed(self.alloc, translated.node)?,
+                lo,
+                hi,
+                greedy,
+                moves: translated.moves,
+            },
+            moves: lo > 0 && translated.moves,
+        })
+    }
+
+    /// Counts the groups of an expression that is left out.
+    fn skip_groups(&mut self, child: &Expr) -> Result<(), CompileError>
+        ensures unicode { self.new.unicode ≡ self.old.unicode }
+        ensures matchers { self.new.matchers ≡ self.old.matchers }
+        ensures groups { IfOk result (λ _. IsPlain (tree_of child.now) → self.new.next_group ≡ self.old.next_group + group_count (tree_of child.now)) }
+        ensures refused { IfErr result (λ error. error ≡ errors.Memory) }
+    {
+        let skipped = groups_in(child).ok_or(CompileError::Memory)?;
+        self.next_group = self
+            .next_group
+            .checked_add(skipped)
+            .ok_or(CompileError::Memory)?;
+        Ok(())
+    }
+}
+
+/// Whether a quantifier with these counts repeats its body zero times.
+fn is_never_repeated(lo: usize, hi: usize) -> bool
+    ensures { result ≡ has_no_iteration lo hi }
+{
+    lo == 0 && hi == 0
+}
+
+/// The number of capture groups in an easy tree, or `None` if it exceeds `usize`.
+#[cycle(count)]
+#[tactic(auto, unfolding(fancy_regex_meaning::specs::Groups::group_count))]
+fn groups_in(expr: &Expr) -> Option<usize>
+    ensures { IfSome result (λ n. IsPlain (tree_of expr.now) → n ≡ group_count (tree_of expr.now)) }
+{
+    match expr {
+        Expr::Group(child) => groups_in(child)?.checked_add(1),
+        Expr::Repeat { child, .. } => groups_in(child),
+        Expr::Concat(children) | Expr::Alt(children) => groups_in_row(children),
+        _ => Some(0),
+    }
+}
+
+/// The number of capture groups in all these trees, or `None` if it exceeds `usize`.
+#[cycle(count)]
+fn groups_in_row(children: &[Expr]) -> Option<usize>
+    ensures { IfSome result (λ n. ArePlain (all_trees children.now) → n ≡ row_group_count (all_trees children.now)) }
+{
+    let mut sum = 0usize;
+    for i in 0..children.len() {
+        sum = sum.checked_add(groups_in(&children[i])?)?;
+    }
+    Some(sum)
+}

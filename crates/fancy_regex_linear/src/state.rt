@@ -1,0 +1,50 @@
+//! Adding states to those of a pattern.
+
+ghost use Rattle.std.specs.Prelude.{◌≡◌, ◌≤◌, IfOk, length, vec_len};
+ghost use Rattle.fancy_regex_linear.specs.Program.{loop_head, push};
+
+use fancy_regex_states::State;
+use std::alloc::AllocError;
+
+/// The head of a loop: another iteration, or the exit, in the order of preference.
+pub fn make_head(greedy: bool, round: usize, leave: usize) -> State
+    ensures { result ≡ loop_head greedy round leave }
+{
+    if greedy {
+        State::Split {
+            first: round,
+            second: leave,
+        }
+    } else {
+        State::Split {
+            first: leave,
+            second: round,
+        }
+    }
+}
+
+/// Adds a state and returns its number. The error is want of memory.
+pub fn add(states: &mut Vec<State>, state: State) -> Result<usize, AllocError>
+    ensures longer { IfOk result (λ _. vec_len states.old ≤ vec_len states.new) }
+    ensures states { IfOk result (λ _. states.new.items ≡ push states.old.items state) }
+    ensures number { IfOk result (λ n. n ≡ length states.old.items) }
+{
+    let number = states.len();
+    states.push(state)?;
+    Ok(number)
+}
+
+/// Adds two states and returns their numbers. The error is want of memory.
+pub fn add_both(
+    states: &mut Vec<State>,
+    one: State,
+    two: State,
+) -> Result<(usize, usize), AllocError>
+    ensures longer { IfOk result (λ _. vec_len states.old ≤ vec_len states.new) }
+    ensures states { IfOk result (λ _. states.new.items ≡ push (push states.old.items one) two) }
+    ensures numbers { IfOk result (λ n. (n.0 ≡ length states.old.items) × (n.1 ≡ length (push states.old.items one))) }
+{
+    let first = add(states, one)?;
+    let second = add(states, two)?;
+    Ok((first, second))
+}

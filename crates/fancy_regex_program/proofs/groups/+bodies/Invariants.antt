@@ -1,8 +1,0 @@
-use Rattle.std.proofs.Common.{◌≡◌, ◌++◌, map, take}
-use Rattle.fancy_regex_program.specs.Groups.{bodies_in_row}
-use Rattle.fancy_regex_program.specs.Writing.{info_at}
-use Rattle.fancy_regex_program.proofs.groups.+bodies.Given as goal
-
-abbrev pub invariant-add_row_bodies-loop-child : goal.invariant-add_row_bodies-loop-child
-invariant-add_row_bodies-loop-child l =
-    map info_at l.groups.items ≡ map info_at l.fn.groups.items ++ bodies_in_row (take l.child-index l.children)

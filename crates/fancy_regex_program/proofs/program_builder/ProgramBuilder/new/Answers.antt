@@ -1,8 +1,0 @@
-use Rattle.std.proofs.Common.{ap, map, ◌∙◌, chars}
-use Rattle.std.proofs.lemmas.Str.{chars-nil}
-use Rattle.fancy_regex_instructions.specs.Ops.{op_of}
-use Rattle.fancy_regex_program.proofs.Drafts.{same_draft}
-use Rattle.fancy_regex_program.proofs.program_builder.ProgramBuilder.new.Goals as goal
-
-pub returns-clause-draft : goal.returns-clause-draft
-returns-clause-draft c = same_draft (ap (map op_of) c.new.ensures.items) (ap chars c.new-3.ensures.bytes ∙ chars-nil)

@@ -1,0 +1,178 @@
+-- The program of a pattern.
+use Rattle.std.specs.Prelude.{ℕ, ◌+◌, ◌*◌, nat_le, Bool, true, false, not, ◌&&◌, List, [], ◌∷◌, ◌++◌, length, Some, None, ◌==◌, if◌then◌else◌}
+use Rattle.fancy_regex_tree.specs.Tree.{Text}
+use Rattle.fancy_regex_desugar.specs.CorePatterns.{CharacterTest, any, literal, class, CorePattern, nothing, read, general_newline, check, continue, keep_out, fail, cat, alt, group, ahead, never, back, atomic, delegate, tail, repeat, backref, exists, conditional, absent}
+use Rattle.fancy_regex_program.specs.Ops as op
+use Rattle.fancy_regex_program.specs.Ops.{Op, among_scalars}
+use Rattle.fancy_regex_program.specs.Reading.{always_reads}
+
+-- how many slots of its own a pattern has
+abbrev pub slots_in : CorePattern → ℕ
+slots_in (cat a b) = slots_in a + slots_in b
+slots_in (alt a b) = slots_in a + slots_in b
+slots_in (group k a) = 1 + slots_in a
+slots_in (ahead a) = 1 + slots_in a
+slots_in (never a) = 1 + slots_in a
+slots_in (atomic a) = 1 + slots_in a
+slots_in (tail t a) = slots_in a
+slots_in (repeat a lo None greedy) = 2 + slots_in a
+slots_in (repeat a lo (Some hi) greedy) = 1 + slots_in a
+slots_in (conditional c a b) = 1 + (slots_in c + (slots_in a + slots_in b))
+slots_in (absent a) = 2 + slots_in a
+slots_in _ = 0
+
+-- Literals that stand side by side are one text, so a literal waits until something else comes: what waits behind a
+-- pattern, where that text waited before it.
+abbrev pub waits : CorePattern → Text → Text
+waits nothing text = text
+waits (read (literal c false)) text = text ++ c ∷ []
+waits (cat a b) text = waits b (waits a text)
+waits _ text = []
+
+-- the text that waited
+abbrev pub flushed : Text → List Op
+flushed [] = []
+flushed (c ∷ cs) = op.lit (c ∷ cs) ∷ []
+
+-- A program, which begins at that operation and with that slot.
+abbrev pub Code : Type 0
+Code = ℕ → ℕ → List Op
+
+abbrev pub none : Code
+none pc slot = []
+
+abbrev pub one : Op → Code
+one o pc slot = o ∷ []
+
+-- what follows the text that waited
+abbrev pub behind : Text → Code → Code
+behind text code pc slot = flushed text ++ code (pc + length (flushed text)) slot
+
+-- with what waits behind it
+abbrev pub closed : Code → Text → Code
+closed code text pc slot = code pc slot ++ flushed text
+
+abbrev pub row_code : Code → Code → ℕ → Code
+row_code a b slots_of_a pc slot =
+    let first = a pc slot in
+    first ++ b (pc + length first) (slot + slots_of_a)
+
+abbrev pub alt_code : Code → Code → ℕ → Code
+alt_code a b slots_of_a pc slot =
+    let first = a (pc + 1) slot in
+    let second = b (pc + 2 + length first) (slot + slots_of_a) in
+    op.split (pc + 1) (pc + 2 + length first) ∷ (first ++ op.jump (pc + 2 + length first + length second) ∷ second)
+
+abbrev pub group_code : ℕ → Code → Code
+group_code k body pc slot =
+    op.save slot ∷ (body (pc + 1) (slot + 1) ++ op.copy slot (2 * k) ∷ op.save (2 * k + 1) ∷ [])
+
+abbrev pub ahead_code : Code → Code
+ahead_code body pc slot = op.save slot ∷ (body (pc + 1) (slot + 1) ++ op.restore slot ∷ [])
+
+abbrev pub never_code : Code → Code
+never_code body pc slot =
+    let inside = body (pc + 2) (slot + 1) in
+    op.begin_atomic slot ∷ op.split (pc + 2) (pc + 3 + length inside) ∷ (inside ++ op.fail_negative slot ∷ [])
+
+abbrev pub atomic_code : Code → Code
+atomic_code body pc slot = op.begin_atomic slot ∷ (body (pc + 1) (slot + 1) ++ op.end_atomic slot ∷ [])
+
+-- the operations of a tail, given what begins it by where they end
+abbrev pub tail_code : (ℕ → Op) → Code → Code
+tail_code begin body pc slot =
+    let inside = body (pc + 1) slot in
+    begin (pc + 1 + length inside) ∷ inside
+
+abbrev pub repeat_code : ℕ → ℕ → Bool → Code → Code
+repeat_code lo hi greedy body pc slot =
+    let inside = body (pc + 2) (slot + 1) in
+    op.begin_repeat slot ∷ op.repeat greedy lo hi (pc + 3 + length inside) slot ∷ (inside ++ op.jump (pc + 1) ∷ [])
+
+-- A repeat without a greatest count needs no counter where at most one round is due and each run through its body, which begins
+-- at the operation `first`, reads a character.
+abbrev pub is_uncounted : ℕ → ℕ → List Op → Bool
+is_uncounted lo first inside = nat_le lo 1 && always_reads first inside
+
+-- tries to go on first and then to stop, or the other way round
+abbrev pub split_by : Bool → ℕ → ℕ → Op
+split_by greedy on stop = if greedy then op.split on stop else op.split stop on
+
+-- The two operations in front of the body. Without a counter they are a jump to the second, or past it where a round is due, and
+-- the choice of another round.
+abbrev pub loop_entry : Bool → ℕ → ℕ → ℕ → Op
+loop_entry uncounted lo head slot = if uncounted then op.jump (head + lo) else op.begin_repeat slot
+
+abbrev pub loop_head : Bool → ℕ → Bool → ℕ → ℕ → ℕ → ℕ → Op
+loop_head uncounted lo greedy first next slot last =
+    if uncounted then split_by greedy first next else op.repeat_epsilon greedy lo next slot last
+
+abbrev pub loop_code : ℕ → Bool → Code → Code
+loop_code lo greedy body pc slot =
+    let inside = body (pc + 2) (slot + 2) in
+    let uncounted = is_uncounted lo (pc + 2) inside in
+    loop_entry uncounted lo (pc + 1) slot ∷ loop_head uncounted lo greedy (pc + 2) (pc + 3 + length inside) slot (slot + 1)
+    ∷ (inside ++ op.jump (pc + 1) ∷ [])
+
+abbrev pub conditional_code : Code → Code → Code → ℕ → ℕ → Code
+conditional_code c a b slots_of_c slots_of_a pc slot =
+    let test = c (pc + 2) (slot + 1) in
+    let yes = a (pc + 3 + length test) (slot + 1 + slots_of_c) in
+    let no = b (pc + 4 + length test + length yes) (slot + 1 + slots_of_c + slots_of_a) in
+    op.begin_atomic slot ∷ op.split (pc + 2) (pc + 4 + length test + length yes)
+    ∷ (test ++ op.end_atomic slot ∷ (yes ++ op.jump (pc + 4 + length test + length yes + length no) ∷ no))
+
+abbrev pub absent_code : Code → Code
+absent_code body pc slot =
+    let inside = body (pc + 2) (slot + 2) in
+    op.absent_begin slot (slot + 1) ∷ op.absent_scan (pc + 3 + length inside) (slot + 1)
+    ∷ (inside ++ op.absent_limit (slot + 1) ∷ op.absent_end slot (slot + 1) ∷ [])
+
+-- over the members of classes, the foldings of characters, and whether group 0 is the whole
+module _ (has_member : Text → Bool → ℕ → Bool) (fold : ℕ → ℕ) (whole : Bool) where
+  abbrev pub leaf_op : CharacterTest → Op
+  leaf_op (any newline crlf) = op.any newline (crlf && not newline)
+  leaf_op (literal c casei) = op.test (λ d. fold d == fold c)
+  leaf_op (class text casei) = op.test (among_scalars (has_member text casei))
+
+  -- The program of a pattern, which begins at that operation and with that slot; the text waits before it.
+  unfoldable pub code_of : CorePattern → Text → ℕ → ℕ → List Op
+  code_of nothing text = none
+  code_of (read (literal c false)) text = none
+  code_of (cat a b) text = row_code (code_of a text) (code_of b (waits a text)) (slots_in a)
+  code_of (read (literal c true)) text = behind text (one (leaf_op (literal c true)))
+  code_of (read (any newline crlf)) text = behind text (one (leaf_op (any newline crlf)))
+  code_of (read (class name casei)) text = behind text (one (leaf_op (class name casei)))
+  code_of (general_newline unicode) text = behind text (one (op.general_newline unicode))
+  code_of (check a) text = behind text (one (op.assertion a))
+  code_of continue text = behind text (one op.continue)
+  code_of keep_out text = behind text (λ pc slot. if whole then op.save 0 ∷ [] else [])
+  code_of fail text = behind text (one op.fail)
+  code_of (alt a b) text = behind text (alt_code (closed (code_of a []) (waits a [])) (closed (code_of b []) (waits b [])) (slots_in a))
+  code_of (group k a) text = behind text (group_code k (closed (code_of a []) (waits a [])))
+  code_of (ahead a) text = behind text (ahead_code (closed (code_of a []) (waits a [])))
+  code_of (never a) text = behind text (never_code (closed (code_of a []) (waits a [])))
+  code_of (back n) text = behind text (one (op.go_back n))
+  code_of (atomic a) text = behind text (atomic_code (closed (code_of a []) (waits a [])))
+  code_of (delegate t a) text = behind text (one (op.delegate has_member fold t))
+  code_of (tail t a) text = behind text (tail_code (op.tail has_member fold t) (closed (code_of a []) (waits a [])))
+  code_of (repeat a lo None greedy) text = behind text (loop_code lo greedy (closed (code_of a []) (waits a [])))
+  code_of (repeat a lo (Some hi) greedy) text = behind text (repeat_code lo hi greedy (closed (code_of a []) (waits a [])))
+  code_of (backref k casei) text = behind text (one (op.backref (2 * k) casei))
+  code_of (exists k) text = behind text (one (op.exists (2 * k)))
+  code_of (conditional c a b) text = behind text
+      (conditional_code (closed (code_of c []) (waits c [])) (closed (code_of a []) (waits a [])) (closed (code_of b []) (waits b []))
+      (slots_in c) (slots_in a))
+  code_of (absent a) text = behind text (absent_code (closed (code_of a []) (waits a [])))
+
+  -- The program of a whole pattern: it tries each start, unless it is anchored, and the slots of group 0 say where it
+  -- starts and ends.
+  abbrev pub opening : Bool → List Op
+  opening anchored = (if anchored then [] else op.split_unanchored ∷ []) ++ (if whole then op.save 0 ∷ [] else [])
+
+  abbrev pub closing : List Op
+  closing = (if whole then op.save 1 ∷ [] else []) ++ op.finish ∷ []
+
+  unfoldable pub program_of : Bool → ℕ → CorePattern → List Op
+  program_of anchored group_count p =
+      opening anchored ++ (closed (code_of p []) (waits p []) (length (opening anchored)) (2 * group_count) ++ closing)

@@ -1,0 +1,70 @@
+-- What the compiler says of a program.
+use Rattle.std.specs.Prelude.{◌≡◌, ℕ, ◌+◌, ◌*◌, ◌<◌, ◌≤◌, Bool, true, false, not, List, length, Option}
+use Rattle.fancy_regex_tree.specs.Tree.{Tree}
+use Rattle.fancy_regex_meaning.specs.Choices.{program_nodes}
+use Rattle.fancy_regex_meaning.specs.Groups.{Pattern}
+use Rattle.fancy_regex_class.specs.Classes.{in_class, folded}
+use Rattle.fancy_regex_desugar.specs.CorePatterns.{CorePattern}
+use Rattle.fancy_regex_desugar.specs.Shapes.{StepsBackOnlyFirst}
+use Rattle.fancy_regex_desugar.specs.Unfolded.{core_pattern_of}
+use Rattle.fancy_regex_info.specs.Analysis.{analysis}
+use Rattle.fancy_regex_analysis.specs.AnalysisErrors.{is_too_complex}
+use Rattle.fancy_regex_info.specs.Infos.{InfoTree}
+use Rattle.fancy_regex_analysis.specs.NodeErrors.{some_node, shows}
+use Rattle.fancy_regex_info.specs.Views.{pattern_in}
+use Rattle.fancy_regex_info.specs.declared.error.CompileError.{CompileError}
+use Rattle.fancy_regex_info.specs.declared.error.CompileError.TheVariants.{InvalidBackref}
+use Rattle.fancy_regex_program.specs.Caps.{IsWithinCap, IsPastCap}
+use Rattle.fancy_regex_program.specs.Code.{slots_in, program_of}
+use Rattle.fancy_regex_program.specs.Ops.{ops_of}
+use Rattle.fancy_regex_program.specs.Shapes.{IsWritable}
+use Rattle.fancy_regex_program.specs.declared.insn.Insn.{Insn}
+use Rattle.fancy_regex_program.specs.declared.prog.Prog.{Prog}
+
+-- These are the instructions of a pattern with so many groups, and the slots that they need.
+pub record IsWhole (unicode whole anchored : Bool) (groups : ℕ) (p : CorePattern) (insns : List Insn) (slots : ℕ) : Type 0 where
+  pub ops : ops_of insns ≡ program_of (in_class unicode) (folded unicode) whole anchored groups p
+  pub slots_are : slots ≡ 2 * groups + slots_in p
+
+-- The program is that of the pattern, and begins at the first start alone where it is anchored.
+pub record IsProgramOf (prog : Prog) (pattern : Pattern) (anchored : Bool) : Type 0 where
+  pub anchored_is : prog.anchored ≡ anchored
+  pub body : ops_of prog.body.items ≡ program_of (in_class prog.unicode) (folded prog.unicode) prog.whole anchored prog.groups (core_pattern_of pattern)
+  pub slots : prog.slots ≡ 2 * prog.groups + slots_in (core_pattern_of pattern)
+  pub groups : prog.groups ≡ length pattern.groups
+
+-- Each back reference and each condition of the tree goes to a group.
+abbrev pub RefersToGroups : Bool → Tree → Type 0
+RefersToGroups explicit t = (k : ℕ) → some_node (shows (length (pattern_in explicit t).groups) (InvalidBackref k)) t ≡ true → ⊥
+
+-- The tree's pattern, where it is written out, is one that programs are made of: it goes back only where a look-around
+-- begins, and where the tree refers to groups alone, it can be written.
+pub record CanBeWritten (explicit : Bool) (t : Tree) : Type 0 where
+  pub placed : StepsBackOnlyFirst false (core_pattern_of (pattern_in explicit t))
+  pub writable : RefersToGroups explicit t →
+      IsWritable (pattern_in explicit t).first_group (length (pattern_in explicit t).groups) (core_pattern_of (pattern_in explicit t))
+
+-- Where this is what the analysis says of a tree, the program is that of the tree's pattern, which can be written; and
+-- group 0 is the whole unless groups count from 0.
+pub record IsMadeFrom (prog : Prog) (anchored explicit : Bool) (t : Tree) : Type 0 where
+  pub program : IsProgramOf prog (pattern_in explicit t) anchored
+  pub whole : prog.whole ≡ not explicit
+  pub written : CanBeWritten explicit t
+
+abbrev pub IsOfTree : Prog → Bool → InfoTree → Type 0
+IsOfTree prog anchored x = (explicit : Bool) (t : Tree) → x ≡ analysis explicit t → IsMadeFrom prog anchored explicit t
+
+-- The program has no more instructions than the cap, if one is set.
+abbrev pub KeepsCap : Option ℕ → Prog → Type 0
+KeepsCap most prog = IsWithinCap most (length prog.body.items)
+
+-- Where this is what the analysis says of a tree, its program is too long only where a cap is set, and it is below sixteen
+-- instructions for each node of the tree, a call counting as its target's body, and sixteen more.
+abbrev pub IsTooLong : Option ℕ → InfoTree → CompileError → Type 0
+IsTooLong most x e = (explicit : Bool) (t : Tree) → x ≡ analysis explicit t → is_too_complex e ≡ true →
+    IsPastCap most (16 * (program_nodes (pattern_in explicit t) + 1))
+
+-- Where this is what the analysis says of a tree, the program has no more instructions than that.
+abbrev pub IsShort : Prog → InfoTree → Type 0
+IsShort prog x = (explicit : Bool) (t : Tree) → x ≡ analysis explicit t →
+    length prog.body.items ≤ 16 * (program_nodes (pattern_in explicit t) + 1)

@@ -1,8 +1,0 @@
-use Rattle.std.proofs.Common.{◌∙◌, ap}
-use Rattle.fancy_regex_runner.specs.Search.{top_first}
-use Rattle.fancy_regex_runner.specs.declared.frame.Frame.TheVariants.{Explore}
-use Rattle.fancy_regex_runner.proofs.StackLemmas.{top_pushed}
-use Rattle.fancy_regex_runner.proofs.backtrack.BacktrackState.leave.Goals as goal
-
-pub returns-clause-pushed : goal.returns-clause-pushed
-returns-clause-pushed c = ap top_first c.in_ok-push.ensures.items ∙ top_pushed c.args.self.now.stack.items (Explore c.args.state c.args.at)
