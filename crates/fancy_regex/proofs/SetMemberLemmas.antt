@@ -28,7 +28,7 @@ module _ (regexes : List Regex) (text : List ℕ) (config : SearchConfig) (p : �
   unfolding member_match
   same_match regex = refl
 
-  -- a member adds its match to what those behind it find
+  -- a member adds its match to what those after it find
   pub found_step : (k : ℕ) (regex : Regex) → slice_get regexes k ≡ Some regex →
       found k ≡ elim (own regex) [ None ↦ found (k + 1) | Some m ↦ (k, m) ∷ found (k + 1) ]
   found_step k regex e =
@@ -41,7 +41,7 @@ module _ (regexes : List Regex) (text : List ℕ) (config : SearchConfig) (p : �
   pub found_some : (k : ℕ) (regex : Regex) (m : Match) → slice_get regexes k ≡ Some regex → own regex ≡ Some m → found k ≡ (k, m) ∷ found (k + 1)
   found_some k regex m e is = found_step k regex e ∙ ap (λ o. elim o [ None ↦ found (k + 1) | Some n ↦ (k, n) ∷ found (k + 1) ]) is
 
-  -- behind the last member nothing is found
+  -- after the last member nothing is found
   pub found_past : (k : ℕ) → length regexes ≤ k → found k ≡ []
   found_past k past =
       ap (λ rs. found_at (members_of text config regexes) (input_of config) p k (members_of text config rs)) (drop_all k regexes past)

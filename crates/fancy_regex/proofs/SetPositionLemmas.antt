@@ -19,7 +19,7 @@ use Rattle.fancy_regex.specs.SetAnswers.{members_of, answer_of_set, found_from, 
 pub no_place : (text : List ℕ) (p last : ℕ) → last < p → boundaries text p last ≡ []
 no_place text p last past = let none : last + 1 - p ≡ 0 = omega arith in ap (λ n. filter (is_boundary text) (numbers_from n p)) none
 
--- behind a boundary comes the one of the next character
+-- after a boundary comes the one of the next character
 pub next_boundary : (text : List ℕ) (p last : ℕ) → IsUtf8 text → IsCharBoundary text p → p ≤ last → last ≤ length text →
     boundaries text p last ≡ p ∷ boundaries text (position_after text p) last
 next_boundary text p last utf8 cut within inside = by_char (char_at text p) refl

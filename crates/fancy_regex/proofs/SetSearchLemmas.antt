@@ -47,7 +47,7 @@ module _ (regexes : List Regex) (text : List ℕ) (config : SearchConfig) (utf8 
       ∙ ap (λ (q : ℕ). first_some (answer_at regexes text config) (boundaries text q (last_tried config))) (sym is)
 
   pub none_before : (p : ℕ) → p ≡ effective_start config → (q : ℕ) → IsTriedAt text config q → q < p → found_from regexes text config q 0 ≡ []
-  none_before p is q tried lt = let late : effective_start config ≤ q = tried.behind in absurd (omega (arith, is, lt, late))
+  none_before p is q tried lt = let late : effective_start config ≤ q = tried.following in absurd (omega (arith, is, lt, late))
 
   pub at_boundary : (p : ℕ) → (p ≤ length text → IsCharBoundary text p) → p ≤ last_tried config → IsCharBoundary text p
   at_boundary p cut within = cut (omega (arith, within, last_inside config, fits.range_end.0))
@@ -64,7 +64,7 @@ module _ (regexes : List Regex) (text : List ℕ) (config : SearchConfig) (utf8 
         (answer, left ∙ answer_here regexes text config p (last_tried config) f rest utf8 (at_boundary p cut within) within inside_text is, refl, refl)
 
     pub tried_here : effective_start config ≤ p → IsTriedAt text config p
-    tried_here behind = record { boundary = at_boundary p cut within; behind = behind; inside = within }
+    tried_here following = record { boundary = at_boundary p cut within; following = following; inside = within }
 
     -- what holds at all tried positions up to this one holds at all before the next one
     pub all_later : (P : ℕ → Type 0) → ((q : ℕ) → IsTriedAt text config q → q < p → P q) → P p →
@@ -81,10 +81,10 @@ module _ (regexes : List Regex) (text : List ℕ) (config : SearchConfig) (utf8 
         (q : ℕ) → IsTriedAt text config q → q < position_after text p → found_from regexes text config q 0 ≡ []
     none_later none here q tried lt = all_later (λ x. found_from regexes text config x 0 ≡ []) none here q tried lt
 
-    pub answer_behind : answer_of_set regexes text config ≡ first_some (answer_at regexes text config) (boundaries text p (last_tried config)) →
+    pub answer_after : answer_of_set regexes text config ≡ first_some (answer_at regexes text config) (boundaries text p (last_tried config)) →
         found_from regexes text config p 0 ≡ [] →
         answer_of_set regexes text config ≡ first_some (answer_at regexes text config) (boundaries text (position_after text p) (last_tried config))
-    answer_behind left none = left ∙ answer_later regexes text config p (last_tried config) utf8 (at_boundary p cut within) within inside_text none
+    answer_after left none = left ∙ answer_later regexes text config p (last_tried config) utf8 (at_boundary p cut within) within inside_text none
 
   -- past the last position nothing is left
   pub answer_none : (p : ℕ) → last_tried config < p →

@@ -36,7 +36,7 @@ module _ (text : List ℕ) (config : SearchConfig) where
   -- The search tries this position: it is a character boundary between its effective start and the last one.
   pub record IsTriedAt (p : ℕ) : Type 0 where
     pub boundary : IsCharBoundary text p
-    pub behind : effective_start config ≤ p
+    pub following : effective_start config ≤ p
     pub inside : p ≤ last_tried config
 
 module _ (regexes : List Regex) (text : List ℕ) (config : SearchConfig) where
@@ -96,7 +96,7 @@ module _ (regexes : List Regex) (text : List ℕ) (config : SearchConfig) where
 
   -- What asking the members gives, by the number of the next one before and after it: no member is left that matches; or the
   -- first of those that are left and match; or the error of a member before which none of them matches, and the next one is
-  -- that behind it.
+  -- that after it.
   abbrev pub YieldsMember : {X : Type 0} → (X → ℕ × Match → Type 0) → ℕ → ℕ → Option (Result X Error) → ℕ → Type 0
   YieldsMember Shows p before result after =
       MatchOption result ((found_from p before ≡ []) × (found_from p after ≡ []))

@@ -88,7 +88,7 @@ impl RegexSet {
         }
     }
 
-    /// The number of that member; a number behind the last if there is none.
+    /// The number of that member; a number after the last if there is none.
     fn next_candidate(&self, byte: Option<u8>, from: usize) -> usize
         ensures { (from ≤ result) × FindNoneBetween self.now.regexes.items byte from result }
     {

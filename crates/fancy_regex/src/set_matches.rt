@@ -73,7 +73,7 @@ impl<'s, 't> RegexSetMatch<'s, &'t str> {
 }
 
 /// The matches of the members of a set that match at one position, in the order of their numbers. An item is an error if the
-/// search of its member failed; the members behind it are still asked. The first item was found by the set's search, and each
+/// search of its member failed; the members after it are still asked. The first item was found by the set's search, and each
 /// later member is asked when its item is wanted.
 #[derive(Drop)]
 pub struct RegexSetMatchesAt<'s, S: Input> {

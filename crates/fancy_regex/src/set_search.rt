@@ -29,7 +29,7 @@ impl RegexSet {
     ///
     /// At each position the members are asked in the order of their numbers, up to the first that matches; the error is the
     /// first one met: `RuntimeError` if a member's search exceeds a limit, which each of them has for itself; `Memory` if memory
-    /// runs out. The members behind the first match are asked by the iterator.
+    /// runs out. The members after the first match are asked by the iterator.
     pub fn find_input<S: Input>(
         &self,
         alloc: Global,

@@ -32,7 +32,7 @@ some_before hay n j c long found =
     ap (λ o. is_some_and o (λ d. len_utf8 d == n)) here ∙ eq-eqb _ n long in
     cond-true _ _ None (and_from _ _ (le-leb n (j + n) (omega arith)) fits) ∙ here
 
--- a character that stands at j stands before the place behind it
+-- a character that stands at j stands before the place after it
 module _ (hay : List ℕ) (j c : ℕ) (found : char_at hay j ≡ Some c) where
   past_one : len_utf8 c ≡ 1 → char_before hay (j + 1) ≡ Some c
   unfolding char_before
@@ -96,7 +96,7 @@ is_char_before A bs front rest i None within is long s m =
     let start : i ≡ 0 = omega (arith, m.0) in sym (ap (char_before bs) start ∙ char_before-zero bs)
 is_char_before A bs front rest i (Some c) within is long s m = sym (char_before_from bs rest i c within s (is ∙ m))
 
--- the place behind a character is a boundary
+-- the place after a character is a boundary
 pub is_boundary_past : (A : Type 0) (bs rest : List ℕ) (i : ℕ) (r : Option ℕ) → i ≤ length bs → IsUtf8 (drop i bs)
     → MatchOption r A (λ c. drop i bs ≡ encode_utf8 c ++ rest) → IfSome r (λ c. IsCharBoundary bs (i + len_utf8 c))
 is_boundary_past A bs rest i None p u m = tt
@@ -106,20 +106,20 @@ is_boundary_past A bs rest i (Some c) p u m = IsCharBoundary-past_char bs rest i
 pub ascii_at : (bs : List ℕ) (i b d : ℕ) → i < length bs → b ≡ slice_index_or bs i d → b < 128 → char_at bs i ≡ Some b
 ascii_at bs i b d inside is small = char_at_ascii bs i b (slice_get-get_or bs i d inside ∙ ap Some (sym is)) small
 
--- a byte of ASCII is the character before the place behind it
+-- a byte of ASCII is the character before the place after it
 pub ascii_before : (bs : List ℕ) (i b d : ℕ) → 0 < i → i ≤ length bs → b ≡ slice_index_or bs (i - 1) d → b < 128 → char_before bs i ≡ Some b
 ascii_before bs i b d some within is small =
     let long : len_utf8 b ≡ 1 = cond-true _ _ _ (lt-ltb b 0x80 small) in
     let place : i - 1 + len_utf8 b ≡ i = omega (arith, long) in
     ap (char_before bs) (sym place) ∙ char_before_past bs (i - 1) b (ascii_at bs (i - 1) b d (omega arith) is small)
 
--- the place behind the character at a boundary is a boundary
+-- the place after the character at a boundary is a boundary
 pub boundary_past : (bs : List ℕ) (i : ℕ) → IsUtf8 bs → IsCharBoundary bs i → (r : Option ℕ) → char_at bs i ≡ r
     → IfSome r (λ c. IsCharBoundary bs (i + len_utf8 c))
 boundary_past bs i u b None e = tt
 boundary_past bs i u b (Some c) e = IsCharBoundary-past_char bs _ i c b.0 (IsUtf8-drop bs i u b) (char_at_parts bs i c e).1
 
--- behind a byte of ASCII comes a boundary
+-- after a byte of ASCII comes a boundary
 pub boundary_past_ascii : (bs : List ℕ) (i b : ℕ) → IsUtf8 bs → IsCharBoundary bs i → b < 128 → char_at bs i ≡ Some b → IsCharBoundary bs (i + 1)
 boundary_past_ascii bs i b u here small is =
     let long : len_utf8 b ≡ 1 = cond-true _ _ _ (lt-ltb b 0x80 small) in

@@ -4,7 +4,7 @@ use Rattle.std.proofs.lemmas.Bool.{cases_lt}
 use Rattle.fancy_regex_class.specs.Looks.{HasMarkedAscii, HasMarkedPair, HasMarkedByte}
 use Rattle.fancy_regex_class.proofs.AdjacentCharLemmas.{ascii_at, boundary_past_ascii}
 
--- a marked byte is a marked character, and behind it comes a boundary
+-- a marked byte is a marked character, and after it comes a boundary
 pub marked_char : (text : List ℕ) (marks : List Bool) (i : ℕ) → IsUtf8 text → IsCharBoundary text i → i < length text → HasMarkedByte text marks i
     → HasMarkedAscii text marks i × IsCharBoundary text (i + 1)
 marked_char text marks i u b inside m =
@@ -19,15 +19,15 @@ below_next P from at below here i low high =
     (λ (over : at ≤ i). let same : at ≡ i = omega arith in subst P same here)
     (cases_lt i at)
 
--- what holds below a place, and at those behind it
+-- what holds below a place, and at those after it
 pub past : (P : ℕ → Type 0) (from at n : ℕ) → ((i : ℕ) → from ≤ i → i < at → P i) → ((i : ℕ) → at ≤ i → i < at + n → P i) → (i : ℕ) → from ≤ i → i < at + n → P i
-past P from at n below behind i low high =
+past P from at n below following i low high =
     ⊎_elim
     (λ (less : i < at). below i low less)
-    (λ (over : at ≤ i). behind i over high)
+    (λ (over : at ≤ i). following i over high)
     (cases_lt i at)
 
--- marked bytes are marked characters, and behind them comes a boundary
+-- marked bytes are marked characters, and after them comes a boundary
 pub marked_chars : (text : List ℕ) (marks : List Bool) (at n : ℕ) → IsUtf8 text → IsCharBoundary text at → at + n ≤ length text
     → ((i : ℕ) → at ≤ i → i < at + n → HasMarkedByte text marks i)
     → ((i : ℕ) → at ≤ i → i < at + n → HasMarkedAscii text marks i) × IsCharBoundary text (at + n)
@@ -38,22 +38,22 @@ marked_chars text marks at (suc n) u b inside m =
     let place : at + n + 1 ≡ at + suc n = omega arith in
     ((λ i low high. below_next (HasMarkedAscii text marks) at (at + n) before.0 one.0 i low (omega arith)), subst (λ (k : ℕ). IsCharBoundary text k) place one.1)
 
--- a byte that is marked, or with the one behind it, is a character that is, and behind it comes a boundary
-pub marked_pair : (text : List ℕ) (marks behind : List Bool) (i : ℕ) → IsUtf8 text → IsCharBoundary text i → i < length text
-    → HasMarkedByte text marks i ⊎ ((slice_index_or text i 0 < 128) × (i + 1 < length text) × HasMarkedByte text behind (i + 1))
-    → HasMarkedPair text marks behind i × IsCharBoundary text (i + 1)
-marked_pair text marks behind i u b inside (inl m) = let one = marked_char text marks i u b inside m in (inl one.0, one.1)
-marked_pair text marks behind i u b inside (inr both) =
+-- a byte that is marked, or with the one after it, is a character that is, and after it comes a boundary
+pub marked_pair : (text : List ℕ) (marks following : List Bool) (i : ℕ) → IsUtf8 text → IsCharBoundary text i → i < length text
+    → HasMarkedByte text marks i ⊎ ((slice_index_or text i 0 < 128) × (i + 1 < length text) × HasMarkedByte text following (i + 1))
+    → HasMarkedPair text marks following i × IsCharBoundary text (i + 1)
+marked_pair text marks following i u b inside (inl m) = let one = marked_char text marks i u b inside m in (inl one.0, one.1)
+marked_pair text marks following i u b inside (inr both) =
     let here = ascii_at text i (slice_index_or text i 0) 0 inside refl both.0 in
     let next = boundary_past_ascii text i (slice_index_or text i 0) u b both.0 here in
-    let two = marked_char text behind (i + 1) u next both.1 both.2 in
+    let two = marked_char text following (i + 1) u next both.1 both.2 in
     (inr (slice_index_or text i 0, both.0, here, two.0), next)
 
--- what holds below a place, at it, and at those behind it
-pub below_and_behind : (P : ℕ → Type 0) (from at to : ℕ) → ((i : ℕ) → from ≤ i → i < at → P i) → P at → ((i : ℕ) → at + 1 ≤ i → i < to → P i)
+-- what holds below a place, at it, and at those after it
+pub below_and_after : (P : ℕ → Type 0) (from at to : ℕ) → ((i : ℕ) → from ≤ i → i < at → P i) → P at → ((i : ℕ) → at + 1 ≤ i → i < to → P i)
     → (i : ℕ) → from ≤ i → i < to → P i
-below_and_behind P from at to below here behind i low high =
+below_and_after P from at to below here following i low high =
     ⊎_elim
     (λ (less : i < at + 1). below_next P from at below here i low less)
-    (λ (over : at + 1 ≤ i). behind i over high)
+    (λ (over : at + 1 ≤ i). following i over high)
     (cases_lt i (at + 1))

@@ -19,10 +19,10 @@ SameCounter a b = b.steps.ghost_name ≡ a.steps.ghost_name
 abbrev pub HasMarkedAscii : List ℕ → List Bool → ℕ → Type 0
 HasMarkedAscii text marks i = (c : ℕ) × (c < 128) × (char_at text i ≡ Some c) × (slice_index_or marks c false ≡ true)
 
--- an ASCII character stands at i that is marked, or any, and behind it one that is marked there
+-- an ASCII character stands at i that is marked, or any, and after it one that is marked there
 abbrev pub HasMarkedPair : List ℕ → List Bool → List Bool → ℕ → Type 0
-HasMarkedPair text marks behind i =
-    HasMarkedAscii text marks i ⊎ ((c : ℕ) × (c < 128) × (char_at text i ≡ Some c) × HasMarkedAscii text behind (i + 1))
+HasMarkedPair text marks following i =
+    HasMarkedAscii text marks i ⊎ ((c : ℕ) × (c < 128) × (char_at text i ≡ Some c) × HasMarkedAscii text following (i + 1))
 
 -- the byte of an ASCII character stands at i that is marked
 abbrev pub HasMarkedByte : List ℕ → List Bool → ℕ → Type 0

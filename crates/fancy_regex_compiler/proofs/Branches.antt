@@ -1,4 +1,4 @@
--- What is written for conditionals and for branches, whose jumps lead past what comes behind them.
+-- What is written for conditionals and for branches, whose jumps lead past what comes after them.
 use Rattle.std.proofs.Common.{◌≡◌, ℕ, ◌+◌, ◌*◌, ◌-◌, ◌<◌, Bool, List, [], ◌∷◌, ◌++◌, length, set, refl, sym, ap, ap₂, ◌∙◌, arith, append_assoc, append-nil, length-append}
 use Rattle.std.proofs.lemmas.List.{length-set, set-append_left}
 use Rattle.std.proofs.Math.Seq.{set-append_seam}
@@ -242,7 +242,7 @@ module _ (u w : Bool) where
   choices end [] slot d = d
   choices end (p ∷ ps) slot d = choices end ps (slot + slots_in p) (with_choice u w end p slot d)
 
-  -- the slot behind them
+  -- the slot after them
   abbrev pub slot_after : ℕ → List CorePattern → ℕ
   slot_after slot [] = slot
   slot_after slot (p ∷ ps) = slot_after (slot + slots_in p) ps
@@ -377,7 +377,7 @@ module _ (u w : Bool) where
   right_long end [] d = refl
   right_long end (j ∷ js) d = right_long end js (patched j (op.jump end) d) ∙ length-set d.ops j (op.jump end)
 
-  -- The last branch, behind jumps that are patched later.
+  -- The last branch, after jumps that are patched later.
   pub last_goes_on : (end : ℕ) (js : List ℕ) (xs : List Op) (q : CorePattern) (slot : ℕ) → AllBelow (length xs) js →
       set_right end js (closed_draft (P q slot (bare xs))) ≡ closed_draft (P q slot (set_right end js (bare xs)))
   unfolding with_pat closed_draft

@@ -13,7 +13,7 @@ use Rattle.fancy_regex_compiler.specs.Writing.{Draft, with_op, with_char, closed
 pub same_draft : {a b : List Op} {s t : Text} → a ≡ b → s ≡ t → ◌≡◌ {A = Draft} (record { ops = a; text = s }) (record { ops = b; text = t })
 same_draft e f = ap₂ (λ o x. let d : Draft = record { ops = o; text = x } in d) e f
 
--- what stands between a part and what comes before and behind it
+-- what stands between a part and what comes before and after it
 flat_one : (xs f : List Op) (o : Op) (c g rest : List Op) →
     ((((xs ++ f) ++ o ∷ []) ++ c) ++ g) ++ rest ≡ xs ++ (f ++ (o ∷ ((c ++ g) ++ rest)))
 flat_one xs f o c g rest = simp append_assoc
@@ -41,7 +41,7 @@ get_seam (o ∷ p) x rest = get_seam p x rest
 fill : (p : List Op) (x y : Op) (c g rest : List Op) → set ((((p ++ x ∷ []) ++ c) ++ g) ++ rest) (length p) y ≡ p ++ y ∷ ((c ++ g) ++ rest)
 fill p x y c g rest = ap (λ l. set l (length p) y) (flat_hole p x c g rest) ∙ set-append_seam p x ((c ++ g) ++ rest) y
 
--- nothing more waits behind what is closed
+-- nothing more waits after what is closed
 pub closed_twice : (d : Draft) → closed_draft (closed_draft d) ≡ closed_draft d
 unfolding closed_draft
 closed_twice d = same_draft (append-nil (d.ops ++ flushed d.text)) refl
@@ -101,7 +101,7 @@ module _ (u w : Bool) where
   unfolding with_pat code_of
   pat_keep slot d = kept w d
 
-  -- a part with its own rest, behind one operation
+  -- a part with its own rest, after one operation
   after_one : (d : Draft) (o : Op) (a : CorePattern) (s : ℕ) (rest : List Op) →
       d.ops ++ (flushed d.text ++ (o ∷ ((C a [] (length d.ops + length (flushed d.text) + 1) s ++ flushed (waits a [])) ++ rest)))
       ≡ (closed_draft (P a s (added o d))).ops ++ rest
@@ -133,7 +133,7 @@ module _ (u w : Bool) where
   unfolding with_pat code_of with_op closed_draft
   pat_atomic a slot d = same_draft (after_one d (op.begin_atomic slot) a (slot + 1) (op.end_atomic slot ∷ [])) refl
 
-  -- A part with its own rest, behind two operations, of which the second was a hole.
+  -- A part with its own rest, after two operations, of which the second was a hole.
   module _ (d : Draft) (o x : Op) (a : CorePattern) (s : ℕ) where
     abbrev pc : ℕ
     pc = length d.ops + length (flushed d.text)

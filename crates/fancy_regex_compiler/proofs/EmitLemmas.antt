@@ -116,7 +116,7 @@ module _ (u w : Bool) where
         opened = c.opened ∙ h.opened;
       }
 
-  -- the last branch behind them, and the jumps patched
+  -- the last branch after them, and the jumps patched
   pub chosen_ends : (old now new : Emitter) (final : Draft) (jumps : List ℕ) (slot next after end : ℕ) (r : CorePattern) (ps : List CorePattern) (q : CorePattern) →
       Chosen old now jumps slot next (r ∷ ps) → WroteClosed u w now new next after q → end ≡ length (draft_of new.body).ops →
       final ≡ set_right u w end jumps (draft_of new.body) → final ≡ P (alt_all (r ∷ (ps ++ q ∷ []))) slot (draft_of old.body)

@@ -106,15 +106,15 @@ row_goes_on start now next xs i x inside is was step =
     ∙ ap (λ y. start ++ bodies_in_row (take i xs ++ y ∷ [])) is
     ∙ ap (λ zs. start ++ bodies_in_row zs) (sym (take_more xs i x inside))
 
-each_behind : (xs : List Info) (y : Info) → map info_of (xs ++ y ∷ []) ≡ map info_of xs ++ info_of y ∷ []
-each_behind [] y = refl
-each_behind (x ∷ xs) y = ap (λ zs. info_of x ∷ zs) (each_behind xs y)
+each_after : (xs : List Info) (y : Info) → map info_of (xs ++ y ∷ []) ≡ map info_of xs ++ info_of y ∷ []
+each_after [] y = refl
+each_after (x ∷ xs) y = ap (λ zs. info_of x ∷ zs) (each_after xs y)
 
 pub each_goes_on : (start now next : List InfoTree) (xs : List Info) (i : ℕ) (x : Info) → i < length xs → x ≡ get_or xs i x →
     now ≡ start ++ map info_of (take i xs) → next ≡ now ++ info_of x ∷ [] → next ≡ start ++ map info_of (take (i + 1) xs)
 each_goes_on start now next xs i x inside is was step =
     step ∙ ap (λ zs. zs ++ info_of x ∷ []) was ∙ append_assoc start (map info_of (take i xs)) (info_of x ∷ [])
-    ∙ ap (λ zs. start ++ zs) (sym (each_behind (take i xs) x))
+    ∙ ap (λ zs. start ++ zs) (sym (each_after (take i xs) x))
     ∙ ap (λ y. start ++ map info_of (take i xs ++ y ∷ [])) is
     ∙ ap (λ zs. start ++ map info_of zs) (sym (take_more xs i x inside))
 

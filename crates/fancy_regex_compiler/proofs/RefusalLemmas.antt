@@ -494,7 +494,7 @@ module _ (tree_context : TreeContext) (keeps absents : Bool) where
       let all = ap (λ b. b || are_fixed_length (size tree_context.groups) us) (sym (always_is i true (tree.alt us) seat ∙ differs)) ∙ seat.steady refl in
       in_row true true i (tree.alt us) us (λ n. refl) (λ test j some. some) (λ j call has. has) seat (λ _. all)
 
-  -- behind a place, what is not always as long is an alternation
+  -- after a place, what is not always as long is an alternation
   pub has_branches : (i : Info) → (out-Info i).const_size ≡ false → IsNoAlt (size tree_context.groups) (out-Info i).expr.now → IsExpandedPart tree_context keeps absents true (info_of i) → ⊥
   has_branches i differs other h =
       let t = tree_of (out-Info i).expr.now in

@@ -19,7 +19,7 @@ use Rattle.fancy_regex_info.specs.declared.info.Info.{Info}
 use Rattle.fancy_regex_analysis.proofs.PartErrorLemmas.{gives}
 use Rattle.fancy_regex_program.specs.Ops as op
 use Rattle.fancy_regex_program.specs.Ops.{Op, op_of}
-use Rattle.fancy_regex_program.specs.Code.{Code, waits, flushed, slots_in, one, behind, closed, alt_code, group_code, ahead_code, never_code, atomic_code, tail_code, repeat_code, loop_code, conditional_code, absent_code, leaf_op, code_of}
+use Rattle.fancy_regex_program.specs.Code.{Code, waits, flushed, slots_in, one, after_text, closed, alt_code, group_code, ahead_code, never_code, atomic_code, tail_code, repeat_code, loop_code, conditional_code, absent_code, leaf_op, code_of}
 use Rattle.fancy_regex_compiler.specs.Extents.{extent, IsFull}
 use Rattle.fancy_regex_compiler.specs.Known.{front_of, info_written, info_call}
 use Rattle.fancy_regex_compiler.specs.Writing.{Draft, draft_of, with_op, closed_draft, added, patched, ended_by, ended, with_pat, with_choice, Wrote, WroteClosed, WroteChoice, IsInsn}
@@ -35,12 +35,12 @@ pub long_flushed : (t : Text) → length (flushed t) ≤ 1
 long_flushed [] = omega arith
 long_flushed (c ∷ cs) = omega arith
 
--- operations behind what waits
+-- operations after what waits
 behind_long : (text : Text) (code : Code) (pc slot most : ℕ) → length (code (pc + length (flushed text)) slot) ≤ most →
-    length (behind text code pc slot) + 0 ≤ most + length (flushed text)
+    length (after_text text code pc slot) + 0 ≤ most + length (flushed text)
 behind_long text code pc slot most h = omega (arith, h, length-append (flushed text) (code (pc + length (flushed text)) slot))
 
-alone_long : (text : Text) (o : Op) (pc slot most : ℕ) → 1 ≤ most → length (behind text (one o) pc slot) + 0 ≤ most + length (flushed text)
+alone_long : (text : Text) (o : Op) (pc slot most : ℕ) → 1 ≤ most → length (after_text text (one o) pc slot) + 0 ≤ most + length (flushed text)
 alone_long text o pc slot most h = behind_long text (one o) pc slot most (omega (arith, h))
 
 abbrev kept : Bool → Code
@@ -107,7 +107,7 @@ module _ (u w : Bool) where
   abbrev C : CorePattern → Text → ℕ → ℕ → List Op
   C = code_of (in_class u) (folded u) w
 
-  -- a part with what waits behind it
+  -- a part with what waits after it
   abbrev shut : CorePattern → Code
   shut p = closed (C p []) (waits p [])
 
@@ -115,7 +115,7 @@ module _ (u w : Bool) where
       (pc slot : ℕ) → length (shut p pc slot) ≤ room p
   shut_long p h pc slot = omega (arith, h pc slot, length-append (C p [] pc slot) (flushed (waits p [])))
 
-  -- the program with what waits behind it, against the room with what waited before it
+  -- the program with what waits after it, against the room with what waited before it
   pub code_fits : (p : CorePattern) (text : Text) (pc slot : ℕ) →
       length (C p text pc slot) + length (flushed (waits p text)) ≤ room p + length (flushed text)
   unfolding code_of room
@@ -269,7 +269,7 @@ chosen_took {u = u} {w = w} {old = old} {now = now} {jumps = jumps} {slot = slot
       extent_closed (draft_of old.body),
     )
 
--- a branch behind others, and more behind it
+-- a branch after others, and more after it
 branch_fits : (f : Info → CorePattern) (xs : List Info) (i : ℕ) (x : Info) → slice_get xs i ≡ Some x → i + 1 < length xs →
     choices_room (map f (take i xs)) + (room (f x) + 2) ≤ room (alt_all (map f xs))
 unfolding room

@@ -398,7 +398,7 @@ module _ (u w : Bool) where
   bare_is : (d : Draft) → d.text ≡ [] → d ≡ bare u w d.ops
   bare_is d e = same_draft refl e
 
-  -- the same of any draft behind which nothing waits
+  -- the same of any draft after which nothing waits
   patch_before : (at : ℕ) (o : Op) (d : Draft) (q : CorePattern) (slot : ℕ) → d.text ≡ [] → at < length d.ops →
       patched at o (closed_draft (P q slot d)) ≡ closed_draft (P q slot (patched at o d))
   patch_before at o d q slot none below =

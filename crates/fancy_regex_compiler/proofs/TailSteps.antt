@@ -66,7 +66,7 @@ none_delegated : is_delegated false (tree.concat no_trees) ≡ false
 unfolding is_delegated offers_choices
 none_delegated = refl
 
--- parts, and a pattern behind them
+-- parts, and a pattern after them
 abbrev row_then : List Written → CorePattern → CorePattern
 row_then [] p = p
 row_then (u ∷ us) p = cat u.front (row_then us p)

@@ -181,7 +181,7 @@ pub record IsAnalyzed (tree_context : TreeContext) (infos : List InfoTree) : Typ
   pub bodies : (k : ℕ) (x : InfoTree) → slice_get infos k ≡ Some x → IsBody tree_context k x
 
 -- The tree is written out as a part of the whole, inside of what keeps no start or lets nothing be absent where this is said;
--- behind a place it is steady.
+-- after a place it is steady.
 pub record ExpandedPart (tree_context : TreeContext) (keeps absents behind : Bool) (x : InfoTree) (t : Tree) : Type 0 where
   pub inside : Inside
   pub enclosed : keeps ≡ false → KeepsNone inside

@@ -36,7 +36,7 @@ pub record Progress : Type 0 where
 abbrev pub progress : Emitter → ℕ → Progress
 progress e slot = record { draft = draft_of e.body; slot = slot; opened = e.opened.items }
 
--- with the end of a construct behind it
+-- with the end of a construct after it
 abbrev pub closed_by : Closing → Draft → Draft
 closed_by (closing.Group kept start end) d = with_op (op.save end) (with_op (op.copy kept start) (closed_draft d))
 closed_by (closing.PositiveLookAround slot) d = with_op (op.restore slot) (closed_draft d)
@@ -68,7 +68,7 @@ closing_room (closing.Alternatives jump) = 0
 closing_room (closing.Tail begin) = 0
 closing_room _ = 2
 
--- with the jump behind a branch, where the split in front of it leads to this branch and past the jump
+-- with the jump after a branch, where the split in front of it leads to this branch and past the jump
 abbrev pub at_others : ℕ → ℕ → Draft → Draft
 at_others split first d =
     let e = with_op (op.jump 0) (closed_draft d) in
@@ -80,7 +80,7 @@ listed tasks.Nothing = []
 listed (tasks.One t) = t ∷ []
 listed (tasks.Two first then) = then ∷ first ∷ []
 
--- the targets that are open behind a task, and behind all tasks of a stack
+-- the targets that are open after a task, and after all tasks of a stack
 abbrev pub opened_after : Task → List ℕ → List ℕ
 opened_after task.EndCall opened = take (length opened - 1) opened
 opened_after _ opened = opened
@@ -112,7 +112,7 @@ module _ (context : CompileContext) where
   abbrev pub branches_pattern : List Info → Bool → Scope → List ℕ → CorePattern
   branches_pattern branches behind scope opened = alt_all (map (λ x. side behind (part context scope opened x)) branches)
 
-  -- with the program of a pattern behind it
+  -- with the program of a pattern after it
   abbrev pub past_pattern : CorePattern → Progress → Progress
   past_pattern p s = record {
     draft = with_pat context.unicode context.whole p s.slot s.draft;
@@ -123,7 +123,7 @@ module _ (context : CompileContext) where
   abbrev pub past_closing : Closing → Progress → Progress
   past_closing c s = record { draft = closed_by c s.draft; slot = s.slot; opened = s.opened }
 
-  -- with other branches behind a first one
+  -- with other branches after a first one
   abbrev pub past_others : ℕ → ℕ → CorePattern → Progress → Progress
   past_others split first p s =
       past_closing (closing.Alternatives (length (closed_draft s.draft).ops))

@@ -17,7 +17,7 @@ use Rattle.fancy_regex_compiler.specs.declared.emitter.Emitter.{Emitter}
 use Rattle.fancy_regex_compiler.specs.declared.emitter.CompileContext.{CompileContext}
 use Rattle.fancy_regex_compiler.specs.declared.emitter.Scope.{Scope}
 
--- the operations so far, and the text of literals that waits behind them
+-- the operations so far, and the text of literals that waits after them
 pub record Draft : Type 0 where
   pub ops : List Op
   pub text : Text
@@ -37,7 +37,7 @@ with_char c d = record { ops = d.ops; text = d.text ++ c ∷ [] }
 unfoldable pub closed_draft : Draft → Draft
 closed_draft d = record { ops = d.ops ++ flushed d.text; text = [] }
 
--- one operation more, behind what waited
+-- one operation more, after what waited
 abbrev pub added : Op → Draft → Draft
 added o d = with_op o (closed_draft d)
 
@@ -58,7 +58,7 @@ ended_by at end (Some o) d = patched at (ends_at end o) d
 unfoldable pub ended : ℕ → ℕ → Draft → Draft
 ended at end d = ended_by at end (slice_get d.ops at) d
 
--- with the program of a pattern behind it
+-- with the program of a pattern after it
 unfoldable pub with_pat : Bool → Bool → CorePattern → ℕ → Draft → Draft
 with_pat unicode whole p slot d = record {
   ops = d.ops ++ code_of (in_class unicode) (folded unicode) whole p d.text (length d.ops) slot;
@@ -71,13 +71,13 @@ pub record Wrote (unicode whole : Bool) (old new : Emitter) (slot after : ℕ) (
   pub slots : after ≡ slot + slots_in p
   pub opened : new.opened.items ≡ old.opened.items
 
--- The same, with what waits behind it.
+-- The same, with what waits after it.
 pub record WroteClosed (unicode whole : Bool) (old new : Emitter) (slot after : ℕ) (p : CorePattern) : Type 0 where
   pub draft : draft_of new.body ≡ closed_draft (with_pat unicode whole p slot (draft_of old.body))
   pub slots : after ≡ slot + slots_in p
   pub opened : new.opened.items ≡ old.opened.items
 
--- A branch with a jump behind it to that place; the text that waited before it is an operation already.
+-- A branch with a jump after it to that place; the text that waited before it is an operation already.
 abbrev pub with_choice : Bool → Bool → ℕ → CorePattern → ℕ → Draft → Draft
 with_choice unicode whole end p slot d =
     let first = with_op (split 0 0) d in

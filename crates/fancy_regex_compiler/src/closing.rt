@@ -1,4 +1,4 @@
-//! The ends of constructs: what is written behind their parts, and what is patched in front of them then.
+//! The ends of constructs: what is written after their parts, and what is patched in front of them then.
 
 ghost use Rattle.std.specs.Prelude.{◌≡◌, ◌≤◌, ◌<◌, ◌+◌, true, OnOk, IfOk, IfErr};
 ghost use Rattle.fancy_regex_program.specs.Code.{split_by, loop_entry, loop_head};
@@ -16,7 +16,7 @@ use fancy_regex_info::CompileError;
 use fancy_regex_program::{AbsentRepeater, Insn, Repeat, RepeatEpsilon, is_uncounted};
 use std::alloc::{AllocError, Global};
 
-/// A construct that ends behind the part that was emitted last.
+/// A construct that ends after the part that was emitted last.
 #[derive(Clone, Copy)]
 pub(crate) enum Closing {
     /// A capture group.
@@ -60,7 +60,7 @@ pub(crate) enum Closing {
     },
     /// An unbounded repeat.
     UnboundedRepeat {
-        /// The index of its head, behind its entry.
+        /// The index of its head, after its entry.
         head: usize,
         /// The least count of iterations.
         lo: usize,
@@ -142,7 +142,7 @@ fn close_group(
     Ok(())
 }
 
-/// Lets a negative look-around fail where its body matched, and go on behind it where it did not.
+/// Lets a negative look-around fail where its body matched, and go on after it where it did not.
 fn close_negative_look_around(
     body: &mut ProgramBuilder,
     slot: usize,
@@ -305,7 +305,7 @@ fn close_absent(
     Ok(())
 }
 
-/// Lets the jump behind the first of some alternatives lead here.
+/// Lets the jump after the first of some alternatives lead here.
 fn close_alternatives(body: &mut ProgramBuilder, jump: usize) -> Result<(), CompileError>
     ensures cap { body.new.cap ≡ body.old.cap }
     ensures draft { OnOk result (draft_of body.new ≡ closed_by (ends.Alternatives jump) (draft_of body.old)) }

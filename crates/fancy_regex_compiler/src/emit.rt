@@ -191,7 +191,7 @@ fn whole<'i, 'e>(
     }
 }
 
-/// Emits the tail of a whole pattern, behind one instruction if it is delegated.
+/// Emits the tail of a whole pattern, after one instruction if it is delegated.
 fn emit_tail<'i, 'e>(
     context: &CompileContext<'_, 'i, 'e>,
     emitter: &mut Emitter,
@@ -305,7 +305,7 @@ fn emit_branches<'i, 'e>(
     ))
 }
 
-/// Appends a choice whose targets are set later. Returns its index, and that of the instruction behind it.
+/// Appends a choice whose targets are set later. Returns its index, and that of the instruction after it.
 fn begin_choice(body: &mut ProgramBuilder) -> Result<(usize, usize), CompileError>
     ensures split { IfOk result (λ begins. begins.0 ≡ length (closed_draft (draft_of body.old)).ops) }
     ensures first { IfOk result (λ begins. begins.1 ≡ length (draft_of body.new).ops) }
@@ -322,7 +322,7 @@ fn begin_choice(body: &mut ProgramBuilder) -> Result<(usize, usize), CompileErro
 }
 
 /// Begins an atomic group that keeps its height in this slot, and appends a choice whose targets are set later. Returns the index of
-/// the choice, and that of the instruction behind it.
+/// the choice, and that of the instruction after it.
 fn begin_atomic_choice(
     body: &mut ProgramBuilder,
     slot: usize,
@@ -341,7 +341,7 @@ fn begin_atomic_choice(
     Ok((split, body.len()))
 }
 
-/// Appends this instruction, and one behind it that is replaced later, where each iteration of a loop begins. Returns the index of
+/// Appends this instruction, and one after it that is replaced later, where each iteration of a loop begins. Returns the index of
 /// the latter.
 fn begin_loop(body: &mut ProgramBuilder, begin: Insn) -> Result<usize, CompileError>
     ensures head { IfOk result (λ head. head ≡ length (added (op_of begin) (draft_of body.old)).ops) }

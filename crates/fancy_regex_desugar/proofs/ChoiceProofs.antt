@@ -130,7 +130,7 @@ module _ (s : Setting) (bound : Option ℕ) where
       from_there w None = omega arith
       from_there w (Some q) = omega (arith, h.is (with_position w q), sum_by-cons (core_choices s bound p) (with_position w q) [])
 
-  -- where nothing is chosen there, nothing is chosen behind
+  -- where nothing is chosen there, nothing is chosen after
   chooses_none : (n : ℕ) (p : CorePattern) → Chooses s bound (λ w. 0) p → Chooses s bound (λ w. 0) (cat (back n) p)
   unfolding core_ways core_choices
   chooses_none n p h = record { is = λ w. from_there w (position_before s.text n w.position) }

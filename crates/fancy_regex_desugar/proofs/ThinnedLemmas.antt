@@ -60,7 +60,7 @@ sum_by-flat_map weight f [] = refl
 sum_by-flat_map weight f (w ∷ ws) =
     omega (arith, sum_by-append weight (f w) (flat_map f ws), sum_by-cons (λ v. sum_by weight (f v)) w ws, sum_by-flat_map weight f ws)
 
--- what is found behind the ways of a thinned list, where the same is found behind each way
+-- what is found after the ways of a thinned list, where the same is found after each way
 pub same_found : (test : MatchState → Bool) (f g : Moves) → ((w : MatchState) → find test (f w) ≡ find test (g w)) → (vs ws : List MatchState) → Thinned vs ws →
     find test (flat_map f vs) ≡ find test (flat_map g ws)
 same_found test f g h vs ws k =

@@ -81,7 +81,7 @@ branch_read size unicode casei n (and_unit {c} {unit} {u} {t} is more) =
 pub escaped_texts_are_read : EscapedTextsAreRead
 escaped_texts_are_read size unicode casei t = record {
   body = literals casei t ∷ [];
-  flags_behind = case_flag casei;
+  flags_after = case_flag casei;
   derivation = last_branch (branch_read size unicode casei 63 (pattern_spelled t)) (λ u h. false≢true (ap is_bar h));
   tree = refl;
 }

@@ -65,18 +65,18 @@ module _ (s : Setting) (c : ℕ) (scalar : IsScalar c) where
 
 -- two moves, one after the other
 module _ (text first second : List ℕ) (m : Meaning) (ms : List Meaning) (p : IsPlain text first m.from) (q : IsPlain text second (all_of ms)) where
-  -- behind the first
-  abbrev behind : MatchState → MatchState
-  behind w = with_position w (w.position + length first)
+  -- after the first
+  abbrev after : MatchState → MatchState
+  after w = with_position w (w.position + length first)
 
-  both_here : (w : MatchState) → is_here text first w ≡ true → is_here text second (behind w) ≡ true → is_here text (first ++ second) w ≡ true
+  both_here : (w : MatchState) → is_here text first w ≡ true → is_here text second (after w) ≡ true → is_here text (first ++ second) w ≡ true
   both_here w a b =
       begins_from (drop w.position text) (first ++ second) _
       (begins_parts (drop w.position text) first a
       ∙ ap (λ rest. first ++ rest) (drop-drop (length first) w.position text ∙ begins_parts (drop (w.position + length first) text) second b)
       ∙ sym (append_assoc first second _))
 
-  parts_here : (w : MatchState) → is_here text (first ++ second) w ≡ true → (is_here text first w ≡ true) × (is_here text second (behind w) ≡ true)
+  parts_here : (w : MatchState) → is_here text (first ++ second) w ≡ true → (is_here text first w ≡ true) × (is_here text second (after w) ≡ true)
   parts_here w e =
       let is : drop w.position text ≡ first ++ (second ++ drop (length (first ++ second)) (drop w.position text)) =
       begins_parts (drop w.position text) (first ++ second) e ∙ append_assoc first second _ in (
@@ -84,26 +84,26 @@ module _ (text first second : List ℕ) (m : Meaning) (ms : List Meaning) (p : I
         begins_from _ second _ (sym (drop-drop (length first) w.position text) ∙ front_rest _ first _ is),
       )
 
-  in_turn : (w : MatchState) → is_here text first w ≡ true → all_of (m ∷ ms) w ≡ all_of ms (behind w)
-  in_turn w e = ap (flat_map (all_of ms)) (p.hit w e) ∙ append-nil (all_of ms (behind w))
+  in_turn : (w : MatchState) → is_here text first w ≡ true → all_of (m ∷ ms) w ≡ all_of ms (after w)
+  in_turn w e = ap (flat_map (all_of ms)) (p.hit w e) ∙ append-nil (all_of ms (after w))
 
   pub plain_row : IsPlain text (first ++ second) (all_of (m ∷ ms))
   plain_row = record {
     hit = λ w e.
         let parts = parts_here w e in
         in_turn w parts.0
-        ∙ q.hit (behind w) parts.1
+        ∙ q.hit (after w) parts.1
         ∙ ap (λ (n : ℕ). with_position w n ∷ []) (let n : w.position + length first + length second ≡ w.position + length (first ++ second) = omega (arith, length-append first second) in n);
     miss = λ w e. at w e (is_here text first w) refl;
   }
     where
-      behind_not : (w : MatchState) → is_here text (first ++ second) w ≡ false → is_here text first w ≡ true → (v : Bool) → is_here text second (behind w) ≡ v → v ≡ false
-      behind_not w e a false b = refl
-      behind_not w e a true b = absurd (false≢true (sym e ∙ both_here w a b))
+      after_not : (w : MatchState) → is_here text (first ++ second) w ≡ false → is_here text first w ≡ true → (v : Bool) → is_here text second (after w) ≡ v → v ≡ false
+      after_not w e a false b = refl
+      after_not w e a true b = absurd (false≢true (sym e ∙ both_here w a b))
 
       at : (w : MatchState) → is_here text (first ++ second) w ≡ false → (v : Bool) → is_here text first w ≡ v → all_of (m ∷ ms) w ≡ []
       at w e false a = ap (flat_map (all_of ms)) (p.miss w a)
-      at w e true a = in_turn w a ∙ q.miss (behind w) (behind_not w e a _ refl)
+      at w e true a = in_turn w a ∙ q.miss (after w) (after_not w e a _ refl)
 
 plain_nothing : (text : List ℕ) → IsPlain text [] (all_of [])
 plain_nothing text = record {

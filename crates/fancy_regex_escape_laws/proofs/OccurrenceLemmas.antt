@@ -60,7 +60,7 @@ plain_replacement_is_by_cases needle replacement some =
       other_byte = keeps_byte needle replacement;
     }
 
--- what a later first occurrence says of the text behind a byte
+-- what a later first occurrence says of the text after a byte
 none_after : (o : Option ℕ) → option_map (λ k. suc k) o ≡ None → o ≡ None
 none_after None e = refl
 none_after (Some k) e = absurd (none-some (suc k) (sym e))
@@ -69,7 +69,7 @@ some_after : (o : Option ℕ) (k : ℕ) → option_map (λ i. suc i) o ≡ Some 
 some_after None k e = absurd (none-some k e)
 some_after (Some j) k e = (j, refl, sym (same_Some (suc j) k e))
 
--- the first occurrence is at the front, or behind the first byte
+-- the first occurrence is at the front, or after the first byte
 pub occurs_here : (needle text : List ℕ) → starts_with nat_eq text needle ≡ true → first_occurrence needle text ≡ Some 0
 unfolding first_occurrence
 occurs_here needle [] e = cond-true _ _ _ e
@@ -93,8 +93,8 @@ nothing_replaced needle replacement (b ∷ text) h = at (starts_with nat_eq (b �
   where
     at : (v : Bool) → starts_with nat_eq (b ∷ text) needle ≡ v → cond v (Some 0) (option_map (λ k. suc k) (first_occurrence needle text)) ≡ None →
         (first_occurrence needle text ≡ None → plain_replaced needle replacement text ≡ text) → plain_replaced needle replacement (b ∷ text) ≡ b ∷ text
-    at true e none behind = absurd (none-some 0 (sym none))
-    at false e none behind = keeps_byte needle replacement b text e ∙ ap (λ rest. b ∷ rest) (behind (none_after _ none))
+    at true e none after = absurd (none-some 0 (sym none))
+    at false e none after = keeps_byte needle replacement b text e ∙ ap (λ rest. b ∷ rest) (after (none_after _ none))
 
 -- Where it first occurs it is replaced, and the text before stays.
 pub record FirstIsReplaced (needle replacement text : List ℕ) (k : ℕ) : Type 0 where
@@ -113,10 +113,10 @@ first_is_replaced needle replacement (b ∷ text) k some h =
     next j = omega arith
 
     later : (j : ℕ) → starts_with nat_eq (b ∷ text) needle ≡ false → FirstIsReplaced needle replacement text j → FirstIsReplaced needle replacement (b ∷ text) (suc j)
-    later j e behind = record {
-      fits = omega (arith, behind.fits);
+    later j e after = record {
+      fits = omega (arith, after.fits);
       is = keeps_byte needle replacement b text e
-          ∙ ap (λ rest. b ∷ rest) behind.is
+          ∙ ap (λ rest. b ∷ rest) after.is
           ∙ ap (λ (n : ℕ). b ∷ (take j text ++ (replacement ++ plain_replaced needle replacement (drop n (b ∷ text))))) (next j);
     }
 
@@ -129,7 +129,7 @@ first_is_replaced needle replacement (b ∷ text) k some h =
 
     at : (v : Bool) → starts_with nat_eq (b ∷ text) needle ≡ v → cond v (Some 0) (option_map (λ i. suc i) (first_occurrence needle text)) ≡ Some k →
         ((j : ℕ) → first_occurrence needle text ≡ Some j → FirstIsReplaced needle replacement text j) → FirstIsReplaced needle replacement (b ∷ text) k
-    at true e found behind = rw (← same_Some 0 k found) (front e)
-    at false e found behind =
+    at true e found after = rw (← same_Some 0 k found) (front e)
+    at false e found after =
         let step = some_after (first_occurrence needle text) k found in
-        rw step.2 (later step.0 e (behind step.0 step.1))
+        rw step.2 (later step.0 e (after step.0 step.1))

@@ -35,15 +35,15 @@ module _ (text needle replacement : List ℕ) (some : 0 < length needle) (search
   rest_is : (p : ℕ) → slice_range text p (length text) ≡ drop p text
   rest_is p = take_rest text p
 
-  -- the text from p on, where the needle first occurs k bytes behind p
+  -- the text from p on, where the needle first occurs k bytes after p
   step : (p k : ℕ) (ms : List Match) → p ≤ length text → FirstIsReplaced needle replacement (drop p text) k →
       out (p + k + length needle) ms ≡ plain_replaced needle replacement (drop (p + k + length needle) text) →
       out p (plain_match needle (p + k) ∷ ms) ≡ plain_replaced needle replacement (drop p text)
-  step p k ms le first behind =
+  step p k ms le first after =
       append_assoc (slice_range text p (p + k)) replacement (out (p + k + length needle) ms)
       ∙ ap (λ (m : ℕ). take m (drop p text) ++ (replacement ++ out (p + k + length needle) ms)) (let m : p + k - p ≡ k = omega arith in m)
       ∙ ap (λ rest. take k (drop p text) ++ (replacement ++ rest))
-      (behind
+      (after
       ∙ ap (λ (m : ℕ). plain_replaced needle replacement (drop m text)) (let m : p + k + length needle ≡ p + (k + length needle) = omega arith in m)
       ∙ ap (plain_replaced needle replacement) (sym (drop-drop (k + length needle) p text)))
       ∙ sym first.is

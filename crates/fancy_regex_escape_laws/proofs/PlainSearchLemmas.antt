@@ -58,8 +58,8 @@ drop_one (b ∷ text) zero = refl
 drop_one (b ∷ text) (suc n) = ap (λ (m : ℕ). take m text) (let m : n ≡ suc n - 1 = omega arith in m)
 
 -- one byte less of the range
-range_behind : (text : List ℕ) (stop p : ℕ) → drop 1 (slice_range text p stop) ≡ slice_range text (p + 1) stop
-range_behind text stop p =
+range_after : (text : List ℕ) (stop p : ℕ) → drop 1 (slice_range text p stop) ≡ slice_range text (p + 1) stop
+range_after text stop p =
     drop_one (drop p text) (stop - p)
     ∙ ap (take (stop - p - 1)) (drop-drop 1 p text)
     ∙ ap (λ (m : ℕ). take m (drop (p + 1) text)) (let m : stop - p - 1 ≡ stop - (p + 1) = omega arith in m)
@@ -84,7 +84,7 @@ module _ (text needle : List ℕ) (stop : ℕ) (some : 0 < length needle) where
   found_later p e =
       ap (option_map (λ k. plain_match needle (p + k))) (occurs_later needle (slice_range text p stop) some e)
       ∙ shifted p (first_occurrence needle (drop 1 (slice_range text p stop)))
-      ∙ ap (λ rest. option_map (λ k. plain_match needle (p + 1 + k)) (first_occurrence needle rest)) (range_behind text stop p)
+      ∙ ap (λ rest. option_map (λ k. plain_match needle (p + 1 + k)) (first_occurrence needle rest)) (range_after text stop p)
 
 chosen_one : (longest : Bool) (w : MatchState) → chosen longest (w ∷ []) ≡ Some w
 chosen_one true w = refl
@@ -181,12 +181,12 @@ module _ (pattern : Pattern) (needle : List ℕ) (some : 0 < length needle)
         at : (v : Bool) → is_there s.text needle find.stop p ≡ v →
             first_some (match_at s pattern find) others ≡ first_plain_match s.text needle find.stop (p + 1) →
             first_some (match_at s pattern find) (cond (is_boundary s.text p) (p ∷ others) others) ≡ first_plain_match s.text needle find.stop p
-        at true there behind =
+        at true there after =
             ap (first_some (match_at s pattern find)) (cond-true _ (p ∷ others) others (starts_well s.text p (there_parts s.text needle find.stop p some there).0))
             ∙ first_here (match_at s pattern find) p others (plain_match needle p) (hits p there)
             ∙ sym (found_here s.text needle find.stop some p there)
-        at false there behind =
-            past_it (is_boundary s.text p) (misses p there) ∙ behind ∙ sym (found_later s.text needle find.stop some p there)
+        at false there after =
+            past_it (is_boundary s.text p) (misses p there) ∙ after ∙ sym (found_later s.text needle find.stop some p there)
 
     abbrev found_in : List ℕ → Option Match
     found_in ps = first_some (match_at s pattern find) ps

@@ -25,7 +25,7 @@ pub fn matches_are_replaced_plainly()
 {}
 
 /// Plain replacement of a needle that is not empty, case by case: the empty text stays, the needle at the front is replaced and
-/// the rest goes on behind it, and any other first byte stays.
+/// the rest goes on after it, and any other first byte stays.
 pub fn plain_replacement_is_by_cases()
     ensures { PlainReplacementIsByCases }
 {}

@@ -76,14 +76,14 @@ refused_ends options pattern subject kept fault same holds wrong =
 -- what a search of a handle that holds something reports
 pub find_reports : (old left : Option Held) (held after : Held) (text : List ℕ) (query : Query) (status : Status) (code : ℤ) (span : Span) → old ≡ Some held → left ≡ Some after → code ≡ code_of status
     → FindEnds held.subject text query status span held.fault after.fault → after.subject ≡ held.subject → FindReports old left text query code span
-find_reports old left held after text query status code span before behind told ends same =
-    subst (λ (o : Option Held). FindReports o left text query code span) (sym before) (after, status, behind, told, same, ends)
+find_reports old left held after text query status code span before following told ends same =
+    subst (λ (o : Option Held). FindReports o left text query code span) (sym before) (after, status, following, told, same, ends)
 
 -- what a search for groups of a handle that holds something reports
 pub captures_report : (old left : Option Held) (held after : Held) (text : List ℕ) (query : Query) (status : Status) (code : ℤ) (spans written : List Span) → old ≡ Some held → left ≡ Some after → code ≡ code_of status
     → CapturesEnd held.subject text query status spans written held.fault after.fault → after.subject ≡ held.subject → CapturesReport old left text query code spans written
-captures_report old left held after text query status code spans written before behind told ends same =
-    subst (λ (o : Option Held). CapturesReport o left text query code spans written) (sym before) (after, status, behind, told, same, ends)
+captures_report old left held after text query status code spans written before following told ends same =
+    subst (λ (o : Option Held). CapturesReport o left text query code spans written) (sym before) (after, status, following, told, same, ends)
 
 -- what a build reports
 pub build_reports : (options : RegexOptions) (pattern : List ℕ) (left : Option Held) (held : Held) (status : Status) (code : ℤ) → IsHeldAs held status left code

@@ -15,8 +15,8 @@ use Rattle.fancy_regex_ffi.specs.declared.query.Query.{Query}
 list_reports : {X : Type 0} (Gives : Subject → Result (List X) Fault → Type 0) (old left : Option Held) (held after : Held) (answer : Result (List X) Fault) (code : ℤ) (out written : List X) (count : ℕ)
     → old ≡ Some held → left ≡ Some after → Gives held.subject answer → IsListWritten answer code out written count → after.subject ≡ held.subject → FaultAfter answer held.fault after.fault
     → ListReports Gives old left code out written count
-list_reports Gives old left held after answer code out written count before behind gives told same kept =
-    subst (λ (o : Option Held). ListReports Gives o left code out written count) (sym before) (after, answer, behind, same, gives, told, kept)
+list_reports Gives old left held after answer code out written count before following gives told same kept =
+    subst (λ (o : Option Held). ListReports Gives o left code out written count) (sym before) (after, answer, following, same, gives, told, kept)
 
 pub spans_report : (text : List ℕ) (old left : Option Held) (held after : Held) (answer : Result (List Span) Fault) (code : ℤ) (out written : List Span) (count : ℕ)
     → old ≡ Some held → left ≡ Some after → OfRegex (AreMatchSpans text) held.subject answer → IsListWritten answer code out written count → after.subject ≡ held.subject
@@ -52,5 +52,5 @@ names_report = list_reports AreNames
 pub check_reports : (template : List ℕ) (is_python : Bool) (old left : Option Held) (held after : Held) (answer : Result (Unit {0}) Fault) (code : ℤ) → old ≡ Some held → left ≡ Some after
     → IsChecked template is_python held.subject answer → code ≡ done_code answer → after.subject ≡ held.subject → FaultAfter answer held.fault after.fault
     → CheckReports old left template is_python code
-check_reports template is_python old left held after answer code before behind gives told same kept =
-    subst (λ (o : Option Held). CheckReports o left template is_python code) (sym before) (after, answer, behind, same, gives, told, kept)
+check_reports template is_python old left held after answer code before following gives told same kept =
+    subst (λ (o : Option Held). CheckReports o left template is_python code) (sym before) (after, answer, following, same, gives, told, kept)

@@ -1,4 +1,4 @@
--- Sets: their patterns one behind another, and how they are built.
+-- Sets: their patterns one after another, and how they are built.
 use Rattle.std.specs.Prelude.{◌≡◌, ℕ, ◌<◌, ◌≤◌, ℤ, List, [], ◌∷◌, ◌++◌, length, map, drop, Option, Some, None, Result, Ok, Err, IfOk, IfErr, slice_range, slice_index, IsUtf8}
 use Rattle.std.proofs.Common.{arith, suc, zero, append-nil, ◌∙◌}
 use Rattle.std.proofs.lemmas.List.{length-map}
@@ -98,7 +98,7 @@ rise_next bytes [] from i end h e r = absurd (omega (arith, h))
 rise_next bytes (x ∷ xs) from zero end h e r = subst (λ (n : ℕ). (from ≤ n) × (n ≤ length bytes) × Rise bytes n xs) (sym e) r
 rise_next bytes (x ∷ xs) from (suc i) end h e r = rise_next bytes xs from i end (omega (arith, h)) e r
 
--- the texts from the one with some number on are that one and those behind it
+-- the texts from the one with some number on are that one and those after it
 pub texts_next : (bytes ends : List ℕ) (from i end : ℕ) → i < length ends → end ≡ slice_index ends i → from ≤ end → end ≤ length bytes → IsUtf8 (slice_range bytes from end)
     → AreTexts bytes end (drop (suc i) ends) → AreTexts bytes from (drop i ends)
 texts_next bytes [] from i end h e low high utf8 are = absurd (omega (arith, h))
@@ -119,10 +119,10 @@ texts_more text_of bytes ends from i end texts text all h e same so_far =
     ∙ ap (λ (l : List (List ℕ)). map text_of texts ++ l) (sym (cut_next bytes ends from i end h e))
     ∙ so_far
 
--- what holds of each of two lists, one behind the other, holds of each of the second
-each_behind : {A : Type 0} (P : A → Type 0) (xs ys : List A) → Each P (xs ++ ys) → Each P ys
-each_behind P [] ys h = h
-each_behind P (x ∷ xs) ys h = each_behind P xs ys h.1
+-- what holds of each of two lists, one after the other, holds of each of the second
+each_after : {A : Type 0} (P : A → Type 0) (xs ys : List A) → Each P (xs ++ ys) → Each P ys
+each_after P [] ys h = h
+each_after P (x ∷ xs) ys h = each_after P xs ys h.1
 
 -- a piece that is no pattern refuses them all
 pub refused_at : {A : Type 0} (text_of : A → List ℕ) (bytes ends : List ℕ) (from i end : ℕ) (texts : List A) (fault : Fault) → i < length ends → end ≡ slice_index ends i
@@ -130,8 +130,8 @@ pub refused_at : {A : Type 0} (text_of : A → List ℕ) (bytes ends : List ℕ)
     → IsPieceFault bytes ends fault
 refused_at text_of bytes ends from i end texts faults.WrongEnds h e piece so_far rise = λ rises. let next = rise_next bytes ends from i end h e (rise rises) in piece (next.0, next.1)
 refused_at text_of bytes ends from i end texts faults.NotUtf8 h e piece so_far rise = λ each.
-    let behind = each_behind IsUtf8 (map text_of texts) (cut_at bytes from (drop i ends)) (subst (λ (l : List (List ℕ)). Each IsUtf8 l) (sym so_far) each) in
-    let here = subst (λ (l : List (List ℕ)). Each IsUtf8 l) (cut_next bytes ends from i end h e) behind in
+    let following = each_after IsUtf8 (map text_of texts) (cut_at bytes from (drop i ends)) (subst (λ (l : List (List ℕ)). Each IsUtf8 l) (sym so_far) each) in
+    let here = subst (λ (l : List (List ℕ)). Each IsUtf8 l) (cut_next bytes ends from i end h e) following in
     piece here.0
 refused_at text_of bytes ends from i end texts faults.NoRegex h e piece so_far rise = absurd piece
 refused_at text_of bytes ends from i end texts faults.NoSet h e piece so_far rise = absurd piece

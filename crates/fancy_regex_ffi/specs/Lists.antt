@@ -62,7 +62,7 @@ abbrev pub AreMembersIn : List Regex → List ℕ → Query → Result (List Mem
 AreMembersIn regexes text query (Ok members) = CanBegin text query.position × (members ≡ matching_members regexes text (config_of text query))
 AreMembersIn regexes text query (Err fault) = IsSetFault regexes text query fault
 
--- The groups of those members, one behind another, or why there is no answer.
+-- The groups of those members, one after another, or why there is no answer.
 abbrev pub AreMemberGroupsIn : List Regex → List ℕ → Query → Result (List Member) Fault → Type 0
 AreMemberGroupsIn regexes text query (Ok groups) = CanBegin text query.position × AreMatchingGroups regexes text (config_of text query) groups
 AreMemberGroupsIn regexes text query (Err fault) = IsSetFault regexes text query fault

@@ -17,7 +17,7 @@ use Rattle.fancy_regex_ffi.specs.declared.held.Subject.TheVariants as subjects
 use Rattle.fancy_regex_ffi.specs.declared.status.Status.{Status}
 use Rattle.fancy_regex_ffi.specs.declared.status.Status.TheVariants as statuses
 
--- the patterns that stand one behind another, from an offset on, by where each of them ends
+-- the patterns that stand one after another, from an offset on, by where each of them ends
 abbrev pub cut_at : List ℕ → ℕ → List ℕ → List (List ℕ)
 cut_at bytes from [] = []
 cut_at bytes from (end ∷ ends) = slice_range bytes from end ∷ cut_at bytes end ends
@@ -27,7 +27,7 @@ abbrev pub Rise : List ℕ → ℕ → List ℕ → Type 0
 Rise bytes from [] = ⊤
 Rise bytes from (end ∷ ends) = (from ≤ end) × (end ≤ length bytes) × Rise bytes end ends
 
--- From an offset on, texts in UTF-8 stand one behind another, and end there.
+-- From an offset on, texts in UTF-8 stand one after another, and end there.
 pub record AreTexts (bytes : List ℕ) (from : ℕ) (ends : List ℕ) : Type 0 where
   pub rise : Rise bytes from ends
   pub utf8 : Each IsUtf8 (cut_at bytes from ends)

@@ -6,7 +6,7 @@ use Rattle.fancy_regex_ffi.specs.declared.fault.Fault.{Fault}
 use Rattle.fancy_regex_ffi.specs.declared.fault.Fault.TheVariants as faults
 use Rattle.fancy_regex_ffi.specs.declared.held.Held.{Held}
 
--- the number is the length of the text, and the bytes begin with it; behind it they are as they were
+-- the number is the length of the text, and the bytes begin with it; after it they are as they were
 abbrev pub IsTold : List ℕ → List ℕ → List ℕ → ℕ → Type 0
 IsTold text old new count = (count ≡ length text) × IsFrontOf text old new
 

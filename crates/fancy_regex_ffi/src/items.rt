@@ -31,7 +31,7 @@ pub fn spans_of(
     }
 }
 
-/// The spans of all pieces between the matches, and of the rest behind the last one, from left to right.
+/// The spans of all pieces between the matches, and of the rest after the last one, from left to right.
 pub fn pieces_of(
     alloc: Global,
     subject: &Subject,

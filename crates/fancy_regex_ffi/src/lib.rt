@@ -236,7 +236,7 @@ pub extern "C" fn fancy_regex_raw_find_all(
     status.code()
 }
 
-/// The spans of the pieces of a text between its matches, and of the rest behind the last one, as many as there is room for; and how
+/// The spans of the pieces of a text between its matches, and of the rest after the last one, as many as there is room for; and how
 /// many there are.
 #[tactic(auto, using(crate::proofs::ListLemmas::pieces_report))]
 #[unsafe(no_mangle)]
@@ -286,7 +286,7 @@ pub extern "C" fn fancy_regex_raw_replace_all(
     status.code()
 }
 
-/// Builds a set of patterns into the handle, which is emptied first. The patterns stand one behind another; `ends` are the offsets at
+/// Builds a set of patterns into the handle, which is emptied first. The patterns stand one after another; `ends` are the offsets at
 /// which each of them ends.
 #[tactic(auto, using(crate::proofs::SetLemmas::set_build_reports))]
 #[unsafe(no_mangle)]
@@ -354,7 +354,7 @@ pub extern "C" fn fancy_regex_raw_set_captures(
     status.code()
 }
 
-/// Builds a set of patterns, each with its own options, into the handle, which is emptied first. The patterns stand one behind another;
+/// Builds a set of patterns, each with its own options, into the handle, which is emptied first. The patterns stand one after another;
 /// `ends` are the offsets at which each of them ends.
 #[tactic(auto, using(crate::proofs::SetLemmas::mixed_build_reports))]
 #[unsafe(no_mangle)]

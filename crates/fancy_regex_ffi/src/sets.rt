@@ -28,7 +28,7 @@ pub fn set_told(answer: Result<RegexSet, Fault>) -> (Held, Status)
     }
 }
 
-/// Builds a set of the patterns that stand one behind another.
+/// Builds a set of the patterns that stand one after another.
 pub fn build_set(
     alloc: Global,
     patterns: &[u8],
@@ -43,7 +43,7 @@ pub fn build_set(
     Ok(RegexSet::new_with_options(alloc, &texts, &options.builder())?)
 }
 
-/// The texts of patterns that stand one behind another, by where each of them ends.
+/// The texts of patterns that stand one after another, by where each of them ends.
 #[tactic(auto, using(crate::proofs::SetLemmas::texts_next, crate::proofs::SetLemmas::texts_none))]
 fn patterns_of<'p>(alloc: Global, bytes: &'p [u8], ends: &[usize]) -> Result<Vec<&'p str>, Fault>
     ensures texts { IfOk result (λ _. AreTexts bytes.entry.now 0 ends.now) }
@@ -112,7 +112,7 @@ pub fn member_groups_of(
     }
 }
 
-/// Builds a set of the patterns that stand one behind another, each with its own options.
+/// Builds a set of the patterns that stand one after another, each with its own options.
 #[tactic(auto, using(crate::proofs::SetLemmas::as_many))]
 pub fn build_mixed(
     alloc: Global,

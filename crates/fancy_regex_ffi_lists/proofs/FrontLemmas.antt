@@ -8,14 +8,14 @@ use Rattle.std.proofs.lemmas.List.{get_or_append_left, get_or-append_right, leng
 use mathlib.Core.Path.{refl, sym, ap, subst}
 use Rattle.fancy_regex_ffi_lists.specs.Fronts.{Appends, Holds, HoldsShown, IsErrorWritten, IsFrontOf, unshown_text}
 
--- bytes that are written behind a text, as far as there is room
-pub written_behind : (room written bytes : List ℕ) (count end i : ℕ) → length written ≡ length room → end ≡ count + length bytes → count ≤ i
+-- bytes that are written after a text, as far as there is room
+pub written_after : (room written bytes : List ℕ) (count end i : ℕ) → length written ≡ length room → end ≡ count + length bytes → count ≤ i
     → i ≤ end → ((k : ℕ) → k < length room → k < end → k < i)
     → ((k : ℕ) (d : ℕ) → k < count → slice_index_or written k d ≡ slice_index_or room k d)
     → ((k : ℕ) (d : ℕ) → count ≤ k → k < i → slice_index_or written k d ≡ slice_index_or bytes (k - count) d)
     → ((k : ℕ) (d : ℕ) → i ≤ k → slice_index_or written k d ≡ slice_index_or room k d)
     → Appends room count bytes written end
-written_behind room written bytes count end i same ends low high whole before between behind old text holds =
+written_after room written bytes count end i same ends low high whole before between after old text holds =
     let whole_length : length (text ++ bytes) ≡ end = length-append text bytes ∙ ap (λ (n : ℕ). n + length bytes) (sym holds.counts) ∙ sym ends in
     record {
       same_room = same ∙ holds.same_room;
@@ -25,13 +25,13 @@ written_behind room written bytes count end i same ends low high whole before be
             (λ (early : k < length text). before k d (omega (arith, early, holds.counts)) ∙ (holds.front k (omega (arith, inside, same))).0 early d ∙ sym (get_or_append_left text bytes d k early))
             (λ (late : length text ≤ k). between k d (omega (arith, late, holds.counts)) (whole k (omega (arith, inside, same)) (omega (arith, below, whole_length))) ∙ sym (get_or-append_right text bytes count k d (sym holds.counts) (omega (arith, late, holds.counts))))
             (cases_lt k (length text)),
-        λ beyond d. behind k d (omega (arith, beyond, whole_length, high)) ∙ (holds.front k (omega (arith, inside, same))).1 (omega (arith, beyond, whole_length, ends, holds.counts)) d,
+        λ beyond d. after k d (omega (arith, beyond, whole_length, high)) ∙ (holds.front k (omega (arith, inside, same))).1 (omega (arith, beyond, whole_length, ends, holds.counts)) d,
       );
     }
 
 module _ {W : Type 0} (took : W → List ℕ → W → Type 0) (holds : List ℕ → W → Type 0)
     (appends : (w : W) (bytes : List ℕ) (v : W) → took w bytes v → (text : List ℕ) → holds text w → holds (text ++ bytes) v) where
-  -- some writes, one behind another
+  -- some writes, one after another
   held_after_calls : (w : W) (parts : List (List ℕ)) (v : W) → FoldsTo took w parts v → (text : List ℕ) → holds text w → holds (text ++ concat parts) v
   held_after_calls w [] v calls text held = subst (λ (t : List ℕ). holds t v) (sym (append-nil text)) (subst (λ (u : W). holds text u) calls held)
   held_after_calls w (part ∷ parts) v calls text held =

@@ -1,4 +1,4 @@
--- The groups of members that match, one behind another.
+-- The groups of members that match, one after another.
 use Rattle.std.proofs.Common.{◌≡◌, ◌∙◌, ℕ, ◌+◌, ◌*◌, ◌/◌, List, [], ◌∷◌, ◌++◌, length, Bool, true, false, None, Some, ap, sym, subst, refl, arith, append_assoc, append-nil, if◌then◌else◌}
 use Rattle.std.specs.Prelude.{slice_get, ◌==◌}
 use Rattle.std.proofs.lemmas.List.{length-set}
@@ -51,7 +51,7 @@ added_of_member regexes text shown slots found number regex span old new is same
   },
 )
 
--- the groups that are listed, and behind them those of the members that are left, are those of all members
+-- the groups that are listed, and after them those of the members that are left, are those of all members
 abbrev pub Completes : List Regex → List ℕ → List (ℕ × Match) → List (ℕ × Match) → List Member → Type 0
 Completes regexes text all left groups = (rest : List Member) → AreGroupsOfEach regexes text left rest → AreGroupsOfEach regexes text all (groups ++ rest)
 

@@ -19,7 +19,7 @@ module _ (regexes : List Regex) (text : List ℕ) (config : SearchConfig) where
   set_error_is (errors.CompileError cause) h = inl h
   set_error_is (errors.RuntimeError cause) h = inl h
 
-  -- the error of a member that is asked behind the first of the answer
+  -- the error of a member that is asked after the first of the answer
   pub answer_error_is : (e : Error) → IsErrorAtAnswer regexes text config e → IsMemberError regexes text config e
   answer_error_is errors.Memory h = tt
   answer_error_is (errors.ParseError position kind) h = inr h
@@ -49,7 +49,7 @@ module _ (regexes : List Regex) (text : List ℕ) (config : SearchConfig) where
   }
   error_at_answer answer p (Some y) next after e is at before h told passed = cc (told.0)
 
--- What is left to show, by the member that is shown next, if it is known, of which something is told, and the number of the one behind it.
+-- What is left to show, by the member that is shown next, if it is known, of which something is told, and the number of the one after it.
 abbrev pub IsLeft : {X : Type 0} → (X → ℕ × Match → Type 0) → List Regex → List ℕ → SearchConfig → ℕ → Option X → ℕ → List (ℕ × Match) → Type 0
 IsLeft Tells regexes text config p first next left =
     MatchOption first (left ≡ found_from regexes text config p next)

@@ -12,7 +12,7 @@ pub record Holds (old text room : List ℕ) (count : ℕ) : Type 0 where
   pub counts : count ≡ length text
   pub front : IsFrontOf text old room
 
--- Room that held a text holds it with these bytes behind it.
+-- Room that held a text holds it with these bytes after it.
 abbrev pub Appends : List ℕ → ℕ → List ℕ → List ℕ → ℕ → Type 0
 Appends room count bytes written counted = (old text : List ℕ) → Holds old text room count → Holds old (text ++ bytes) written counted
 

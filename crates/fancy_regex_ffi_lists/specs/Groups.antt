@@ -21,12 +21,12 @@ abbrev pub IsGroupOf : List ℕ → List ℕ → ℕ → ℕ → Member → Type
 IsGroupOf text slots number k group =
     (span : Span) × IsGroupSpan text slots k span × (group ≡ record { pattern = number; start = span.start; end = span.end })
 
--- groups of a member that matches, one behind another, from the group with this number on
+-- groups of a member that matches, one after another, from the group with this number on
 abbrev pub AreGroupsFrom : List ℕ → List ℕ → ℕ → ℕ → List Member → Type 0
 AreGroupsFrom text slots number k [] = ⊤
 AreGroupsFrom text slots number k (group ∷ groups) = IsGroupOf text slots number k group × AreGroupsFrom text slots number (k + 1) groups
 
--- all groups of a match are added behind what is listed, given their offsets
+-- all groups of a match are added after what is listed, given their offsets
 abbrev pub AreGroupsAdded : List ℕ → List ℕ → ℕ → List Member → List Member → Type 0
 AreGroupsAdded text slots number old new =
     (added : List Member) × (new ≡ old ++ added) × (length added ≡ length slots / 2) × AreGroupsFrom text slots number 0 added
@@ -38,7 +38,7 @@ pub record AreGroupsOfMember (regexes : List Regex) (text : List ℕ) (found : �
   pub many : length groups ≡ length found.1.pairs
   pub are : AreGroupsFrom text (match_slots (meta_pattern regex.meta) found.1) found.0 0 groups
 
--- the groups of members that match, those of one behind those of another
+-- the groups of members that match, those of one after those of another
 abbrev pub AreGroupsOfEach : List Regex → List ℕ → List (ℕ × Match) → List Member → Type 0
 AreGroupsOfEach regexes text [] groups = groups ≡ []
 AreGroupsOfEach regexes text (found ∷ others) groups =

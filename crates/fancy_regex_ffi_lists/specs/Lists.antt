@@ -52,7 +52,7 @@ pub record IsErrorAtAnswer (regexes : List Regex) (text : List ℕ) (config : Se
   pub before : AreInLimitsBefore regexes text config answer.position
   pub here : AreInLimits regexes text config answer.position 0 number
 
--- want of memory, or the first error met: on the way to the answer, or behind its first member
+-- want of memory, or the first error met: on the way to the answer, or after its first member
 abbrev pub IsMemberError : List Regex → List ℕ → SearchConfig → Error → Type 0
 IsMemberError regexes text config Memory = Unit {0}
 IsMemberError regexes text config e = IsSetError regexes text config e ⊎ IsErrorAtAnswer regexes text config e

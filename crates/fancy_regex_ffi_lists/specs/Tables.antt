@@ -7,7 +7,7 @@ use Rattle.fancy_regex_meta.specs.Patterns.{tree_in}
 use Rattle.fancy_regex_meta.specs.declared.options.RegexOptions.{RegexOptions}
 use Rattle.fancy_regex.specs.ByteSetLaws.{MatchesStartIn, MatchesRequire}
 
--- For each byte that the table has room for, whether it is in the set. Behind the 256 bytes the table is as it was.
+-- For each byte that the table has room for, whether it is in the set. After the 256 bytes the table is as it was.
 abbrev pub IsMarked : Bytes → List Bool → List Bool → Type 0
 IsMarked set old new = EachIndex new (λ b. (b < 256 → slice_index_or new b false ≡ set b) × (256 ≤ b → (d : Bool) → slice_index_or new b d ≡ slice_index_or old b d))
 

@@ -29,7 +29,7 @@ fn span_at(found: Match<'_>) -> Span
     Span::of(Some((found.start(), found.end())))
 }
 
-/// The spans of the pieces of the text between its matches, and of the rest behind the last one, from left to right. `RuntimeError`
+/// The spans of the pieces of the text between its matches, and of the rest after the last one, from left to right. `RuntimeError`
 /// if a search exceeds a limit, or `Memory`.
 pub fn piece_spans(alloc: Global, regex: &Regex, text: &str) -> Result<Vec<Span>>
     ensures spans { IfOk result (λ spans. spans.items ≡ gap_spans 0 (length text.now) (matches_of regex.now text.now)) }

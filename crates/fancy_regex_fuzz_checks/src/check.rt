@@ -22,7 +22,7 @@ pub enum Check {
     Machine,
     /// The ends of an iteration's matches increase, and its first match is that of `find`.
     Ends,
-    /// Behind a match that is not empty the iteration finds what `find_from_pos` finds from its end.
+    /// After a match that is not empty the iteration finds what `find_from_pos` finds from its end.
     Next,
     /// The iteration over the groups in a part of the text has the matches of the iteration over its matches.
     Items,
@@ -40,7 +40,7 @@ pub enum Check {
     Seek,
     /// So they have by the printed pattern.
     Reprint,
-    /// The longest match ends where the first match ends, or behind it.
+    /// The longest match ends where the first match ends, or after it.
     Longest,
     /// A match starts with a start byte where it takes any, and the text has all required bytes.
     Bytes,

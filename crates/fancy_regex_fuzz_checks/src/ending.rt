@@ -10,7 +10,7 @@ use crate::refused::refused_alike;
 use crate::replacing::{expansions_agree, fixed_between_pieces, template_is_expanded};
 use crate::searches::{begins_alike, keeps_its_bound, part_alike, whole_alike};
 use crate::sets::twice_in_a_set;
-use crate::variants::{finds_itself, longest_ends_behind, reprints_alike, seeks_alike};
+use crate::variants::{finds_itself, longest_ends_after, reprints_alike, seeks_alike};
 use fancy_regex::{Error, Regex, Result};
 use std::alloc::Global;
 
@@ -106,7 +106,7 @@ fn holds_of_others(alloc: Global, case: Case<'_>, regex: &Regex, check: Check) -
         Check::Set => twice_in_a_set(alloc, case, regex),
         Check::Seek => seeks_alike(alloc, case, regex),
         Check::Reprint => reprints_alike(alloc, case, regex),
-        Check::Longest => longest_ends_behind(alloc, case, regex),
+        Check::Longest => longest_ends_after(alloc, case, regex),
         Check::Bytes => has_its_bytes(alloc, case, regex),
         Check::Escape => finds_itself(alloc, case.text),
         _ => Ok(true),

@@ -108,7 +108,7 @@ fn places_by_machine(
     }
 }
 
-/// The input of the engines for a search; `None` if the search begins behind its range.
+/// The input of the engines for a search; `None` if the search begins after its range.
 fn run_input(input: RegexInput<&str>) -> Option<RunInput> {
     let config = input.config();
     let first = input.effective_start();

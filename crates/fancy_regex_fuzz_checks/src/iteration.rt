@@ -44,7 +44,7 @@ pub fn ends_increase(alloc: Global, case: Case<'_>, regex: &Regex) -> Result<boo
     Ok(places.first().copied() == first && increase(&places))
 }
 
-/// Whether each place begins at the end of the one before or behind it, and ends behind it.
+/// Whether each place begins at the end of the one before or after it, and ends after it.
 fn increase(places: &[Place]) -> bool {
     let mut last: Option<usize> = None;
     for (start, end) in places.iter() {
@@ -91,7 +91,7 @@ pub fn pieces_are_the_text(alloc: Global, case: Case<'_>, regex: &Regex) -> Resu
     lie_between(regex.split(alloc, case.text), case.text, &places)
 }
 
-/// Whether the pieces lie before, between and behind these places, as the text has it.
+/// Whether the pieces lie before, between and after these places, as the text has it.
 fn lie_between(pieces: Split<'_, '_>, text: &str, places: &[Place]) -> Result<bool> {
     let mut count = 0usize;
     let mut from = 0;

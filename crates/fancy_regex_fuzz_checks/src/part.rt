@@ -36,7 +36,7 @@ impl Part {
     }
 }
 
-/// The greatest character boundary of the text that is not behind the byte offset.
+/// The greatest character boundary of the text that is not after the byte offset.
 fn boundary_at(text: &str, offset: usize) -> usize {
     let last = offset.min(text.len());
     for back in 0..4 {

@@ -48,8 +48,8 @@ pub fn reprints_alike(alloc: Global, case: Case<'_>, regex: &Regex) -> Result<bo
     }
 }
 
-/// Whether the longest match ends where the first one ends, or behind it, and there is one exactly where there is the other.
-pub fn longest_ends_behind(alloc: Global, case: Case<'_>, regex: &Regex) -> Result<bool> {
+/// Whether the longest match ends where the first one ends, or after it, and there is one exactly where there is the other.
+pub fn longest_ends_after(alloc: Global, case: Case<'_>, regex: &Regex) -> Result<bool> {
     let first = found_span(alloc, regex, case.text)?;
     let mut options = case.setting.builder();
     options.leftmost_longest(true);

@@ -45,7 +45,7 @@ module _ (p : ParserConfig) where
   piece_goes_on : {n : ℕ} {in_look : Bool} {f g : Flags} {t rest : Text} {e : Tree} → IsPiece p n in_look f t e g rest → ends_branch t ≡ false
   piece_goes_on (with_quantifiers a q) = atom_goes_on a
 
-  -- branches inside a construct, with the `)` behind them
+  -- branches inside a construct, with the `)` after them
   inside : (n : ℕ) (in_look : Bool) (f : Flags) (t : Text) {g : Flags} {rest : Text} {body : Branches} →
       branches p (inner_parser p n) (length t + 1) in_look f t ≡ Ok (body, g, 0x29 ∷ rest) → parse_group_body p (parse_alternation p n) in_look f t ≡ Ok (body, g, rest)
   inside n in_look f t h = closed_read p (parse_alternation p n) in_look f t (nested_is p n in_look f t ∙ h)
@@ -141,7 +141,7 @@ module _ (p : ParserConfig) where
   piece_stop_goes_on (atom_stops s) = atom_stop_goes_on s
   piece_stop_goes_on (quantifiers_stop a s) = atom_goes_on a
 
-  -- branches inside a construct, that stop or have no `)` behind them
+  -- branches inside a construct, that stop or have no `)` after them
   inside_stopped : (n : ℕ) (in_look : Bool) (f : Flags) (t : Text) {e : Fault} → branches p (inner_parser p n) (length t + 1) in_look f t ≡ Err e →
       parse_group_body p (parse_alternation p n) in_look f t ≡ Err e
   inside_stopped n in_look f t h = closed_stops p (parse_alternation p n) in_look f t (nested_is p n in_look f t ∙ h)

@@ -1,4 +1,4 @@
--- What is left behind branches is an end of the text, and no fault lies outside of it.
+-- What is left after branches is an end of the text, and no fault lies outside of it.
 use Rattle.std.proofs.Common.{◌≤◌, ℕ, Bool, List, ◌∷◌, le_refl, le_trans, le_of_eq}
 use Rattle.fancy_regex_text.specs.Text.{Text, bytes}
 use Rattle.fancy_regex_text.specs.Fault.{Fault}
@@ -8,7 +8,7 @@ use Rattle.fancy_regex_tree.specs.Tree.{Tree}
 use Rattle.fancy_regex_tree.specs.Quantifiers.{Atom}
 use Rattle.fancy_regex_tree.specs.Parser.{Branches}
 use Rattle.fancy_regex_lex_grammar.proofs.EndProofs.{Ends, all, past, further, is_end, bytes_left, none_left, skipped_ends, quantifier_ends, marks_end, escape_ends, class_ends, opening_ends, layout_inside, class_inside, opening_inside}
-use Rattle.fancy_regex_grammar.specs.Quantifiers.{IsQuantified, no_more, enough, and_quantifier, QuantifiersFail, before_quantifier, too_many, no_target, before_marks, behind_quantifier}
+use Rattle.fancy_regex_grammar.specs.Quantifiers.{IsQuantified, no_more, enough, and_quantifier, QuantifiersFail, before_quantifier, too_many, no_target, before_marks, after_quantifier}
 use Rattle.fancy_regex_grammar.specs.Patterns.{IsAtom, dot, caret, dollar, a_class, escaped, character, capturing_group, bare_group, flag_setting, an_atomic_group, a_look_around, bare_condition, if_reference, if_expression, definitions, an_absent_repeater, absent_bounds, a_reference, a_call, a_verb, IsPiece, with_quantifiers, IsBranch, no_more_pieces, and_piece, IsBranches, last_branch, and_branch}
 use Rattle.fancy_regex_grammar.specs.Faults.{AtomFails, class_stops, escape_stops, no_atom, too_deep, opening_stops, inside_stops, unclosed, body_stops, body_unclosed, without_branches, PieceFails, atom_stops, quantifiers_stop, BranchFails, layout_stops, piece_stops, later_piece_stops, BranchesFail, first_stops, later_branch_stops, PatternFails, inside_pattern, nothing_to_close}
 use Rattle.fancy_regex_grammar.specs.GrammarLaws.{RestIsSuffix, PatternFaultsAreInside}
@@ -23,11 +23,11 @@ quantifiers_inside (before_quantifier l) = layout_inside l
 quantifiers_inside (too_many s h q) = bytes_left (skipped_ends s)
 quantifiers_inside (no_target s q h n) = bytes_left (skipped_ends s)
 quantifiers_inside (before_marks s q d l) = le_trans (layout_inside l) (bytes_left (further (quantifier_ends q) (skipped_ends s)))
-quantifiers_inside (behind_quantifier s q m u more) =
+quantifiers_inside (after_quantifier s q m u more) =
     le_trans (quantifiers_inside more) (bytes_left (further (marks_end m) (further (quantifier_ends q) (skipped_ends s))))
 
 module _ (p : ParserConfig) where
-  -- behind a construct with this inside
+  -- after a construct with this inside
   around : {t inside rest : Text} → Ends (0x29 ∷ rest) inside → Ends inside t → Ends rest (0x28 ∷ t)
   around h k = past (further (further (past all) h) k)
 

@@ -1,4 +1,4 @@
--- What is left is no longer than the text, and shorter behind an atom.
+-- What is left is no longer than the text, and shorter after an atom.
 use Rattle.std.proofs.Common.{ℕ, ◌<◌, ◌≤◌, Bool, Option, List, length, codes, arith}
 use Rattle.std.proofs.lemmas.List.{length-append}
 use Rattle.fancy_regex_text.specs.Text.{Text}
@@ -58,7 +58,7 @@ counted_shorter (some_digits r m) = run_shorter r
 
 number_shorter : {verbose : Bool} {t rest : Text} {n : ℕ} → IsSpacedNumber verbose t n rest → length rest ≤ length t
 number_shorter s =
-    let a = skipped_shorter s.layout_before in let b = counted_shorter s.number in let c = skipped_shorter s.layout_behind in omega (arith, a, b, c)
+    let a = skipped_shorter s.layout_before in let b = counted_shorter s.number in let c = skipped_shorter s.layout_after in omega (arith, a, b, c)
 
 braced_shorter : {verbose : Bool} {t rest : Text} {q : Quantifier} → IsBracedQuantifier verbose t q rest → length rest ≤ length t
 braced_shorter (exactly s a) = let k = number_shorter s in omega arith

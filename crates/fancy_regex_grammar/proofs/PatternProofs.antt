@@ -23,7 +23,7 @@ module _ (p : ParserConfig) (f : Flags) (t : Text) where
   some_left h = cc
 
   end_means : (body : Branches) (g : Flags) (rest : Text) → IsBranches p 63 false f t body g rest → PatternMeans (expect_end p (pattern_of body) rest)
-  end_means body g [] b = is_read (record { body = body; flags_behind = g; derivation = b; tree = refl })
+  end_means body g [] b = is_read (record { body = body; flags_after = g; derivation = b; tree = refl })
   end_means body g (c ∷ rest) b = is_stopped (nothing_to_close b some_left)
 
   pattern_means : PatternMeans (parse_whole_pattern p f t)
@@ -42,7 +42,7 @@ module _ (p : ParserConfig) (f : Flags) (t : Text) where
   pattern_read : (e : Tree) → IsPattern p f t e → parse_whole_pattern p f t ≡ Ok e
   unfolding parse_whole_pattern
   pattern_read e h =
-      ap (λ r. r >>= to_end) ((branches_are_exact p 63 false f t).complete (h.body, h.flags_behind, []) h.derivation) ∙ ap Ok (sym h.tree)
+      ap (λ r. r >>= to_end) ((branches_are_exact p 63 false f t).complete (h.body, h.flags_after, []) h.derivation) ∙ ap Ok (sym h.tree)
 
   not_at_end : (e : Tree) (rest : Text) → rest ≢ [] → expect_end p e rest ≡ Err (at (general_parse_error (codes "end of string not reached")) rest)
   not_at_end e [] n = absurd (n refl)

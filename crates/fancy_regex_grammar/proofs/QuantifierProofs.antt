@@ -1,4 +1,4 @@
--- Quantifiers behind an atom, as the function reads them.
+-- Quantifiers after an atom, as the function reads them.
 use Rattle.std.proofs.Common.{◌≡◌, ℕ, zero, suc, ◌<◌, nat_lt, Bool, true, false, ◌&&◌, ◌||◌, Option, Some, None, is_some, Ok, Err, refl, sym, ap, ◌∙◌, subst, true≢false, ltb-true, ltb-false, lt-ltb, le-ltb, if◌then◌else◌}
 use Rattle.std.proofs.lemmas.Bool.{and_parts, and_from, and_left, and_right, or_left, or_right, false_from_ne_true}
 use Rattle.fancy_regex_text.specs.Text.{Text}
@@ -19,7 +19,7 @@ use Rattle.fancy_regex_lex_grammar.specs.Counts.{IsQuantifier, IsMarks}
 use Rattle.fancy_regex_lex_grammar.proofs.ReadingLemmas.{Meant, is_read, is_stopped, bind_meant, reads_exactly}
 use Rattle.fancy_regex_lex_grammar.proofs.LayoutProofs.{skip_is_exact}
 use Rattle.fancy_regex_lex_grammar.proofs.CountProofs as counts
-use Rattle.fancy_regex_grammar.specs.Quantifiers.{NoQuantifier, IsGreedy, greedy, lazy, swapped_to_lazy, swapped_to_greedy, IsInOrder, in_plain_mode, not_reversed, IsRepeated, a_repeat, possessive, reversed, IsDropped, IsQuantifierApplied, repeats, dropped, IsQuantified, no_more, enough, and_quantifier, QuantifiersFail, before_quantifier, too_many, no_target, before_marks, behind_quantifier}
+use Rattle.fancy_regex_grammar.specs.Quantifiers.{NoQuantifier, IsGreedy, greedy, lazy, swapped_to_lazy, swapped_to_greedy, IsInOrder, in_plain_mode, not_reversed, IsRepeated, a_repeat, possessive, reversed, IsDropped, IsQuantifierApplied, repeats, dropped, IsQuantified, no_more, enough, and_quantifier, QuantifiersFail, before_quantifier, too_many, no_target, before_marks, after_quantifier}
 use Rattle.fancy_regex_grammar.specs.GrammarLaws.{QuantifiersAreExact}
 
 greedy_of : (a b : Bool) → IsGreedy a b (same a b)
@@ -151,7 +151,7 @@ module _ (p : ParserConfig) (f : Flags) where
     where
       by_rest : (r : ParseOutcome (Tree × Text)) → QuantifiedMeans more (record e { tree = x.0 }) x.1 r → QuantifiedMeans (suc more) e t r
       by_rest (Ok y) (is_read h) = is_read (and_quantifier s at_here k under h)
-      by_rest (Err fault) (is_stopped h) = is_stopped (behind_quantifier s at_here k under h)
+      by_rest (Err fault) (is_stopped h) = is_stopped (after_quantifier s at_here k under h)
 
   quantified_means : (more : ℕ) (e : Atom) (t : Text) → QuantifiedMeans more e t (parse_quantifiers p f more e t)
   unfolding parse_quantifiers
@@ -181,13 +181,13 @@ module _ (p : ParserConfig) (f : Flags) where
   at_quantifier : {here u : Text} {q : Quantifier} → IsQuantifier f.verbose here q u → leading_quantifier f.verbose here ≡ Some (q, u)
   at_quantifier {here} {u} {q} k = (counts.quantifiers_are_exact f.verbose here).complete (q, u) k
 
-  under_read : {q : Quantifier} {m : QuantifierSuffix} {e : Atom} {tree : Tree} (here u behind : Text) → IsMarks p.oniguruma f.verbose q.braces u m behind →
-      IsQuantifierApplied p f q m e tree → apply_quantifier p f here q e u ≡ Ok (tree, behind)
+  under_read : {q : Quantifier} {m : QuantifierSuffix} {e : Atom} {tree : Tree} (here u after : Text) → IsMarks p.oniguruma f.verbose q.braces u m after →
+      IsQuantifierApplied p f q m e tree → apply_quantifier p f here q e u ≡ Ok (tree, after)
   unfolding apply_quantifier marked
-  under_read {q} {m} {e} here u behind k (repeats h r) =
-      rw (apply_quantifier, marked, h, (counts.marks_are_exact p.oniguruma f.verbose q.braces u).complete (m, behind) k, repeated_read r) refl
-  under_read {q} {m} {e} here u behind k (dropped d) =
-      rw (apply_quantifier, marked, not_repeatable d, dropped_test d, (counts.marks_are_exact p.oniguruma f.verbose q.braces u).complete (m, behind) k, d.nothing) refl
+  under_read {q} {m} {e} here u after k (repeats h r) =
+      rw (apply_quantifier, marked, h, (counts.marks_are_exact p.oniguruma f.verbose q.braces u).complete (m, after) k, repeated_read r) refl
+  under_read {q} {m} {e} here u after k (dropped d) =
+      rw (apply_quantifier, marked, not_repeatable d, dropped_test d, (counts.marks_are_exact p.oniguruma f.verbose q.braces u).complete (m, after) k, d.nothing) refl
     where
       not_repeatable : IsDropped p f e → is_repeatable e.tree ≡ false
       not_repeatable d = ap is_repeatable d.nothing
@@ -201,17 +201,17 @@ module _ (p : ParserConfig) (f : Flags) where
       by_mode true h = ap (λ o. if is_some o then fail_at recursion_exceeded here else Ok (e, here)) (none_found f.verbose here (n h))
       by_mode false h = refl
 
-  -- behind the layout
-  abbrev behind_layout : ℕ → Atom → Text → Option (Quantifier × Text) → ParseOutcome (Tree × Text)
-  behind_layout more e here o = elim o [
+  -- after the layout
+  abbrev after_layout : ℕ → Atom → Text → Option (Quantifier × Text) → ParseOutcome (Tree × Text)
+  after_layout more e here o = elim o [
     | None ↦ Ok (e.tree, here)
     | Some q ↦ apply_quantifier p f here q.0 e q.1 >>= λ found. parse_quantifiers p f more (record e { tree = found.0 }) found.1
   ]
 
   step : (more : ℕ) (e : Atom) {t here : Text} → IsSkipped f.verbose t here →
-      parse_quantifiers p f (suc more) e t ≡ behind_layout more e here (leading_quantifier f.verbose here)
+      parse_quantifiers p f (suc more) e t ≡ after_layout more e here (leading_quantifier f.verbose here)
   unfolding parse_quantifiers
-  step more e s = ap (λ r. r >>= λ h. behind_layout more e h (leading_quantifier f.verbose h)) (skip_read s)
+  step more e s = ap (λ r. r >>= λ h. after_layout more e h (leading_quantifier f.verbose h)) (skip_read s)
 
   last_step : (e : Atom) {t here : Text} → IsSkipped f.verbose t here → parse_quantifiers p f zero e t ≡ full p f here e.tree
   unfolding parse_quantifiers
@@ -219,14 +219,14 @@ module _ (p : ParserConfig) (f : Flags) where
 
   marked_step : (more : ℕ) (e : Atom) {t here u : Text} {q : Quantifier} → IsSkipped f.verbose t here → IsQuantifier f.verbose here q u →
       parse_quantifiers p f (suc more) e t ≡ (apply_quantifier p f here q e u >>= λ found. parse_quantifiers p f more (record e { tree = found.0 }) found.1)
-  marked_step more e {here = here} s q = step more e s ∙ ap (behind_layout more e here) (at_quantifier q)
+  marked_step more e {here = here} s q = step more e s ∙ ap (after_layout more e here) (at_quantifier q)
 
   quantified_read : {more : ℕ} {e : Atom} {t rest : Text} {whole : Tree} → IsQuantified p f more e t whole rest → parse_quantifiers p f more e t ≡ Ok (whole, rest)
   unfolding parse_quantifiers
-  quantified_read (no_more {more} {e} {here = here} s n) = step more e s ∙ ap (behind_layout more e here) (none_found f.verbose here n)
+  quantified_read (no_more {more} {e} {here = here} s n) = step more e s ∙ ap (after_layout more e here) (none_found f.verbose here n)
   quantified_read (enough {e} {here = here} s n) = last_step e s ∙ nothing_full e.tree here n
-  quantified_read (and_quantifier {more} {e} {here = here} {marked} {behind} s q m under rest) =
-      marked_step more e s q ∙ ap (λ r. r >>= λ x. parse_quantifiers p f more (record e { tree = x.0 }) x.1) (under_read here marked behind m under) ∙ quantified_read rest
+  quantified_read (and_quantifier {more} {e} {here = here} {marked} {after} s q m under rest) =
+      marked_step more e s q ∙ ap (λ r. r >>= λ x. parse_quantifiers p f more (record e { tree = x.0 }) x.1) (under_read here marked after m under) ∙ quantified_read rest
 
   skip_stopped : {t : Text} {fault : Fault} → LayoutFails f.verbose t fault → skip f.verbose t ≡ Err fault
   skip_stopped {t} {fault} l = (skip_is_exact f.verbose t).fault_is_complete fault l
@@ -253,14 +253,14 @@ module _ (p : ParserConfig) (f : Flags) where
   quantifiers_stop : {more : ℕ} {e : Atom} {t : Text} {fault : Fault} → QuantifiersFail p f more e t fault → parse_quantifiers p f more e t ≡ Err fault
   unfolding parse_quantifiers full apply_quantifier marked
   quantifiers_stop (before_quantifier {more = zero} {e} l) = ap (λ r. r >>= λ h. full p f h e.tree) (skip_stopped l)
-  quantifiers_stop (before_quantifier {more = suc more} {e} l) = ap (λ r. r >>= λ h. behind_layout more e h (leading_quantifier f.verbose h)) (skip_stopped l)
+  quantifiers_stop (before_quantifier {more = suc more} {e} l) = ap (λ r. r >>= λ h. after_layout more e h (leading_quantifier f.verbose h)) (skip_stopped l)
   quantifiers_stop (too_many {e} {here = here} s h q) = last_step e s ∙ no_room e.tree here h q
   quantifiers_stop (no_target {more} {e} s q h n) =
       marked_step more e s q ∙ ap (λ r. r >>= λ x. parse_quantifiers p f more (record e { tree = x.0 }) x.1) (no_target_there e _ _ _ h n)
   quantifiers_stop (before_marks {more} {e} {here = here} {marked} {count} s q d l) =
       marked_step more e s q ∙ ap (λ r. r >>= λ x. parse_quantifiers p f more (record e { tree = x.0 }) x.1) (marks_stopped e here count marked d l)
-  quantifiers_stop (behind_quantifier {more} {e} {here = here} {marked} {behind} s q m under rest) =
-      marked_step more e s q ∙ ap (λ r. r >>= λ x. parse_quantifiers p f more (record e { tree = x.0 }) x.1) (under_read here marked behind m under) ∙ quantifiers_stop rest
+  quantifiers_stop (after_quantifier {more} {e} {here = here} {marked} {after} s q m under rest) =
+      marked_step more e s q ∙ ap (λ r. r >>= λ x. parse_quantifiers p f more (record e { tree = x.0 }) x.1) (under_read here marked after m under) ∙ quantifiers_stop rest
 
 pub quantifiers_are_exact : QuantifiersAreExact
 quantifiers_are_exact p f more e t =

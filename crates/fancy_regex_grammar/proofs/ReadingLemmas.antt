@@ -30,9 +30,9 @@ use Rattle.fancy_regex_lex_grammar.proofs.OpeningProofs.{openings_are_exact}
 use Rattle.fancy_regex_lex_grammar.proofs.CountProofs as counts
 use Rattle.fancy_regex_grammar.specs.Quantifiers.{NoQuantifier}
 use Rattle.fancy_regex_grammar.specs.Patterns.{EndsBranch, at_end, at_bar, at_close}
-use Rattle.fancy_regex_grammar.specs.Faults.{HasBody, in_group, under_flags, in_atomic_group, in_look_around, behind_reference, in_condition, in_definitions, in_repeater, in_bounds, NoClosing}
+use Rattle.fancy_regex_grammar.specs.Faults.{HasBody, in_group, under_flags, in_atomic_group, in_look_around, after_reference, in_condition, in_definitions, in_repeater, in_bounds, NoClosing}
 use Rattle.fancy_regex_grammar.proofs.QuantifierProofs.{none_found}
-use Rattle.fancy_regex_grammar.proofs.Soundness.{behind_condition, as_tree, as_plain}
+use Rattle.fancy_regex_grammar.proofs.Soundness.{after_condition, as_tree, as_plain}
 
 pub ok_tree : {B : Type 0} (p : ParserConfig) (r : ParseOutcome (Branches × Flags × Text)) (next : Tree × Flags × Text → ParseOutcome B) {x : Branches × Flags × Text} →
     r ≡ Ok x → ((r >>= as_tree p) >>= next) ≡ next (pattern_of x.0, x.1, x.2)
@@ -187,55 +187,55 @@ module _ (p : ParserConfig) where
   construct_stops inner here t under_flags h = err_tree p _ _ h
   construct_stops inner here t in_atomic_group h = err_tree p _ _ h
   construct_stops inner here t in_look_around h = err_tree p _ _ h
-  construct_stops inner here t behind_reference h = err_body _ _ h
+  construct_stops inner here t after_reference h = err_body _ _ h
   construct_stops inner here t in_condition h = err_body _ _ (err_tree p _ _ h)
   construct_stops inner here t in_definitions h = err_tree p _ _ h
   construct_stops inner here t in_repeater h = err_tree p _ _ h
   construct_stops inner here t in_bounds h = err_body _ _ h
 
-  -- behind an expression as condition
+  -- after an expression as condition
   pub condition_then : (inner : AlternationParser) (in_look : Bool) (here : Text) (f : Flags) (t : Text) {g : Flags} {between : Text} {c : Branches} →
       parse_group_body p inner in_look f t ≡ Ok (c, g, between) →
-      parse_group p inner in_look here f if_matches t ≡ ((parse_group_body p inner in_look g between >>= behind_condition p here (pattern_of c)) >>= as_plain p)
+      parse_group p inner in_look here f if_matches t ≡ ((parse_group_body p inner in_look g between >>= after_condition p here (pattern_of c)) >>= as_plain p)
   unfolding parse_group parse_group_expression parse_expression_conditional
   condition_then inner in_look here f t h = ap (λ r. r >>= as_plain p) (ok_tree p _ _ h)
 
   pub branches_there : (here : Text) (c : Tree) (r : ParseOutcome (Branches × Flags × Text)) {body : Branches} {h : Flags} {rest : Text} →
-      r ≡ Ok (body, h, rest) → is_empty_body body ≡ false → ((r >>= behind_condition p here c) >>= as_plain p) ≡ Ok (plain (conditional_of_branches c body), h, rest)
+      r ≡ Ok (body, h, rest) → is_empty_body body ≡ false → ((r >>= after_condition p here c) >>= as_plain p) ≡ Ok (plain (conditional_of_branches c body), h, rest)
   branches_there here c r {body} {h} {rest} e k =
-      ap (λ y. (y >>= behind_condition p here c) >>= as_plain p) e
+      ap (λ y. (y >>= after_condition p here c) >>= as_plain p) e
       ∙ ap (λ b. (if b then fail_at (general_parse_error (codes "condition without branches")) here else Ok (conditional_of_branches c body, h, rest)) >>= as_plain p) k
 
   pub no_branches : (here : Text) (c : Tree) (r : ParseOutcome (Branches × Flags × Text)) {body : Branches} {h : Flags} {rest : Text} →
       r ≡ Ok (body, h, rest) → is_empty_body body ≡ true →
-      ((r >>= behind_condition p here c) >>= as_plain p) ≡ Err (at (general_parse_error (codes "condition without branches")) here)
+      ((r >>= after_condition p here c) >>= as_plain p) ≡ Err (at (general_parse_error (codes "condition without branches")) here)
   no_branches here c r {body} {h} {rest} e k =
-      ap (λ y. (y >>= behind_condition p here c) >>= as_plain p) e
+      ap (λ y. (y >>= after_condition p here c) >>= as_plain p) e
       ∙ ap (λ b. (if b then fail_at (general_parse_error (codes "condition without branches")) here else Ok (conditional_of_branches c body, h, rest)) >>= as_plain p) k
 
   pub body_stopped : (here : Text) (c : Tree) (r : ParseOutcome (Branches × Flags × Text)) {e : Fault} →
-      r ≡ Err e → ((r >>= behind_condition p here c) >>= as_plain p) ≡ Err e
-  body_stopped here c r h = ap (λ y. (y >>= behind_condition p here c) >>= as_plain p) h
+      r ≡ Err e → ((r >>= after_condition p here c) >>= as_plain p) ≡ Err e
+  body_stopped here c r h = ap (λ y. (y >>= after_condition p here c) >>= as_plain p) h
 
   -- pieces
 
   pub skip_read : {verbose : Bool} {t here : Text} → IsSkipped verbose t here → skip verbose t ≡ Ok here
   skip_read {verbose} {t} {here} s = (skip_is_exact verbose t).complete here s
 
-  abbrev behind_layout : Option AlternationParser → ℕ → Bool → Flags → Text → ParseOutcome (List Tree × Flags × Text)
-  behind_layout inner m in_look f here =
+  abbrev after_layout : Option AlternationParser → ℕ → Bool → Flags → Text → ParseOutcome (List Tree × Flags × Text)
+  after_layout inner m in_look f here =
       if ends_branch here then Ok ([], f, here) else (parse_piece p inner in_look f here >>= λ x. parse_branch p inner m in_look x.1 x.2 >>= λ y. Ok (x.0 ∷ y.0, y.1, y.2))
 
   pub layout_stopped : (inner : Option AlternationParser) (m : ℕ) (in_look : Bool) (f : Flags) {t : Text} {e : Fault} → LayoutFails f.verbose t e →
       parse_branch p inner (suc m) in_look f t ≡ Err e
   unfolding parse_branch
-  layout_stopped inner m in_look f {t} {e} s = ap (λ r. r >>= behind_layout inner m in_look f) ((skip_is_exact f.verbose t).fault_is_complete e s)
+  layout_stopped inner m in_look f {t} {e} s = ap (λ r. r >>= after_layout inner m in_look f) ((skip_is_exact f.verbose t).fault_is_complete e s)
 
   pub pieces_end : (inner : Option AlternationParser) (m : ℕ) (in_look : Bool) (f : Flags) {t here : Text} → IsSkipped f.verbose t here → EndsBranch here →
       parse_branch p inner (suc m) in_look f t ≡ Ok ([], f, here)
   unfolding parse_branch
   pieces_end inner m in_look f {t} {here} s e =
-      ap (λ r. r >>= behind_layout inner m in_look f) (skip_read s)
+      ap (λ r. r >>= after_layout inner m in_look f) (skip_read s)
       ∙ ap (λ b. if b then Ok ([], f, here) else (parse_piece p inner in_look f here >>= λ x. parse_branch p inner m in_look x.1 x.2 >>= λ y. Ok (x.0 ∷ y.0, y.1, y.2)))
       (ends_there e)
 
@@ -243,25 +243,25 @@ module _ (p : ParserConfig) where
       parse_branch p inner (suc m) in_look f t ≡ (parse_piece p inner in_look f here >>= λ x. parse_branch p inner m in_look x.1 x.2 >>= λ y. Ok (x.0 ∷ y.0, y.1, y.2))
   unfolding parse_branch
   pieces_go_on inner m in_look f {t} {here} s e =
-      ap (λ r. r >>= behind_layout inner m in_look f) (skip_read s)
+      ap (λ r. r >>= after_layout inner m in_look f) (skip_read s)
       ∙ ap (λ b. if b then Ok ([], f, here) else (parse_piece p inner in_look f here >>= λ x. parse_branch p inner m in_look x.1 x.2 >>= λ y. Ok (x.0 ∷ y.0, y.1, y.2))) e
 
   -- branches
 
-  abbrev pub behind_branch : Option AlternationParser → ℕ → Bool → List Tree × Flags × Text → ParseOutcome (Branches × Flags × Text)
-  behind_branch inner m in_look x =
+  abbrev pub after_branch : Option AlternationParser → ℕ → Bool → List Tree × Flags × Text → ParseOutcome (Branches × Flags × Text)
+  after_branch inner m in_look x =
       elim (strip_prefix (codes "|") x.2) [
         | None ↦ Ok (x.0 ∷ [], x.1, x.2)
         | Some next ↦ branches p inner m in_look x.1 next >>= λ y. Ok (x.0 ∷ y.0, y.1, y.2)
       ]
 
   pub branch_then : (inner : Option AlternationParser) (m : ℕ) (in_look : Bool) (f : Flags) (t : Text) {r : ParseOutcome (List Tree × Flags × Text)} →
-      parse_branch p inner (length t + 1) in_look f t ≡ r → branches p inner (suc m) in_look f t ≡ (r >>= behind_branch inner m in_look)
+      parse_branch p inner (length t + 1) in_look f t ≡ r → branches p inner (suc m) in_look f t ≡ (r >>= after_branch inner m in_look)
   unfolding branches
-  branch_then inner m in_look f t h = ap (λ r. r >>= behind_branch inner m in_look) h
+  branch_then inner m in_look f t h = ap (λ r. r >>= after_branch inner m in_look) h
 
   pub no_bar : (inner : Option AlternationParser) (m : ℕ) (in_look : Bool) {g : Flags} {rest : Text} {branch : List Tree} → ((u : Text) → rest ≢ 0x7C ∷ u) →
-      behind_branch inner m in_look (branch, g, rest) ≡ Ok (branch ∷ [], g, rest)
+      after_branch inner m in_look (branch, g, rest) ≡ Ok (branch ∷ [], g, rest)
   no_bar inner m in_look {g} {rest} {branch} n =
       ap (λ o. elim o [ None ↦ Ok (branch ∷ [], g, rest) | Some next ↦ branches p inner m in_look g next >>= λ y. Ok (branch ∷ y.0, y.1, y.2) ])
       (word_lacks (codes "|") rest n)

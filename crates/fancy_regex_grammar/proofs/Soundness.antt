@@ -28,7 +28,7 @@ use Rattle.fancy_regex_lex_grammar.proofs.ClassProofs.{classes_are_exact}
 use Rattle.fancy_regex_lex_grammar.proofs.OpeningProofs.{openings_are_exact}
 use Rattle.fancy_regex_lex_grammar.proofs.CountProofs as counts
 use Rattle.fancy_regex_grammar.specs.Patterns.{EndsBranch, at_end, at_bar, at_close, IsAtom, dot, caret, dollar, a_class, escaped, character, capturing_group, bare_group, flag_setting, an_atomic_group, a_look_around, bare_condition, if_reference, if_expression, definitions, an_absent_repeater, absent_bounds, a_reference, a_call, a_verb, IsPiece, with_quantifiers, IsBranch, no_more_pieces, and_piece, IsBranches, last_branch, and_branch}
-use Rattle.fancy_regex_grammar.specs.Faults.{HasBody, in_group, under_flags, in_atomic_group, in_look_around, behind_reference, in_condition, in_definitions, in_repeater, in_bounds, NoClosing, AtomFails, class_stops, escape_stops, no_atom, too_deep, opening_stops, inside_stops, unclosed, body_stops, body_unclosed, without_branches, PieceFails, atom_stops, quantifiers_stop, BranchFails, layout_stops, piece_stops, later_piece_stops, BranchesFail, first_stops, later_branch_stops}
+use Rattle.fancy_regex_grammar.specs.Faults.{HasBody, in_group, under_flags, in_atomic_group, in_look_around, after_reference, in_condition, in_definitions, in_repeater, in_bounds, NoClosing, AtomFails, class_stops, escape_stops, no_atom, too_deep, opening_stops, inside_stops, unclosed, body_stops, body_unclosed, without_branches, PieceFails, atom_stops, quantifiers_stop, BranchFails, layout_stops, piece_stops, later_piece_stops, BranchesFail, first_stops, later_branch_stops}
 use Rattle.fancy_regex_grammar.proofs.QuantifierProofs.{quantifiers_are_exact}
 use Rattle.fancy_regex_grammar.proofs.LengthLemmas.{skipped_shorter, piece_shorter, branch_shorter}
 
@@ -50,7 +50,7 @@ module _ (p : ParserConfig) where
   abbrev AtomMeans : ℕ → Bool → Flags → Text → ParseOutcome (Atom × Flags × Text) → Type 0
   AtomMeans n in_look f t = Meant (λ (r : Atom × Flags × Text). IsAtom p n in_look f t r.0 r.1 r.2) (AtomFails p n in_look f t)
 
-  -- branches and the `)` behind them; S is what stops the construct
+  -- branches and the `)` after them; S is what stops the construct
   abbrev ClosedMeans : ℕ → Bool → Flags → Text → (Fault → Type 0) → ParseOutcome (Branches × Flags × Text) → Type 0
   ClosedMeans n in_look f t S = Meant (λ (r : Branches × Flags × Text). IsBranches p n in_look f t r.0 r.1 (0x29 ∷ r.2)) S
 
@@ -92,9 +92,9 @@ module _ (p : ParserConfig) where
   tree_then (Ok x) make (is_read b) h = h x b
   tree_then (Err e) make (is_stopped s) h = is_stopped s
 
-  -- what is made of the body behind a condition
-  abbrev pub behind_condition : Text → Tree → Branches × Flags × Text → ParseOutcome (Tree × Flags × Text)
-  behind_condition here c x =
+  -- what is made of the body after a condition
+  abbrev pub after_condition : Text → Tree → Branches × Flags × Text → ParseOutcome (Tree × Flags × Text)
+  after_condition here c x =
       if is_empty_body x.0 then fail_at (general_parse_error (codes "condition without branches")) here else Ok (conditional_of_branches c x.0, x.1, x.2)
 
   abbrev pub as_tree : Branches × Flags × Text → ParseOutcome (Tree × Flags × Text)
@@ -115,7 +115,7 @@ module _ (p : ParserConfig) where
 
       by_body : (c : Branches) (g : Flags) (between : Text) → IsBranches p n in_look f inside c g (0x29 ∷ between) → (r : ParseOutcome (Branches × Flags × Text)) →
           ClosedMeans n in_look g between Stops r →
-          AtomMeans (suc n) in_look f (0x28 ∷ t) ((r >>= behind_condition (0x28 ∷ t) (pattern_of c)) >>= as_plain)
+          AtomMeans (suc n) in_look f (0x28 ∷ t) ((r >>= after_condition (0x28 ∷ t) (pattern_of c)) >>= as_plain)
       by_body c g between b (Err e) (is_stopped s) = is_stopped s
       by_body c g between b (Ok x) (is_read d) = by_nothing (is_empty_body x.0) refl
         where
@@ -126,7 +126,7 @@ module _ (p : ParserConfig) where
           by_nothing false h = is_read (if_expression o b d h)
 
       by_condition : (r : ParseOutcome (Branches × Flags × Text)) → ClosedMeans n in_look f inside Stops r →
-          AtomMeans (suc n) in_look f (0x28 ∷ t) (((r >>= as_tree) >>= λ c. parse_group_body p inner in_look c.1 c.2 >>= behind_condition (0x28 ∷ t) c.0) >>= as_plain)
+          AtomMeans (suc n) in_look f (0x28 ∷ t) (((r >>= as_tree) >>= λ c. parse_group_body p inner in_look c.1 c.2 >>= after_condition (0x28 ∷ t) c.0) >>= as_plain)
       by_condition (Err e) (is_stopped s) = is_stopped s
       by_condition (Ok c) (is_read b) =
           by_body c.0 c.1 c.2 b (parse_group_body p inner in_look c.1 c.2)
@@ -146,7 +146,7 @@ module _ (p : ParserConfig) where
   construct_means n inner means in_look f t inside (look k) o =
       tree_then (parse_group_body p inner true f inside) _ (inside_means inner means o in_look_around) (λ x b. is_read (a_look_around o b))
   construct_means n inner means in_look f t inside (if_set target level) o =
-      body_then (parse_group_body p inner in_look f inside) _ (inside_means inner means o behind_reference) (λ x b. by_nothing x b (is_empty_body x.0) refl)
+      body_then (parse_group_body p inner in_look f inside) _ (inside_means inner means o after_reference) (λ x b. by_nothing x b (is_empty_body x.0) refl)
     where
       by_nothing : (x : Branches × Flags × Text) → IsBranches p n in_look f inside x.0 x.1 (0x29 ∷ x.2) → (k : Bool) → is_empty_body x.0 ≡ k →
           let c = ast_condition (target_named target) level (place p (0x28 ∷ t)) in

@@ -27,7 +27,7 @@ pub data HasBody (in_look : Bool) (f : Flags) : Opening → Bool → Flags → T
   under_flags : {changed : Flags} → HasBody in_look f (non_capturing changed) in_look changed
   in_atomic_group : HasBody in_look f atomic in_look f
   in_look_around : {k : Look} → HasBody in_look f (look k) true f
-  behind_reference : {target : Named} {level : Option ℤ} → HasBody in_look f (if_set target level) in_look f
+  after_reference : {target : Named} {level : Option ℤ} → HasBody in_look f (if_set target level) in_look f
   in_condition : HasBody in_look f if_matches in_look f
   in_definitions : HasBody in_look f define in_look f
   in_repeater : HasBody in_look f absent in_look f

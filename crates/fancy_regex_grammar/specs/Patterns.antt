@@ -106,6 +106,6 @@ module _ (p : ParserConfig) where
   -- the whole text parses to this tree, in which at most 63 levels nest
   pub record IsPattern (f : Flags) (t : Text) (e : Tree) : Type 0 where
     pub body : Branches
-    pub flags_behind : Flags
-    pub derivation : IsBranches 63 false f t body flags_behind []
+    pub flags_after : Flags
+    pub derivation : IsBranches 63 false f t body flags_after []
     pub tree : e ≡ pattern_of body

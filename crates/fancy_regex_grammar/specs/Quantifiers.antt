@@ -57,9 +57,9 @@ module _ (p : ParserConfig) (f : Flags) where
     -- outside of Oniguruma mode one more quantifier begins a piece of its own
     enough : {e : Atom} {t here : Text} → IsSkipped f.verbose t here → (p.oniguruma ≡ true → NoQuantifier f.verbose here) →
         IsQuantified zero e t e.tree here
-    and_quantifier : {more : ℕ} {e : Atom} {t here marked behind rest : Text} {count : Quantifier} {marks : QuantifierSuffix} {tree whole : Tree} →
-        IsSkipped f.verbose t here → IsQuantifier f.verbose here count marked → IsMarks p.oniguruma f.verbose count.braces marked marks behind →
-        IsQuantifierApplied count marks e tree → IsQuantified more (record e { tree = tree }) behind whole rest → IsQuantified (suc more) e t whole rest
+    and_quantifier : {more : ℕ} {e : Atom} {t here marked after rest : Text} {count : Quantifier} {marks : QuantifierSuffix} {tree whole : Tree} →
+        IsSkipped f.verbose t here → IsQuantifier f.verbose here count marked → IsMarks p.oniguruma f.verbose count.braces marked marks after →
+        IsQuantifierApplied count marks e tree → IsQuantified more (record e { tree = tree }) after whole rest → IsQuantified (suc more) e t whole rest
 
   -- where quantifiers fail, and the error
   pub data QuantifiersFail : ℕ → Atom → Text → Fault → Type 0 where
@@ -71,6 +71,6 @@ module _ (p : ParserConfig) (f : Flags) where
     before_marks : {more : ℕ} {e : Atom} {t here marked : Text} {count : Quantifier} {fault : Fault} → IsSkipped f.verbose t here →
         IsQuantifier f.verbose here count marked → (is_repeatable e.tree ≡ false → IsDropped e) → LayoutFails f.verbose marked fault →
         QuantifiersFail (suc more) e t fault
-    behind_quantifier : {more : ℕ} {e : Atom} {t here marked behind : Text} {count : Quantifier} {marks : QuantifierSuffix} {tree : Tree} {fault : Fault} →
-        IsSkipped f.verbose t here → IsQuantifier f.verbose here count marked → IsMarks p.oniguruma f.verbose count.braces marked marks behind →
-        IsQuantifierApplied count marks e tree → QuantifiersFail more (record e { tree = tree }) behind fault → QuantifiersFail (suc more) e t fault
+    after_quantifier : {more : ℕ} {e : Atom} {t here marked after : Text} {count : Quantifier} {marks : QuantifierSuffix} {tree : Tree} {fault : Fault} →
+        IsSkipped f.verbose t here → IsQuantifier f.verbose here count marked → IsMarks p.oniguruma f.verbose count.braces marked marks after →
+        IsQuantifierApplied count marks e tree → QuantifiersFail more (record e { tree = tree }) after fault → QuantifiersFail (suc more) e t fault

@@ -45,7 +45,7 @@ fn run_options() -> RunOptions {
 enum Call {
     /// All of them: the span of the match.
     Find((usize, usize)),
-    /// `run`: so many groups behind the whole match, and each letter of the text is in a group of its own.
+    /// `run`: so many groups after the whole match, and each letter of the text is in a group of its own.
     Groups(usize),
 }
 
@@ -68,7 +68,7 @@ fn a_run_that_wants_memory_can_be_repeated(rt: HostRuntime) {
     assert_eq!(rt; first_wrong(&rt, &RUNS), None);
 }
 
-// The groups behind those of the letters are not set.
+// The groups after those of the letters are not set.
 static GROUPED: [Running; 1] = [Running(
     "(a)?(a)?(a)?(a)?(a)?(a)?(a)?(a)?(a)?(a)?(a)?(a)?(a)?(a)?(a)?(a)?(a)?(a)?(a)?(a)?\
     (a)?(a)?(a)?(a)?(a)?(a)?(a)?(a)?(a)?(a)?(a)?(a)?(a)?(a)?(a)?(a)?(a)?(a)?(a)?(a)?(?!b)",

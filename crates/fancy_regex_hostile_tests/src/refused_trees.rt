@@ -48,7 +48,7 @@ fn can_be_copied(alloc: Global, expr: &Expr) -> Result<bool> {
     Ok(copy == *expr)
 }
 
-/// Whether a tree is printable, and is printed as this text, behind what the buffer holds at first.
+/// Whether a tree is printable, and is printed as this text, after what the buffer holds at first.
 fn is_printed(alloc: Global, expr: &Expr, wanted: &str) -> Result<bool> {
     if !expr.is_printable(alloc)? {
         return Ok(false);

@@ -63,11 +63,11 @@ module _ (groups : List Tree) (reads : ℕ → Bool) where
   own n (ast_condition goal level position) = refl
 
 -- one more at the end of a row
-abbrev behind : InfoTrees → InfoTree → InfoTrees
-behind no_infos y = more_infos y no_infos
-behind (more_infos x xs) y = more_infos x (behind xs y)
+abbrev following : InfoTrees → InfoTree → InfoTrees
+following no_infos y = more_infos y no_infos
+following (more_infos x xs) y = more_infos x (following xs y)
 
-infos_last : (xs : List InfoTree) (y : InfoTree) → infos (xs ++ y ∷ []) ≡ behind (infos xs) y
+infos_last : (xs : List InfoTree) (y : InfoTree) → infos (xs ++ y ∷ []) ≡ following (infos xs) y
 infos_last [] y = refl
 infos_last (x ∷ xs) y = ap (more_infos x) (infos_last xs y)
 
@@ -78,7 +78,7 @@ counted_last (u ∷ us) t = omega (arith, counted_last us t)
 
 described_last : (groups : List Tree) (reads : ℕ → Bool) (n : ℕ) (us : List Tree) (t : Tree) →
     expected_infos groups reads n (trees (us ++ t ∷ []))
-    ≡ behind (expected_infos groups reads n (trees us)) (expected_info groups reads (n + row_group_count (trees us)) t)
+    ≡ following (expected_infos groups reads n (trees us)) (expected_info groups reads (n + row_group_count (trees us)) t)
 unfolding group_count row_group_count expected_info expected_infos
 described_last groups reads n [] t =
     let zero_more : n + 0 ≡ n = omega arith in
@@ -87,7 +87,7 @@ described_last groups reads n (u ∷ us) t =
     let same : n + group_count u + row_group_count (trees us) ≡ n + (group_count u + row_group_count (trees us)) = omega arith in
     ap (more_infos (expected_info groups reads n u))
     (described_last groups reads (n + group_count u) us t
-    ∙ ap (λ k. behind (expected_infos groups reads (n + group_count u) (trees us)) (expected_info groups reads k t)) same)
+    ∙ ap (λ k. following (expected_infos groups reads (n + group_count u) (trees us)) (expected_info groups reads k t)) same)
 
 triple : {x x2 y y2 z z2 : InfoTree} → x ≡ x2 → y ≡ y2 → z ≡ z2 →
     let a : InfoTree × InfoTree × InfoTree = (x, y, z) in let b : InfoTree × InfoTree × InfoTree = (x2, y2, z2) in a ≡ b
@@ -427,7 +427,7 @@ module _ (calls : List code.Size) (read : List Bool) where
       let parts = before groups knows (omega (arith, count)) in
       let isx = next groups knows (omega (arith, count, parts.1)) in (
         infos_last xs x
-            ∙ ap₂ behind parts.0 (isx ∙ ap (λ j. expected_info groups (mark_at read) j t) parts.1)
+            ∙ ap₂ following parts.0 (isx ∙ ap (λ j. expected_info groups (mark_at read) j t) parts.1)
             ∙ sym (described_last groups (mark_at read) n us t),
         is ∙ ap (λ v. (properties_in v).end) isx ∙ ap (λ g. g.end) (own groups (mark_at read) m t) ∙ omega (arith, count, parts.1),
       )

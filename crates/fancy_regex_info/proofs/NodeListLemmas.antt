@@ -47,7 +47,7 @@ module _ {X U Y : Type 0} (view : X → U) (f : U → Option Y) where
   node_adds_none start now next xs i x inside is was none step =
       next_adds start now next xs i x inside is was (step ∙ sym (append-nil now) ∙ ap (λ o. now ++ option_to_list o) (sym none))
 
-  -- behind the last
+  -- after the last
   pub nodes_end : (start now : List Y) (xs : List X) (i : ℕ) (us : List U) → map view xs ≡ us → length xs ≤ i →
       now ≡ start ++ added (take i xs) → now ≡ start ++ filter_map f us
   nodes_end start now xs i us all past was =

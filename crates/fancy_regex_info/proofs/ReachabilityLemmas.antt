@@ -207,7 +207,7 @@ length_set [] p = refl
 length_set (b ∷ bs) zero = refl
 length_set (b ∷ bs) (suc p) = ap suc (length_set bs p)
 
--- a place that is marked puts those behind it on the list
+-- a place that is marked puts those after it on the list
 pub marks : (edges : List (List ℕ)) (starts : List ℕ) (seen : List Bool) (todo rest more : List ℕ) (p : ℕ) → Progress edges starts seen todo →
     todo ≡ rest ++ p ∷ [] → p < length seen → get_or seen p false ≡ false → more ≡ rest ++ following edges p →
     Progress edges starts (set seen p true) more

@@ -16,7 +16,7 @@ pub record NodeProperties : Type 0 where
   pub size : Size
   pub weight : ℕ
   pub hard : Bool
-  -- the number of the next group before the node, and behind it
+  -- the number of the next group before the node, and after it
   pub start : ℕ
   pub end : ℕ
 

@@ -30,18 +30,18 @@ err-ok e x h = none-some tt (ap none_for h)
     none_for (Err e) = None
     none_for (Ok x) = Some tt
 
--- a part that was read behind a front
-read_behind : (front new u : Text) (r : ParseOutcome Part) → prepend front r ≡ ok_part new u → (part : Text) × (r ≡ ok_part part u) × (front ++ part ≡ new)
+-- a part that was read after a front
+read_after : (front new u : Text) (r : ParseOutcome Part) → prepend front r ≡ ok_part new u → (part : Text) × (r ≡ ok_part part u) × (front ++ part ≡ new)
 unfolding ok_value
-read_behind front new u (Ok x) h =
+read_after front new u (Ok x) h =
     let same : (front ++ x.0, x.1) ≡ (new, u) = ap (λ y. ok_value y x) h in
     (x.0, ap (λ v. ok_part x.0 v) (ap (λ y. y.1) same), ap (λ y. y.0) same)
-read_behind front new u (Err e) h = absurd (err-ok e (new, u) h)
+read_after front new u (Err e) h = absurd (err-ok e (new, u) h)
 
-fails_behind : (front : Text) (e : ReadError) (r : ParseOutcome Part) → Fails e (prepend front r) → Fails e r
-fails_behind front errors.Memory r h = tt
-fails_behind front (errors.Fault f) (Ok x) h = absurd (err-ok _ (front ++ x.0, x.1) (sym h))
-fails_behind front (errors.Fault f) (Err e) h = h
+fails_after : (front : Text) (e : ReadError) (r : ParseOutcome Part) → Fails e (prepend front r) → Fails e r
+fails_after front errors.Memory r h = tt
+fails_after front (errors.Fault f) (Ok x) h = absurd (err-ok _ (front ++ x.0, x.1) (sym h))
+fails_after front (errors.Fault f) (Err e) h = h
 
 fails_before : (front : Text) (e : ReadError) (r : ParseOutcome Part) → Fails e r → Fails e (prepend front r)
 fails_before front errors.Memory r h = tt
@@ -55,7 +55,7 @@ module _ (oniguruma : Bool) where
   unfolding class_parts
   part_goes zero level next front new t u all some reads goes now = absurd (omega arith)
   part_goes (suc n) level next front new t u all some reads goes now =
-      let (part, is, longer) = read_behind front new u (class_part oniguruma t) reads in (
+      let (part, is, longer) = read_after front new u (class_part oniguruma t) reads in (
         n,
         omega arith,
         ap (λ x. prepend x (class_parts oniguruma n next u)) (sym longer)
@@ -68,7 +68,7 @@ module _ (oniguruma : Bool) where
   unfolding class_parts
   part_ends zero level front new t u all some reads ends now = absurd (omega arith)
   part_ends (suc n) level front new t u all some reads ends now =
-      let (part, is, longer) = read_behind front new u (class_part oniguruma t) reads in
+      let (part, is, longer) = read_after front new u (class_part oniguruma t) reads in
       sym (rw (class_parts, is, ends) at now) ∙ ap (λ x. ok_part x u) longer
 
   -- a part is not read
@@ -77,7 +77,7 @@ module _ (oniguruma : Bool) where
   unfolding class_parts
   part_fails zero level front t e all some fails now = absurd (omega arith)
   part_fails (suc n) level front t e all some fails now =
-      subst (Fails e) now (fails_before front e _ (fails_with e (class_part oniguruma t) _ (fails_behind front e (class_part oniguruma t) fails)))
+      subst (Fails e) now (fails_before front e _ (fails_with e (class_part oniguruma t) _ (fails_after front e (class_part oniguruma t) fails)))
 
 -- a bracket opens one level at most
 level_in : (a b : Bool) (level next : ℕ) → cond a (Some (level + 1)) (cond b (elim level [ zero ↦ None | suc outer ↦ Some outer ]) (Some level)) ≡ Some next → next ≤ level + 1

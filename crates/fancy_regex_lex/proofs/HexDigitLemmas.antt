@@ -81,7 +81,7 @@ none_left t = refl
 pub record IsHexDone (number count most : ℕ) (whole rest : Text) : Type 0 where
   pub valued : number ≡ value 16 (span_at_most is_hexadecimal most whole).0
   pub counted : count ≡ length (span_at_most is_hexadecimal most whole).0
-  pub behind : rest ≡ (span_at_most is_hexadecimal most whole).1
+  pub after : rest ≡ (span_at_most is_hexadecimal most whole).1
 
 done : (number count left most : ℕ) (front whole rest : Text) → count + left ≡ most → span_at_most is_hexadecimal left rest ≡ ([], rest) →
     ReadsHex number count left front whole rest → IsHexDone number count most whole rest
@@ -91,7 +91,7 @@ done number count left most front whole rest all ends (is, counted, valued, fits
     record {
       valued = valued ∙ sym (ap (λ x. value 16 x.0) parts);
       counted = counted ∙ sym (ap (λ x. length x.0) parts);
-      behind = sym (ap (λ x. x.1) parts);
+      after = sym (ap (λ x. x.1) parts);
     }
 
 pub hex_stops : (number count most : ℕ) (whole rest : Text) → None ≡ split_digit 16 rest → IsHexRead number count most whole rest →

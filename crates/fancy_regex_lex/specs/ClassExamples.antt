@@ -31,7 +31,7 @@ pub record ClassExamples : Type 0 where
   pub newline_in_class : IsClass false "[\\n]" "[\n]"
   pub class_escape : IsClass false "[\\d\\h\\p{^L}]" "[\\d[0-9A-Fa-f]\\P{L}]"
   pub backspace : bracketed_class false (codes "[\\b]") ≡ Ok (0x5B ∷ 0x08 ∷ 0x5D ∷ [], [])
-  pub brace_behind_backspace : bracketed_class false (codes "[\\b{start}]") ≡ Ok (0x5B ∷ 0x08 ∷ codes "{start}]", [])
+  pub brace_after_backspace : bracketed_class false (codes "[\\b{start}]") ≡ Ok (0x5B ∷ 0x08 ∷ codes "{start}]", [])
   pub left_in_class_oniguruma : IsClass true "[\\<]" "[<]"
   pub boundary_in_class : IsNoClass "[a\\B]" invalid_class 3
   pub byte_in_class : IsNoClass "[\\xE9]" invalid_class 5

@@ -54,7 +54,7 @@ pub record EscapeExamples : Type 0 where
   pub hex_surrogate : IsNoEscape "\\uD800" (invalid_codepoint_value) 6
   pub hex_last_surrogate : IsNoEscape "\\uDFFF" (invalid_codepoint_value) 6
   pub hex_before_surrogates : IsEscape false "\\uD7FF" (char_escape 0xD7FF)
-  pub hex_behind_surrogates : IsEscape false "\\uE000" (char_escape 0xE000)
+  pub hex_after_surrogates : IsEscape false "\\uE000" (char_escape 0xE000)
   pub hex_last : IsEscape false "\\x{10FFFF}" (char_escape 0x10FFFF)
   pub property_letter : IsEscape false "\\pL" (class_escape (codes "\\pL"))
   pub property_not_letter : IsEscapeBefore "\\PL" (class_escape (codes "\\PL")) "a"
@@ -93,7 +93,7 @@ pub record EscapeExamples : Type 0 where
   pub blank : IsEscape false "\\ " (char_escape 0x20)
   pub no_such_letter : IsNoEscape "\\y" (invalid_escape (codes "\\y")) 2
   pub unknown_escape : IsNoEscape "\\qa" (invalid_escape (codes "\\q")) 3
-  pub nothing_behind : IsNoEscape "\\" (trailing_backslash) 1
+  pub nothing_after : IsNoEscape "\\" (trailing_backslash) 1
   pub group_number : IsEscapeBefore "\\12" (reference_escape (by_number 12) None) "a"
   pub group_zero : IsEscape false "\\0" (reference_escape (by_number 0) None)
   pub past_the_type : IsEscape false "\\18446744073709551616" (reference_escape (by_number 18446744073709551615) None)
@@ -104,7 +104,7 @@ pub record EscapeExamples : Type 0 where
   pub k_after : IsEscape false "\\k<+1>" (reference_escape (relative (pos 1)) None)
   pub k_level : IsEscape false "\\k<1+2>" (reference_escape (by_number 1) (Some (pos 2)))
   pub k_name_level : IsEscape false "\\k'a-1'" (reference_escape (by_name (codes "a")) (Some (negsuc 0)))
-  pub k_level_behind_relative : IsNoEscape "\\k<-1+0>" (invalid_group_name) 8
+  pub k_level_after_relative : IsNoEscape "\\k<-1+0>" (invalid_group_name) 8
   pub k_empty : IsNoEscape "\\k<>" (invalid_group_name) 4
   pub k_open : IsNoEscape "\\k<b" (invalid_group_name) 4
   pub k_other_bracket : IsNoEscape "\\k<b'" (invalid_group_name) 5

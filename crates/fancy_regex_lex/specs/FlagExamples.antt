@@ -13,15 +13,15 @@ abbrev pub all_flags : Flags
 all_flags = record { casei = true; multi = true; dot_newline = true; verbose = true; swap_greed = true; crlf = true }
 
 -- the flags after `(?`, which change these flags, in Unicode mode or not
-abbrev pub flags_behind : Bool → Flags → String → ParseOutcome (Flags × Bool × Text)
-flags_behind unicode f s = flag_letters unicode (codes "(?" ++ codes s) true f (codes s)
+abbrev pub flags_after : Bool → Flags → String → ParseOutcome (Flags × Bool × Text)
+flags_after unicode f s = flag_letters unicode (codes "(?" ++ codes s) true f (codes s)
 
 -- the flags become these; whether a group body follows; and the rest
 abbrev pub Sets : Bool → Flags → String → Flags → Bool → String → Type 0
-Sets unicode f s g has_body rest = flags_behind unicode f s ≡ Ok (g, has_body, codes rest)
+Sets unicode f s g has_body rest = flags_after unicode f s ≡ Ok (g, has_body, codes rest)
 
 abbrev pub SetsNothing : Bool → String → Kind → ℕ → Type 0
-SetsNothing unicode s kind left = flags_behind unicode no_flags s ≡ Err (record { kind = kind; left = left })
+SetsNothing unicode s kind left = flags_after unicode no_flags s ≡ Err (record { kind = kind; left = left })
 
 pub record FlagExamples : Type 0 where
   pub casei : Sets true no_flags "i)a" (record no_flags { casei = true }) false "a"

@@ -50,7 +50,7 @@ pub record QuantifierExamples : Type 0 where
   pub possessive_first : AreMarked false true "+?" false true "?"
   pub blanks_before : AreMarked false false " ?" true false ""
   pub comment_before : AreMarked false false "(?#c)+" false true ""
-  pub not_behind_the_lazy_mark : AreMarked false false "? +" true false " +"
+  pub not_after_the_lazy_mark : AreMarked false false "? +" true false " +"
   pub braces_oniguruma : AreMarked true true "+" false false "+"
   pub lazy_braces_oniguruma : AreMarked true true "?+" true false "+"
   pub sign_oniguruma : AreMarked true false "+" false true ""

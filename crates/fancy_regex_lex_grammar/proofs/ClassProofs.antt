@@ -12,7 +12,7 @@ use Rattle.fancy_regex_lex_grammar.specs.Exact.{at}
 use Rattle.fancy_regex_lex_grammar.specs.Prefixes.{IsRun, at_end, at_other, one_more, IsRunOfLength, none, and_one, IsTextUntil, here, later, IsOptional, there, absent_at_end, absent}
 use Rattle.fancy_regex_lex_grammar.specs.Escapes as escapes
 use Rattle.fancy_regex_lex_grammar.specs.Escapes.{IsBoundaryName, IsBracedHex, IsClosedReference, IsBracketed, in_angles, in_quotes, IsEscape, a_byte, ascii, four_or_eight, code_in_braces, property_of_one_letter, negated_property, named_boundary, word_boundary, back_reference, call, EscapeFails, no_code, no_character, property_at_end, property_without_brace, property_without_name, negated_property_without_name}
-use Rattle.fancy_regex_lex_grammar.specs.Classes.{IsQuoted, a_sign, no_sign, IsEscapeInClass, a_character, a_class, IsClassItem, itself, backspace, escaped, IsClassItems, closes, closes_inner, opens_inner, and_part, IsClass, class, ClassItemsFail, text_ends, misplaced, no_escape, behind_closing, behind_opening, behind_part, ClassFails, inside_class, ClassesAreExact}
+use Rattle.fancy_regex_lex_grammar.specs.Classes.{IsQuoted, a_sign, no_sign, IsEscapeInClass, a_character, a_class, IsClassItem, itself, backspace, escaped, IsClassItems, closes, closes_inner, opens_inner, and_part, IsClass, class, ClassItemsFail, text_ends, misplaced, no_escape, after_closing, after_opening, after_part, ClassFails, inside_class, ClassesAreExact}
 use Rattle.fancy_regex_lex_grammar.proofs.ReadingLemmas.{at_char, Meant, is_read, is_stopped, bind_meant, Found, is_found, is_none, reads_exactly}
 use Rattle.fancy_regex_lex_grammar.proofs.PrefixProofs.{word_case, word_lacks}
 use Rattle.fancy_regex_lex_grammar.proofs.EscapeProofs.{same_fault, escapes_are_exact}
@@ -95,7 +95,7 @@ none_added e n = by_found (escaped_text e) (added_of e)
     by_found None (is_none l) = refl
 
 module _ (oniguruma : Bool) where
-  -- behind `\b` no escape adds anything
+  -- after `\b` no escape adds anything
   no_boundary : {t text rest : Text} {e : Escape} → IsEscape oniguruma (0x62 ∷ t) e rest → IsEscapeInClass e text → ⊥
   no_boundary (escapes.a_sign s) a = absurd (true≢false (sign_alone s).letter)
   no_boundary (four_or_eight l n f p) a = elim l [ ]
@@ -155,15 +155,15 @@ module _ (oniguruma : Bool) where
 
   closing_means : (level : ℕ) (t : Text) (r : ParseOutcome (Text × Text)) → PartsMean level t r → PartsMean (suc level) (0x5D ∷ t) (prepend (0x5D ∷ []) r)
   closing_means level t (Ok x) (is_read p) = is_read (closes_inner p)
-  closing_means level t (Err e) (is_stopped s) = is_stopped (behind_closing s)
+  closing_means level t (Err e) (is_stopped s) = is_stopped (after_closing s)
 
   opening_means : (level : ℕ) (t : Text) (r : ParseOutcome (Text × Text)) → PartsMean (level + 1) t r → PartsMean level (0x5B ∷ t) (prepend (0x5B ∷ []) r)
   opening_means level t (Ok x) (is_read p) = is_read (opens_inner (subst (λ n. IsClassItems oniguruma n t x.0 x.1) (add-one level) p))
-  opening_means level t (Err e) (is_stopped s) = is_stopped (behind_opening (subst (λ n. ClassItemsFail oniguruma n t e) (add-one level) s))
+  opening_means level t (Err e) (is_stopped s) = is_stopped (after_opening (subst (λ n. ClassItemsFail oniguruma n t e) (add-one level) s))
 
   part_then : (level : ℕ) (t part rest : Text) → IsClassItem oniguruma t part rest → (r : ParseOutcome (Text × Text)) → PartsMean level rest r → PartsMean level t (prepend part r)
   part_then level t part rest p (Ok x) (is_read q) = is_read (and_part p q)
-  part_then level t part rest p (Err e) (is_stopped s) = is_stopped (behind_part p s)
+  part_then level t part rest p (Err e) (is_stopped s) = is_stopped (after_part p s)
 
   by_sign : (P : ℕ → Type 0) (c : ℕ) → P 0x5C → P 0x5B → P 0x5D →
       ((c == 0x5C) ≡ false → (c == 0x5B) ≡ false → (c == 0x5D) ≡ false → P c) → P c
@@ -287,9 +287,9 @@ module _ (oniguruma : Bool) where
   parts_stop text_ends (suc n) k = refl
   parts_stop (misplaced {level} h l no_b) (suc n) k = misplaced_read n level h l no_b
   parts_stop (no_escape {level} s) (suc n) k = no_escape_read n level s
-  parts_stop (behind_closing {level} {t} s) (suc n) k = closing_read n level t ∙ ap (prepend (0x5D ∷ [])) (parts_stop s n (omega arith))
-  parts_stop (behind_opening {level} {t} s) (suc n) k = opening_read n level t ∙ ap (prepend (0x5B ∷ [])) (parts_stop s n (omega arith))
-  parts_stop (behind_part {level} {part = part} p s) (suc n) k =
+  parts_stop (after_closing {level} {t} s) (suc n) k = closing_read n level t ∙ ap (prepend (0x5D ∷ [])) (parts_stop s n (omega arith))
+  parts_stop (after_opening {level} {t} s) (suc n) k = opening_read n level t ∙ ap (prepend (0x5B ∷ [])) (parts_stop s n (omega arith))
+  parts_stop (after_part {level} {part = part} p s) (suc n) k =
       part_read p n level ∙ ap (prepend part) (parts_stop s n (let m = part_shorter p in omega arith))
 
 -- what may stand in front

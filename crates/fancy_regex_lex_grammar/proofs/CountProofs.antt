@@ -14,7 +14,7 @@ use Rattle.fancy_regex_lex_grammar.specs.Prefixes.{IsRun, at_other}
 use Rattle.fancy_regex_lex_grammar.specs.Layout.{IsLayout, nothing_more, a_comment, a_blank, a_line, BeginsLayout, comment_begins, blank_begins, line_begins, IsSkipped, LayoutFails}
 use Rattle.fancy_regex_lex_grammar.specs.Names.{IsLeadingNumber, no_digits}
 use Rattle.fancy_regex_lex_grammar.specs.Counts as relations
-use Rattle.fancy_regex_lex_grammar.specs.Counts.{in_braces, IsSpacedNumber, IsBracedQuantifier, at_least, at_most, between, IsQuantifier, optional, any_number, one_or_more, PlusIsMark, in_plain_mode, behind_sign, NoPlus, NoQuestionMark, IsMarks, no_marks, lazy, possessive, lazy_and_possessive, QuantifierTokensAreExact, MarksAreExact}
+use Rattle.fancy_regex_lex_grammar.specs.Counts.{in_braces, IsSpacedNumber, IsBracedQuantifier, at_least, at_most, between, IsQuantifier, optional, any_number, one_or_more, PlusIsMark, in_plain_mode, after_sign, NoPlus, NoQuestionMark, IsMarks, no_marks, lazy, possessive, lazy_and_possessive, QuantifierTokensAreExact, MarksAreExact}
 use Rattle.fancy_regex_lex_grammar.proofs.ReadingLemmas.{at_char, char_is, Meant, is_read, bind_meant, Found, is_found, is_none, if_found, then_found, map_found, found_has, finds_exactly, reads_exactly}
 use Rattle.fancy_regex_lex_grammar.proofs.LayoutProofs.{token_sound, token_read, skip_is_exact}
 use Rattle.fancy_regex_lex_grammar.proofs.PrefixProofs.{word_of, word_lacks}
@@ -47,7 +47,7 @@ module _ (verbose : Bool) where
 
   spaced : {t u v rest : Text} {n : Option ℕ} → IsSkipped verbose t u → IsLeadingNumber u n v → IsSkipped verbose v rest → IsSpaced t n rest
   spaced {n = None} a (no_digits r) b = no_number (twice a b) (subst (λ x. IsRun is_decimal x [] x) (none_there b.layout a.longest) r)
-  spaced {u = u} {v = v} {n = Some n} a c b = some_number (record { digits = u; behind = v; layout_before = a; number = c; layout_behind = b })
+  spaced {u = u} {v = v} {n = Some n} a c b = some_number (record { digits = u; after = v; layout_before = a; number = c; layout_after = b })
 
   spaced_found : (t : Text) → Found (λ (found : Option ℕ × Text). IsSpaced t found.0 found.1) (Unit {0}) (spaced_digits verbose t)
   unfolding spaced_digits
@@ -65,7 +65,7 @@ module _ (verbose : Bool) where
   spaced_read (some_number {t} {rest} {n} s) =
       ap (option_and_then (λ u. option_map (λ v. ((digits u).0, v)) (next_token verbose (digits u).1))) (token_read verbose t s.digits s.layout_before)
       ∙ ap (λ (found : Option ℕ × Text). option_map (λ v. (found.0, v)) (next_token verbose found.1)) (digits_read s.number)
-      ∙ ap (option_map (λ v. (a_count n, v))) (token_read verbose s.behind rest s.layout_behind)
+      ∙ ap (option_map (λ v. (a_count n, v))) (token_read verbose s.after rest s.layout_after)
 
 bound_of : (lo hi : ℕ) (q : Quantifier) → bounds lo hi ≡ Some q → (lo < unbounded) × (hi < unbounded) × (in_braces lo hi ≡ q)
 unfolding bounds
@@ -197,7 +197,7 @@ pub quantifiers_are_exact : QuantifierTokensAreExact
 quantifiers_are_exact verbose t =
     finds_exactly (leading_quantifier verbose t) (λ r h. found_has (quantifier_found verbose t) r h) (λ r h. quantifier_read verbose h)
 
--- the marks, by what stands behind the layout
+-- the marks, by what stands after the layout
 
 module _ (oniguruma verbose braces : Bool) where
   may : Bool
@@ -209,13 +209,13 @@ module _ (oniguruma verbose braces : Bool) where
     where
       by_mode : (o b : Bool) → oniguruma ≡ o → braces ≡ b → not (o && b) ≡ true → PlusIsMark oniguruma braces
       by_mode false b e d k = in_plain_mode e
-      by_mode true false e d k = behind_sign d
+      by_mode true false e d k = after_sign d
       by_mode true true e d k = absurd (true≢false (sym k))
 
   plus_test : PlusIsMark oniguruma braces → may ≡ true
   unfolding may
   plus_test (in_plain_mode e) = ap (λ o. not (o && braces)) e
-  plus_test (behind_sign e) = ap (λ b. not (oniguruma && b)) e ∙ and_none oniguruma
+  plus_test (after_sign e) = ap (λ b. not (oniguruma && b)) e ∙ and_none oniguruma
     where
       and_none : (o : Bool) → not (o && false) ≡ true
       and_none true = refl

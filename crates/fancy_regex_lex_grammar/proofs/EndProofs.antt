@@ -18,7 +18,7 @@ use Rattle.fancy_regex_lex_grammar.specs.Flags.{IsFlags, before_body, alone, and
 use Rattle.fancy_regex_lex_grammar.specs.Escapes as escapes
 use Rattle.fancy_regex_lex_grammar.specs.Escapes.{IsBracedHex, IsClosedReference, IsBracketed, in_angles, in_quotes, IsEscape, a_byte, ascii, four_or_eight, code_in_braces, property_of_one_letter, negated_property, named_boundary, word_boundary, numbered_reference, back_reference, call}
 use Rattle.fancy_regex_lex_grammar.specs.Classes as classes
-use Rattle.fancy_regex_lex_grammar.specs.Classes.{IsClassItem, itself, backspace, IsClassItems, closes_inner, opens_inner, and_part, IsClass, class, ClassItemsFail, misplaced, behind_closing, behind_opening, behind_part, ClassFails, inside_class}
+use Rattle.fancy_regex_lex_grammar.specs.Classes.{IsClassItem, itself, backspace, IsClassItems, closes_inner, opens_inner, and_part, IsClass, class, ClassItemsFail, misplaced, after_closing, after_opening, after_part, ClassFails, inside_class}
 use Rattle.fancy_regex_lex_grammar.specs.Openings as openings
 use Rattle.fancy_regex_lex_grammar.specs.Openings.{IsOpening, a_group, a_named_group, a_python_named_group, flags_for_body, flags_alone, an_atomic_group, look_ahead, no_look_ahead, look_behind, no_look_behind, definitions, reference_condition, expression_condition, absent_bounds, absent_repeater, a_reference, a_call, a_verb, OpeningFails, no_name, no_python_name, in_flags}
 use Rattle.fancy_regex_lex_grammar.specs.TokenBounds.{TokensArePrefixes, TokenFaultsAreInside}
@@ -97,7 +97,7 @@ counted_ends (no_digits r) = run_ends r
 counted_ends (some_digits r m) = run_ends r
 
 number_ends : {verbose : Bool} {t rest : Text} {n : ℕ} → IsSpacedNumber verbose t n rest → Ends rest t
-number_ends s = further (skipped_ends s.layout_behind) (further (counted_ends s.number) (skipped_ends s.layout_before))
+number_ends s = further (skipped_ends s.layout_after) (further (counted_ends s.number) (skipped_ends s.layout_before))
 
 braced_ends : {verbose : Bool} {t rest : Text} {q : Quantifier} → IsBracedQuantifier verbose t q rest → Ends rest t
 braced_ends (exactly s a) = further (past all) (number_ends s)
@@ -208,9 +208,9 @@ parts_inside : {oniguruma : Bool} {level : ℕ} {t : Text} {e : Fault} → Class
 parts_inside classes.text_ends = le_refl (bytes [])
 parts_inside (misplaced {t = t} h l n) = le_refl (bytes (0x5C ∷ t))
 parts_inside (classes.no_escape {t = t} s) = le_refl (bytes (0x5C ∷ t))
-parts_inside (behind_closing s) = le_trans (parts_inside s) (bytes_left (past all))
-parts_inside (behind_opening s) = le_trans (parts_inside s) (bytes_left (past all))
-parts_inside (behind_part p s) = le_trans (parts_inside s) (bytes_left (part_ends p))
+parts_inside (after_closing s) = le_trans (parts_inside s) (bytes_left (past all))
+parts_inside (after_opening s) = le_trans (parts_inside s) (bytes_left (past all))
+parts_inside (after_part p s) = le_trans (parts_inside s) (bytes_left (part_ends p))
 
 pub class_inside : {oniguruma : Bool} {t : Text} {e : Fault} → ClassFails oniguruma t e → e.left ≤ bytes t
 class_inside (inside_class a b s) = le_trans (parts_inside s) (bytes_left (further (optional_ends b) (optional_ends a)))

@@ -13,7 +13,7 @@ use Rattle.fancy_regex_lex_grammar.specs.Exact.{FailsAt, at}
 use Rattle.fancy_regex_lex_grammar.specs.Prefixes.{IsRun, at_end, at_other, one_more, IsRunOfLength, none, and_one, IsTextUntil}
 use Rattle.fancy_regex_lex_grammar.specs.Names.{IsNumber, a_number, IsLeadingNumber, no_digits, some_digits, IsReference}
 use Rattle.fancy_regex_lex_grammar.specs.Escapes as escapes
-use Rattle.fancy_regex_lex_grammar.specs.Escapes.{IsCharacterEscape, IsBoundaryName, start, end, start_half, end_half, IsCodePoint, below_surrogates, IsBracedHex, IsHex, plain, in_braces, IsHexLetter, two_digits, four_digits, eight_digits, IsPropertyLetter, has, has_not, IsClosedReference, IsBracketed, in_angles, in_quotes, IsEscape, a_sign, a_byte, ascii, four_or_eight, code_in_braces, property_of_one_letter, negated_property, named_boundary, word_boundary, back_reference, call, EscapeFails, nothing_behind, no_escape, no_code, no_character, property_at_end, property_without_brace, property_without_name, negated_property_without_name, no_reference, no_call, EscapesAreExact, ClosedReferencesAreExact}
+use Rattle.fancy_regex_lex_grammar.specs.Escapes.{IsCharacterEscape, IsBoundaryName, start, end, start_half, end_half, IsCodePoint, below_surrogates, IsBracedHex, IsHex, plain, in_braces, IsHexLetter, two_digits, four_digits, eight_digits, IsPropertyLetter, has, has_not, IsClosedReference, IsBracketed, in_angles, in_quotes, IsEscape, a_sign, a_byte, ascii, four_or_eight, code_in_braces, property_of_one_letter, negated_property, named_boundary, word_boundary, back_reference, call, EscapeFails, nothing_after, no_escape, no_code, no_character, property_at_end, property_without_brace, property_without_name, negated_property_without_name, no_reference, no_call, EscapesAreExact, ClosedReferencesAreExact}
 use Rattle.fancy_regex_lex_grammar.proofs.ReadingLemmas.{at_char, char_is, is_not, Meant, is_read, is_stopped, if_meant, Found, is_found, is_none, reads_exactly}
 use Rattle.fancy_regex_lex_grammar.proofs.PrefixProofs.{word_case, word_lacks, before_case, before_lacks, before_read, before_one}
 use Rattle.fancy_regex_lex_grammar.proofs.NameProofs.{small_digit, digits_of, digits_read, reference_is_exact}
@@ -138,7 +138,7 @@ closed_references_are_exact allow_level close here t =
 
 -- codes
 
--- behind an opening brace stands no digit
+-- after an opening brace stands no digit
 hex_in_braces : {c n code : ℕ} {t rest : Text} → IsHexLetter c n → IsHex n (0x7B ∷ t) code rest → IsBracedHex t code rest
 hex_in_braces two_digits (plain (and_one h f)) = absurd (true≢false (sym h))
 hex_in_braces two_digits (in_braces b) = b
@@ -359,7 +359,7 @@ module _ (oniguruma : Bool) (here : Text) where
 
   escape_means : (t : Text) → EscapeMeans t (after_backslash oniguruma here t)
   unfolding after_backslash
-  escape_means [] = stopped here trailing_backslash nothing_behind
+  escape_means [] = stopped here trailing_backslash nothing_after
   escape_means (c ∷ t) =
       if_meant (c == 0x78) _ _ (λ h. at_char c 0x78 (λ d. EscapeMeans (d ∷ t) (hex 2 here t)) h (hex_means two_digits t)) (λ h1.
       if_meant (c == 0x75) _ _ (λ h. at_char c 0x75 (λ d. EscapeMeans (d ∷ t) (hex 4 here t)) h (hex_means four_digits t)) (λ h2.
@@ -617,7 +617,7 @@ module _ (oniguruma : Bool) (here : Text) where
 
   pub escape_stops : {t : Text} {kind : Kind} → EscapeFails oniguruma t kind → after_backslash oniguruma here t ≡ Err (at kind here)
   unfolding after_backslash single
-  escape_stops nothing_behind = refl
+  escape_stops nothing_after = refl
   escape_stops (no_escape {c} {t} l n lacks) =
       alone_reached (record { letter = n; digit = letter_is_no_digit c l }) t
       ∙ ap (λ o. elim o [ None ↦ fail_at (invalid_escape (0x5C ∷ c ∷ [])) here | Some e ↦ Ok (e, t) ]) (no_sign l lacks)

@@ -84,7 +84,7 @@ module _ (unicode : Bool) (here : Text) where
   abbrev FlagsMean : Bool → Flags → Text → ParseOutcome (Flags × Bool × Text) → Type 0
   FlagsMean on f t = Meant (λ (r : Flags × Bool × Text). IsFlags unicode on f t r.0 r.1 r.2) (FlagsFail unicode here on f t)
 
-  -- one letter, and the flags behind it
+  -- one letter, and the flags after it
   letter_then : (on : Bool) (f : Flags) (c : ℕ) (t : Text) (r : ParseOutcome (Flags × Bool)) → LetterMeans on f c t r →
       ((next : Bool) (g : Flags) → FlagsMean next g t (flag_letters unicode here next g t)) →
       FlagsMean on f (c ∷ t) (r >>= λ x. flag_letters unicode here x.1 x.0 t)
@@ -148,9 +148,9 @@ module _ (unicode : Bool) (here : Text) where
   up_to_here : (front t : Text) → here ≡ front ++ t → prefix_before here t ≡ front
   up_to_here front t is = ap (λ x. prefix_before x t) is ∙ up_to_front front t
 
-  -- the flags behind a letter
-  abbrev flags_behind : ParseOutcome (Flags × Bool) → Text → ParseOutcome (Flags × Bool × Text)
-  flags_behind r t = r >>= λ x. flag_letters unicode here x.1 x.0 t
+  -- the flags after a letter
+  abbrev flags_after : ParseOutcome (Flags × Bool) → Text → ParseOutcome (Flags × Bool × Text)
+  flags_after r t = r >>= λ x. flag_letters unicode here x.1 x.0 t
 
   not_a_flag : (on : Bool) (f : Flags) (c : ℕ) (t : Text) → c ∈ "imsxURu-:)" ≡ false →
       flag_letters unicode here on f (c ∷ t) ≡ Err (at (unknown_flag (prefix_before here t)) here)
@@ -174,7 +174,7 @@ module _ (unicode : Bool) (here : Text) where
       not_a_flag on f c t n ∙ ap (λ x. Err (at (unknown_flag x) here)) (up_to_here up_to_letter t is)
   letter_stops (second_minus {t} {up_to_letter} is) f = ap (λ x. Err (at (unknown_flag x) here)) (up_to_here up_to_letter t is)
   letter_stops (unicode_changed {on} {t} n) f =
-      ap (λ b. flags_behind (cond b (Ok (f, on)) (fail_at changing_unicode_mode_unsupported here)) t) (same_not on unicode n)
+      ap (λ b. flags_after (cond b (Ok (f, on)) (fail_at changing_unicode_mode_unsupported here)) t) (same_not on unicode n)
 
   flags_stop : {on : Bool} {f : Flags} {t : Text} {e : Fault} → FlagsFail unicode here on f t e → flag_letters unicode here on f t ≡ Err e
   unfolding flag_letters

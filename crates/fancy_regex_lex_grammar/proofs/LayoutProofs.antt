@@ -8,7 +8,7 @@ use Rattle.fancy_regex_text.proofs.TextLemmas.{strip_prefix_is}
 use Rattle.fancy_regex_lex_grammar.specs.Layout.{IsComment, closes, hides, goes_on, IsOpenComment, ends, ends_hiding, hides_in_open, goes_on_open, IsLine, at_end, newline, longer, IsBlank, space, tab, return, line_feed, IsLayout, nothing_more, a_comment, a_blank, a_line, BeginsLayout, comment_begins, blank_begins, line_begins, IsSkipped, IsOpenLayout, LayoutFails, NextTokenIsExact, SkipIsExact}
 use Rattle.fancy_regex_lex_grammar.proofs.ReadingLemmas.{at_char, is_not, Found, is_found, is_none, if_found, finds_exactly, reads_exactly, Meant, is_read, is_stopped}
 
--- what the function says of where the layout leads, in the relation's words: P holds of the place behind what is begun
+-- what the function says of where the layout leads, in the relation's words: P holds of the place after what is begun
 abbrev At : LayoutState → (Text → Type 0) → Text → Type 0
 At nothing P t = P t
 At line P t = (u : Text) × IsLine t u × P u
@@ -22,7 +22,7 @@ Open line t = ⊥
 Open comment t = IsOpenComment t
 Open comment_escape t = IsOpenComment (0x5C ∷ t)
 
--- P holds before layout where it holds behind it
+-- P holds before layout where it holds after it
 record IsCarried (verbose : Bool) (P : Text → Type 0) : Type 0 where
   over_comment : (t u : Text) → IsComment t u → P u → P (0x28 ∷ 0x3F ∷ 0x23 ∷ t)
   over_blank : (c : ℕ) (t : Text) → verbose ≡ true → IsBlank c → P t → P (c ∷ t)
@@ -42,7 +42,7 @@ open_carried verbose = record {
   over_line = λ t u v l p. record { rest = p.rest; layout = a_line v l p.layout; open_comment = p.open_comment };
 }
 
--- behind a character that neither closes a comment nor hides the next
+-- after a character that neither closes a comment nor hides the next
 past : {c : ℕ} {t u : Text} → c ≢ 0x29 → c ≢ 0x5C → IsComment (c ∷ t) u → IsComment t u
 past p q closes = absurd (p refl)
 past p q (hides h) = absurd (q refl)

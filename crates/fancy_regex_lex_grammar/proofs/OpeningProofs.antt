@@ -130,10 +130,10 @@ number_run (a_number d) r = digits_run d r
 number_counted : {t : Text} {n : ℕ} → IsNumber t n → digits t ≡ (Some n, [])
 number_counted (a_number d) = digits_read (counted_digits d)
 
-abbrev behind_digits : ℕ → Text → Option Referred
-behind_digits n t = if is_empty t then Some (by_number n, None) else option_map (λ level. (by_number n, Some level)) (signed t)
+abbrev following_digits : ℕ → Text → Option Referred
+following_digits n t = if is_empty t then Some (by_number n, None) else option_map (λ level. (by_number n, Some level)) (signed t)
 
-level_read : {t : Text} {k : ℤ} (n : ℕ) → IsSigned t k → behind_digits n t ≡ Some (by_number n, Some k)
+level_read : {t : Text} {k : ℤ} (n : ℕ) → IsSigned t k → following_digits n t ≡ Some (by_number n, Some k)
 level_read {t} {k} n s = rw (some_sign s, signed_complete t k s) refl
 
 condition_read : {t : Text} {target : Named} {level : Option ℤ} → IsReferenceCondition t target level → reference_condition t ≡ Some (target, level)

@@ -30,7 +30,7 @@ module _ (oniguruma : Bool) where
     closes : {t : Text} → IsClassItems zero (0x5D ∷ t) (0x5D ∷ []) t
     closes_inner : {level : ℕ} {t text rest : Text} → IsClassItems level t text rest → IsClassItems (suc level) (0x5D ∷ t) (0x5D ∷ text) rest
     opens_inner : {level : ℕ} {t text rest : Text} → IsClassItems (suc level) t text rest → IsClassItems level (0x5B ∷ t) (0x5B ∷ text) rest
-    and_part : {level : ℕ} {t part behind text rest : Text} → IsClassItem t part behind → IsClassItems level behind text rest → IsClassItems level t (part ++ text) rest
+    and_part : {level : ℕ} {t part after text rest : Text} → IsClassItem t part after → IsClassItems level after text rest → IsClassItems level t (part ++ text) rest
 
   -- a class: an optional `^`, an optional literal `]`, and the items
   pub data IsClass : Text → Text → Text → Type 0 where
@@ -45,9 +45,9 @@ module _ (oniguruma : Bool) where
         ((u : Text) → t ≢ 0x62 ∷ u) → ClassItemsFail level (0x5C ∷ t) (at invalid_class (0x5C ∷ t))
     -- an invalid escape
     no_escape : {level : ℕ} {t : Text} {kind : Kind} → EscapeFails oniguruma t kind → ClassItemsFail level (0x5C ∷ t) (at kind (0x5C ∷ t))
-    behind_closing : {level : ℕ} {t : Text} {e : Fault} → ClassItemsFail level t e → ClassItemsFail (suc level) (0x5D ∷ t) e
-    behind_opening : {level : ℕ} {t : Text} {e : Fault} → ClassItemsFail (suc level) t e → ClassItemsFail level (0x5B ∷ t) e
-    behind_part : {level : ℕ} {t part behind : Text} {e : Fault} → IsClassItem t part behind → ClassItemsFail level behind e → ClassItemsFail level t e
+    after_closing : {level : ℕ} {t : Text} {e : Fault} → ClassItemsFail level t e → ClassItemsFail (suc level) (0x5D ∷ t) e
+    after_opening : {level : ℕ} {t : Text} {e : Fault} → ClassItemsFail (suc level) t e → ClassItemsFail level (0x5B ∷ t) e
+    after_part : {level : ℕ} {t part after : Text} {e : Fault} → IsClassItem t part after → ClassItemsFail level after e → ClassItemsFail level t e
 
   -- where a class fails, and the error
   pub data ClassFails : Text → Fault → Type 0 where

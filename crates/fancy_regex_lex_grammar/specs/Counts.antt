@@ -16,10 +16,10 @@ module _ (verbose : Bool) where
   -- a number with layout around it
   pub record IsSpacedNumber (t : Text) (n : ℕ) (rest : Text) : Type 0 where
     pub digits : Text
-    pub behind : Text
+    pub after : Text
     pub layout_before : IsSkipped verbose t digits
-    pub number : IsLeadingNumber digits (Some n) behind
-    pub layout_behind : IsSkipped verbose behind rest
+    pub number : IsLeadingNumber digits (Some n) after
+    pub layout_after : IsSkipped verbose after rest
 
   -- the text after `{`: the bounds, and the rest after `}`
   pub data IsBracedQuantifier : Text → Quantifier → Text → Type 0 where
@@ -41,7 +41,7 @@ module _ (verbose : Bool) where
 -- A `+` after a quantifier makes it possessive; but after braces in Oniguruma mode it is a quantifier of its own.
 pub data PlusIsMark (oniguruma braces : Bool) : Type 0 where
   in_plain_mode : oniguruma ≡ false → PlusIsMark oniguruma braces
-  behind_sign : braces ≡ false → PlusIsMark oniguruma braces
+  after_sign : braces ≡ false → PlusIsMark oniguruma braces
 
 -- the text does not begin with a possessive mark `+`
 abbrev pub NoPlus : Bool → Bool → Text → Type 0

@@ -131,7 +131,7 @@ module _ (oniguruma : Bool) where
 
   -- the errors of escapes; the position of each is that of the backslash
   pub data EscapeFails : Text → Kind → Type 0 where
-    nothing_behind : EscapeFails [] trailing_backslash
+    nothing_after : EscapeFails [] trailing_backslash
     no_escape : {c : ℕ} {t : Text} → is_ascii_alphabetic c ≡ true → c ∈ "xuUpPbkg" ≡ false → ((e : Escape) → IsCharacterEscape oniguruma c e → ⊥) →
         EscapeFails (c ∷ t) (invalid_escape (0x5C ∷ c ∷ []))
     no_code : {c n : ℕ} {t : Text} → IsHexLetter c n → ((code : ℕ) (rest : Text) → IsHex n t code rest → ⊥) → EscapeFails (c ∷ t) invalid_hex

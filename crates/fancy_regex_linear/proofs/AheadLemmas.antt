@@ -25,7 +25,7 @@ use Rattle.fancy_regex_linear.specs.declared.class_loop.Exit.TheVariants.{Reads}
 use Rattle.fancy_regex_linear.proofs.StepLemmas.{next_if, read_leads}
 use Rattle.fancy_regex_linear.proofs.LoopLemmas.{reads_same}
 
--- what reads an ASCII character leads behind it, or fails
+-- what reads an ASCII character leads after it, or fails
 ascii_read : (unicode : Bool) (matchers : List CharClassMatcher) (stop : ℕ) (leaf : Leaf) (next at c : ℕ) → c < 128
     → (read_next unicode matchers stop leaf next at (Some c) ≡ Pair next (at + 1)) ⊎ (read_next unicode matchers stop leaf next at (Some c) ≡ Back)
 ascii_read unicode matchers stop leaf next at c small =
@@ -43,7 +43,7 @@ is_back (Pair q j) = false
 is_back Back = true
 is_back Matched = false
 
--- if it leads on, then behind it
+-- if it leads on, then after it
 pub ascii_pair : (unicode : Bool) (matchers : List CharClassMatcher) (stop : ℕ) (leaf : Leaf) (next at c : ℕ) (after : Option ℕ) (q j : ℕ) → after ≡ Some c → c < 128
     → read_next unicode matchers stop leaf next at after ≡ Pair q j
     → (j ≡ at + 1) × (read_next unicode matchers stop leaf next at after ≡ Pair next (at + 1))
@@ -74,9 +74,9 @@ module _ (context : SearchContext) (text : List ℕ) (view : View) (go : ℕ →
       read_leads view context.matchers.now context.rules context.stop leaf head i first (char_before text i) (char_at text i) go high (explains.shows i boundary)
       ((explains.agree first low).does i high ∙ ap (λ s. visit view context.stop go s i) is)
 
-  module _ (head : ℕ) (found : ClassLoop) (is : IsLoop context.states.now head found) (state : head < length context.states.now) (behind : Leaf) (kind : IsExit context found.exit (Reads behind))
-      (stretch : Stretch) (over : IsStretch context found.leaf (Reads behind) stretch) where
-    -- the loop comes to the same behind its stretch
+  module _ (head : ℕ) (found : ClassLoop) (is : IsLoop context.states.now head found) (state : head < length context.states.now) (following : Leaf) (kind : IsExit context found.exit (Reads following))
+      (stretch : Stretch) (over : IsStretch context found.leaf (Reads following) stretch) where
+    -- the loop comes to the same after its stretch
     pub stretch_same : (n at : ℕ) → at + n ≤ context.stop → ((i : ℕ) → at ≤ i → i < at + n → HasOver text stretch i) → (go head at).answer ≡ (go head (at + n)).answer
     stretch_same zero at high has = let same : at ≡ at + 0 = omega arith in ap (λ (k : ℕ). (go head k).answer) same
     stretch_same (suc n) at high has =
@@ -84,7 +84,7 @@ module _ (context : SearchContext) (text : List ℕ) (view : View) (go : ℕ →
         let inside : at < context.stop = omega (arith, high) in
         let on = over here.c here.small here.over in
         let last : at + 1 + n ≡ at + suc n = omega arith in
-        reads_same context text view go explains head at found is state (omega (arith, inside)) here.boundary behind kind here.c here.here inside on
+        reads_same context text view go explains head at found is state (omega (arith, inside)) here.boundary following kind here.c here.here inside on
         ∙ stretch_same n (at + 1) (omega (arith, high)) (λ i low less. has i (omega (arith, low)) (omega (arith, less)))
         ∙ ap (λ (k : ℕ). (go head k).answer) last
 

@@ -50,8 +50,8 @@ continued text b q low small inside is =
     ap (λ o. is_some_and o (λ c. c == b)) (byte_before-add-one text q ∙ slice_get-get_or text q 0 inside) ∙ ne_eqb (slice_index text q) b (omega arith)
 
 -- the byte before a place, by the character that ends there
-byte_behind : (text : List ℕ) (b j c : ℕ) → b < 128 → char_at text j ≡ Some c → is_after_byte text b (j + len_utf8 c) ≡ (c == b)
-byte_behind text b j c low found =
+byte_after : (text : List ℕ) (b j c : ℕ) → b < 128 → char_at text j ≡ Some c → is_after_byte text b (j + len_utf8 c) ≡ (c == b)
+byte_after text b j c low found =
     let wide : 128 ≤ c → (c == b) ≡ false = λ h. ne_eqb c b (omega arith) in
     ⊎_elim
     (λ (at : IsOneByteAt text j c).
@@ -99,7 +99,7 @@ before_from text post p (c ∷ cs) s e len some =
     let place : last.0 + len_utf8 last.1 ≡ p = omega (arith, last.3) in (
       last.1,
       ap (char_before text) (sym place) ∙ char_before_past text last.0 last.1 last.2,
-      λ b low. ap (is_after_byte text b) (sym place) ∙ byte_behind text b last.0 last.1 low last.2,
+      λ b low. ap (is_after_byte text b) (sym place) ∙ byte_after text b last.0 last.1 low last.2,
     )
 
 pub before_some : (text : List ℕ) (p : ℕ) → IsUtf8 text → IsCharBoundary text p → 0 < p → Before text p

@@ -32,13 +32,13 @@ use Rattle.fancy_regex_linear.proofs.LeadLemmas.{ComesTo, led, under, Dfs-comes,
 use Rattle.fancy_regex_linear.proofs.WaysLemmas.{better-None}
 use Rattle.fancy_regex_linear.proofs.StepLemmas.{next_if, read_leads}
 
--- it leads on to this state, behind `at`, if it leads on
+-- it leads on to this state, after `at`, if it leads on
 abbrev pub LeadsOn : ℕ → ℕ → ℕ → Next → Type 0
 LeadsOn state at stop (Pair q j) = (q ≡ state) × (at < j) × (j ≤ stop)
 LeadsOn state at stop Back = Unit {0}
 LeadsOn state at stop Matched = Unit {0}
 
--- what reads a character leads on behind it
+-- what reads a character leads on after it
 pub read_leads_on : (unicode : Bool) (matchers : List CharClassMatcher) (stop : ℕ) (leaf : Leaf) (next at : ℕ) (after : Option ℕ) → at ≤ stop
     → LeadsOn next at stop (read_next unicode matchers stop leaf next at after)
 read_leads_on unicode matchers stop leaf next at None p = tt
@@ -151,11 +151,11 @@ module _ (context : SearchContext) (text : List ℕ) (view : View) (go : ℕ →
   module _ {goal best : Option Spot} {bottom slots : List ℕ} {Seen : ℕ → ℕ → Type 0} (rest : List Frame) (exit : Next) (leads : LeadsTo go found.exit at exit)
       (d : Dfs view.longest go goal best bottom Seen (Explore found.body at ∷ Explore found.exit at ∷ rest) slots) where
     -- the loop reads on, and the exit is left for later
-    pub goes_round : (q behind : ℕ) → read_next context.rules.unicode context.matchers.now context.stop found.leaf id at (char_at text at) ≡ Pair q behind
-        → Dfs view.longest go goal best bottom Seen (Explore q behind ∷ with_next exit rest) slots
-    goes_round q behind reads =
-        let one : LeadsTo go found.body at (Pair q behind) = subst (LeadsTo go found.body at) reads body_leads in
-        Dfs-comes view.longest go (led view.longest go found.body at (Pair q behind) (with_next exit rest) one)
+    pub goes_round : (q following : ℕ) → read_next context.rules.unicode context.matchers.now context.stop found.leaf id at (char_at text at) ≡ Pair q following
+        → Dfs view.longest go goal best bottom Seen (Explore q following ∷ with_next exit rest) slots
+    goes_round q following reads =
+        let one : LeadsTo go found.body at (Pair q following) = subst (LeadsTo go found.body at) reads body_leads in
+        Dfs-comes view.longest go (led view.longest go found.body at (Pair q following) (with_next exit rest) one)
         (Dfs-comes view.longest go (under view.longest go found.body at _ _ (led view.longest go found.exit at exit rest leads)) d)
 
     -- the loop cannot read on, and is left
@@ -178,13 +178,13 @@ module _ (context : SearchContext) (text : List ℕ) (view : View) (go : ℕ →
       ∙ cond-true _ _ _ (and_from _ _ matches (le-leb (len_utf8 c) (context.stop - at) fits))
       ∙ ap (λ n. Pair id (at + n)) long
 
-  -- where the first match is wanted, the loop matches as it does behind the character that it reads
+  -- where the first match is wanted, the loop matches as it does after the character that it reads
   pub reads_first : view.longest ≡ false → (next : ℕ) (t : Trace) → read_next context.rules.unicode context.matchers.now context.stop found.leaf id at (char_at text at) ≡ Pair id next
       → (go id next).answer ≡ Some t → (go id at).answer ≡ Some t
-  reads_first first next t reads behind =
+  reads_first first next t reads following =
       let one : LeadsTo go found.body at (Pair id next) = subst (LeadsTo go found.body at) reads body_leads in
       ap (λ r. r.answer) head_does
-      ∙ ap₂ (λ (l : Bool) (x : Option Trace). better_trace l x (go found.exit at).answer) first (sym one.0 ∙ behind)
+      ∙ ap₂ (λ (l : Bool) (x : Option Trace). better_trace l x (go found.exit at).answer) first (sym one.0 ∙ following)
       ∙ first_trace t (go found.exit at).answer
 
   -- a loop before the end of the match that cannot read on ends there
@@ -198,7 +198,7 @@ module _ (context : SearchContext) (text : List ℕ) (view : View) (go : ℕ →
   -- the loop reads on, and the exit is of no use
   pub passes_on : {goal best : Option Spot} {bottom slots : List ℕ} {Seen : ℕ → ℕ → Type 0} (rest : List Frame)
       → Dfs view.longest go goal best bottom Seen (Explore found.body at ∷ Explore found.exit at ∷ rest) slots
-      → (c : ℕ) (behind : Exit) → IsExit context found.exit behind → char_at text at ≡ Some c → at < context.stop → GoesOn context found.leaf behind (Some c)
+      → (c : ℕ) (following : Exit) → IsExit context found.exit following → char_at text at ≡ Some c → at < context.stop → GoesOn context found.leaf following (Some c)
       → Dfs view.longest go goal best bottom Seen (Explore id (at + 1) ∷ rest) slots
   passes_on rest d c Match kind here inside on =
       let leads : LeadsTo go found.exit at (Pair found.exit at) = (refl, omega arith) in
@@ -224,7 +224,7 @@ module _ (context : SearchContext) (text : List ℕ) (view : View) (go : ℕ →
       goes_round rest Back none d id (at + 1) (reads_one c here inside on.0 on.1)
   passes_on rest d c Other kind here inside on = absurd on.2
 
-  -- where the exit refuses the character that the loop reads, the loop comes to the same behind it
+  -- where the exit refuses the character that the loop reads, the loop comes to the same after it
   pub reads_same : (leaf : Leaf) → IsExit context found.exit (Reads leaf) → (c : ℕ) → char_at text at ≡ Some c → at < context.stop → GoesOn context found.leaf (Reads leaf) (Some c)
       → (go id at).answer ≡ (go id (at + 1)).answer
   reads_same leaf kind c here inside on =
@@ -244,10 +244,10 @@ module _ (context : SearchContext) (text : List ℕ) (view : View) (go : ℕ →
 
   pub passes_after : {goal best : Option Spot} {bottom slots : List ℕ} {Seen : ℕ → ℕ → Type 0} (rest : List Frame)
       → Dfs view.longest go goal best bottom Seen (Explore found.body at ∷ Explore found.exit at ∷ rest) slots
-      → (after : Option ℕ) (behind : Exit) → IsExit context found.exit behind → char_at text at ≡ after → at < context.stop → GoesOn context found.leaf behind after
+      → (after : Option ℕ) (following : Exit) → IsExit context found.exit following → char_at text at ≡ after → at < context.stop → GoesOn context found.leaf following after
       → Dfs view.longest go goal best bottom Seen (Explore id (at + 1) ∷ rest) slots
-  passes_after rest d None behind kind here inside on = absurd on
-  passes_after rest d (Some c) behind kind here inside on = passes_on rest d c behind kind here inside on
+  passes_after rest d None following kind here inside on = absurd on
+  passes_after rest d (Some c) following kind here inside on = passes_on rest d c following kind here inside on
 
 -- what is marked once the head was visited at these places
 abbrev pub WithRun : (ℕ → ℕ → Type 0) → ℕ → ℕ → ℕ → ℕ → ℕ → Type 0
@@ -266,8 +266,8 @@ run_ends Seen Marked q low high adds p j h =
 
 -- a loop reads on over what its stretch has
 module _ (context : SearchContext) (text : List ℕ) (view : View) (go : ℕ → Continuation) (explains : Explains context text view go) (id : ℕ) (found : ClassLoop)
-    (is : IsLoop context.states.now id found) (state : id < length context.states.now) (behind : Exit) (kind : IsExit context found.exit behind)
-    (stretch : Stretch) (over : IsStretch context found.leaf behind stretch) {goal best : Option Spot} {bottom slots : List ℕ} (rest : List Frame) where
+    (is : IsLoop context.states.now id found) (state : id < length context.states.now) (following : Exit) (kind : IsExit context found.exit following)
+    (stretch : Stretch) (over : IsStretch context found.leaf following stretch) {goal best : Option Spot} {bottom slots : List ℕ} (rest : List Frame) where
   pub passes_stretch : (n at : ℕ) (Seen : ℕ → ℕ → Type 0) → at + n ≤ context.stop → ((i : ℕ) → at ≤ i → i < at + n → HasOver text stretch i)
       → Dfs view.longest go goal best bottom Seen (Explore id at ∷ rest) slots
       → Dfs view.longest go goal best bottom (WithRun Seen id at (at + n)) (Explore id (at + n) ∷ rest) slots
@@ -282,7 +282,7 @@ module _ (context : SearchContext) (text : List ℕ) (view : View) (go : ℕ →
       let marks : Adds Seen one id at =
       λ p j h. elim h [ inl old ↦ inl old | inr new ↦ let low : at ≤ j = new.1 in let less : j < at + 1 = new.2 in inr (new.0, omega (arith, low, less)) ] in
       let first = passes_on context text view go explains id at found is state (omega (arith, inside)) here.boundary rest
-      (splits context text view go explains id at found is state (omega (arith, inside)) here.boundary rest marks d) here.c behind kind here.here inside (over here.c here.small here.over) in
+      (splits context text view go explains id at found is state (omega (arith, inside)) here.boundary rest marks d) here.c following kind here.here inside (over here.c here.small here.over) in
       let last : at + 1 + n ≡ at + suc n = omega arith in
       let next = passes_stretch n (at + 1) one (omega (arith, high)) (λ i low less. has i (omega (arith, low)) (omega (arith, less))) first in
       Dfs-fewer view.longest
@@ -295,7 +295,7 @@ module _ (context : SearchContext) (text : List ℕ) (view : View) (go : ℕ →
       ])
       (subst (λ (k : ℕ). Dfs view.longest go goal best bottom (WithRun one id (at + 1) (at + 1 + n)) (Explore id k ∷ rest) slots) last next)
 
--- a loop before the end of the match matches as it does behind its stretch, where the first match is wanted
+-- a loop before the end of the match matches as it does after its stretch, where the first match is wanted
 module _ (context : SearchContext) (text : List ℕ) (view : View) (go : ℕ → Continuation) (explains : Explains context text view go) (id : ℕ) (found : ClassLoop)
     (is : IsLoop context.states.now id found) (state : id < length context.states.now) (kind : IsExit context found.exit Match)
     (stretch : Stretch) (over : IsStretch context found.leaf Match stretch) (t : Trace) where
@@ -312,10 +312,10 @@ module _ (context : SearchContext) (text : List ℕ) (view : View) (go : ℕ →
       let reads = reads_one context text view go explains id at found is state (omega (arith, inside)) here.boundary here.c here.here inside on.0 on.1 in
       reads_first context text view go explains id at found is state (omega (arith, inside)) here.boundary (explains.longest ∙ kind.1) (at + 1) t reads next
 
--- the place behind what a loop reads on over
-pub behind_is : (context : SearchContext) (text : List ℕ) (leaf : Leaf) (exit : Exit) (at : ℕ) (after : Option ℕ) → GoesOn context leaf exit after
+-- the place after what a loop reads on over
+pub following_is : (context : SearchContext) (text : List ℕ) (leaf : Leaf) (exit : Exit) (at : ℕ) (after : Option ℕ) → GoesOn context leaf exit after
     → IfSome after (λ c. IsCharBoundary text (at + len_utf8 c)) → IsCharBoundary text (at + 1)
-behind_is context text leaf exit at None on b = absurd on
-behind_is context text leaf exit at (Some c) on b =
+following_is context text leaf exit at None on b = absurd on
+following_is context text leaf exit at (Some c) on b =
     let long : len_utf8 c ≡ 1 = cond-true _ _ _ (lt-ltb c 0x80 on.0) in
     subst (λ (n : ℕ). IsCharBoundary text (at + n)) long b

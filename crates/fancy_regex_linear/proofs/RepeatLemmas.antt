@@ -324,7 +324,7 @@ module _ (view : View) (stop : ℕ) where
         moved_means = round;
       }
 
-  -- one round more in front of n is one round more behind them
+  -- one round more in front of n is one round more after them
   times_turn : (T : Continuation → Continuation) (n : ℕ) (k : Continuation) → times_try T n (T k) ≡ times_try T (suc n) k
   unfolding times_try
   times_turn T zero k = refl

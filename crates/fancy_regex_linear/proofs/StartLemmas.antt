@@ -10,7 +10,7 @@ use Rattle.fancy_regex_meaning.proofs.BoundaryLemmas.{IsCharBoundary-of_test}
 use Rattle.fancy_regex_meaning.proofs.NextBoundaryLemmas.{from_here, next_place}
 use Rattle.fancy_regex_linear.specs.Meaning.{Spot}
 use Rattle.fancy_regex_linear.specs.Find.{earliest, attempted, places}
-use Rattle.fancy_regex_linear.specs.Starts.{IsBehind}
+use Rattle.fancy_regex_linear.specs.Starts.{IsAfter}
 
 pub earliest_next : (f : ℕ → Option Spot) (p : ℕ) (ps : List ℕ) → f p ≡ None → earliest f (p ∷ ps) ≡ earliest f ps
 unfolding earliest
@@ -61,11 +61,11 @@ pub tried_some : {A : Type 0} (f : ℕ → Option A) (p : ℕ) (ps : List ℕ) �
 unfolding attempted
 tried_some f p ps = omega arith
 
--- behind a character that ends in time comes the next place
-pub place_behind : (text : List ℕ) (anchored : Bool) (at stop c n : ℕ) → anchored ≡ false → IsCharBoundary text at → char_at text at ≡ Some c → n ≡ len_utf8 c → len_utf8 c ≤ stop - at
+-- after a character that ends in time comes the next place
+pub place_after : (text : List ℕ) (anchored : Bool) (at stop c n : ℕ) → anchored ≡ false → IsCharBoundary text at → char_at text at ≡ Some c → n ≡ len_utf8 c → len_utf8 c ≤ stop - at
     → at ≤ stop → places text anchored at stop ≡ at ∷ places text anchored (at + n) stop
-place_behind text true at stop c n many b is width fits le = absurd (true≢false many)
-place_behind text false at stop c n many b is width fits le =
+place_after text true at stop c n many b is width fits le = absurd (true≢false many)
+place_after text false at stop c n many b is width fits le =
     next_place text at stop c b is fits le ∙ ap (λ (k : ℕ). at ∷ boundaries text (at + k) stop) (sym width)
 
 -- an anchored search has one place, and another where no more boundaries come
@@ -73,17 +73,17 @@ pub last_of : (text : List ℕ) (anchored : Bool) (at stop : ℕ) → (anchored 
 last_of text true at stop h = refl
 last_of text false at stop h = h refl
 
--- the start behind one of a search is one of it
-pub behind_from : (text : List ℕ) (stop start at : ℕ) (next : Option ℕ) → start ≤ at → IfSome next (IsBehind text stop at)
+-- the start after one of a search is one of it
+pub after_from : (text : List ℕ) (stop start at : ℕ) (next : Option ℕ) → start ≤ at → IfSome next (IsAfter text stop at)
     → IfSome next (λ i. (start ≤ i) × (i ≤ stop) × IsCharBoundary text i)
-behind_from text stop start at None low h = tt
-behind_from text stop start at (Some i) low h = (omega (arith, h.0), h.1, h.2)
+after_from text stop start at None low h = tt
+after_from text stop start at (Some i) low h = (omega (arith, h.0), h.1, h.2)
 
-pub above_base : (text : List ℕ) (stop base at : ℕ) (next : Option ℕ) → base ≤ at → IfSome next (IsBehind text stop at) → IfSome next (λ i. base ≤ i)
+pub above_base : (text : List ℕ) (stop base at : ℕ) (next : Option ℕ) → base ≤ at → IfSome next (IsAfter text stop at) → IfSome next (λ i. base ≤ i)
 above_base text stop base at None low h = tt
 above_base text stop base at (Some i) low h = omega (arith, h.0)
 
-pub next_after : (text : List ℕ) (stop at : ℕ) (next : Option ℕ) → at ≤ stop → IfSome next (IsBehind text stop at) → at + 1 ≤ unwrap_or next (stop + 1)
+pub next_after : (text : List ℕ) (stop at : ℕ) (next : Option ℕ) → at ≤ stop → IfSome next (IsAfter text stop at) → at + 1 ≤ unwrap_or next (stop + 1)
 next_after text stop at None high h = omega arith
 next_after text stop at (Some i) high h = omega (arith, h.0)
 
@@ -99,7 +99,7 @@ passed_over f text anchored stop (suc n) at to e u b le h =
     let here = h at b (omega arith) (omega arith) in
     let c : ℕ = here.2.0 in
     let long : len_utf8 c ≡ 1 = cond-true _ _ _ (lt-ltb c 0x80 here.2.1) in
-    let split = place_behind text anchored at stop c 1 here.0 b here.2.2 (sym long) (omega (arith, long)) (omega arith) in
+    let split = place_after text anchored at stop c 1 here.0 b here.2.2 (sym long) (omega (arith, long)) (omega arith) in
     let both = failed_next f at (places text anchored at stop) (places text anchored (at + 1) stop) split here.1 in
     let later = passed_over f text anchored stop n (at + 1) to (omega arith) u (boundary_past_ascii text at c u b here.2.1 here.2.2) le (λ i bound low high. h i bound (omega arith) high) in
     (both.0 ∙ later.0, omega (arith, both.1, later.1))

@@ -50,7 +50,7 @@ read_tracked view matchers rules stop leaf next at id before None go goal best b
 read_tracked view matchers rules stop leaf next at id before (Some c) go goal best bottom Seen Marked frames slots p shows e adds d =
     let width : ℕ = len_utf8 c in
     let some : 1 ≤ width = (len_utf8_bounds c).0 in
-    let behind : view.next at ≡ at + width = shows.next in
+    let following : view.next at ≡ at + width = shows.next in
     let lower : at < view.next at = omega arith in
     next_if (λ n. After view.longest go n at goal best bottom Marked frames slots) (leaf_matches_char rules.unicode matchers leaf c && nat_le width (stop - at)) (Pair next (at + width))
     (λ yes.
@@ -59,11 +59,11 @@ read_tracked view matchers rules stop leaf next at id before (Some c) go goal be
     let inside : view.next at ≤ stop = omega arith in
     let on = guard_yes _ _ _ e (and_from _ _ (shows.has leaf ∙ both.0) (and_from _ _ (lt-ltb at (view.next at) lower) (le-leb (view.next at) stop inside))) in
     Dfs-moved view.longest d adds next (at + width)
-    (on.0 ∙ ap (λ j. (go next j).answer) behind)
-    (subst (λ (j : ℕ). (go next j).depth < (go id at).depth) behind on.1))
+    (on.0 ∙ ap (λ j. (go next j).answer) following)
+    (subst (λ (j : ℕ). (go next j).depth < (go id at).depth) following on.1))
     (λ no.
     Dfs-dead view.longest d adds (guard_no _ _ _ e (and_none (view.has leaf at) _ (nat_le width (stop - at)) (ap (λ b. b && nat_le width (stop - at)) (shows.has leaf) ∙ no)
-    (λ yes far. and_right _ _ (let past : stop < view.next at = past_stop width at stop (view.next at) p behind far in lt-leb (view.next at) stop past)))))
+    (λ yes far. and_right _ _ (let past : stop < view.next at = past_stop width at stop (view.next at) p following far in lt-leb (view.next at) stop past)))))
 
 -- where a state leads that reads
 pub read_leads : (view : View) (matchers : List CharClassMatcher) (rules : Rules) (stop : ℕ) (leaf : Leaf) (next at id : ℕ) (before after : Option ℕ)
@@ -75,7 +75,7 @@ read_leads view matchers rules stop leaf next at id before None go p shows e = g
 read_leads view matchers rules stop leaf next at id before (Some c) go p shows e =
     let width : ℕ = len_utf8 c in
     let some : 1 ≤ width = (len_utf8_bounds c).0 in
-    let behind : view.next at ≡ at + width = shows.next in
+    let following : view.next at ≡ at + width = shows.next in
     let lower : at < view.next at = omega arith in
     next_if (LeadsTo go id at) (leaf_matches_char rules.unicode matchers leaf c && nat_le width (stop - at)) (Pair next (at + width))
     (λ yes.
@@ -83,11 +83,11 @@ read_leads view matchers rules stop leaf next at id before (Some c) go p shows e
     let fits : width ≤ stop - at = leb-true width (stop - at) both.1 in
     let inside : view.next at ≤ stop = omega arith in
     let on = guard_yes _ _ _ e (and_from _ _ (shows.has leaf ∙ both.0) (and_from _ _ (lt-ltb at (view.next at) lower) (le-leb (view.next at) stop inside))) in
-    let deep : (go next (at + width)).depth < (go id at).depth = subst (λ (j : ℕ). (go next j).depth < (go id at).depth) behind on.1 in
-    (sym (on.0 ∙ ap (λ j. (go next j).answer) behind), omega arith))
+    let deep : (go next (at + width)).depth < (go id at).depth = subst (λ (j : ℕ). (go next j).depth < (go id at).depth) following on.1 in
+    (sym (on.0 ∙ ap (λ j. (go next j).answer) following), omega arith))
     (λ no.
     guard_no _ _ _ e (and_none (view.has leaf at) _ (nat_le width (stop - at)) (ap (λ b. b && nat_le width (stop - at)) (shows.has leaf) ∙ no)
-    (λ yes far. and_right _ _ (let past : stop < view.next at = past_stop width at stop (view.next at) p behind far in lt-leb (view.next at) stop past))))
+    (λ yes far. and_right _ _ (let past : stop < view.next at = past_stop width at stop (view.next at) p following far in lt-leb (view.next at) stop past))))
 
 pub write_tracked : (longest : Bool) (go : ℕ → Continuation) (goal best : Option Spot) (bottom : List ℕ) (Seen Marked : ℕ → ℕ → Type 0)
     (q i next slot real : ℕ) (frames new_frames : List Frame) (slots new_slots : List ℕ) (kept : Bool)

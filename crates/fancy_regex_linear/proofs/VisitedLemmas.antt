@@ -330,7 +330,7 @@ module _ (count width column : ℕ) (wide : width ≡ count / 64 + 1) (one : wid
               | inl old ↦ inl (past_grown (flags count width rows words) count k old)
               | inr place ↦ inr (rows, omega arith, omega arith, place)
             ]
-        | inr behind ↦ inr (behind.0, omega (arith, behind.1), omega (arith, behind.2), behind.3)
+        | inr following ↦ inr (following.0, omega (arith, following.1), omega (arith, following.2), following.3)
       ]
 
   -- each is one more
@@ -377,9 +377,9 @@ adds_run old new q at n narrow q_in low next c b e p j h =
     ap (λ xs. get_or xs ((j - old.base) * old.count + p) false) (sym e) ∙ (rw (← c, ← b) h.2) in
     elim (run_flag old.count old.width q old.wide narrow q_in n old.rows old.words.items _ old.filled flag) [
       | inl there ↦ inl (p_in, j_low, there)
-      | inr behind ↦
-          let same = same_from_place (j - old.base) p behind.0 q old.count p_in q_in behind.3 in
-          inr (same.1, omega (arith, same.0, behind.1), omega (arith, same.0, behind.2))
+      | inr following ↦
+          let same = same_from_place (j - old.base) p following.0 q old.count p_in q_in following.3 in
+          inr (same.1, omega (arith, same.0, following.1), omega (arith, same.0, following.2))
     ]
 
 pub counted_run : (old new : Visited) (q n : ℕ) → old.width ≡ 1 → q < old.count

@@ -55,7 +55,7 @@ emitted_both_times both (suc n) states same moved =
     let rest = emitted_both_times both n states same moved in
     both rest.0 rest.1 rest.2
 
--- at most n copies, each of which may be left out with those behind it
+-- at most n copies, each of which may be left out with those after it
 unfoldable pub emitted_upto : Bool → Emitter → ℕ → List State → ℕ → List State × ℕ
 emitted_upto greedy one zero states next = (states, next)
 emitted_upto greedy one (suc n) states next =

@@ -83,7 +83,7 @@ IsReader context q (Reads leaf) = (text : List ℕ) (view : View) (go : ℕ → 
     → (go q i).answer ≡ None
 IsReader context q Other = Unit {0}
 
--- what stands behind a loop: a match, where the first is wanted, or what reads
+-- what stands after a loop: a match, where the first is wanted, or what reads
 abbrev pub IsExit : SearchContext → ℕ → Exit → Type 0
 IsExit context q Match = (state_at context.states.now q ≡ End) × (context.rules.longest ≡ false)
 IsExit context q (Reads leaf) = IsReader context q (Reads leaf)
@@ -107,7 +107,7 @@ IsOver stretch c = (slice_index_or stretch.members.now c false ≡ true) × IfSo
 abbrev pub IsStretch : SearchContext → Leaf → Exit → Stretch → Type 0
 IsStretch context leaf exit stretch = (c : ℕ) → c < 128 → IsOver stretch c → GoesOn context leaf exit (Some c)
 
--- the pattern is one character, and behind it a greedy loop over one class, and the first match is wanted
+-- the pattern is one character, and after it a greedy loop over one class, and the first match is wanted
 pub record IsScan (context : SearchContext) (scan : Scan) : Type 0 where
   pub entry : state_at context.states.now context.entry ≡ Read scan.leaf scan.head
   pub head : scan.head < length context.states.now
@@ -127,7 +127,7 @@ pub record HasOver (text : List ℕ) (stretch : Stretch) (i : ℕ) : Type 0 wher
 abbrev pub HasTable : SearchContext → Type 0
 HasTable context = ∥ IfSome context.first.now (IsTableOf context.rules.unicode context.matchers.now context.states.now context.entry) ∥₁
 
--- the ASCII characters that are marked begin no match, behind another character
+-- the ASCII characters that are marked begin no match, after another character
 abbrev pub RefusesAscii : Bool → List CharClassMatcher → List State → ℕ → List Bool → Type 0
 RefusesAscii unicode matchers states entry marks =
     (c : ℕ) → c < 128 → slice_index_or marks c false ≡ true → CannotBegin unicode matchers states entry (Some c)

@@ -18,23 +18,23 @@ use Rattle.fancy_regex_linear.specs.declared.visited.Visited.{Visited}
 abbrev pub spot_from : (ℕ → Continuation) → ℕ → List ℕ → ℕ → Option Spot
 spot_from go entry slots at = land slots (go entry at).answer
 
--- this start, and those behind it
+-- this start, and those after it
 abbrev pub places_left : List ℕ → Bool → ℕ → Option Start → List ℕ
 places_left text anchored stop None = []
 places_left text anchored stop (Some start) = start.at ∷ places_from text anchored start.next stop
 
--- an offset behind this one, at which a match may start
-abbrev pub IsBehind : List ℕ → ℕ → ℕ → ℕ → Type 0
-IsBehind text stop at next = (at < next) × (next ≤ stop) × IsCharBoundary text next
+-- an offset after this one, at which a match may start
+abbrev pub IsAfter : List ℕ → ℕ → ℕ → ℕ → Type 0
+IsAfter text stop at next = (at < next) × (next ≤ stop) × IsCharBoundary text next
 
--- The start is not before `from`, and the one behind it is behind it.
+-- The start is not before `from`, and the one after it is after it.
 pub record IsStart (text : List ℕ) (stop from : ℕ) (start : Start) : Type 0 where
   pub low : from ≤ start.at
   pub high : start.at ≤ stop
   pub boundary : IsCharBoundary text start.at
   pub after : start.after ≡ char_at text start.at
   pub past : IfSome start.after (λ c. IsCharBoundary text (start.at + len_utf8 c))
-  pub behind : IfSome start.next (IsBehind text stop start.at)
+  pub following : IfSome start.next (IsAfter text stop start.at)
 
 -- the match from the state q at i ends here, and no slots are written
 abbrev pub EndsAt : (ℕ → Continuation) → ℕ → ℕ → ℕ → Type 0
@@ -61,21 +61,21 @@ pub record LeadsInto (context : SearchContext) (q : ℕ) (pair : PairAhead) : Ty
 pub record LeadsToVisited (context : SearchContext) (text : List ℕ) (visited : Visited) (i : ℕ) : Type 0 where
   pub pair : PairAhead
   pub into : LeadsInto context context.entry pair
-  pub behind : HasVisitedFrom text visited pair i
+  pub following : HasVisitedFrom text visited pair i
 
--- an ASCII character stands at i, and behind it one that is second in no match
+-- an ASCII character stands at i, and after it one that is second in no match
 pub record HasRefusedPair (context : SearchContext) (text : List ℕ) (i : ℕ) : Type 0 where
   pub inside : i < context.stop
   pub first : (c : ℕ) × (c < 128) × (char_at text i ≡ Some c)
   pub second : (d : ℕ) × (d < 128) × (char_at text (i + 1) ≡ Some d)
       × CannotFollow context.rules.unicode context.matchers.now context.states.now context.entry (Some d)
 
--- the ASCII character at i is refused, or the one behind it
+-- the ASCII character at i is refused, or the one after it
 abbrev pub IsRefusedAt : SearchContext → List ℕ → ℕ → Type 0
 IsRefusedAt context text i = HasMarkedAscii text context.refused.now i ⊎ HasRefusedPair context text i
 
 -- the start at i is passed over for an ASCII character: one that is refused, or any where it leads to a pair that was visited
 pub record IsPassed (context : SearchContext) (text : List ℕ) (anchored : Bool) (visited : Visited) (i : ℕ) : Type 0 where
   pub many : anchored ≡ false
-  pub behind : 0 < i
+  pub following : 0 < i
   pub ascii : IsRefusedAt context text i ⊎ LeadsToVisited context text visited i

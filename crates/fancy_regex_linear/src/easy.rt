@@ -39,7 +39,7 @@ pub struct Easy {
     longest: bool,
     /// The characters that a match can begin with, if they are known.
     first: Option<FirstChars>,
-    /// For each ASCII character whether it is known that no match begins with it, behind another character.
+    /// For each ASCII character whether it is known that no match begins with it, after another character.
     refused: [bool; 128],
     ghost made: { IsMade states.items entry },
     ghost table: { ∥ IfSome first (IsTableOf unicode matchers.items states.items entry) ∥₁ },

@@ -1,4 +1,4 @@
-//! Patterns that begin with one character and a greedy loop over one class, behind which a character stands: a start is led to
+//! Patterns that begin with one character and a greedy loop over one class, after which a character stands: a start is led to
 //! the end of the loop's stretch, since all starts in a stretch match from there, or none does.
 
 ghost use Rattle.std.specs.Prelude.{◌≡◌, ◌+◌, ◌-◌, ◌^◌, ◌<◌, ◌≤◌, ℕ, false, List, Option, None, length, min, IfSome, IsCharBoundary};
@@ -35,8 +35,8 @@ struct Beginning<'p> {
     head: usize,
     /// What the loop does at its head.
     found: ClassLoop,
-    /// What stands behind the loop.
-    behind: Leaf,
+    /// What stands after the loop.
+    following: Leaf,
     /// The ASCII characters over which the loop reads on.
     stretch: Stretch<'p>,
 }
@@ -70,17 +70,17 @@ fn beginning_of<'p>(context: &SearchContext<'p>) -> Option<Beginning<'p>>
         return None;
     };
     let found = class_loop(context, next)?;
-    let Exit::Reads(behind) = exit_of(context, found.exit) else {
+    let Exit::Reads(following) = exit_of(context, found.exit) else {
         return None;
     };
-    let stretch = stretch_of(context, found.leaf, Exit::Reads(behind))?;
+    let stretch = stretch_of(context, found.leaf, Exit::Reads(following))?;
     Some(Beginning {
         slot,
         first,
         leaf,
         head: next,
         found,
-        behind,
+        following,
         stretch,
     })
 }
@@ -112,7 +112,7 @@ fn may_match(
 }
 
 /// Leads this start to the end of the loop's stretch, if the pattern begins with such a loop, the search has more starts, an
-/// ASCII character stands at this one, and nothing was visited from there on. Drops the rows before that end. Each place behind the start costs one look-up
+/// ASCII character stands at this one, and nothing was visited from there on. Drops the rows before that end. Each place after the start costs one look-up
 /// in the text. `None` says nothing, costs none and drops nothing.
 #[inline(always)]
 pub fn run_ahead(
@@ -143,14 +143,14 @@ pub fn run_ahead(
     }
     let plan = beginning_of(context)?;
     let c = start.after?;
-    if c as u32 >= 128 || !visited.is_behind(start.at) {
+    if c as u32 >= 128 || !visited.is_after(start.at) {
         return None;
     }
     let Next::Pair(_, from) = read(context, plan.leaf, plan.head, start.at, start.after) else {
         return None;
     };
     let (end, after) = pass_stretch(text, from, context.stop, plan.stretch);
-    visited.drop_behind(end);
+    visited.drop_after(end);
     Some(RunAhead {
         head: plan.head,
         slot: plan.slot,

@@ -1,4 +1,4 @@
-//! Patterns that are one character and behind it a greedy loop over one class, as `\w+` is: where the first match is wanted, a
+//! Patterns that are one character and after it a greedy loop over one class, as `\w+` is: where the first match is wanted, a
 //! search never goes back in them, so it needs no frames and no visited set.
 
 ghost use Rattle.std.specs.Prelude.{◌≡◌, ◌+◌, ◌-◌, ◌^◌, ◌<◌, ◌≤◌, ℕ, List, Option, Some, None, length, min, IfSome, IsCharBoundary};
@@ -17,7 +17,7 @@ use crate::starts::Start;
 use fancy_regex_class::Counted;
 use fancy_regex_states::{Leaf, State};
 
-/// A pattern that is one character and behind it a greedy loop over one class.
+/// A pattern that is one character and after it a greedy loop over one class.
 #[derive(Clone, Copy)]
 struct Scan<'p> {
     /// The first character.
@@ -75,7 +75,7 @@ fn scan_from(context: &SearchContext, text: &mut Counted, scan: Scan, from: usiz
     }
 }
 
-/// The end of the match at this start, if the pattern is a scan and has one there. Each place behind the start costs one
+/// The end of the match at this start, if the pattern is a scan and has one there. Each place after the start costs one
 /// look-up in the text. `None` says nothing, and costs none.
 #[inline(always)]
 pub fn scanned(context: &SearchContext, text: &mut Counted, start: Start) -> Option<usize>

@@ -63,7 +63,7 @@ impl Visited {
         Ok(())
     }
 
-    /// Adds a pair in a new row, behind the last one, where a row is one word. The error is want of memory, and then the set
+    /// Adds a pair in a new row, after the last one, where a row is one word. The error is want of memory, and then the set
     /// is unchanged.
     #[inline(always)]
     fn append(&mut self, state: usize) -> Result<(), AllocError>
@@ -97,7 +97,7 @@ impl Visited {
     }
 
     /// Drops the rows if all are of byte offsets before `from`, and goes on from there. Their memory is kept for later rows.
-    pub fn drop_behind(&mut self, from: usize)
+    pub fn drop_after(&mut self, from: usize)
         requires { self.old.base ≤ from }
         ensures count { self.new.count ≡ self.old.count }
         ensures base { (self.old.base ≤ self.new.base) × (self.new.base ≤ from) }
@@ -115,7 +115,7 @@ impl Visited {
 
     /// Whether all rows are of byte offsets before `from`.
     #[inline(always)]
-    pub fn is_behind(&self, from: usize) -> bool
+    pub fn is_after(&self, from: usize) -> bool
         requires { self.now.base ≤ from }
         ensures { result ≡ true → self.now.rows ≤ from - self.now.base }
     {

@@ -37,7 +37,7 @@ pub(crate) fn ascii_at(text: &str, position: usize) -> Option<char>
     Some(byte as char)
 }
 
-/// The ASCII character at the byte offset `position`, if there is one. The text may be cut behind it.
+/// The ASCII character at the byte offset `position`, if there is one. The text may be cut after it.
 #[inline(always)]
 pub(crate) fn one_byte_char(text: &str, position: usize) -> Option<char>
     ensures char { IfSome result (λ c. sight.char_at text.now position ≡ Some c) }

@@ -86,7 +86,7 @@ from_here text from stop b le =
     ap (λ k. filter (is_boundary text) (numbers_from k from)) n
     ∙ cond-true (is_boundary text from) _ _ (test_of_IsCharBoundary text from b)
 
--- behind a character that ends in time comes the next place
+-- after a character that ends in time comes the next place
 pub next_place : (text : List ℕ) (from stop c : ℕ) → IsCharBoundary text from → char_at text from ≡ Some c → len_utf8 c ≤ stop - from → from ≤ stop
     → boundaries text from stop ≡ from ∷ boundaries text (from + len_utf8 c) stop
 next_place text from stop c b found fits le =
@@ -100,7 +100,7 @@ next_place text from stop c b found fits le =
     ∙ ap (λ m. filter (is_boundary text) (numbers_from m (from + 1 + (w - 1)))) n
     ∙ ap (λ j. filter (is_boundary text) (numbers_from (stop + 1 - (from + w)) j)) k)
 
--- behind a character that ends too late comes none
+-- after a character that ends too late comes none
 pub last_place : (text : List ℕ) (from stop c : ℕ) → IsCharBoundary text from → char_at text from ≡ Some c → stop - from < len_utf8 c → from ≤ stop
     → boundaries text from stop ≡ from ∷ []
 last_place text from stop c b found late le =

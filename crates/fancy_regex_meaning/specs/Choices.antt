@@ -9,7 +9,7 @@ use Rattle.fancy_regex_meaning.specs.Sizes.{size, target, bound_of}
 use Rattle.fancy_regex_meaning.specs.Ways.{MatchState, Moves, Meaning, Setting, with_position, meaning, meanings, call_ways, is_at_call_limit, max_open_calls}
 use Rattle.fancy_regex_meaning.specs.Searches.{Search, Match, start_way, starts, match_at}
 
--- The number of choice points passed while all ways of a node are listed: from the current position, and behind it as for
+-- The number of choice points passed while all ways of a node are listed: from the current position, and after it as for
 -- `Meaning`.
 pub record Count : Type 0 where
   pub from : MatchState → ℕ

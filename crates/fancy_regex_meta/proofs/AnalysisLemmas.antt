@@ -129,7 +129,7 @@ analyzed_tree i t is = sym (tree_is i) ∙ (root_is (info_of i) false t is).tree
 pub analyzed_plain : (i : Info) (t : Tree) → info_of i ≡ analysis false t → (out-Info i).hard ≡ false → IsPlain t
 analyzed_plain i t is easy = root_plain (info_of i) false t is (hard_is i ∙ easy)
 
--- the number behind its groups counts them, and the whole
+-- the number after its groups counts them, and the whole
 pub analyzed_end : (i : Info) (t : Tree) → info_of i ≡ analysis false t → GroupsAreCounted → (properties_in (info_of i)).end ≡ suc (length (bodies t))
 analyzed_end i t is law =
     let e : (properties_in (info_of i)).end ≡ 1 + group_count t = ap (λ f. f.end) (root_is (info_of i) false t is).facts_are in

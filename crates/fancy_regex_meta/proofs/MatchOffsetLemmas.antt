@@ -44,7 +44,7 @@ keeps_count s n = record {
 module _ (s : Setting) (pattern : Pattern) (find : Search) where
   -- Where a match is found.
   pub record Lies (m : Match) : Type 0 where
-    pub behind : find.first ≤ m.start
+    pub after : find.first ≤ m.start
     pub ordered : m.start ≤ m.end
     pub inside : m.end ≤ find.stop
     pub starts_well : IsCharBoundary s.text m.start
@@ -62,7 +62,7 @@ module _ (s : Setting) (pattern : Pattern) (find : Search) where
       let well = chosen_holds Good find.options.longest _ all found.0 found.1 in
       subst (λ (x : Match). length x.pairs ≡ n) found.2 well
 
-  -- each start that is tried lies behind the first, on a boundary
+  -- each start that is tried lies after the first, on a boundary
   pub starts_lie : IsCharBoundary s.text find.first → find.stop ≤ length s.text → Each (λ p. (find.first ≤ p) × IsCharBoundary s.text p) (starts s pattern find)
   starts_lie h inside =
       Each-cond _ (nat_lt find.stop find.first) [] _ tt
@@ -77,7 +77,7 @@ module _ (s : Setting) (pattern : Pattern) (find : Search) where
       let span = matches_are_spans s pattern find found.0 m found.2 in
       let cuts = matches_cut_well s pattern find found.0 m utf8 found.1.1 found.2 in
       record {
-        behind = omega (arith, found.1.0, span.0);
+        after = omega (arith, found.1.0, span.0);
         ordered = span.1;
         inside = (matches_are_admitted s pattern find found.0 m found.2).3;
         starts_well = cuts.0;
@@ -149,7 +149,7 @@ lies_within s t find wanted a x m e lies first stop =
     let start : x.start ≡ m.start = ap (λ (p : ℕ × (ℕ × List ℕ)). p.0) e in
     let end : x.end ≡ m.end = ap (λ (p : ℕ × (ℕ × List ℕ)). p.1.0) e in
     record {
-      behind = omega (arith, start, first, lies.behind);
+      after = omega (arith, start, first, lies.after);
       cuts = record {
         ordered = omega (arith, start, end, lies.ordered);
         starts = subst (IsCharBoundary s.text) (sym start) lies.starts_well;
@@ -190,7 +190,7 @@ unfolding first_match
 anchored_match s pattern find anchored inside =
     tries_one (match_at s pattern find) find.first (boundaries s.text find.first find.stop) (nat_lt find.stop find.first) find.anchored (nat_lt-no find.stop find.first inside) anchored
 
--- the match that starts at an offset lies behind it
+-- the match that starts at an offset lies after it
 pub found_at_within : (s : MetaRegex) (text : List ℕ) (a : SearchConfig) (continue_at : Option ℕ) (p : ℕ) (wanted : Wanted) (found : Option FoundMatch) →
     IsUtf8 text → IsCharBoundary text p → p ≤ a.range_end → a.range_end ≤ length text →
     option_map found_parts found ≡ option_map (wanted_parts wanted (meta_pattern s)) (meta_match_at s text a continue_at p) →

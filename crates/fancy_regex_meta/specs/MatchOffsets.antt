@@ -18,7 +18,7 @@ EndsSecond Groups x = slice_index x.groups.items 1 ≡ x.end
 
 -- What was found lies in the range of the search, at or after its start.
 pub record IsMatchWithin (wanted : Wanted) (text : List ℕ) (config : SearchConfig) (x : FoundMatch) : Type 0 where
-  pub behind : max config.start config.range_start ≤ x.start
+  pub after : max config.start config.range_start ≤ x.start
   pub cuts : AreBoundaries text x.start x.end
   pub inside : x.end ≤ config.range_end
   pub second : EndsSecond wanted x

@@ -1,4 +1,4 @@
--- Tokens with more text behind them.
+-- Tokens with more text after them.
 use Rattle.std.proofs.Common.{◌≡◌, ℕ, Bool, true, false, [], ◌∷◌, ◌++◌, refl, sym}
 use Rattle.std.proofs.lemmas.Bool.{false≢true}
 use Rattle.fancy_regex_text.specs.Text.{Text}

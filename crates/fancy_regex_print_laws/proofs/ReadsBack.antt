@@ -40,7 +40,7 @@ nameless_read unicode t p fit few =
     let read : WholeRead size unicode 63 (printed 0 t) (normal_form t) [] =
     subst (λ (u : Text). WholeRead size unicode 63 u (normal_form t) []) (append-nil (printed 0 t)) at_end in
     let reading : IsPattern (plain_mode size unicode) no_flags (printed 0 t) (pattern_of (read.body)) =
-    record { body = read.body; flags_behind = no_flags; derivation = read.reading; tree = refl } in
+    record { body = read.body; flags_after = no_flags; derivation = read.reading; tree = refl } in
     record {
       tree = pattern_of (read.body);
       reading = reading;
@@ -75,7 +75,7 @@ pub deep_is_refused : TooDeepIsRefused
 deep_is_refused unicode t p fit many =
     let found = deep_at unicode t p fit many in
     record {
-      place = record { behind = found.behind; text = found.text };
+      place = record { following = found.following; text = found.text };
       answer = (patterns_are_exact false unicode no_flags (printed 0 t)).fault_is_complete _ (inside_pattern found.stops);
     }
 
@@ -98,8 +98,8 @@ bytes_append [] u = omega arith
 bytes_append (c ∷ t) u = omega (arith, bytes_append t u)
 
 -- what stands before a place, where the text and what is left are known
-before_is : (text before behind : Text) → text ≡ before ++ behind → bytes text - bytes behind ≡ bytes before
-before_is text before behind is = omega (arith, ap bytes is, bytes_append before behind)
+before_is : (text before following : Text) → text ≡ before ++ following → bytes text - bytes following ≡ bytes before
+before_is text before following is = omega (arith, ap bytes is, bytes_append before following)
 
 pub deep_is_no_pattern : TooDeepDoesNotParse
 unfolding parse
@@ -109,7 +109,7 @@ deep_is_no_pattern unicode ignore_numbered t p fit many =
     record {
       place = found.place;
       answer = ap (λ r. with_position size r ⨟ resolve_references (plain_options unicode ignore_numbered)) found.answer
-          ∙ ap (λ (n : ℕ). Err (record { kind = recursion_exceeded; position = n })) (before_is (printed 0 t) (up_to_too_deep 0 63 t) (0x28 ∷ found.place.behind) found.place.text);
+          ∙ ap (λ (n : ℕ). Err (record { kind = recursion_exceeded; position = n })) (before_is (printed 0 t) (up_to_too_deep 0 63 t) (0x28 ∷ found.place.following) found.place.text);
     }
 
 pub printed_is_same_pattern : (s : Setting) → PrintedIsSamePattern s

@@ -21,33 +21,33 @@ use Rattle.fancy_regex_tree.specs.Printable.{can_be_repeated, has_two_branches, 
 use Rattle.fancy_regex_tree.specs.declared.expr.Assertion.{Assertion}
 use Rattle.fancy_regex_tree.specs.declared.expr.Assertion.TheVariants.{StartText, EndText, EndTextIgnoreTrailingNewlines, StartLine, StartLineOniguruma, EndLine, LeftWordBoundary}
 use Rattle.fancy_regex_tree.specs.declared.expr.Assertion.TheVariants.{RightWordBoundary, LeftWordHalfBoundary, RightWordHalfBoundary, WordBoundary, NotWordBoundary}
-use Rattle.fancy_regex_print_laws.specs.ReprintLaws.{behind_opening, up_to_too_deep, pieces_up_to_too_deep, branches_up_to_too_deep, plain_mode, no_flags, CountsFit, AllCountsFit}
+use Rattle.fancy_regex_print_laws.specs.ReprintLaws.{after_opening, up_to_too_deep, pieces_up_to_too_deep, branches_up_to_too_deep, plain_mode, no_flags, CountsFit, AllCountsFit}
 use Rattle.fancy_regex_print_laws.proofs.Starts.{skipped}
 use Rattle.fancy_regex_print_laws.proofs.Atoms.{closed_text}
 use Rattle.fancy_regex_print_laws.proofs.PlainStarts.{plain_start, plain_start_of_target, plain_start_of_pieces, some_target}
 use Rattle.fancy_regex_print_laws.proofs.Reading.{Reads, AllReads, ends, branch_end_plain_start, verb_begins_like_quantifier, empty_tree_is, reads, all_read}
 use Rattle.fancy_regex_print_laws.specs.PrintedParts.{begins_no_quantifier, is_comment, PlainStart, Closing, closing_paren}
 
--- where a group that is one too many opens: what stands before it and behind
+-- where a group that is one too many opens: what stands before it and after
 pub record AtomDeep (size : ℕ) (unicode : Bool) (n : ℕ) (t before : Text) : Type 0 where
-  pub behind : Text
-  pub text : t ≡ before ++ (0x28 ∷ behind)
-  pub stops : AtomFails (plain_mode size unicode) n false no_flags t (at recursion_exceeded (0x28 ∷ behind))
+  pub following : Text
+  pub text : t ≡ before ++ (0x28 ∷ following)
+  pub stops : AtomFails (plain_mode size unicode) n false no_flags t (at recursion_exceeded (0x28 ∷ following))
 
 pub record PieceDeep (size : ℕ) (unicode : Bool) (n : ℕ) (t before : Text) : Type 0 where
-  pub behind : Text
-  pub text : t ≡ before ++ (0x28 ∷ behind)
-  pub stops : PieceFails (plain_mode size unicode) n false no_flags t (at recursion_exceeded (0x28 ∷ behind))
+  pub following : Text
+  pub text : t ≡ before ++ (0x28 ∷ following)
+  pub stops : PieceFails (plain_mode size unicode) n false no_flags t (at recursion_exceeded (0x28 ∷ following))
 
 pub record BranchDeep (size : ℕ) (unicode : Bool) (n : ℕ) (t before : Text) : Type 0 where
-  pub behind : Text
-  pub text : t ≡ before ++ (0x28 ∷ behind)
-  pub stops : BranchFails (plain_mode size unicode) n false no_flags t (at recursion_exceeded (0x28 ∷ behind))
+  pub following : Text
+  pub text : t ≡ before ++ (0x28 ∷ following)
+  pub stops : BranchFails (plain_mode size unicode) n false no_flags t (at recursion_exceeded (0x28 ∷ following))
 
 pub record WholeDeep (size : ℕ) (unicode : Bool) (n : ℕ) (t before : Text) : Type 0 where
-  pub behind : Text
-  pub text : t ≡ before ++ (0x28 ∷ behind)
-  pub stops : BranchesFail (plain_mode size unicode) n false no_flags t (at recursion_exceeded (0x28 ∷ behind))
+  pub following : Text
+  pub text : t ≡ before ++ (0x28 ∷ following)
+  pub stops : BranchesFail (plain_mode size unicode) n false no_flags t (at recursion_exceeded (0x28 ∷ following))
 
 -- Where the reading of a tree stops at each precedence.
 pub record Deep (size : ℕ) (unicode : Bool) (t : Tree) : Type 0 where
@@ -63,16 +63,16 @@ module _ (size : ℕ) (unicode : Bool) where
 
   -- a parenthesis where none may stand
   paren_deep : (t : Text) → AtomDeep size unicode 0 (0x28 ∷ t) []
-  paren_deep t = record { behind = t; text = refl; stops = too_deep }
+  paren_deep t = record { following = t; text = refl; stops = too_deep }
 
   atom_is_piece : (n : ℕ) (t before : Text) → AtomDeep size unicode n t before → PieceDeep size unicode n t before
-  atom_is_piece n t before a = record { behind = a.behind; text = a.text; stops = atom_stops a.stops }
+  atom_is_piece n t before a = record { following = a.following; text = a.text; stops = atom_stops a.stops }
 
   piece_is_branch : (n : ℕ) (t before : Text) → is_comment t ≡ false → PieceDeep size unicode n t before → BranchDeep size unicode n t before
-  piece_is_branch n t before token a = record { behind = a.behind; text = a.text; stops = piece_stops (skipped token) a.stops }
+  piece_is_branch n t before token a = record { following = a.following; text = a.text; stops = piece_stops (skipped token) a.stops }
 
   branch_is_whole : (n : ℕ) (t before : Text) → BranchDeep size unicode n t before → WholeDeep size unicode n t before
-  branch_is_whole n t before a = record { behind = a.behind; text = a.text; stops = first_stops a.stops }
+  branch_is_whole n t before a = record { following = a.following; text = a.text; stops = first_stops a.stops }
 
   row_deep : (ts : Trees) (n : ℕ) (rest : Text) → AllReads size unicode ts → AllDeep ts → are_printable ts ≡ true → n < most_levels 2 ts → EndsBranch rest →
       BranchDeep size unicode n (printed_pieces ts ++ rest) (pieces_up_to_too_deep n ts)
@@ -94,8 +94,8 @@ module _ (size : ℕ) (unicode : Bool) where
       later false t ts n rest is read token fits after others =
           let first = read.piece n (printed_pieces ts ++ rest) is fits after in
           record {
-            behind = others.behind;
-            text = ap (λ u. printed 2 t ++ u) others.text ∙ sym (append_assoc (printed 2 t) (pieces_up_to_too_deep n ts) (0x28 ∷ others.behind));
+            following = others.following;
+            text = ap (λ u. printed 2 t ++ u) others.text ∙ sym (append_assoc (printed 2 t) (pieces_up_to_too_deep n ts) (0x28 ∷ others.following));
             stops = later_piece_stops (skipped token) first.reading others.stops;
           }
 
@@ -130,22 +130,22 @@ module _ (size : ℕ) (unicode : Bool) where
           let others = later fits in
           let first = read.branch n (0x7C ∷ (printed_branches (more_trees u us) ++ rest)) fits at_bar in
           record {
-            behind = others.behind;
+            following = others.following;
             text = ap (λ v. printed 1 t ++ (0x7C ∷ v)) others.text
-                ∙ sym (append_assoc (printed 1 t) (0x7C ∷ branches_up_to_too_deep n (more_trees u us)) (0x28 ∷ others.behind));
+                ∙ sym (append_assoc (printed 1 t) (0x7C ∷ branches_up_to_too_deep n (more_trees u us)) (0x28 ∷ others.following));
             stops = later_branch_stops first.reading others.stops;
           }
 
   -- in a group that captures nothing
   bare_deep : (n levels : ℕ) (t rest : Text) (before : ℕ → Text) → n < levels + 1 → ((m : ℕ) → m < levels → WholeDeep size unicode m (t ++ (0x29 ∷ rest)) (before m)) →
-      AtomDeep size unicode n (print.in_group true t ++ rest) (behind_opening true (codes "(?:") before n)
+      AtomDeep size unicode n (print.in_group true t ++ rest) (after_opening true (codes "(?:") before n)
   unfolding print.in_group group_start group_end
   bare_deep zero levels t rest before h inside = paren_deep _
   bare_deep (suc n) levels t rest before h inside =
       let found = inside n (omega arith) in
       subst (λ (u : Text). AtomDeep size unicode (suc n) u (codes "(?:" ++ before n)) (sym (closed_text (codes "(?:") t rest))
       (record {
-        behind = found.behind;
+        following = found.following;
         text = ap (λ u. codes "(?:" ++ u) found.text;
         stops = inside_stops (flags_for_body before_body) under_flags found.stops;
       })
@@ -159,7 +159,7 @@ module _ (size : ℕ) (unicode : Bool) where
       let found = inside n (omega arith) in
       subst (λ (u : Text). AtomDeep size unicode (suc n) u (codes "(" ++ up_to_too_deep 0 n t)) (sym (closed_text (codes "(") (printed 0 t) rest))
       (record {
-        behind = found.behind;
+        following = found.following;
         text = ap (λ u. codes "(" ++ u) found.text;
         stops = inside_stops (a_group (λ u is. true≢false (sym quiet ∙ ap begins_no_quantifier is)) (λ word u verb is same. true≢false (sym quiet ∙ ap begins_no_quantifier same ∙ verb_begins_like_quantifier u is)))
             in_group found.stops;
@@ -231,7 +231,7 @@ module _ (size : ℕ) (unicode : Bool) where
   unfolding printed printed_levels up_to_too_deep print.in_group group_start group_end
   concat_deep ts p read deep =
       let bare_at : (n : ℕ) (rest : Text) → n < most_levels 2 ts + 1 →
-      AtomDeep size unicode n (print.in_group true (printed_pieces ts) ++ rest) (behind_opening true (codes "(?:") (λ m. pieces_up_to_too_deep m ts) n) =
+      AtomDeep size unicode n (print.in_group true (printed_pieces ts) ++ rest) (after_opening true (codes "(?:") (λ m. pieces_up_to_too_deep m ts) n) =
       λ n rest h. bare_deep n (most_levels 2 ts) (printed_pieces ts) rest (λ m. pieces_up_to_too_deep m ts) h
       (λ m few. branch_is_whole m _ _ (row_deep ts m (0x29 ∷ rest) read deep p few at_close)) in
       let row_at : (n : ℕ) (rest : Text) → n < most_levels 2 ts → EndsBranch rest →
@@ -251,7 +251,7 @@ module _ (size : ℕ) (unicode : Bool) where
       let whole_at : (n : ℕ) (rest : Text) → n < most_levels 1 all → Closing rest → WholeDeep size unicode n (printed_branches all ++ rest) (branches_up_to_too_deep n all) =
       λ n rest h end. many_deep a ts n rest read.0 deep.0 read.1 deep.1 h end in
       let bare_at : (n : ℕ) (rest : Text) → n < most_levels 1 all + 1 →
-      AtomDeep size unicode n (print.in_group true (printed_branches all) ++ rest) (behind_opening true (codes "(?:") (λ m. branches_up_to_too_deep m all) n) =
+      AtomDeep size unicode n (print.in_group true (printed_branches all) ++ rest) (after_opening true (codes "(?:") (λ m. branches_up_to_too_deep m all) n) =
       λ n rest h. bare_deep n (most_levels 1 all) (printed_branches all) rest (λ m. branches_up_to_too_deep m all) h (λ m few. whole_at m (0x29 ∷ rest) few closing_paren) in
       record {
         atom = bare_at;

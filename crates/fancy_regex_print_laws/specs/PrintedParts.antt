@@ -40,7 +40,7 @@ pub data Closing : Text → Type 0 where
   closing_end : Closing []
   closing_paren : {t : Text} → Closing (0x29 ∷ t)
 
--- Behind the text of a tree, at each precedence, stands `rest`; n more levels of groups may open there, and the whole pattern has `size`
+-- After the text of a tree, at each precedence, stands `rest`; n more levels of groups may open there, and the whole pattern has `size`
 -- bytes. What is read is the normal form of the tree once its groups are resolved. A piece or an atom is read of every tree but the empty
 -- one, whose text is empty.
 pub record ReadsInPlace (size n : ℕ) (unicode : Bool) (t : Tree) : Type 0 where

@@ -81,18 +81,18 @@ unfoldable mutual
   AllCountsFit (more_trees t ts) = CountsFit t × AllCountsFit ts
 
 -- The opening, if one is needed, and the text `inside` up to a point in it; empty where no nesting level is left for the opening.
-abbrev pub behind_opening : Bool → Text → (ℕ → Text) → ℕ → Text
-behind_opening false opening inside n = inside n
-behind_opening true opening inside zero = []
-behind_opening true opening inside (suc n) = opening ++ inside n
+abbrev pub after_opening : Bool → Text → (ℕ → Text) → ℕ → Text
+after_opening false opening inside n = inside n
+after_opening true opening inside zero = []
+after_opening true opening inside (suc n) = opening ++ inside n
 
 -- The printed text of a tree up to the `(` of the first group that is nested too deep, where n levels are allowed and the tree has more.
 unfoldable mutual
   pub up_to_too_deep : ℕ → ℕ → Tree → Text
-  up_to_too_deep precedence n (concat ts) = behind_opening (nat_lt 1 precedence) (codes "(?:") (λ m. pieces_up_to_too_deep m ts) n
-  up_to_too_deep precedence n (alt ts) = behind_opening (nat_lt 0 precedence) (codes "(?:") (λ m. branches_up_to_too_deep m ts) n
-  up_to_too_deep precedence n (group t) = behind_opening true (codes "(") (λ m. up_to_too_deep 0 m t) n
-  up_to_too_deep precedence n (repeat t lo hi greedy) = behind_opening (nat_lt 2 precedence) (codes "(?:") (λ m. up_to_too_deep 3 m t) n
+  up_to_too_deep precedence n (concat ts) = after_opening (nat_lt 1 precedence) (codes "(?:") (λ m. pieces_up_to_too_deep m ts) n
+  up_to_too_deep precedence n (alt ts) = after_opening (nat_lt 0 precedence) (codes "(?:") (λ m. branches_up_to_too_deep m ts) n
+  up_to_too_deep precedence n (group t) = after_opening true (codes "(") (λ m. up_to_too_deep 0 m t) n
+  up_to_too_deep precedence n (repeat t lo hi greedy) = after_opening (nat_lt 2 precedence) (codes "(?:") (λ m. up_to_too_deep 3 m t) n
   up_to_too_deep precedence n _ = []
 
   -- for a concatenation: the pieces before the first that is nested too deep, and the text of that one up to the group
@@ -108,8 +108,8 @@ unfoldable mutual
 
 -- The printed text around the `(` of the first group that is nested too deep, where 63 levels are allowed.
 pub record TooDeepAt (t : Tree) (before : Text) : Type 0 where
-  pub behind : Text
-  pub text : printed 0 t ≡ before ++ (0x28 ∷ behind)
+  pub following : Text
+  pub text : printed 0 t ≡ before ++ (0x28 ∷ following)
 
 -- the profile of a pattern of `size` bytes without Oniguruma mode, with Unicode mode or without
 abbrev pub plain_mode : ℕ → Bool → ParserConfig
@@ -131,7 +131,7 @@ PrintedReadsBack = (unicode : Bool) (t : Tree) → is_printable t ≡ true → C
 -- Where 64 printed groups nest, the parser fails with the recursion limit at the `(` of the 64th.
 pub record FailsTooDeep (unicode : Bool) (t : Tree) : Type 0 where
   pub place : TooDeepAt t (up_to_too_deep 0 63 t)
-  pub answer : parse_pattern false unicode no_flags (printed 0 t) ≡ Err (record { kind = recursion_exceeded; left = bytes (0x28 ∷ place.behind) })
+  pub answer : parse_pattern false unicode no_flags (printed 0 t) ≡ Err (record { kind = recursion_exceeded; left = bytes (0x28 ∷ place.following) })
 
 abbrev pub TooDeepIsRefused : Type 0
 TooDeepIsRefused = (unicode : Bool) (t : Tree) → is_printable t ≡ true → CountsFit t → 64 ≤ printed_levels 0 t → FailsTooDeep unicode t

@@ -21,7 +21,7 @@ slots_in (conditional c a b) = 1 + (slots_in c + (slots_in a + slots_in b))
 slots_in (absent a) = 2 + slots_in a
 slots_in _ = 0
 
--- Literals that stand side by side are one text, so a literal waits until something else comes: what waits behind a
+-- Literals that stand side by side are one text, so a literal waits until something else comes: what waits after a
 -- pattern, where that text waited before it.
 abbrev pub waits : CorePattern → Text → Text
 waits nothing text = text
@@ -45,10 +45,10 @@ abbrev pub one : Op → Code
 one o pc slot = o ∷ []
 
 -- what follows the text that waited
-abbrev pub behind : Text → Code → Code
-behind text code pc slot = flushed text ++ code (pc + length (flushed text)) slot
+abbrev pub after_text : Text → Code → Code
+after_text text code pc slot = flushed text ++ code (pc + length (flushed text)) slot
 
--- with what waits behind it
+-- with what waits after it
 abbrev pub closed : Code → Text → Code
 closed code text pc slot = code pc slot ++ flushed text
 
@@ -140,30 +140,30 @@ module _ (has_member : Text → Bool → ℕ → Bool) (fold : ℕ → ℕ) (who
   code_of nothing text = none
   code_of (read (literal c false)) text = none
   code_of (cat a b) text = row_code (code_of a text) (code_of b (waits a text)) (slots_in a)
-  code_of (read (literal c true)) text = behind text (one (leaf_op (literal c true)))
-  code_of (read (any newline crlf)) text = behind text (one (leaf_op (any newline crlf)))
-  code_of (read (class name casei)) text = behind text (one (leaf_op (class name casei)))
-  code_of (general_newline unicode) text = behind text (one (op.general_newline unicode))
-  code_of (check a) text = behind text (one (op.assertion a))
-  code_of continue text = behind text (one op.continue)
-  code_of keep_out text = behind text (λ pc slot. if whole then op.save 0 ∷ [] else [])
-  code_of fail text = behind text (one op.fail)
-  code_of (alt a b) text = behind text (alt_code (closed (code_of a []) (waits a [])) (closed (code_of b []) (waits b [])) (slots_in a))
-  code_of (group k a) text = behind text (group_code k (closed (code_of a []) (waits a [])))
-  code_of (ahead a) text = behind text (ahead_code (closed (code_of a []) (waits a [])))
-  code_of (never a) text = behind text (never_code (closed (code_of a []) (waits a [])))
-  code_of (back n) text = behind text (one (op.go_back n))
-  code_of (atomic a) text = behind text (atomic_code (closed (code_of a []) (waits a [])))
-  code_of (delegate t a) text = behind text (one (op.delegate has_member fold t))
-  code_of (tail t a) text = behind text (tail_code (op.tail has_member fold t) (closed (code_of a []) (waits a [])))
-  code_of (repeat a lo None greedy) text = behind text (loop_code lo greedy (closed (code_of a []) (waits a [])))
-  code_of (repeat a lo (Some hi) greedy) text = behind text (repeat_code lo hi greedy (closed (code_of a []) (waits a [])))
-  code_of (backref k casei) text = behind text (one (op.backref (2 * k) casei))
-  code_of (exists k) text = behind text (one (op.exists (2 * k)))
-  code_of (conditional c a b) text = behind text
+  code_of (read (literal c true)) text = after_text text (one (leaf_op (literal c true)))
+  code_of (read (any newline crlf)) text = after_text text (one (leaf_op (any newline crlf)))
+  code_of (read (class name casei)) text = after_text text (one (leaf_op (class name casei)))
+  code_of (general_newline unicode) text = after_text text (one (op.general_newline unicode))
+  code_of (check a) text = after_text text (one (op.assertion a))
+  code_of continue text = after_text text (one op.continue)
+  code_of keep_out text = after_text text (λ pc slot. if whole then op.save 0 ∷ [] else [])
+  code_of fail text = after_text text (one op.fail)
+  code_of (alt a b) text = after_text text (alt_code (closed (code_of a []) (waits a [])) (closed (code_of b []) (waits b [])) (slots_in a))
+  code_of (group k a) text = after_text text (group_code k (closed (code_of a []) (waits a [])))
+  code_of (ahead a) text = after_text text (ahead_code (closed (code_of a []) (waits a [])))
+  code_of (never a) text = after_text text (never_code (closed (code_of a []) (waits a [])))
+  code_of (back n) text = after_text text (one (op.go_back n))
+  code_of (atomic a) text = after_text text (atomic_code (closed (code_of a []) (waits a [])))
+  code_of (delegate t a) text = after_text text (one (op.delegate has_member fold t))
+  code_of (tail t a) text = after_text text (tail_code (op.tail has_member fold t) (closed (code_of a []) (waits a [])))
+  code_of (repeat a lo None greedy) text = after_text text (loop_code lo greedy (closed (code_of a []) (waits a [])))
+  code_of (repeat a lo (Some hi) greedy) text = after_text text (repeat_code lo hi greedy (closed (code_of a []) (waits a [])))
+  code_of (backref k casei) text = after_text text (one (op.backref (2 * k) casei))
+  code_of (exists k) text = after_text text (one (op.exists (2 * k)))
+  code_of (conditional c a b) text = after_text text
       (conditional_code (closed (code_of c []) (waits c [])) (closed (code_of a []) (waits a [])) (closed (code_of b []) (waits b []))
       (slots_in c) (slots_in a))
-  code_of (absent a) text = behind text (absent_code (closed (code_of a []) (waits a [])))
+  code_of (absent a) text = after_text text (absent_code (closed (code_of a []) (waits a [])))
 
   -- The program of a whole pattern: it tries each start, unless it is anchored, and the slots of group 0 say where it
   -- starts and ends.

@@ -8,7 +8,7 @@ use std::sync::Arc;
 
 const _: () = prove!(size_of::<Insn>() <= 24);
 
-/// One instruction of a program, of at most 24 bytes: operands that are larger lie behind a pointer. Jump targets are indices of instructions. Slots are numbered from 0; each holds a byte
+/// One instruction of a program, of at most 24 bytes: operands that are larger lie after a pointer. Jump targets are indices of instructions. Slots are numbered from 0; each holds a byte
 /// offset, a count, a height of the backtrack stack, or nothing. The slots 2k and 2k + 1 are the start and the end of group k.
 #[derive(Clone, Debug, Drop)]
 pub enum Insn {
@@ -83,14 +83,14 @@ pub enum Insn {
     BackrefExistsCondition(usize),
     /// Fails.
     Fail,
-    /// Continues behind what a part of the pattern matches first.
+    /// Continues after what a part of the pattern matches first.
     Delegate(Arc<Delegate>),
-    /// The end of the whole pattern. Where only the first match of a search counts, continues at `end` behind what the part matches first
+    /// The end of the whole pattern. Where only the first match of a search counts, continues at `end` after what the part matches first
     /// in range, and fails where it has no such match. In other searches it continues with the next instruction.
     DelegateTail {
         /// The rest of the pattern.
         part: Arc<Delegate>,
-        /// The instruction behind the instructions of the part.
+        /// The instruction after the instructions of the part.
         end: usize,
     },
     /// A step of an absent repeater.
@@ -104,7 +104,7 @@ pub struct Repeat {
     pub lo: usize,
     /// The greatest count of iterations.
     pub hi: usize,
-    /// The instruction behind the repeat.
+    /// The instruction after the repeat.
     pub next: usize,
     /// The slot that counts the iterations.
     pub repeat: usize,
@@ -115,7 +115,7 @@ pub struct Repeat {
 pub struct RepeatEpsilon {
     /// The least count of iterations, below `usize::MAX`.
     pub lo: usize,
-    /// The instruction behind the repeat.
+    /// The instruction after the repeat.
     pub next: usize,
     /// The slot that counts the iterations, up to one past the least count.
     pub repeat: usize,

@@ -13,7 +13,7 @@ use Rattle.fancy_regex_program.specs.SlotLayout.{slots_of_way}
 use Rattle.fancy_regex_program_laws.proofs.Denote.{Tale, Follow, Run, opens, closes, below, end_ends, end_seen, end_looked, end_look, end_absent}
 use Rattle.fancy_regex_program_laws.proofs.Runs.{above_refl, above_cons, Same, same_refl, same_trans, same_set, thread, lt_yes, lt_no, lt_is, Within, Sound, known, Comes, Pops, Follows, pops_to, pops_scan, forked, by_move, Exits, exits_later, Does}
 use Rattle.fancy_regex_program_laws.proofs.ProgramParts.{HasAt, has_back, plain_at, with_slot_is}
-use Rattle.fancy_regex_program_laws.proofs.TextPositions.{Next, places_behind, places_from, next_of}
+use Rattle.fancy_regex_program_laws.proofs.TextPositions.{Next, places_after, places_from, next_of}
 
 -- places one character apart, down to the start
 abbrev Down : List ℕ → ℕ → List ℕ → Type 0
@@ -181,7 +181,7 @@ module _ (code : List Op) (r : RunParameters) (whole : Bool) (count : ℕ) (utf8
         let last = has_back code (pc + 2) (pc + 2 + length b) b (op.absent_limit (slot + 1) ∷ op.absent_end slot (slot + 1) ∷ []) refl at_b in
         let at_end = subst (λ p. slice_get code p ≡ Some (op.absent_end slot (slot + 1))) three last.1.0 in
         let cut : IsCharBoundary text w.position = sound.cuts.0 in
-        let qs = places_behind text w.position in
+        let qs = places_after text w.position in
         let all = places_from text w.position cut in
         let there : slot < length m = omega arith in
         let tale = end_absent g (w.position ∷ qs) w k x in

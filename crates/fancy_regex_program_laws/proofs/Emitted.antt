@@ -140,7 +140,7 @@ module _ (has_member : Text → Bool → ℕ → Bool) (fold : ℕ → ℕ) (who
   closed_starts p pc slot = starts_both (code_of has_member fold whole p [] pc slot) (flushed (waits p [])) (code_starts p [] pc slot) (starts_flushed (waits p []))
 
 module _ (code : List Op) (r : RunParameters) (whole : Bool) (count : ℕ) (utf8 : IsUtf8 r.setting.text) (small : length r.setting.text < unset) where
-  -- What a stretch of the program does, where that text waits before it and that text behind it.
+  -- What a stretch of the program does, where that text waits before it and that text after it.
   pub record Leads (from to own much : ℕ) (free : Bool) (before after : Text) (g : Run) : Type 0 where
     pub by : (low : ℕ) (w : MatchState) (m : List ℕ) (rest : List Thread) (x : Tale) (k : Follow) → 2 * count ≤ low → low ≤ own → own + much ≤ length m →
         Sound r.setting.text count w → take (2 * count) m ≡ slots_of_way whole w → Pops code r whole count rest x →
@@ -153,7 +153,7 @@ module _ (code : List Op) (r : RunParameters) (whole : Bool) (count : ℕ) (utf8
       does_move code r whole count pc slot free (op.lit (c ∷ cs)) (match_text r.setting.text (c ∷ cs)) at (λ height t. refl)
       (λ w q sound e. good_text r.setting utf8 count (c ∷ cs) free w q sound e)
 
-  -- the text that waits, and a node behind it
+  -- the text that waits, and a node after it
   leads_node : (pc slot much : ℕ) (free : Bool) (l : Text) (b : List Op) (g : Run) → StartsPlain b → HasAt code pc (flushed l ++ b) →
       Does code r whole count (pc + length (flushed l)) (pc + length (flushed l) + length b) slot much free g →
       Leads pc (pc + length (flushed l ++ b)) slot much free l [] g
@@ -176,7 +176,7 @@ module _ (code : List Op) (r : RunParameters) (whole : Bool) (count : ℕ) (utf8
         });
   }
 
-  -- a stretch, and the text that waits behind it
+  -- a stretch, and the text that waits after it
   does_closed : (pc slot much : ℕ) (free : Bool) (l : Text) (b : List Op) (g : Run) → HasAt code (pc + length b) (flushed l) →
       Leads pc (pc + length b) slot much free [] l g → Does code r whole count pc (pc + length (b ++ flushed l)) slot much free g
   does_closed pc slot much free [] b g at leads = record {
@@ -247,7 +247,7 @@ module _ (code : List Op) (r : RunParameters) (whole : Bool) (count : ℕ) (utf8
         let here = has_back code pc (pc + length (flushed l)) (flushed l) b refl at in
         leads_node pc slot much free l b g starts at (does_to code r whole count (pc + length (flushed l)) to _ slot much free g e (does here))
 
-    -- with what waits behind it
+    -- with what waits after it
     closed_by : (p : CorePattern) (pc slot : ℕ) (free : Bool) →
         (HasAt code pc (made p [] pc slot) → Leads pc (pc + length (made p [] pc slot)) slot (slots_in p) free [] (waits p []) (ending r.setting (tail_bound r.find) p)) →
         HasAt code pc (within p pc slot) → Does code r whole count pc (pc + length (within p pc slot)) slot (slots_in p) free (ending r.setting (tail_bound r.find) p)

@@ -37,10 +37,10 @@ module _ (first : ℕ) (ops : List Op) where
   at_op at o here (suc n) e =
       (n, ap (λ (x : Option Op). elim x as (λ _. Bool) [ None ↦ false | Some p ↦ reads_past first (reads_from first ops n) at (passing_of p) ]) (sym here) ∙ e)
 
-  none_behind : (at : ℕ) → length ops ≤ at → (n : ℕ) → reads_from first ops n at ≡ true → ⊥
+  none_following : (at : ℕ) → length ops ≤ at → (n : ℕ) → reads_from first ops n at ≡ true → ⊥
   unfolding reads_from
-  none_behind at past zero e = absurd cc
-  none_behind at past (suc n) e =
+  none_following at past zero e = absurd cc
+  none_following at past (suc n) e =
       let both : false ≡ true = sym (ap (λ (x : Option Op). elim x as (λ _. Bool) [ None ↦ false | Some p ↦ reads_past first (reads_from first ops n) at (passing_of p) ]) (slice_get_past ops at past)) ∙ e in
       absurd cc
 
@@ -86,7 +86,7 @@ module _ (first : ℕ) (ops : List Op) where
     abbrev within : CorePattern → Code
     within p = closed (made p []) (waits p [])
 
-    -- it takes a character, or each run behind it reads one
+    -- it takes a character, or each run after it reads one
     abbrev Passes : CorePattern → ℕ → ℕ → ℕ → Type 0
     Passes p at pc slot = TakesSome p ⊎ ((waits p [] ≡ []) × Reads (at + length (made p [] pc slot)))
 
@@ -125,9 +125,9 @@ module _ (first : ℕ) (ops : List Op) where
         round : HasAt ops (at + 2) (xs ++ op.jump (pc + 1) ∷ []) → Reads (at + 2) → TakesSome a
         round here2 r =
             ⊎_elim (λ (t : TakesSome a). t)
-            (λ (behind : Reads (at + 2 + length xs)).
+            (λ (following : Reads (at + 2 + length xs)).
             let last = has_back ops (at + 2) (at + 2 + length xs) xs (op.jump (pc + 1) ∷ []) refl here2 in
-            let jumped = on_jump (at + 2 + length xs) (pc + 1) last.0 behind in
+            let jumped = on_jump (at + 2 + length xs) (pc + 1) last.0 following in
             absurd (omega (arith, jumped.0)))
             (inside (has_front ops (at + 2) xs (op.jump (pc + 1) ∷ []) here2) r)
 
@@ -311,5 +311,5 @@ body_takes has_member fold whole a lo pc slot e =
     let xs = closed (code_of has_member fold whole a []) (waits a []) pc slot in
     let both = and_parts (list_all stays xs) (reads_from pc xs reading_depth 0) (and_parts (nat_le lo 1) (always_reads pc xs) e).1 in
     let stay = λ (at slot : ℕ) (here : slice_get xs at ≡ Some (op.restore slot)). stays_each xs at slot both.0 here in
-    ⊎_elim (λ (t : TakesSome a). t) (λ (r : Reads pc xs (0 + length xs)). absurd (none_behind pc xs (0 + length xs) (omega arith) r.0 r.1))
+    ⊎_elim (λ (t : TakesSome a). t) (λ (r : Reads pc xs (0 + length xs)). absurd (none_following pc xs (0 + length xs) (omega arith) r.0 r.1))
     (shut pc xs stay has_member fold whole a 0 pc slot (λ f. through pc xs stay has_member fold whole a 0 pc slot (omega arith) f (reading_depth, both.1)) (has_all xs []))

@@ -25,7 +25,7 @@ use Rattle.fancy_regex_program_laws.proofs.PairsInSlots.{start_of, end_of, laid_
 use Rattle.fancy_regex_program_laws.proofs.Runs.{above_refl, same_refl, thread, place_is, eq_other, Sound, Follows, by_move, Does}
 use Rattle.fancy_regex_program_laws.proofs.ProgramParts.{with_slot_is, does_test}
 
--- what stands before the place behind one character that passes
+-- what stands before the place after one character that passes
 record Passed (text : List ℕ) (p q : ℕ) : Type 0 where
   char : ℕ
   here : char_at text p ≡ Some char

@@ -13,22 +13,22 @@ use Rattle.fancy_regex_meaning.proofs.NextBoundaryLemmas.{next_place, end_place}
 use Rattle.fancy_regex_program.specs.Machine.{match_char}
 use Rattle.fancy_regex_program_laws.proofs.Runs.{boundary_is}
 
--- What comes behind a place: nothing, or the next place, which is one character on, and the places behind that.
+-- What comes after a place: nothing, or the next place, which is one character on, and the places after that.
 abbrev pub Next : List ℕ → ℕ → List ℕ → Type 0
 Next text p [] = match_char text (λ c. true) p ≡ None
 Next text p (q ∷ qs) =
     (match_char text (λ c. true) p ≡ Some q) × (p < q) × IsCharBoundary text q × (position_before text 1 q ≡ Some p) × (boundaries text q (length text) ≡ q ∷ qs)
 
--- the places behind a place
-abbrev pub places_behind : List ℕ → ℕ → List ℕ
-places_behind text p = filter (is_boundary text) (numbers_from (length text - p) (p + 1))
+-- the places after a place
+abbrev pub places_after : List ℕ → ℕ → List ℕ
+places_after text p = filter (is_boundary text) (numbers_from (length text - p) (p + 1))
 
-pub places_from : (text : List ℕ) (p : ℕ) → IsCharBoundary text p → boundaries text p (length text) ≡ p ∷ places_behind text p
+pub places_from : (text : List ℕ) (p : ℕ) → IsCharBoundary text p → boundaries text p (length text) ≡ p ∷ places_after text p
 places_from text p here =
     let le : p ≤ length text = here.0 in
     let n : length text + 1 - p ≡ suc (length text - p) = omega arith in
     ap (λ k. filter (is_boundary text) (numbers_from k p)) n
-    ∙ ap (λ b. cond b (p ∷ places_behind text p) (places_behind text p)) (boundary_is text p here)
+    ∙ ap (λ b. cond b (p ∷ places_after text p) (places_after text p)) (boundary_is text p here)
 
 pub next_of : (text : List ℕ) → IsUtf8 text → (p : ℕ) (qs : List ℕ) → IsCharBoundary text p → boundaries text p (length text) ≡ p ∷ qs → Next text p qs
 next_of text utf8 p qs here e = at (char_at text p) refl
@@ -46,9 +46,9 @@ next_of text utf8 p qs here e = at (char_at text p) refl
         let some = len_utf8_bounds c in
         let cut : IsCharBoundary text q = IsCharBoundary-past_char text _ p c le (IsUtf8-drop text p utf8 here) (char_at_parts text p c found).1 in
         let more = places_from text q cut in
-        let all : p ∷ qs ≡ p ∷ q ∷ places_behind text q =
+        let all : p ∷ qs ≡ p ∷ q ∷ places_after text q =
         sym e ∙ next_place text p (length text) c here found (omega (arith, fits)) le ∙ ap (λ l. p ∷ l) more in
-        let same : qs ≡ q ∷ places_behind text q = cc in
+        let same : qs ≡ q ∷ places_after text q = cc in
         let back : q - len_utf8 c ≡ p = omega arith in
         subst (Next text p) (sym same) (
           ap (λ (o : Option ℕ). elim o [ None ↦ None | Some d ↦ Some (p + len_utf8 d) ]) found,

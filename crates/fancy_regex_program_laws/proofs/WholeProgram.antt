@@ -98,10 +98,10 @@ filter_both f g (x ∷ xs) = one_test f g x (g x) (filter g xs) (filter (λ y. g
 
 module _ (r : RunParameters) where
   -- the starts that may be tried after a place
-  abbrev behind : ℕ → List ℕ
-  behind q = cond r.find.anchored [] (filter r.may_start (boundaries r.setting.text (q + 1) r.find.stop))
+  abbrev following : ℕ → List ℕ
+  following q = cond r.find.anchored [] (filter r.may_start (boundaries r.setting.text (q + 1) r.find.stop))
 
-  next_is : (q : ℕ) → next_start r q ≡ first_item (behind q)
+  next_is : (q : ℕ) → next_start r q ≡ first_item (following q)
   next_is q = step r.find.anchored
     where
       step : (b : Bool) → cond b None (first_item (filter r.may_start (boundaries r.setting.text (q + 1) r.find.stop)))
@@ -286,7 +286,7 @@ module _ (r : RunParameters) (p : CorePattern) (whole anchored : Bool) (count : 
   slots_fit : take (2 * count) slots ≡ group_slots (no_pairs count)
   slots_fit = take_unset (2 * count) (slots_in p) ∙ sym (flat_none count)
 
-  -- from the operation behind the one that tries starts
+  -- from the operation after the one that tries starts
   start_comes : (b : Bool) → whole ≡ b → (pc q : ℕ) (rest : List Thread) (x : Tale) → HasAt code pc (cond b (op.save 0 ∷ []) []) → length front ≡ pc + length (cond b (op.save 0 ∷ []) []) →
       IsCharBoundary r.setting.text q → Pops code r whole count rest x →
       Comes code r whole count (thread pc q slots ∷ rest) (folded follow_end x (trail_from r p whole count (first_group_number whole) asked.writable asked.small q))
@@ -355,8 +355,8 @@ module _ (r : RunParameters) (p : CorePattern) (whole anchored : Bool) (count : 
   place_of : (q : ℕ) → q ≤ r.find.stop → is_boundary r.setting.text q ≡ true → IsCharBoundary r.setting.text q
   place_of q le is = IsCharBoundary-of_test r.setting.text q (omega (arith, asked.stop)) is
 
-  -- the next start is a place, and the others come behind it
-  next_place : (q next : ℕ) (qs : List ℕ) → behind r q ≡ next ∷ qs → IsCharBoundary r.setting.text next × (behind r next ≡ qs)
+  -- the next start is a place, and the others come after it
+  next_place : (q next : ℕ) (qs : List ℕ) → following r q ≡ next ∷ qs → IsCharBoundary r.setting.text next × (following r next ≡ qs)
   next_place q next qs e = step r.find.anchored e
     where
       step : (b : Bool) → cond b [] (filter r.may_start (boundaries r.setting.text (q + 1) r.find.stop)) ≡ next ∷ qs →
@@ -373,7 +373,7 @@ module _ (r : RunParameters) (p : CorePattern) (whole anchored : Bool) (count : 
       length-append (cond anchored [] (op.split_unanchored ∷ [])) (cond whole (op.save 0 ∷ []) [])
       ∙ ap (λ c. length (cond c [] (op.split_unanchored ∷ [])) + length (cond whole (op.save 0 ∷ []) [])) is
 
-  from_here : anchored ≡ false → (qs : List ℕ) (q : ℕ) → behind r q ≡ qs → IsCharBoundary r.setting.text q → Comes code r whole count (thread 0 q slots ∷ []) (tale_from q qs)
+  from_here : anchored ≡ false → (qs : List ℕ) (q : ℕ) → following r q ≡ qs → IsCharBoundary r.setting.text q → Comes code r whole count (thread 0 q slots ∷ []) (tale_from q qs)
   from_here is [] q e here =
       let at = split_at is in
       by_move code r whole count (thread 0 q slots) [] op.split_unanchored (goes (thread 1 q slots)) (tale_from q []) at.0 here
@@ -395,8 +395,8 @@ module _ (r : RunParameters) (p : CorePattern) (whole anchored : Bool) (count : 
       subst (λ b. HasAt code 0 (cond b [] (op.split_unanchored ∷ []) ++ cond whole (op.save 0 ∷ []) [])) is (has_front code 0 front (body ++ last) all_at) in
       start_comes whole refl 0 q [] (others []) at (omega (arith, long_front true is)) here nothing_left
 
-  -- the first start is a place, and the others come behind it
-  first_place : (q : ℕ) (qs : List ℕ) → tried r ≡ q ∷ qs → IsCharBoundary r.setting.text q × (behind r q ≡ qs)
+  -- the first start is a place, and the others come after it
+  first_place : (q : ℕ) (qs : List ℕ) → tried r ≡ q ∷ qs → IsCharBoundary r.setting.text q × (following r q ≡ qs)
   first_place q qs e = outer (nat_lt r.find.stop r.find.first) e
     where
       single : (b : Bool) → cond b (r.find.first ∷ []) [] ≡ q ∷ qs → IsCharBoundary r.setting.text q × ([] ≡ qs)
@@ -409,7 +409,7 @@ module _ (r : RunParameters) (p : CorePattern) (whole anchored : Bool) (count : 
       inner false d = let h = later_starts r r.find.first q qs d in (place_of q h.2 h.0, sym h.3)
 
       outer : (b : Bool) → cond b [] (filter r.may_start (cond r.find.anchored (r.find.first ∷ []) (boundaries r.setting.text r.find.first r.find.stop))) ≡ q ∷ qs →
-          IsCharBoundary r.setting.text q × (behind r q ≡ qs)
+          IsCharBoundary r.setting.text q × (following r q ≡ qs)
       outer true d = absurd cc
       outer false d = inner r.find.anchored d
 
@@ -443,8 +443,8 @@ module _ (r : RunParameters) (p : CorePattern) (whole anchored : Bool) (count : 
     },
   )
 
-  -- behind the only start of an anchored search there is none
-  alone : anchored ≡ true → (q : ℕ) → behind r q ≡ []
+  -- after the only start of an anchored search there is none
+  alone : anchored ≡ true → (q : ℕ) → following r q ≡ []
   alone is q = ap (λ (b : Bool). cond b [] (filter r.may_start (boundaries r.setting.text (q + 1) r.find.stop))) (own is)
 
   over_some : (q : ℕ) (qs : List ℕ) → tried r ≡ q ∷ qs → (b : Bool) → anchored ≡ b → (n : ℕ) × ((j : ℕ) → n ≤ j → Finishes r p whole anchored count (tried r) j)

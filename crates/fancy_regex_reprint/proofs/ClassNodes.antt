@@ -16,9 +16,9 @@ use Rattle.fancy_regex_tree.specs.Printable.{is_printable, are_printable, has_tw
 use Rattle.fancy_regex_tree.specs.declared.expr.Expr.{Expr}
 use Rattle.fancy_regex_reprint.specs.Reprinted.{class_reads_back}
 
-behind : (a p x c : Bool) → p && x ≡ p && c → (a && p) && x ≡ (a && p) && c
-behind true p x c h = h
-behind false p x c h = refl
+after : (a p x c : Bool) → p && x ≡ p && c → (a && p) && x ≡ (a && p) && c
+after true p x c h = h
+after false p x c h = refl
 
 in_pairs : (p q x y c d : Bool) → p && x ≡ p && c → q && y ≡ q && d → (p && q) && (x && y) ≡ (p && q) && (c && d)
 in_pairs true true x y c d h k = ap (λ b. b && y) h ∙ ap (λ b. c && b) k
@@ -31,9 +31,9 @@ mutual
   class_nodes : (t : Tree) → is_printable t && list_all class_reads_back (nodes t) ≡ is_printable t && classes_read_back t
   class_nodes (delegate inner casei) = ap (λ b. is_some (class_alone inner) && b) (and-true _)
   class_nodes (concat ts) = all_class_nodes ts
-  class_nodes (alt ts) = behind (has_two_branches ts) (are_printable ts) _ _ (all_class_nodes ts)
+  class_nodes (alt ts) = after (has_two_branches ts) (are_printable ts) _ _ (all_class_nodes ts)
   class_nodes (group t) = class_nodes t
-  class_nodes (repeat t lo hi greedy) = behind _ (is_printable t) _ _ (class_nodes t)
+  class_nodes (repeat t lo hi greedy) = after _ (is_printable t) _ _ (class_nodes t)
   class_nodes _ = refl
 
   all_class_nodes : (ts : Trees) → are_printable ts && list_all class_reads_back (all_nodes ts) ≡ are_printable ts && all_classes_read_back ts

@@ -16,7 +16,7 @@ use std::alloc::AllocError;
 /// same ordered matches from each position as the tree.
 ///
 /// `precedence` is 0 for a whole pattern or the body of a group, 1 for a branch, 2 for a piece of a concatenation, 3 for an
-/// expression with a quantifier behind it. Fails only if an allocation fails; the buffer is then unchanged.
+/// expression with a quantifier after it. Fails only if an allocation fails; the buffer is then unchanged.
 pub fn print_in_place(expr: &Expr, buf: &mut String, precedence: u8) -> Result<(), AllocError>
     requires printable { IsTrue (is_printable (tree_of expr.now)) }
     ensures printed { OnOk result (chars (string_bytes buf.new) ≡ chars (string_bytes buf.old) ++ printed precedence (tree_of expr.now)) }

@@ -1,4 +1,4 @@
--- A search behind a match is one of the iteration that found it.
+-- A search after a match is one of the iteration that found it.
 use Rattle.std.proofs.Common.{◌≡◌, ℕ, ◌<◌, ◌≤◌, max, Bool, false, List, ◌∷◌, Option, Some, None, ◌==◌, if◌then◌else◌, subst, ap, sym, ◌∙◌}
 use Rattle.fancy_regex_meaning.specs.Positions.{position_after}
 use Rattle.fancy_regex_meaning.specs.Searches.{Match}
@@ -6,9 +6,9 @@ use Rattle.fancy_regex_input.specs.declared.config.SearchConfig.{SearchConfig}
 use Rattle.fancy_regex_meta.specs.MetaMatches.{meta_match_from}
 use Rattle.fancy_regex_meta.specs.declared.error.Error.{Error}
 use Rattle.fancy_regex_meta.specs.declared.meta_regex.MetaRegex.{MetaRegex}
-use Rattle.fancy_regex_search.specs.IterationErrors.{IsErrorBehind, IsIterationError}
+use Rattle.fancy_regex_search.specs.IterationErrors.{IsErrorAfter, IsIterationError}
 use Rattle.fancy_regex_search.specs.RemainingMatches.{next_start}
-use Rattle.fancy_regex_search.specs.IterationSearches.{MakesSearch, next, behind, KeepsSearches, MakesSearchFrom, SkipsTo, at_once, skipped, KeepsSkips, continue_disabled_after, ComesBehind, no_item, one_item, ComesTo, PassesItem}
+use Rattle.fancy_regex_search.specs.IterationSearches.{MakesSearch, next, following, KeepsSearches, MakesSearchFrom, SkipsTo, at_once, skipped, KeepsSkips, continue_disabled_after, ComesAfter, no_item, one_item, ComesTo, PassesItem}
 use Rattle.fancy_regex_search.specs.declared.match_iter.IterState.{IterState}
 use Rattle.fancy_regex_search.proofs.RemainingLemmas.{found-same, nat_lt-yes, nat_lt-no}
 
@@ -36,7 +36,7 @@ passed s text a b continue_disabled still m p inside found is at flag q o made =
     let first = subst (λ (x : SearchConfig). MakesSearchFrom s text x still q o) is made in
     let second = subst (λ (k : ℕ). MakesSearchFrom s text (record a { start = k }) still q o) at first in
     let third = subst (λ (x : Bool). MakesSearchFrom s text (record a { start = next_start text m.start m.end }) x q o) flag second in
-    behind a.start continue_disabled m q o inside found (restarted s text a (next_start text m.start m.end) q (continue_disabled_after (max a.start a.range_start) m) o third)
+    following a.start continue_disabled m q o inside found (restarted s text a (next_start text m.start m.end) q (continue_disabled_after (max a.start a.range_start) m) o third)
 
 -- what a state that skipped a match comes to by skipping, the state before comes to
 pub skip_passed : (s : MetaRegex) (text : List ℕ) (a b : SearchConfig) (before after : IterState) (m : Match) (p : ℕ) → max a.start a.range_start ≤ a.range_end →
@@ -65,19 +65,19 @@ pub skips_made : (text : List ℕ) (find : ℕ → Bool → Option Match) (first
     SkipsTo text find first end last p continue_disabled q o → max q first ≤ end → MakesSearch text find first end p continue_disabled q o
 skips_made text find first end _ _ _ _ _ (at_once last p continue_disabled) inside = next p continue_disabled inside
 skips_made text find first end _ _ _ _ _ (skipped last p continue_disabled m q o within found empty same later) inside =
-    behind p continue_disabled m q o within found (skips_made text find first end (Some m.end) (next_start text m.start m.end) (continue_disabled_after (max p first) m) q o later inside)
+    following p continue_disabled m q o within found (skips_made text find first end (Some m.end) (next_start text m.start m.end) (continue_disabled_after (max p first) m) q o later inside)
 
--- a search that is come to behind items is the same for a configuration that is moved
+-- a search that is come to after items is the same for a configuration that is moved
 pub comes_from : (s : MetaRegex) (text : List ℕ) (a b : SearchConfig) (items : List Match) (l : Option ℕ) (p : ℕ) (off : Bool) (q : ℕ) (o : Bool) → b ≡ record a { start = b.start } →
     ComesTo s text b items l p off q o → ComesTo s text a items l p off q o
 comes_from s text a b items l p off q o is h =
     let there = subst (λ (x : SearchConfig). ComesTo s text x items l p off q o) is h in
-    subst (λ (f : ℕ → Bool → Option Match). ComesBehind text f a.range_start a.range_end items l p off q o) (found-same s text a b.start) there
+    subst (λ (f : ℕ → Bool → Option Match). ComesAfter text f a.range_start a.range_end items l p off q o) (found-same s text a b.start) there
 
 pub comes_to : (s : MetaRegex) (text : List ℕ) (a b : SearchConfig) (items : List Match) (l : Option ℕ) (p : ℕ) (off : Bool) (q : ℕ) (o : Bool) → b ≡ record a { start = b.start } →
     ComesTo s text a items l p off q o → ComesTo s text b items l p off q o
 comes_to s text a b items l p off q o is h =
-    let there = subst (λ (f : ℕ → Bool → Option Match). ComesBehind text f a.range_start a.range_end items l p off q o) (sym (found-same s text a b.start)) h in
+    let there = subst (λ (f : ℕ → Bool → Option Match). ComesAfter text f a.range_start a.range_end items l p off q o) (sym (found-same s text a b.start)) h in
     subst (λ (x : SearchConfig). ComesTo s text x items l p off q o) (sym is) there
 
 pub skips_from : (s : MetaRegex) (text : List ℕ) (a b : SearchConfig) (l : Option ℕ) (p : ℕ) (off : Bool) (q : ℕ) (o : Bool) → b ≡ record a { start = b.start } →
@@ -94,8 +94,8 @@ skips_to s text a b l p off q o is h =
 
 -- what comes to a search by skipping first
 comes_before : (text : List ℕ) (find : ℕ → Bool → Option Match) (first end : ℕ) (items : List Match) (l : Option ℕ) (p : ℕ) (off : Bool) (q : ℕ) (o : Bool) →
-    ComesBehind text find first end items l p off q o → (l' : Option ℕ) (p' : ℕ) (off' : Bool) →
-    ((at : ℕ) (x : Bool) → SkipsTo text find first end l p off at x → SkipsTo text find first end l' p' off' at x) → ComesBehind text find first end items l' p' off' q o
+    ComesAfter text find first end items l p off q o → (l' : Option ℕ) (p' : ℕ) (off' : Bool) →
+    ((at : ℕ) (x : Bool) → SkipsTo text find first end l p off at x → SkipsTo text find first end l' p' off' at x) → ComesAfter text find first end items l' p' off' q o
 comes_before text find first end _ _ _ _ _ _ (no_item l p off q o skips) l' p' off' before = no_item l' p' off' q o (before q o skips)
 comes_before text find first end _ _ _ _ _ _ (one_item l p off at x m items q o skips inside found h) l' p' off' before =
     one_item l' p' off' at x m items q o (before at x skips) inside found h
@@ -119,23 +119,23 @@ item_passed s text a b before after m inside found at flag end items q o h =
     let third = subst (λ (x : Bool). ComesTo s text a items (Some m.end) (next_start text m.start m.end) x q o) flag second in
     one_item before.last a.start before.continue_disabled a.start before.continue_disabled m items q o (at_once before.last a.start before.continue_disabled) inside found third
 
--- what an iteration makes behind skipped matches, it makes
+-- what an iteration makes after skipped matches, it makes
 skips_then : (text : List ℕ) (find : ℕ → Bool → Option Match) (first end : ℕ) (l : Option ℕ) (p : ℕ) (off : Bool) (at : ℕ) (x : Bool) → SkipsTo text find first end l p off at x →
     (q : ℕ) (o : Bool) → MakesSearch text find first end at x q o → MakesSearch text find first end p off q o
 skips_then text find first end _ _ _ _ _ (at_once l p off) q o made = made
 skips_then text find first end _ _ _ _ _ (skipped l p off m at x within found empty same later) q o made =
-    behind p off m q o within found (skips_then text find first end (Some m.end) (next_start text m.start m.end) (continue_disabled_after (max p first) m) at x later q o made)
+    following p off m q o within found (skips_then text find first end (Some m.end) (next_start text m.start m.end) (continue_disabled_after (max p first) m) at x later q o made)
 
--- a search that is come to behind items is one of the iteration
+-- a search that is come to after items is one of the iteration
 pub comes_made : (text : List ℕ) (find : ℕ → Bool → Option Match) (first end : ℕ) (items : List Match) (l : Option ℕ) (p : ℕ) (off : Bool) (q : ℕ) (o : Bool) →
-    ComesBehind text find first end items l p off q o → max q first ≤ end → MakesSearch text find first end p off q o
+    ComesAfter text find first end items l p off q o → max q first ≤ end → MakesSearch text find first end p off q o
 comes_made text find first end _ _ _ _ _ _ (no_item l p off q o skips) inside = skips_made text find first end l p off q o skips inside
 comes_made text find first end _ _ _ _ _ _ (one_item l p off at x m items q o skips within found h) inside =
     skips_then text find first end l p off at x skips q o
-    (behind at x m q o within found (comes_made text find first end items (Some m.end) (next_start text m.start m.end) (continue_disabled_after (max at first) m) q o h inside))
+    (following at x m q o within found (comes_made text find first end items (Some m.end) (next_start text m.start m.end) (continue_disabled_after (max at first) m) q o h inside))
 
--- an error of a search right behind some items is one of the iteration
-pub error_made : (s : MetaRegex) (text : List ℕ) (config : SearchConfig) (items : List Match) (e : Error) → IsErrorBehind s text config items e → IsIterationError s text config false e
+-- an error of a search right after some items is one of the iteration
+pub error_made : (s : MetaRegex) (text : List ℕ) (config : SearchConfig) (items : List Match) (e : Error) → IsErrorAfter s text config items e → IsIterationError s text config false e
 error_made s text config items e h = (
   h.0,
   h.1,

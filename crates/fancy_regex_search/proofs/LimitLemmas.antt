@@ -11,14 +11,14 @@ use Rattle.fancy_regex_search.specs.IterationLimits.{SkipsStayInLimits}
 use Rattle.fancy_regex_search.specs.declared.match_iter.IterState.{IterState}
 use Rattle.fancy_regex_search.proofs.RemainingLemmas.{found-same}
 
--- what holds of the next search, and of those behind it where its match is skipped, holds of each that is come to by skipping
+-- what holds of the next search, and of those after it where its match is skipped, holds of each that is come to by skipping
 each_skip : (P : ℕ → Bool → Type 0) (text : List ℕ) (find : ℕ → Bool → Option Match) (first end : ℕ) (last : Option ℕ) (p : ℕ) (off : Bool) (q : ℕ) (o : Bool) →
     SkipsTo text find first end last p off q o → P p off →
     ((m : Match) → max p first ≤ end → find (max p first) off ≡ Some m → m.end ≤ m.start → last ≡ Some m.end →
     SkipsTo text find first end (Some m.end) (next_start text m.start m.end) (continue_disabled_after (max p first) m) q o → P q o) →
     P q o
-each_skip P text find first end _ _ _ _ _ (at_once last p off) here behind = here
-each_skip P text find first end _ _ _ _ _ (skipped last p off m q o inside found empty same later) here behind = behind m inside found empty same later
+each_skip P text find first end _ _ _ _ _ (at_once last p off) here following = here
+each_skip P text find first end _ _ _ _ _ (skipped last p off m q o inside found empty same later) here following = following m inside found empty same later
 
 same-match : (find : Option Match) (m k : Match) → find ≡ Some m → find ≡ Some k → m ≡ k
 same-match find m k e f = cc
@@ -53,7 +53,7 @@ module _ (s : MetaRegex) (text : List ℕ) (a : SearchConfig) (before : IterStat
         let is : m ≡ k = same-match _ m k found other in
         unlike (subst (λ (x : Match). before.last ≡ Some x.end) (sym is) same))
 
-    -- behind a match that is skipped
+    -- after a match that is skipped
     pub skip_stays : (b : SearchConfig) (after : IterState) (p : ℕ) → b ≡ record a { start = p } → p ≡ next_start text m.start m.end →
         after.continue_disabled ≡ continue_disabled_after (max a.start a.range_start) m → after.last ≡ Some m.end →
         SkipsStayInLimits s text b after → SkipsStayInLimits s text a before

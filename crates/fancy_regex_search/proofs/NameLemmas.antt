@@ -23,8 +23,8 @@ pub record Stands (names : Names) (n k : ℕ) (name : Text) : Type 0 where
   pub place : k ≡ n + suc index
   pub there : slice_get names index ≡ Some (Some name)
 
-behind : (o : Option Text) (names : Names) (n k : ℕ) (name : Text) → Stands names (suc n) k name → Stands (o ∷ names) n k name
-behind o names n k name s = record { index = suc s.index; place = omega (arith, s.place); there = s.there }
+following : (o : Option Text) (names : Names) (n k : ℕ) (name : Text) → Stands names (suc n) k name → Stands (o ∷ names) n k name
+following o names n k name s = record { index = suc s.index; place = omega (arith, s.place); there = s.there }
 
 other_of : (a b : Bool) → (a || b) ≡ true → a ≡ false → b ≡ true
 other_of true b e f = absurd (true≢false f)
@@ -37,20 +37,20 @@ named_first : (name other : Text) (names : Names) (n k : ℕ) (b c : Bool) → s
 named_first name other names n k true true e f rest h =
     let here : suc n ≡ k = eqb-true (suc n) k f in
     record { index = 0; place = omega arith; there = ap (λ x. Some (Some x)) ((bytes_eq-Decides other name).0 e) }
-named_first name other names n k true false e f rest h = behind (Some other) names n k name (rest (other_of (nat_eq (suc n) k) (has k (numbers_of name (suc n) names)) h f))
-named_first name other names n k false c e f rest h = behind (Some other) names n k name (rest h)
+named_first name other names n k true false e f rest h = following (Some other) names n k name (rest (other_of (nat_eq (suc n) k) (has k (numbers_of name (suc n) names)) h f))
+named_first name other names n k false c e f rest h = following (Some other) names n k name (rest h)
 
 pub stands : (name : Text) (n : ℕ) (names : Names) (k : ℕ) → has k (numbers_of name n names) ≡ true → Stands names n k name
 unfolding numbers_of
 stands name n [] k h = absurd (true≢false (sym h))
-stands name n (None ∷ names) k h = behind None names n k name (stands name (suc n) names k h)
+stands name n (None ∷ names) k h = following None names n k name (stands name (suc n) names k h)
 stands name n (Some other ∷ names) k h =
     named_first name other names n k (same_text other name) (nat_eq (suc n) k) refl refl (stands name (suc n) names k) h
 
 -- one of two rows has it
-has_behind : (k : ℕ) (xs ys : List ℕ) → has k ys ≡ true → has k (xs ++ ys) ≡ true
-has_behind k [] ys h = h
-has_behind k (x ∷ xs) ys h = ap (λ b. nat_eq x k || b) (has_behind k xs ys h) ∙ or_true (nat_eq x k) where
+has_after : (k : ℕ) (xs ys : List ℕ) → has k ys ≡ true → has k (xs ++ ys) ≡ true
+has_after k [] ys h = h
+has_after k (x ∷ xs) ys h = ap (λ b. nat_eq x k || b) (has_after k xs ys h) ∙ or_true (nat_eq x k) where
   or_true : (b : Bool) → (b || true) ≡ true
   or_true true = refl
   or_true false = refl
@@ -72,7 +72,7 @@ is_among name n (Some other ∷ names) zero h =
 is_among name n (Some other ∷ names) (suc index) h =
     let same : n + suc (suc index) ≡ suc n + suc index = omega arith in
     ap (λ k. has k (cond (same_text other name) (suc n ∷ []) [] ++ numbers_of name (suc n) names)) same
-    ∙ has_behind (suc n + suc index) (cond (same_text other name) (suc n ∷ []) []) (numbers_of name (suc n) names) (is_among name (suc n) names index h)
+    ∙ has_after (suc n + suc index) (cond (same_text other name) (suc n ∷ []) []) (numbers_of name (suc n) names) (is_among name (suc n) names index h)
 
 module _ (m : BTreeMap (String Global) (Vec ℕ Global)) (names : Names) (are : AreGroupNumbersOf m names) (group : ℕ) where
   place_named : (k : ℕ) (name : Text) → all_scalars name ≡ true → Stands names 0 k name → Some name ≡ name_at names k

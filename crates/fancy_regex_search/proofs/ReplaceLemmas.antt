@@ -10,9 +10,9 @@ use Rattle.fancy_regex_class.specs.RunInputs.{match_slots}
 use Rattle.fancy_regex_meta.specs.MetaMatches.{meta_pattern}
 use Rattle.fancy_regex_meta.specs.SearchLimits.{IsMetaSearchError, MetaStaysInLimits}
 use Rattle.fancy_regex_meta.specs.declared.error.Error.TheVariants.{Memory}
-use Rattle.fancy_regex_search.specs.IterationErrors.{IsItemError, IsErrorBehind}
+use Rattle.fancy_regex_search.specs.IterationErrors.{IsItemError, IsErrorAfter}
 use Rattle.fancy_regex_search.specs.IterationSearches.{at_once, no_item, ComesTo, PassesItem}
-use Rattle.fancy_regex_search.specs.IterationLimits.{SkipsStayInLimits, StaysBehind, ReplacementStays}
+use Rattle.fancy_regex_search.specs.IterationLimits.{SkipsStayInLimits, StaysAfter, ReplacementStays}
 use Rattle.fancy_regex_search.specs.declared.match_iter.IterState.{IterState}
 use Rattle.fancy_regex_input.specs.SearchInputs.{whole}
 use Rattle.fancy_regex_search.proofs.IterationLemmas.{comes_from, comes_to, skips_from}
@@ -23,7 +23,7 @@ use Rattle.fancy_regex_meta.specs.declared.found.Wanted.{Wanted}
 use Rattle.fancy_regex_meta.specs.declared.found.Wanted.TheVariants.{Span, Groups}
 use Rattle.fancy_regex_search.specs.Replacements.{Shown, shown, AnswersBy, IsReplacedByCalls, FailsInTurn, here, later, AnswersInTurn, AnswersText, still_replaced, is_spent, limit_of, IsReplacedBy, by_calls, by_text, IsReplacedLeaving, left_by_calls, left_by_text, IsReplaceError, of_search, of_search_by_text, of_call, of_memory, IsReplaceErrorLeaving, search_failed, search_failed_by_text, call_failed, memory_ran_out}
 
--- What is still to be replaced from an offset on, behind a text that is out, completes the replacement of all of these matches.
+-- What is still to be replaced from an offset on, after a text that is out, completes the replacement of all of these matches.
 pub record Completes {S : Type 0} (Calls : S → Shown → Result (List ℕ) Error → S → Type 0) (r : MetaRegex) (text : List ℕ) (ms : List Match) (first : S) (p : ℕ) (left : List Match) (s : S) (out : List ℕ) : Type 0 where
   pub replaces : (more : List ℕ) (last : S) → IsReplacedByCalls Calls r text p left s more last → IsReplacedByCalls Calls r text 0 ms first (out ++ more) last
   pub fails : (e : Error) (last : S) → FailsInTurn Calls s (map (shown r text) left) e last → FailsInTurn Calls first (map (shown r text) ms) e last
@@ -78,7 +78,7 @@ pub still_all : (limit : ℕ) (ms : List Match) → still_replaced (limit_of lim
 still_all zero ms = refl
 still_all (suc n) ms = refl
 
--- One call for each of these matches has answered, and what the iteration comes to from here it comes to behind them.
+-- One call for each of these matches has answered, and what the iteration comes to from here it comes to after them.
 pub record Progress {S : Type 0} (Calls : S → Shown → Result (List ℕ) Error → S → Type 0) (r : MetaRegex) (text : List ℕ) (ms : List Match) (first : S)
     (config : SearchConfig) (state : IterState) (left : List Match) (s : S) : Type 0 where
   pub done : List Match
@@ -87,7 +87,7 @@ pub record Progress {S : Type 0} (Calls : S → Shown → Result (List ℕ) Erro
   pub turns : AnswersInTurn Calls first (map (shown r text) done) answers s
   pub comes : (items : List Match) (q : ℕ) (o : Bool) → ComesTo r text (whole text) items state.last config.start state.continue_disabled q o →
       ComesTo r text (whole text) (done ++ items) None 0 false q o
-  pub kept : ((more rest : List Match) → left ≡ more ++ rest → StaysBehind r text (whole text) (done ++ more)) → ReplacementStays r text ms
+  pub kept : ((more rest : List Match) → left ≡ more ++ rest → StaysAfter r text (whole text) (done ++ more)) → ReplacementStays r text ms
 
 one_more : {S : Type 0} (Calls : S → Shown → Result (List ℕ) Error → S → Type 0) (s : S) (ms : List Shown) (ws : List (List ℕ)) (mid : S) (m : Shown) (w : List ℕ) (next : S) →
     AnswersInTurn Calls s ms ws mid → Calls mid m (Ok w) next → AnswersInTurn Calls s (ms ++ (m ∷ [])) (ws ++ (w ∷ [])) next
@@ -100,29 +100,29 @@ shown_more : (r : MetaRegex) (text : List ℕ) (ms : List Match) (m : Match) →
 shown_more r text [] m = refl
 shown_more r text (n ∷ ms) m = ap (λ (xs : List Shown). shown r text n ∷ xs) (shown_more r text ms m)
 
--- the first of two equal lists, and what is behind it
+-- the first of two equal lists, and what is after it
 first_same : (m n : Match) (xs ys : List Match) → m ∷ xs ≡ n ∷ ys → m ≡ n
 first_same m n xs ys e = ap (λ (l : List Match). elim l [ [] ↦ m | x ∷ more ↦ x ]) e
 
 rest_same : (m n : Match) (xs ys : List Match) → m ∷ xs ≡ n ∷ ys → xs ≡ ys
 rest_same m n xs ys e = ap (λ (l : List Match). elim l [ [] ↦ xs | x ∷ more ↦ more ]) e
 
--- what holds behind what is done, and behind one match more and each beginning of the rest, holds behind each beginning
-behind_next : (P : List Match → Type 0) (done : List Match) (m : Match) (left : List Match) → P done →
+-- what holds after what is done, and after one match more and each beginning of the rest, holds after each beginning
+after_next : (P : List Match → Type 0) (done : List Match) (m : Match) (left : List Match) → P done →
     ((more rest : List Match) → left ≡ more ++ rest → P ((done ++ (m ∷ [])) ++ more)) → (more rest : List Match) → m ∷ left ≡ more ++ rest → P (done ++ more)
-behind_next P done m left so h [] rest is = subst P (sym (append-nil done)) so
-behind_next P done m left so h (k ∷ more) rest is =
+after_next P done m left so h [] rest is = subst P (sym (append-nil done)) so
+after_next P done m left so h (k ∷ more) rest is =
     subst P (append_assoc done (m ∷ []) more ∙ ap (λ (x : Match). done ++ (x ∷ more)) (first_same m k left (more ++ rest) is))
     (h more rest (rest_same m k left (more ++ rest) is))
 
-behind_last : (P : List Match → Type 0) (done left : List Match) → P done → left ≡ [] → (more rest : List Match) → left ≡ more ++ rest → P (done ++ more)
-behind_last P done left so none [] rest is = subst P (sym (append-nil done)) so
-behind_last P done left so none (k ∷ more) rest is = absurd (never_empty k (more ++ rest) (sym is ∙ none))
+after_last : (P : List Match → Type 0) (done left : List Match) → P done → left ≡ [] → (more rest : List Match) → left ≡ more ++ rest → P (done ++ more)
+after_last P done left so none [] rest is = subst P (sym (append-nil done)) so
+after_last P done left so none (k ∷ more) rest is = absurd (never_empty k (more ++ rest) (sym is ∙ none))
 
 module _ {S : Type 0} (Calls : S → Shown → Result (List ℕ) Error → S → Type 0) (r : MetaRegex) (text : List ℕ) (ms : List Match) (first : S) where
-  -- the search behind what is done stays within the limits
+  -- the search after what is done stays within the limits
   stays_here : (config : SearchConfig) (state : IterState) (left : List Match) (s : S) → config ≡ record (whole text) { start = config.start } → SkipsStayInLimits r text config state →
-      (so : Progress Calls r text ms first config state left s) → StaysBehind r text (whole text) so.done
+      (so : Progress Calls r text ms first config state left s) → StaysAfter r text (whole text) so.done
   stays_here config state left s is stays so = (
     config.start,
     state.continue_disabled,
@@ -136,7 +136,7 @@ module _ {S : Type 0} (Calls : S → Shown → Result (List ℕ) Error → S →
   -- where no match is left, all searches stayed within the limits
   pub progress_stays : (config : SearchConfig) (state : IterState) (left : List Match) (s : S) → config ≡ record (whole text) { start = config.start } → SkipsStayInLimits r text config state →
       left ≡ [] → Progress Calls r text ms first config state left s → ReplacementStays r text ms
-  progress_stays config state left s is stays none so = so.kept (behind_last (StaysBehind r text (whole text)) so.done left (stays_here config state left s is stays so) none)
+  progress_stays config state left s is stays none so = so.kept (after_last (StaysAfter r text (whole text)) so.done left (stays_here config state left s is stays so) none)
 
   -- before the first search
   pub progress_first : (config : SearchConfig) (state : IterState) → config ≡ whole text → state.last ≡ None → state.continue_disabled ≡ false →
@@ -167,23 +167,23 @@ module _ {S : Type 0} (Calls : S → Shown → Result (List ℕ) Error → S →
         let here = passes items q o (comes_to r text (whole text) config items after.last new.start after.continue_disabled q o is h) in
         let there = so.comes (m ∷ items) q o (comes_from r text (whole text) config (m ∷ items) state.last config.start state.continue_disabled q o is here) in
         subst (λ (xs : List Match). ComesTo r text (whole text) xs None 0 false q o) (sym (append_assoc so.done (m ∷ []) items)) there;
-    kept = λ h. so.kept (behind_next (StaysBehind r text (whole text)) so.done m left (stays_here config state (m ∷ left) s is stays so) h);
+    kept = λ h. so.kept (after_next (StaysAfter r text (whole text)) so.done m left (stays_here config state (m ∷ left) s is stays so) h);
   }
 
   -- an error of the next search
   pub progress_fails : (config : SearchConfig) (state : IterState) (left : List Match) (s : S) (e : Error) → config ≡ record (whole text) { start = config.start } →
       IsItemError r text config state e → Progress Calls r text ms first config state left s → IsReplaceErrorLeaving Calls r text ms first e s None
   progress_fails config state left s e is h so =
-      let behind : IsErrorBehind r text (whole text) (so.done ++ []) e = (
+      let following : IsErrorAfter r text (whole text) (so.done ++ []) e = (
         h.0,
         h.1,
         so.comes [] h.0 h.1 (no_item state.last config.start state.continue_disabled h.0 h.1 (skips_from r text (whole text) config state.last config.start state.continue_disabled h.0 h.1 is h.2)),
         subst (λ (a : SearchConfig). max h.0 a.range_start ≤ a.range_end) is h.3,
         subst (λ (a : SearchConfig). IsMetaSearchError r text (record a { start = h.0 }) h.1 e) is h.4,
       ) in
-      search_failed None so.done left so.answers so.is (subst (λ (xs : List Match). IsErrorBehind r text (whole text) xs e) (append-nil so.done) behind) so.turns
+      search_failed None so.done left so.answers so.is (subst (λ (xs : List Match). IsErrorAfter r text (whole text) xs e) (append-nil so.done) following) so.turns
 
-  -- want of memory behind the calls that answered
+  -- want of memory after the calls that answered
   pub progress_ran_out : (config : SearchConfig) (state : IterState) (left : List Match) (s : S) → Progress Calls r text ms first config state left s → IsReplaceErrorLeaving Calls r text ms first Memory s None
   progress_ran_out config state left s so = memory_ran_out None so.done left so.answers refl so.is so.turns
 
@@ -214,8 +214,8 @@ fails_for_memory Calls only _ _ e _ (later s next last m ms w _ call h) = fails_
 text_fails : {S T : Type 0} (Calls : S → Shown → Result (List ℕ) Error → S → Type 0) (Others : T → Shown → Result (List ℕ) Error → T → Type 0)
     (only : (s : S) (m : Shown) (e : Error) (next : S) → Calls s m (Err e) next → e ≡ Memory) (r : MetaRegex) (text : List ℕ) (ms : List Match) (s last : S) (t : T) (fixed : Option (List ℕ)) (shown_text : List ℕ) (e : Error) →
     IsReplaceErrorLeaving Calls r text ms s e last fixed → IsReplaceErrorLeaving Others r text ms t e t (Some shown_text)
-text_fails Calls Others only r text ms s last t _ shown_text e (search_failed fixed done rest answers is behind turns) = search_failed_by_text shown_text done rest is behind refl
-text_fails Calls Others only r text ms s last t _ shown_text e (search_failed_by_text fixed done rest is behind same) = search_failed_by_text shown_text done rest is behind refl
+text_fails Calls Others only r text ms s last t _ shown_text e (search_failed fixed done rest answers is following turns) = search_failed_by_text shown_text done rest is following refl
+text_fails Calls Others only r text ms s last t _ shown_text e (search_failed_by_text fixed done rest is following same) = search_failed_by_text shown_text done rest is following refl
 text_fails Calls Others only r text ms s last t _ shown_text e (call_failed fixed h) =
     memory_ran_out (Some shown_text) [] ms [] (fails_for_memory Calls only s (map (shown r text) ms) e last h) refl refl
 text_fails Calls Others only r text ms s last t _ shown_text e (memory_ran_out fixed done rest answers is split turns) = memory_ran_out (Some shown_text) [] ms [] is refl refl
@@ -223,8 +223,8 @@ text_fails Calls Others only r text ms s last t _ shown_text e (memory_ran_out f
 -- an error of a replacement by calls, whatever the replacer says of its text
 pub calls_fail : {S : Type 0} (Calls : S → Shown → Result (List ℕ) Error → S → Type 0) (r : MetaRegex) (text : List ℕ) (ms : List Match) (s last : S) (fixed told : Option (List ℕ)) (e : Error) →
     fixed ≡ None → IsReplaceErrorLeaving Calls r text ms s e last fixed → IsReplaceErrorLeaving Calls r text ms s e last told
-calls_fail Calls r text ms s last _ told e none (search_failed fixed done rest answers is behind turns) = search_failed told done rest answers is behind turns
-calls_fail Calls r text ms s last _ told e none (search_failed_by_text t done rest is behind same) = absurd (some_none t none)
+calls_fail Calls r text ms s last _ told e none (search_failed fixed done rest answers is following turns) = search_failed told done rest answers is following turns
+calls_fail Calls r text ms s last _ told e none (search_failed_by_text t done rest is following same) = absurd (some_none t none)
 calls_fail Calls r text ms s last _ told e none (call_failed fixed h) = call_failed told h
 calls_fail Calls r text ms s last _ told e none (memory_ran_out fixed done rest answers is split turns) = memory_ran_out told done rest answers is split turns
 
@@ -237,8 +237,8 @@ replaced_whatever_is_left Calls r text ms s out last _ (left_by_text t is same) 
 -- the error of a replacement, whatever state it leaves
 pub fails_whatever_is_left : {S : Type 0} (Calls : S → Shown → Result (List ℕ) Error → S → Type 0) (r : MetaRegex) (text : List ℕ) (ms : List Match) (s : S) (e : Error) (last : S) (fixed : Option (List ℕ)) →
     IsReplaceErrorLeaving Calls r text ms s e last fixed → IsReplaceError Calls r text ms s fixed e
-fails_whatever_is_left Calls r text ms s e last _ (search_failed fixed done rest answers is behind turns) = of_search fixed done rest answers last e is behind turns
-fails_whatever_is_left Calls r text ms s e last _ (search_failed_by_text t done rest is behind same) = of_search_by_text t done rest e is behind
+fails_whatever_is_left Calls r text ms s e last _ (search_failed fixed done rest answers is following turns) = of_search fixed done rest answers last e is following turns
+fails_whatever_is_left Calls r text ms s e last _ (search_failed_by_text t done rest is following same) = of_search_by_text t done rest e is following
 fails_whatever_is_left Calls r text ms s e last _ (call_failed fixed h) = of_call fixed e last h
 fails_whatever_is_left Calls r text ms s e last _ (memory_ran_out fixed done rest answers is split turns) = rw is (of_memory fixed)
 

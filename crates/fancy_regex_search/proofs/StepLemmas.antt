@@ -140,7 +140,7 @@ module _ (s : MetaRegex) (text : List ℕ) (a : SearchConfig) (before : IterStat
 
         pub long_step : (p : ℕ) → m.start < m.end → new ≡ record a { start = p } → p ≡ m.end → after.continue_disabled ≡ false → IsStep s text a before wanted (Item x) new after
         long_step p less is at flag =
-            let start : max a.start a.range_start ≤ m.start = rw (← parts.0) whole.behind in
+            let start : max a.start a.range_start ≤ m.start = rw (← parts.0) whole.following in
             let later : a.start < p = omega arith in
             let here : new ≡ record a { start = m.end } = is ∙ ap (λ (k : ℕ). record a { start = k }) at in
             item_step p is later (at ∙ long_next text m.start m.end less)
@@ -154,7 +154,7 @@ module _ (s : MetaRegex) (text : List ℕ) (a : SearchConfig) (before : IterStat
 
           later : a.start < p
           later =
-              let start : max a.start a.range_start ≤ m.start = rw (← parts.0) whole.behind in
+              let start : max a.start a.range_start ≤ m.start = rw (← parts.0) whole.following in
               let ordered : m.start ≤ m.end = rw (← parts.0, ← parts.1) whole.cuts.ordered in
               omega (arith, at)
 

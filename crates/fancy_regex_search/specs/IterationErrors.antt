@@ -8,7 +8,7 @@ use Rattle.fancy_regex_meta.specs.declared.meta_regex.MetaRegex.{MetaRegex}
 use Rattle.fancy_regex_search.specs.IterationSearches.{SkipsToFrom, MakesSearchFrom, ComesTo}
 use Rattle.fancy_regex_search.specs.declared.match_iter.IterState.{IterState}
 
--- The error is one of a search that a call of `next` in this state makes for its own answer: the next search, or one behind
+-- The error is one of a search that a call of `next` in this state makes for its own answer: the next search, or one after
 -- an empty match that is skipped since it ends where the previous match ended. It is no error of a later search.
 abbrev pub IsItemError : MetaRegex → List ℕ → SearchConfig → IterState → Error → Type 0
 IsItemError s text config state e =
@@ -21,9 +21,9 @@ abbrev pub IsIterationError : MetaRegex → List ℕ → SearchConfig → Bool �
 IsIterationError s text config continue_disabled e =
     (q : ℕ) × (o : Bool) × MakesSearchFrom s text config continue_disabled q o × IsMetaSearchError s text (record config { start = q }) o e
 
--- The error is one of a search that an iteration from this configuration makes right behind these items: the next one, or one
--- behind matches that are skipped.
-abbrev pub IsErrorBehind : MetaRegex → List ℕ → SearchConfig → List Match → Error → Type 0
-IsErrorBehind s text config items e =
+-- The error is one of a search that an iteration from this configuration makes right after these items: the next one, or one
+-- after matches that are skipped.
+abbrev pub IsErrorAfter : MetaRegex → List ℕ → SearchConfig → List Match → Error → Type 0
+IsErrorAfter s text config items e =
     (q : ℕ) × (o : Bool) × ComesTo s text config items None config.start false q o × (max q config.range_start ≤ config.range_end)
     × IsMetaSearchError s text (record config { start = q }) o e

@@ -10,7 +10,7 @@ use Rattle.fancy_regex_search.specs.IterationSearches.{SkipsToFrom, ComesTo}
 use Rattle.fancy_regex_search.specs.declared.match_iter.IterState.{IterState}
 
 -- Each search that a call of `next` in this state makes for its own answer stays within the limits: the next search, and the
--- one behind each empty match that is skipped since it ends where the previous match ended.
+-- one after each empty match that is skipped since it ends where the previous match ended.
 abbrev pub SkipsStayInLimits : MetaRegex → List ℕ → SearchConfig → IterState → Type 0
 SkipsStayInLimits s text config state = (q : ℕ) (o : Bool) → SkipsToFrom s text config state q o → MetaStaysInLimits s text (record config { start = q }) o
 
@@ -24,12 +24,12 @@ NextStays s text config state result =
 abbrev pub PieceStays : {A E : Type 0} → MetaRegex → List ℕ → SearchConfig → IterState → Option (Result A E) → Type 0
 PieceStays s text config state result = IfSome result (λ item. IfOk item (λ _. state.is_done ≡ false → SkipsStayInLimits s text config state))
 
--- A search that an iteration from this configuration makes right behind these items stays within the limits.
-abbrev pub StaysBehind : MetaRegex → List ℕ → SearchConfig → List Match → Type 0
-StaysBehind s text config items =
+-- A search that an iteration from this configuration makes right after these items stays within the limits.
+abbrev pub StaysAfter : MetaRegex → List ℕ → SearchConfig → List Match → Type 0
+StaysAfter s text config items =
     (q : ℕ) × (o : Bool) × ComesTo s text config items None config.start false q o × MetaStaysInLimits s text (record config { start = q }) o
 
--- A replacement of these matches stays within the limits: it searches for each of them, behind those before it, and once more
--- behind the last one.
+-- A replacement of these matches stays within the limits: it searches for each of them, after those before it, and once more
+-- after the last one.
 abbrev pub ReplacementStays : MetaRegex → List ℕ → List Match → Type 0
-ReplacementStays s text ms = (done rest : List Match) → ms ≡ done ++ rest → StaysBehind s text (whole text) done
+ReplacementStays s text ms = (done rest : List Match) → ms ≡ done ++ rest → StaysAfter s text (whole text) done

@@ -15,7 +15,7 @@ continue_disabled_after q m = if nat_lt m.start m.end then false else (m.end == 
 -- at q: the next one, or one after a match.
 pub data MakesSearch (text : List ℕ) (find : ℕ → Bool → Option Match) (first end : ℕ) : ℕ → Bool → ℕ → Bool → Type 0 where
   next : (p : ℕ) (continue_disabled : Bool) → max p first ≤ end → MakesSearch text find first end p continue_disabled p continue_disabled
-  behind : (p : ℕ) (continue_disabled : Bool) (m : Match) (q : ℕ) (o : Bool) → max p first ≤ end → find (max p first) continue_disabled ≡ Some m →
+  following : (p : ℕ) (continue_disabled : Bool) (m : Match) (q : ℕ) (o : Bool) → max p first ≤ end → find (max p first) continue_disabled ≡ Some m →
       MakesSearch text find first end (next_start text m.start m.end) (continue_disabled_after (max p first) m) q o → MakesSearch text find first end p continue_disabled q o
 
 -- a compiled pattern's iteration makes the search
@@ -46,20 +46,20 @@ KeepsSkips s text old before new after = (q : ℕ) (o : Bool) → SkipsToFrom s 
 
 -- From the end of the previous match, the start of the next search and whether `\G` is disabled in it, an iteration returns these
 -- matches, one after the other, and comes from there to the search that starts at q by skipping matches alone.
-pub data ComesBehind (text : List ℕ) (find : ℕ → Bool → Option Match) (first end : ℕ) : List Match → Option ℕ → ℕ → Bool → ℕ → Bool → Type 0 where
+pub data ComesAfter (text : List ℕ) (find : ℕ → Bool → Option Match) (first end : ℕ) : List Match → Option ℕ → ℕ → Bool → ℕ → Bool → Type 0 where
   no_item : (last : Option ℕ) (p : ℕ) (continue_disabled : Bool) (q : ℕ) (o : Bool) → SkipsTo text find first end last p continue_disabled q o →
-      ComesBehind text find first end [] last p continue_disabled q o
+      ComesAfter text find first end [] last p continue_disabled q o
   one_item : (last : Option ℕ) (p : ℕ) (continue_disabled : Bool) (at : ℕ) (off : Bool) (m : Match) (items : List Match) (q : ℕ) (o : Bool) →
       SkipsTo text find first end last p continue_disabled at off → max at first ≤ end → find (max at first) off ≡ Some m →
-      ComesBehind text find first end items (Some m.end) (next_start text m.start m.end) (continue_disabled_after (max at first) m) q o →
-      ComesBehind text find first end (m ∷ items) last p continue_disabled q o
+      ComesAfter text find first end items (Some m.end) (next_start text m.start m.end) (continue_disabled_after (max at first) m) q o →
+      ComesAfter text find first end (m ∷ items) last p continue_disabled q o
 
 -- the same of a compiled pattern's iteration under this configuration, from any start
 abbrev pub ComesTo : MetaRegex → List ℕ → SearchConfig → List Match → Option ℕ → ℕ → Bool → ℕ → Bool → Type 0
 ComesTo s text config items last p continue_disabled q o =
-    ComesBehind text (meta_match_from s text config) config.range_start config.range_end items last p continue_disabled q o
+    ComesAfter text (meta_match_from s text config) config.range_start config.range_end items last p continue_disabled q o
 
--- This match is the item between the two states: what the new one comes to behind some items, the old one comes to behind this
+-- This match is the item between the two states: what the new one comes to after some items, the old one comes to after this
 -- match and them.
 abbrev pub PassesItem : MetaRegex → List ℕ → SearchConfig → IterState → Match → SearchConfig → IterState → Type 0
 PassesItem s text old before m new after = (items : List Match) (q : ℕ) (o : Bool) →

@@ -78,7 +78,7 @@ module _ (s : MetaRegex) (text : List ℕ) (old : SearchConfig) (before : IterSt
   StepReturns End new after = Unit {0}
   StepReturns (Fault e) new after = Unit {0}
 
-  -- A step that finds something, or nothing, makes a search that stays within the limits; so does each one that comes behind it
+  -- A step that finds something, or nothing, makes a search that stays within the limits; so does each one that comes after it
   -- by skipping alone, where those of the state after a skip do.
   abbrev pub StepStays : Step → SearchConfig → IterState → Type 0
   StepStays (Item x) new after = SkipsStayInLimits s text old before
@@ -101,7 +101,7 @@ module _ (s : MetaRegex) (text : List ℕ) (old : SearchConfig) (before : IterSt
     pub ends : StepEnds result after
 
   -- An iteration is left by `None` as it was, if it was over; otherwise it is left with the input of the search that found
-  -- nothing: the next search, or one behind an empty match that was skipped.
+  -- nothing: the next search, or one after an empty match that was skipped.
   pub record IsLeftByNone (new : SearchConfig) (after : IterState) : Type 0 where
     pub over : before.is_done ≡ true → new ≡ old
     pub skips : before.is_done ≡ false → SkipsToFrom s text old before new.start after.continue_disabled
@@ -113,8 +113,8 @@ NextMoves span text old result new =
     MatchOption result (Unit {0})
     (λ item. MatchResult item (λ x. new.start ≡ next_start text (span x).0 (span x).1) (λ _. new.start ≡ position_after text old.range_end))
 
--- The match of an item is the first that remained before the call of `next`, and what the state after it comes to behind some
--- items, the state before it comes to behind this match and them.
+-- The match of an item is the first that remained before the call of `next`, and what the state after it comes to after some
+-- items, the state before it comes to after this match and them.
 abbrev pub NextReturns : {A E : Type 0} → MetaRegex → List ℕ → SearchConfig → IterState → Option (Result A E) → SearchConfig → IterState → Type 0
 NextReturns s text old before result new after =
     MatchOption result (Unit {0})

@@ -12,7 +12,7 @@ use Rattle.fancy_regex_meta.specs.declared.meta_regex.MetaRegex.{MetaRegex}
 use Rattle.fancy_regex_meta.specs.declared.found.Wanted.{Wanted}
 use Rattle.fancy_regex_meta.specs.declared.found.Wanted.TheVariants.{Span, Groups}
 use Rattle.fancy_regex_input.specs.SearchInputs.{whole}
-use Rattle.fancy_regex_search.specs.IterationErrors.{IsErrorBehind}
+use Rattle.fancy_regex_search.specs.IterationErrors.{IsErrorAfter}
 
 -- What a replacer is shown of a match: the regex, the haystack, and the start and end offsets of each group.
 pub record Shown : Type 0 where
@@ -78,13 +78,13 @@ abbrev pub IsAnswerOfText : List ℕ → Result (List ℕ) Error → Type 0
 IsAnswerOfText t (Ok w) = w ≡ t
 IsAnswerOfText t (Err e) = e ≡ Memory
 
--- The error of a replacement: that of a search right behind some of the matches that are replaced, for each of which one call
--- answered, in order; that of a call, behind the calls before it; or want of memory. A replacer with one text for all matches
+-- The error of a replacement: that of a search right after some of the matches that are replaced, for each of which one call
+-- answered, in order; that of a call, after the calls before it; or want of memory. A replacer with one text for all matches
 -- need not have been called.
 pub data IsReplaceError {S : Type 0} (Calls : S → Shown → Result (List ℕ) Error → S → Type 0) (r : MetaRegex) (text : List ℕ) (ms : List Match) (s : S) : Option (List ℕ) → Error → Type 0 where
-  of_search : (fixed : Option (List ℕ)) (done rest : List Match) (answers : List (List ℕ)) (last : S) (e : Error) → ms ≡ done ++ rest → IsErrorBehind r text (whole text) done e →
+  of_search : (fixed : Option (List ℕ)) (done rest : List Match) (answers : List (List ℕ)) (last : S) (e : Error) → ms ≡ done ++ rest → IsErrorAfter r text (whole text) done e →
       AnswersInTurn Calls s (map (shown r text) done) answers last → IsReplaceError Calls r text ms s fixed e
-  of_search_by_text : (t : List ℕ) (done rest : List Match) (e : Error) → ms ≡ done ++ rest → IsErrorBehind r text (whole text) done e → IsReplaceError Calls r text ms s (Some t) e
+  of_search_by_text : (t : List ℕ) (done rest : List Match) (e : Error) → ms ≡ done ++ rest → IsErrorAfter r text (whole text) done e → IsReplaceError Calls r text ms s (Some t) e
   of_call : (fixed : Option (List ℕ)) (e : Error) (last : S) → FailsInTurn Calls s (map (shown r text) ms) e last → IsReplaceError Calls r text ms s fixed e
   of_memory : (fixed : Option (List ℕ)) → IsReplaceError Calls r text ms s fixed Memory
 
@@ -94,13 +94,13 @@ pub data IsReplacedLeaving {S : Type 0} (Calls : S → Shown → Result (List �
   left_by_calls : (fixed : Option (List ℕ)) → IsReplacedByCalls Calls r text 0 ms s out last → IsReplacedLeaving Calls r text ms s out last fixed
   left_by_text : (t : List ℕ) → out ≡ replaced_from text (λ _. t) 0 ms → last ≡ s → IsReplacedLeaving Calls r text ms s out last (Some t)
 
--- The error of a replacement, and the state that it leaves the replacer in: that of a search right behind some of the matches that
+-- The error of a replacement, and the state that it leaves the replacer in: that of a search right after some of the matches that
 -- are replaced, or want of memory, after one call for each of these, in order, each of which answered; or that of a call, after
 -- the calls before it. A replacer with one text for all matches is left as it was.
 pub data IsReplaceErrorLeaving {S : Type 0} (Calls : S → Shown → Result (List ℕ) Error → S → Type 0) (r : MetaRegex) (text : List ℕ) (ms : List Match) (s : S) (e : Error) (last : S) : Option (List ℕ) → Type 0 where
-  search_failed : (fixed : Option (List ℕ)) (done rest : List Match) (answers : List (List ℕ)) → ms ≡ done ++ rest → IsErrorBehind r text (whole text) done e →
+  search_failed : (fixed : Option (List ℕ)) (done rest : List Match) (answers : List (List ℕ)) → ms ≡ done ++ rest → IsErrorAfter r text (whole text) done e →
       AnswersInTurn Calls s (map (shown r text) done) answers last → IsReplaceErrorLeaving Calls r text ms s e last fixed
-  search_failed_by_text : (t : List ℕ) (done rest : List Match) → ms ≡ done ++ rest → IsErrorBehind r text (whole text) done e → last ≡ s → IsReplaceErrorLeaving Calls r text ms s e last (Some t)
+  search_failed_by_text : (t : List ℕ) (done rest : List Match) → ms ≡ done ++ rest → IsErrorAfter r text (whole text) done e → last ≡ s → IsReplaceErrorLeaving Calls r text ms s e last (Some t)
   call_failed : (fixed : Option (List ℕ)) → FailsInTurn Calls s (map (shown r text) ms) e last → IsReplaceErrorLeaving Calls r text ms s e last fixed
   memory_ran_out : (fixed : Option (List ℕ)) (done rest : List Match) (answers : List (List ℕ)) → e ≡ Memory → ms ≡ done ++ rest →
       AnswersInTurn Calls s (map (shown r text) done) answers last → IsReplaceErrorLeaving Calls r text ms s e last fixed

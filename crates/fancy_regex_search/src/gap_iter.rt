@@ -27,7 +27,7 @@ pub struct GapIter<'r, 'h> {
     /// The byte offset at which the last match ended; 0 before the first match.
     pub last_end: usize,
     pub ghost boundary: { IsCharBoundary match_iter.input.haystack.now last_end },
-    pub ghost behind: { last_end ≤ match_iter.input.config.start },
+    pub ghost following: { last_end ≤ match_iter.input.config.start },
 }
 
 impl<'r, 'h> GapIter<'r, 'h> {

@@ -1,4 +1,4 @@
-//! The searches behind the iterators over matches: each search starts where the previous match ended. An empty match at the
+//! The searches after the iterators over matches: each search starts where the previous match ended. An empty match at the
 //! end of the previous match is skipped, and after an error the iteration is over.
 
 ghost use Rattle.std.specs.Prelude.{◌≡◌, ◌≤◌, ◌<◌, max, option_map, None, Some, true, false, MatchOption, MatchResult, IfSome, IfNone, IfOk, IfErr};

@@ -45,7 +45,7 @@ fn one_less(limit: Option<usize>) -> Option<usize>
 }
 
 /// The text with its first matches replaced by what the replacer answers for each, or with all of them for limit 0. Errors:
-/// those of the searches, the last of which is the one behind the last match that is replaced, that of the replacer, or `Memory`.
+/// those of the searches, the last of which is the one after the last match that is replaced, that of the replacer, or `Memory`.
 /// The replacer is shown the groups where they are wanted; otherwise its answers must not depend on what it is shown.
 // Not inlined: where it was, LLVM had not compiled `try_replacen` for `NoExpand` after half an hour. Why was not looked into.
 #[inline(never)]

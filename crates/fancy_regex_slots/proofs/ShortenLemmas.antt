@@ -47,7 +47,7 @@ merged-set slot saved values inside there =
     ∙ ap (λ l. take slot saved ++ set l 0 (get_or saved slot 0)) (drop-cons values slot 0 there)
     ∙ sym (merged_more slot saved values inside)
 
--- one more entry, for a slot behind those of the others
+-- one more entry, for a slot after those of the others
 pub changes-more : (slot : ℕ) (saved values : List ℕ) (log : List OldValue) → slot < length saved → slot < length values → All (λ old. old.slot < slot) log → undone values log ≡ merged slot saved values → undone values (log ++ (record { slot = slot; value = get_or saved slot 0 } ∷ [])) ≡ merged (slot + 1) saved values
 changes-more slot saved values log inside there below so =
     undone-last values log (record { slot = slot; value = get_or saved slot 0 })
@@ -107,7 +107,7 @@ take_within (suc m) zero xs le = absurd (omega (arith, le))
 take_within (suc m) (suc n) [] le = refl
 take_within (suc m) (suc n) (x ∷ xs) le = ap (λ l. x ∷ l) (take_within m n xs (omega (arith, le)))
 
--- the first `start` entries of a log, and the first `kept` of those that were written behind them
+-- the first `start` entries of a log, and the first `kept` of those that were written after them
 written : (log part post rest : List OldValue) (len start kept : ℕ) → start + kept ≤ len → start ≤ length log → kept ≤ length part → take (start + kept) (take len ((take start log ++ (part ++ post)) ++ rest)) ≡ take start log ++ take kept part
 written log part post rest len start kept fits inside there =
     let front : length (take start log) ≡ start = length-take-le start log inside in

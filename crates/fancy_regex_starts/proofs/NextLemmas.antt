@@ -18,7 +18,7 @@ module _ (byte : Option ℕ) where
   abbrev IsWithin : ℕ → ℕ → ℕ → Type 0
   IsWithin k n next = (k ≤ next) × (next ≤ k + n)
 
-  -- the next member is no earlier one, and at most that behind the last
+  -- the next member is no earlier one, and at most that after the last
   pub next_within : (ms : List Starts) (k : ℕ) → IsWithin k (length ms) (next_member byte k ms)
   next_within [] k = (omega arith, omega arith)
   next_within (m ∷ ms) k = by_test (may_start_with m byte) (next_within ms (k + 1))

@@ -7,7 +7,7 @@ may_start_with None byte = true
 may_start_with (Some starts) None = false
 may_start_with (Some starts) (Some b) = slice_index_or starts b false
 
--- the number of the first member that may match, where the first of the list has number k; that behind the last if none may
+-- the number of the first member that may match, where the first of the list has number k; that after the last if none may
 abbrev pub next_member : Option ℕ → ℕ → List (Option (List Bool)) → ℕ
 next_member byte k [] = k
 next_member byte k (m ∷ ms) = if may_start_with m byte then k else next_member byte (k + 1) ms

@@ -35,15 +35,15 @@ module _ (before xs : List Bool) (i : ℕ) (b : Bool) (Says : ℕ → Type 0) (i
       subst (λ (m : ℕ). Says m) (sym same) (new (at_place (subst (λ (m : ℕ). get_or after m false ≡ true) same is)).1))
       (cases_lt k i)
 
--- behind the first of these states no way goes on with a marked character
-abbrev pub RefuseBehind : Bool → List CharClassMatcher → List State → List ℕ → List Bool → ℕ → Type 0
-RefuseBehind unicode matchers states numbers marks done =
+-- after the first of these states no way goes on with a marked character
+abbrev pub RefuseAfter : Bool → List CharClassMatcher → List State → List ℕ → List Bool → ℕ → Type 0
+RefuseAfter unicode matchers states numbers marks done =
     (k c : ℕ) → k < done → c < 128 → get_or marks c false ≡ true → CannotGoOn unicode matchers states (Some c) (state_at states (get_or numbers k 0))
 
 pub refuse_next : (unicode : Bool) (matchers : List CharClassMatcher) (states : List State) (numbers : List ℕ) (old new : List Bool) (done : ℕ) → KeepsMarks old new
-    → RefuseBehind unicode matchers states numbers old done
+    → RefuseAfter unicode matchers states numbers old done
     → ((c : ℕ) → c < 128 → get_or new c false ≡ true → CannotGoOn unicode matchers states (Some c) (state_at states (get_or numbers done 0)))
-    → RefuseBehind unicode matchers states numbers new (done + 1)
+    → RefuseAfter unicode matchers states numbers new (done + 1)
 refuse_next unicode matchers states numbers old new done kept before here k c low small is =
     ⊎_elim
     (λ (less : k < done). before k c less small (kept c is))
@@ -53,7 +53,7 @@ refuse_next unicode matchers states numbers old new done kept before here k c lo
     (cases_lt k done)
 
 pub refuse_all : (unicode : Bool) (matchers : List CharClassMatcher) (states : List State) (numbers : List ℕ) (marks : List Bool) (done : ℕ) → length numbers ≤ done
-    → RefuseBehind unicode matchers states numbers marks done → (q c : ℕ) → Contains numbers q → c < 128 → get_or marks c false ≡ true
+    → RefuseAfter unicode matchers states numbers marks done → (q c : ℕ) → Contains numbers q → c < 128 → get_or marks c false ≡ true
     → CannotGoOn unicode matchers states (Some c) (state_at states q)
-refuse_all unicode matchers states numbers marks done all behind q c (k, lt, is) small marked =
-    subst (λ (m : ℕ). CannotGoOn unicode matchers states (Some c) (state_at states m)) (get_or_default numbers k 0 q lt ∙ is) (behind k c (omega arith) small marked)
+refuse_all unicode matchers states numbers marks done all following q c (k, lt, is) small marked =
+    subst (λ (m : ℕ). CannotGoOn unicode matchers states (Some c) (state_at states m)) (get_or_default numbers k 0 q lt ∙ is) (following k c (omega arith) small marked)

@@ -16,7 +16,7 @@ use Rattle.fancy_regex_states.specs.declared.state.State.TheVariants as S
 abbrev pub state_at : List State → ℕ → State
 state_at states q = slice_index_or states q Match
 
--- the test may hold behind a character
+-- the test may hold after a character
 abbrev pub MayHold : Test → Type 0
 MayHold StartText = ⊥
 MayHold _ = Unit {0}
@@ -45,7 +45,7 @@ CannotRead unicode matchers after _ = Unit {0}
 abbrev pub CannotBegin : Bool → List CharClassMatcher → List State → ℕ → Option ℕ → Type 0
 CannotBegin unicode matchers states entry after = (q : ℕ) → Reaches states entry q → CannotRead unicode matchers after (state_at states q)
 
--- the state is not final, and if it reads, then no way goes on with this character behind what it reads
+-- the state is not final, and if it reads, then no way goes on with this character after what it reads
 abbrev pub CannotGoOn : Bool → List CharClassMatcher → List State → Option ℕ → State → Type 0
 CannotGoOn unicode matchers states after (S.Read leaf next) = CannotBegin unicode matchers states next after
 CannotGoOn unicode matchers states after Match = ⊥
@@ -55,7 +55,7 @@ CannotGoOn unicode matchers states after _ = Unit {0}
 abbrev pub CannotFollow : Bool → List CharClassMatcher → List State → ℕ → Option ℕ → Type 0
 CannotFollow unicode matchers states entry after = (q : ℕ) → Reaches states entry q → CannotGoOn unicode matchers states after (state_at states q)
 
--- the ASCII characters that are marked are second in no match, behind another character
+-- the ASCII characters that are marked are second in no match, after another character
 abbrev pub RefusesSecond : Bool → List CharClassMatcher → List State → ℕ → List Bool → Type 0
 RefusesSecond unicode matchers states entry marks = (c : ℕ) → c < 128 → slice_index_or marks c false ≡ true → CannotFollow unicode matchers states entry (Some c)
 

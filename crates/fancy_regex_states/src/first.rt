@@ -77,7 +77,7 @@ impl FirstChars {
         }))
     }
 
-    /// Whether no match begins before this character, `None` at the end of the text, with another character behind it.
+    /// Whether no match begins before this character, `None` at the end of the text, with another character after it.
     pub fn refuses(&self, matchers: &[CharClassMatcher], unicode: bool, after: Option<char>) -> bool
         ensures { result ≡ true → (states : List State) (entry : ℕ) → IsTableOf unicode matchers.now states entry self.now
             → CannotBegin unicode matchers.now states entry after }
@@ -95,7 +95,7 @@ impl FirstChars {
         }
     }
 
-    /// For each ASCII character whether no match that begins behind another character has it second, if that is known.
+    /// For each ASCII character whether no match that begins after another character has it second, if that is known.
     #[inline(always)]
     pub fn refused_second(&self) -> &Option<[bool; 128]>
         ensures { result.now ≡ self.now.second }
@@ -103,7 +103,7 @@ impl FirstChars {
         &self.second
     }
 
-    /// Whether no match begins anywhere with a character behind it, as where the start of the text is demanded.
+    /// Whether no match begins anywhere with a character after it, as where the start of the text is demanded.
     #[inline(always)]
     pub fn refuses_all(&self) -> bool
         ensures { result ≡ true → (unicode : Bool) (matchers : List CharClassMatcher) (states : List State) (entry : ℕ) (after : Option ℕ)

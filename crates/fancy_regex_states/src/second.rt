@@ -12,7 +12,7 @@ use std::alloc::{AllocError, Global};
 const MOST_READERS: usize = 16;
 
 /// For each ASCII character whether no match that begins at the entry, anywhere but at the start of the text, has it second, and
-/// none ends behind its first character; `None` where that is not known. The error is want of memory.
+/// none ends after its first character; `None` where that is not known. The error is want of memory.
 pub fn refused_second(
     alloc: Global,
     states: &[State],
@@ -32,7 +32,7 @@ pub fn refused_second(
     for i in 0..reached.len() {
         let number = reached[i];
         if number >= states.len()
-            || !refuse_behind(
+            || !refuse_after(
                 alloc,
                 &mut refused,
                 states,
@@ -47,9 +47,9 @@ pub fn refused_second(
     Ok(Some(refused))
 }
 
-/// Takes away the marks of those that a way may go on with behind this state, if it reads; returns whether they are known, and the
+/// Takes away the marks of those that a way may go on with after this state, if it reads; returns whether they are known, and the
 /// state is not final. The error is want of memory.
-fn refuse_behind(
+fn refuse_after(
     alloc: Global,
     refused: &mut [bool; 128],
     states: &[State],
@@ -58,7 +58,7 @@ fn refuse_behind(
     unicode: bool,
 ) -> Result<bool, AllocError>
     ensures kept { OnOk result (KeepsMarks refused.old refused.new) }
-    ensures behind { IfOk result (λ known. known ≡ true → (c : ℕ) → c < 128 → slice_index_or refused.new c false ≡ true
+    ensures following { IfOk result (λ known. known ≡ true → (c : ℕ) → c < 128 → slice_index_or refused.new c false ≡ true
         → CannotGoOn unicode matchers.now states.now (Some c) state) }
 {
     match state {

@@ -45,34 +45,34 @@ not_stripped : (syntax : TemplateSyntax) (t : Text) → strip_sign syntax t ≡ 
 not_stripped syntax [] h = tt
 not_stripped syntax (c ∷ t) h = ⊎_elim (λ e. absurd (none-some t (sym h ∙ sign_stripped syntax c t e))) (λ e. e) (cases_Bool (is_sign syntax c))
 
--- the part behind a sign
+-- the part after a sign
 abbrev BeginsAt : TemplateSyntax → Text → PartAndRest → Type 0
 BeginsAt syntax t x = BeginsWith syntax t x.0 x.1
 
 abbrev found_or_loose : Text → Option PartAndRest → PartAndRest
 found_or_loose t o = elim o [ None ↦ (loose_sign, t) | Some found ↦ found ]
 
-abbrev part_behind : TemplateSyntax → Text → Option Text → PartAndRest
-part_behind syntax t o = elim o [ Some rest ↦ (doubled_sign, rest) | None ↦ found_or_loose t (reference syntax t) ]
+abbrev part_after : TemplateSyntax → Text → Option Text → PartAndRest
+part_after syntax t o = elim o [ Some rest ↦ (doubled_sign, rest) | None ↦ found_or_loose t (reference syntax t) ]
 
 reference_or_loose : (syntax : TemplateSyntax) (t : Text) (o : Option PartAndRest) → StopsAt (is_sign syntax) t → reference syntax t ≡ o →
     BeginsAt syntax (sign_of syntax ∷ t) (found_or_loose t o)
 reference_or_loose syntax t None stops h = loose refl refl stops (λ other after r. none-some (other, after) (sym h ∙ reference_only syntax t other after r))
 reference_or_loose syntax t (Some x) stops h = refers t refl (reference_is syntax t x h)
 
-behind_sign : (syntax : TemplateSyntax) (t : Text) (o : Option Text) → strip_sign syntax t ≡ o → BeginsAt syntax (sign_of syntax ∷ t) (part_behind syntax t o)
-behind_sign syntax t None h = reference_or_loose syntax t (reference syntax t) (not_stripped syntax t h) refl
-behind_sign syntax t (Some rest) h = doubled refl (ap (λ u. sign_of syntax ∷ u) (stripped_is syntax t rest h))
+after_sign : (syntax : TemplateSyntax) (t : Text) (o : Option Text) → strip_sign syntax t ≡ o → BeginsAt syntax (sign_of syntax ∷ t) (part_after syntax t o)
+after_sign syntax t None h = reference_or_loose syntax t (reference syntax t) (not_stripped syntax t h) refl
+after_sign syntax t (Some rest) h = doubled refl (ap (λ u. sign_of syntax ∷ u) (stripped_is syntax t rest h))
 
 after_sign_begins : (syntax : TemplateSyntax) (t : Text) → BeginsAt syntax (sign_of syntax ∷ t) (part_after_sign syntax t)
 unfolding part_after_sign
-after_sign_begins syntax t = behind_sign syntax t (strip_sign syntax t) refl
+after_sign_begins syntax t = after_sign syntax t (strip_sign syntax t) refl
 
 span_present : (test : ℕ → Bool) (c : ℕ) (t : Text) → test c ≡ true → (span test (c ∷ t)).0 ≢ []
 span_present test c t h e = cons_nil c (span test t).0 (sym (ap (λ x. x.0) (span-true test c t h)) ∙ e)
 
 abbrev first_in : TemplateSyntax → Text → Option Text → Option PartAndRest
-first_in syntax t o = elim o [ None ↦ Some (literal_part (span (is_no_sign syntax) t)) | Some behind ↦ Some (part_after_sign syntax behind) ]
+first_in syntax t o = elim o [ None ↦ Some (literal_part (span (is_no_sign syntax) t)) | Some following ↦ Some (part_after_sign syntax following) ]
 
 first_begins_in : (syntax : TemplateSyntax) (c : ℕ) (t : Text) (x : PartAndRest) (o : Option Text) → strip_sign syntax (c ∷ t) ≡ o →
     first_in syntax (c ∷ t) o ≡ Some x → BeginsAt syntax (c ∷ t) x
@@ -85,9 +85,9 @@ first_begins_in syntax c t x None h g =
       all = s.all;
       longest = s.longest;
     }))
-first_begins_in syntax c t x (Some behind) h g =
-    subst (λ u. BeginsAt syntax u x) (sym (stripped_is syntax (c ∷ t) behind h))
-    (subst (BeginsAt syntax (sign_of syntax ∷ behind)) (same_Some (part_after_sign syntax behind) x g) (after_sign_begins syntax behind))
+first_begins_in syntax c t x (Some following) h g =
+    subst (λ u. BeginsAt syntax u x) (sym (stripped_is syntax (c ∷ t) following h))
+    (subst (BeginsAt syntax (sign_of syntax ∷ following)) (same_Some (part_after_sign syntax following) x g) (after_sign_begins syntax following))
 
 -- what `first_part` finds
 pub first_begins : (syntax : TemplateSyntax) (t : Text) (x : PartAndRest) → first_part syntax t ≡ Some x → BeginsWith syntax t x.0 x.1
@@ -96,10 +96,10 @@ first_begins syntax [] x h = absurd (none-some x h)
 first_begins syntax (c ∷ t) x h = first_begins_in syntax c t x (strip_sign syntax (c ∷ t)) refl h
 
 -- no other part is the first
-sign_in_front : (syntax : TemplateSyntax) (behind : Text) → first_part syntax (sign_of syntax ∷ behind) ≡ Some (part_after_sign syntax behind)
+sign_in_front : (syntax : TemplateSyntax) (following : Text) → first_part syntax (sign_of syntax ∷ following) ≡ Some (part_after_sign syntax following)
 unfolding first_part
-sign_in_front syntax behind =
-    ap (λ o. first_in syntax (sign_of syntax ∷ behind) o) (sign_stripped syntax (sign_of syntax) behind (eq-eqb (sign_of syntax) (sign_of syntax) refl))
+sign_in_front syntax following =
+    ap (λ o. first_in syntax (sign_of syntax ∷ following) o) (sign_stripped syntax (sign_of syntax) following (eq-eqb (sign_of syntax) (sign_of syntax) refl))
 
 no_sign_in_front : (syntax : TemplateSyntax) (t : Text) → PassesFirst (is_no_sign syntax) t → first_part syntax t ≡ Some (literal_part (span (is_no_sign syntax) t))
 unfolding first_part
@@ -109,15 +109,15 @@ no_sign_in_front syntax (c ∷ t) h = ap (λ o. first_in syntax (c ∷ t) o) (si
 abbrev with_part : Part → Text → PartAndRest
 with_part part rest = (part, rest)
 
-behind_doubled : (syntax : TemplateSyntax) (rest : Text) → part_after_sign syntax (sign_of syntax ∷ rest) ≡ (doubled_sign, rest)
+after_doubled : (syntax : TemplateSyntax) (rest : Text) → part_after_sign syntax (sign_of syntax ∷ rest) ≡ (doubled_sign, rest)
 unfolding part_after_sign
-behind_doubled syntax rest =
-    ap (part_behind syntax (sign_of syntax ∷ rest)) (sign_stripped syntax (sign_of syntax) rest (eq-eqb (sign_of syntax) (sign_of syntax) refl))
+after_doubled syntax rest =
+    ap (part_after syntax (sign_of syntax ∷ rest)) (sign_stripped syntax (sign_of syntax) rest (eq-eqb (sign_of syntax) (sign_of syntax) refl))
 
-behind_single : (syntax : TemplateSyntax) (t : Text) (o : Option PartAndRest) → StopsAt (is_sign syntax) t → reference syntax t ≡ o →
+after_single : (syntax : TemplateSyntax) (t : Text) (o : Option PartAndRest) → StopsAt (is_sign syntax) t → reference syntax t ≡ o →
     part_after_sign syntax t ≡ found_or_loose t o
 unfolding part_after_sign
-behind_single syntax t o stops h = ap (part_behind syntax t) (sign_missing syntax t stops) ∙ ap (found_or_loose t) h
+after_single syntax t o stops h = ap (part_after syntax t) (sign_missing syntax t stops) ∙ ap (found_or_loose t) h
 
 no_reference : (syntax : TemplateSyntax) (t : Text) (o : Option PartAndRest) → reference syntax t ≡ o →
     ((other : Part) (after : Text) → IsReference syntax t other after → ⊥) → reference syntax t ≡ None
@@ -130,13 +130,13 @@ first_only syntax t part rest (plain run is r) =
     ∙ ap (λ x. Some (literal_part x)) (span_only (is_no_sign syntax) t run rest (record { whole = r.whole; all = r.all; longest = r.longest }))
     ∙ ap (λ p. Some (with_part p rest)) (sym is)
 first_only syntax t part rest (doubled is whole) =
-    ap (first_part syntax) whole ∙ sign_in_front syntax (sign_of syntax ∷ rest) ∙ ap Some (behind_doubled syntax rest) ∙ ap (λ p. Some (with_part p rest)) (sym is)
-first_only syntax t part rest (refers behind whole r) =
-    ap (first_part syntax) whole ∙ sign_in_front syntax behind
-    ∙ ap Some (behind_single syntax behind (Some (with_part part rest)) (reference_first syntax behind part rest r) (reference_only syntax behind part rest r))
+    ap (first_part syntax) whole ∙ sign_in_front syntax (sign_of syntax ∷ rest) ∙ ap Some (after_doubled syntax rest) ∙ ap (λ p. Some (with_part p rest)) (sym is)
+first_only syntax t part rest (refers following whole r) =
+    ap (first_part syntax) whole ∙ sign_in_front syntax following
+    ∙ ap Some (after_single syntax following (Some (with_part part rest)) (reference_first syntax following part rest r) (reference_only syntax following part rest r))
 first_only syntax t part rest (loose is whole stops none) =
     ap (first_part syntax) whole ∙ sign_in_front syntax rest
-    ∙ ap Some (behind_single syntax rest None stops (no_reference syntax rest (reference syntax rest) refl none)) ∙ ap (λ p. Some (with_part p rest)) (sym is)
+    ∙ ap Some (after_single syntax rest None stops (no_reference syntax rest (reference syntax rest) refl none)) ∙ ap (λ p. Some (with_part p rest)) (sym is)
 
 -- what is left is shorter
 bare_shorter : (syntax : TemplateSyntax) (t : Text) (part : Part) (rest : Text) → IsBare syntax t part rest → length rest < length t
@@ -158,7 +158,7 @@ reference_shorter syntax t part rest r = ⊎_elim
 pub begins_shorter : (syntax : TemplateSyntax) (t : Text) (part : Part) (rest : Text) → BeginsWith syntax t part rest → length rest < length t
 begins_shorter syntax t part rest (plain run is r) = subst (λ u. length rest < length u) (sym r.whole) (run_shorter run rest r.present)
 begins_shorter syntax t part rest (doubled is whole) = omega (arith, ap length whole)
-begins_shorter syntax t part rest (refers behind whole r) = omega (arith, ap length whole, reference_shorter syntax behind part rest r)
+begins_shorter syntax t part rest (refers following whole r) = omega (arith, ap length whole, reference_shorter syntax following part rest r)
 begins_shorter syntax t part rest (loose is whole stops none) = omega (arith, ap length whole)
 
 pub first_shorter : (syntax : TemplateSyntax) (t : Text) (x : PartAndRest) → first_part syntax t ≡ Some x → length x.1 < length t
@@ -209,7 +209,7 @@ nothing_first syntax (c ∷ t) h = absurd (found (strip_sign syntax (c ∷ t)) h
   where
     found : (o : Option Text) → first_in syntax (c ∷ t) o ≡ None → ⊥
     found None e = none-some (literal_part (span (is_no_sign syntax) (c ∷ t))) (sym e)
-    found (Some behind) e = none-some (part_after_sign syntax behind) (sym e)
+    found (Some following) e = none-some (part_after_sign syntax following) (sym e)
 
 then_cuts : (n : ℕ) (syntax : TemplateSyntax) (t : Text) (o : Option PartAndRest) → first_part syntax t ≡ o →
     ((x : PartAndRest) → first_part syntax t ≡ Some x → Cuts syntax x.1 (first_parts n syntax x.1)) → Cuts syntax t (then_parts n syntax o)

@@ -9,7 +9,7 @@ use Rattle.fancy_regex_template.specs.Numbers.{append_digit, append_digits, lead
 use Rattle.fancy_regex_template.specs.Cuts.{AllPass, IsLongestNumber}
 use Rattle.fancy_regex_template.proofs.NumberLemmas.{is_taken, pair}
 
--- no further digit fits behind these
+-- no further digit fits after these
 abbrev pub IsFull : Text → Text → Type 0
 IsFull digits rest = (c : ℕ) (more : Text) → rest ≡ c ∷ more → is_decimal c ≡ true → unbounded < value 10 (digits ++ c ∷ [])
 

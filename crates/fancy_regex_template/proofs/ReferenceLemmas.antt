@@ -74,7 +74,7 @@ stops_at_closing Python rest = closes_python
 abbrev with_name : Text → Text → Text × Text
 with_name name rest = (name, rest)
 
--- what is behind the opening
+-- what is after the opening
 abbrev closed_name : TemplateSyntax → Text × Text → Option (Text × Text)
 closed_name syntax found = option_map (with_name found.0) (strip_prefix (closing_of syntax) found.1)
 

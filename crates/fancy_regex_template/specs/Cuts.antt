@@ -24,7 +24,7 @@ pub record IsRun (test : ℕ → Bool) (t front rest : Text) : Type 0 where
   pub all : AllPass test front
   pub longest : StopsAt test rest
 
--- the digits write a number of at most 64 bits; behind them there is no further digit, or with it the number has more
+-- the digits write a number of at most 64 bits; after them there is no further digit, or with it the number has more
 pub record IsLongestNumber (t digits rest : Text) : Type 0 where
   pub whole : t ≡ digits ++ rest
   pub present : digits ≢ []
@@ -38,12 +38,12 @@ pub record IsEnclosed (syntax : TemplateSyntax) (t name rest : Text) : Type 0 wh
   pub present : name ≢ []
   pub all : AllPass is_name_char name
 
--- The text behind a sign begins with a reference without brackets.
+-- The text after a sign begins with a reference without brackets.
 abbrev pub IsBare : TemplateSyntax → Text → Part → Text → Type 0
 IsBare Dollar t part rest = (name : Text) × (part ≡ named name) × IsRun is_name_char t name rest
 IsBare Python t part rest = (digits : Text) × (part ≡ numbered (value 10 digits)) × IsLongestNumber t digits rest
 
--- The text behind a sign begins with a reference.
+-- The text after a sign begins with a reference.
 abbrev pub IsReference : TemplateSyntax → Text → Part → Text → Type 0
 IsReference syntax t part rest = ((name : Text) × (part ≡ named name) × IsEnclosed syntax t name rest) ⊎ IsBare syntax t part rest
 
@@ -51,7 +51,7 @@ IsReference syntax t part rest = ((name : Text) × (part ≡ named name) × IsEn
 pub data BeginsWith (syntax : TemplateSyntax) (t : Text) (part : Part) (rest : Text) : Type 0 where
   plain : (run : Text) → part ≡ literal run → IsRun (is_no_sign syntax) t run rest → BeginsWith syntax t part rest
   doubled : part ≡ doubled_sign → t ≡ sign_of syntax ∷ sign_of syntax ∷ rest → BeginsWith syntax t part rest
-  refers : (behind : Text) → t ≡ sign_of syntax ∷ behind → IsReference syntax behind part rest → BeginsWith syntax t part rest
+  refers : (following : Text) → t ≡ sign_of syntax ∷ following → IsReference syntax following part rest → BeginsWith syntax t part rest
   loose : part ≡ loose_sign → t ≡ sign_of syntax ∷ rest → StopsAt (λ c. c == sign_of syntax) rest →
       ((other : Part) (after : Text) → IsReference syntax rest other after → ⊥) → BeginsWith syntax t part rest
 

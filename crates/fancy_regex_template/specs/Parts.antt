@@ -26,7 +26,7 @@ abbrev pub sign_of : TemplateSyntax → ℕ
 sign_of Dollar = 0x24
 sign_of Python = 0x5C
 
--- what encloses a name behind the sign
+-- what encloses a name after the sign
 abbrev pub opening_of : TemplateSyntax → Text
 opening_of Dollar = codes "{"
 opening_of Python = codes "g<"
@@ -62,16 +62,16 @@ unfoldable pub bare_reference : TemplateSyntax → Text → Option (Part × Text
 bare_reference Dollar t = option_map named_part (leading_name t)
 bare_reference Python t = option_map numbered_part (leading_number t)
 
--- the reference that the text behind a sign begins with, and the rest
+-- the reference that the text after a sign begins with, and the rest
 unfoldable pub reference : TemplateSyntax → Text → Option (Part × Text)
 reference syntax t = elim (enclosed_name syntax t) [ None ↦ bare_reference syntax t | Some found ↦ Some (named_part found) ]
 
--- the text behind a sign; None if it does not begin with one
+-- the text after a sign; None if it does not begin with one
 unfoldable pub strip_sign : TemplateSyntax → Text → Option Text
 strip_sign syntax [] = None
 strip_sign syntax (c ∷ t) = if c == sign_of syntax then Some t else None
 
--- the part that a sign begins, from the text behind it, and the rest
+-- the part that a sign begins, from the text after it, and the rest
 unfoldable pub part_after_sign : TemplateSyntax → Text → Part × Text
 part_after_sign syntax t = elim (strip_sign syntax t) [
   | Some rest ↦ (doubled_sign, rest)
@@ -89,7 +89,7 @@ literal_part found = (literal found.0, found.1)
 unfoldable pub first_part : TemplateSyntax → Text → Option (Part × Text)
 first_part syntax t = if is_empty t then None else elim (strip_sign syntax t) [
   | None ↦ Some (literal_part (span (is_no_sign syntax) t))
-  | Some behind ↦ Some (part_after_sign syntax behind)
+  | Some following ↦ Some (part_after_sign syntax following)
 ]
 
 -- the first n parts of a template

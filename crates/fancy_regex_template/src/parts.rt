@@ -38,7 +38,7 @@ fn leading_name(text: &str) -> Option<(&str, &str)>
     }
 }
 
-/// The enclosed name that the text behind a sign begins with, and the rest.
+/// The enclosed name that the text after a sign begins with, and the rest.
 #[tactic(auto, unfolding(crate::specs::Parts::enclosed_name))]
 fn enclosed_name(syntax: TemplateSyntax, text: &str) -> Option<(&str, &str)>
     ensures value { option_map (λ x. (chars x.0.now, chars x.1.now)) result ≡ enclosed_name syntax (chars text.now) }
@@ -49,7 +49,7 @@ fn enclosed_name(syntax: TemplateSyntax, text: &str) -> Option<(&str, &str)>
     Some((name, rest))
 }
 
-/// The reference without brackets that the text behind a sign begins with, and the rest: a name, or in Python's syntax a
+/// The reference without brackets that the text after a sign begins with, and the rest: a name, or in Python's syntax a
 /// number.
 #[tactic(auto, unfolding(crate::specs::Parts::bare_reference))]
 fn bare_reference(syntax: TemplateSyntax, text: &str) -> Option<(TemplatePart<'_>, &str)>
@@ -67,7 +67,7 @@ fn bare_reference(syntax: TemplateSyntax, text: &str) -> Option<(TemplatePart<'_
     }
 }
 
-/// The reference that the text behind a sign begins with, and the rest.
+/// The reference that the text after a sign begins with, and the rest.
 #[tactic(auto, unfolding(crate::specs::Parts::reference))]
 fn reference(syntax: TemplateSyntax, text: &str) -> Option<(TemplatePart<'_>, &str)>
     ensures value { option_map (λ x. (part_of x.0, chars x.1.now)) result ≡ reference syntax (chars text.now) }
@@ -78,7 +78,7 @@ fn reference(syntax: TemplateSyntax, text: &str) -> Option<(TemplatePart<'_>, &s
     }
 }
 
-/// The text behind a sign. `None` if the text does not begin with one.
+/// The text after a sign. `None` if the text does not begin with one.
 #[tactic(auto, unfolding(crate::specs::Parts::strip_sign))]
 fn strip_sign(syntax: TemplateSyntax, text: &str) -> Option<&str>
     ensures value { option_map (λ rest. chars rest.now) result ≡ strip_sign syntax (chars text.now) }
@@ -91,7 +91,7 @@ fn strip_sign(syntax: TemplateSyntax, text: &str) -> Option<&str>
     }
 }
 
-/// The part that a sign begins, from the text behind the sign, and the rest.
+/// The part that a sign begins, from the text after the sign, and the rest.
 #[tactic(auto, unfolding(crate::specs::Parts::part_after_sign))]
 fn part_after_sign(syntax: TemplateSyntax, text: &str) -> (TemplatePart<'_>, &str)
     ensures value { (part_of result.0, chars result.1.now) ≡ part_after_sign syntax (chars text.now) }
@@ -123,8 +123,8 @@ fn first_part(syntax: TemplateSyntax, text: &str) -> Option<(TemplatePart<'_>, &
     if is_empty(text) {
         return None;
     }
-    if let Some(behind) = strip_sign(syntax, text) {
-        return Some(part_after_sign(syntax, behind));
+    if let Some(following) = strip_sign(syntax, text) {
+        return Some(part_after_sign(syntax, following));
     }
     let (literal, rest) = split_literal(syntax, text);
     Some((TemplatePart::Literal(literal), rest))

@@ -6,7 +6,7 @@ use std::alloc::Global;
 /// A piece; `None` for a search that exceeds the backtrack limit.
 type Item = Option<&'static str>;
 
-/// The items of a split of `xb` at `x`, where the search behind that fails.
+/// The items of a split of `xb` at `x`, where the search after that fails.
 static ITEMS: [Item; 3] = [Some(""), None, Some("b")];
 
 /// The limits of splits, and their items.

@@ -60,11 +60,11 @@ up_to_none c [] none = refl
 up_to_none c (d ∷ t) none = rw (none.0, up_to_none c t none.1) refl
 
 -- what follows characters in a text is a text, and so are they
-utf8_behind : (cs s rest : List ℕ) → IsUtf8 s → s ≡ encode_utf8_all cs ++ rest → IsUtf8 rest
-utf8_behind [] s rest u e = subst IsUtf8 e u
-utf8_behind (c ∷ cs) s rest u e =
+utf8_after : (cs s rest : List ℕ) → IsUtf8 s → s ≡ encode_utf8_all cs ++ rest → IsUtf8 rest
+utf8_after [] s rest u e = subst IsUtf8 e u
+utf8_after (c ∷ cs) s rest u e =
     let e1 : s ≡ encode_utf8 c ++ (encode_utf8_all cs ++ rest) = e ∙ append_assoc (encode_utf8 c) (encode_utf8_all cs) rest in
-    utf8_behind cs (encode_utf8_all cs ++ rest) rest (IsUtf8-past_char s _ c u e1) refl
+    utf8_after cs (encode_utf8_all cs ++ rest) rest (IsUtf8-past_char s _ c u e1) refl
 
 utf8_before : (a s rest : List ℕ) → IsUtf8 s → s ≡ a ++ rest → IsUtf8 rest → IsUtf8 a
 utf8_before a s rest u e v =
@@ -74,7 +74,7 @@ utf8_before a s rest u e v =
 pub up_to_split : (c : ℕ) (s a b : List ℕ) → IsUtf8 s → NoCharPasses (λ d. d == c) a → s ≡ a ++ (encode_utf8 c ++ b) →
     split_once c (chars s) ≡ Some (chars a, chars b)
 up_to_split c s a b u (cs, spells, none) e =
-    let v : IsUtf8 (encode_utf8 c ++ b) = utf8_behind cs s (encode_utf8 c ++ b) u (e ∙ ap (λ x. x ++ (encode_utf8 c ++ b)) (sym spells)) in
+    let v : IsUtf8 (encode_utf8 c ++ b) = utf8_after cs s (encode_utf8 c ++ b) u (e ∙ ap (λ x. x ++ (encode_utf8 c ++ b)) (sym spells)) in
     let w : IsUtf8 a = utf8_before a s (encode_utf8 c ++ b) u e v in
     let all : chars s ≡ chars a ++ (c ∷ chars b) =
     ap chars e ∙ chars-append a (encode_utf8 c ++ b) w ∙ ap (λ x. chars a ++ x) (chars_past_char (encode_utf8 c ++ b) b c v refl) in
@@ -177,10 +177,10 @@ added_chars old new t u v e =
 pub encode_one : (c : ℕ) → encode_utf8 c ≡ encode_utf8_all (c ∷ [])
 encode_one c = sym (append-nil (encode_utf8 c))
 
--- a character behind a text
+-- a character after a text
 pub pushed_chars : (old new : List ℕ) (c : ℕ) → IsUtf8 old → IsUtf8 new → new ≡ old ++ encode_utf8 c → chars new ≡ chars old ++ c ∷ []
 pushed_chars old new c u v e = added_chars old new (c ∷ []) u v (e ∙ ap (λ x. old ++ x) (encode_one c))
 
--- a text behind a text
+-- a text after a text
 pub joined_chars : (old new t : List ℕ) → IsUtf8 old → new ≡ old ++ t → chars new ≡ chars old ++ chars t
 joined_chars old new t u e = ap chars e ∙ chars-append old t u

@@ -37,7 +37,7 @@ pub record NameExamples : Type 0 where
   pub level_past_the_type : Refers "1-9223372036854775809" (by_number 1, Some (negsuc 9223372036854775807))
   pub level_at_the_other_end : Refers "1+9223372036854775808" (by_number 1, Some (pos 9223372036854775807))
   pub level_where_none_may_stand : RefersToNothing false "1+0"
-  pub level_behind_relative : RefersToNothing true "-1+0"
+  pub level_after_relative : RefersToNothing true "-1+0"
   pub nothing_at_all : RefersToNothing true ""
   pub minus_alone : RefersToNothing true "-"
   pub sign_and_letter : RefersToNothing true "+a"

@@ -67,8 +67,8 @@ module _ (total k : ℕ) (any : Bool) where
   none_more (Some m) h = past m (nat_le m total) refl (sym h)
 
 module _ (xs : List (Bor Expr)) (i : ℕ) (x : Bor Expr) (inside : i < length xs) (is : get_or xs i x ≡ x) (total k : ℕ) where
-  behind : (list_any (refers_to k) (map tree_at (take i xs)) || refers k (back_group (tree_at x))) ≡ list_any (refers_to k) (map tree_at (take (i + 1) xs))
-  behind =
+  following : (list_any (refers_to k) (map tree_at (take i xs)) || refers k (back_group (tree_at x))) ≡ list_any (refers_to k) (map tree_at (take (i + 1) xs))
+  following =
       sym
       (ap (list_any (refers_to k)) (map_next tree_at xs i x x inside is)
       ∙ list_any-append (refers_to k) (map tree_at (take i xs)) (tree_at x ∷ [])
@@ -81,11 +81,11 @@ module _ (xs : List (Bor Expr)) (i : ℕ) (x : Bor Expr) (inside : i < length xs
       ∙ ap (λ b. cond b true old) (at_cases g k (eqb_tells g k))
       ∙ ap (λ b. cond (g == k) true b) h
       ∙ one_more total k g (list_any (refers_to k) (map tree_at (take i xs))) (back_group (tree_at x)) found
-      ∙ ap (λ b. nat_le k total && b) behind
+      ∙ ap (λ b. nat_le k total && b) following
 
   pub no_backref_next : (old : Bool) → None ≡ up_to_total total (back_group (tree_at x)) → old ≡ (nat_le k total && list_any (refers_to k) (map tree_at (take i xs)))
       → old ≡ (nat_le k total && list_any (refers_to k) (map tree_at (take (i + 1) xs)))
   no_backref_next old found h =
       h
       ∙ none_more total k (list_any (refers_to k) (map tree_at (take i xs))) (back_group (tree_at x)) found
-      ∙ ap (λ b. nat_le k total && b) behind
+      ∙ ap (λ b. nat_le k total && b) following

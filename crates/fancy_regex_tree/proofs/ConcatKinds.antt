@@ -102,7 +102,7 @@ nothing_in_front : (s : NormalFormKind) → s ≡ followed_by Empty s
 unfolding followed_by
 nothing_in_front s = refl
 
--- a piece behind the others
+-- a piece after the others
 pub row_more : (ts : List Tree) (t : Tree) → row_form (ts ++ t ∷ []) ≡ followed_by (row_form ts) (node_kind (normal_form t))
 row_more [] t =
     row_front t [] ∙ ap (λ s. followed_by (node_kind (normal_form t)) s) no_row ∙ sym (followed_by_nothing (node_kind (normal_form t)))

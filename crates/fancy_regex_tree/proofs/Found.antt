@@ -13,17 +13,17 @@ module _ {F : Type 0} (g : Shared F (Bor Expr × Unit {0}) Bool) (f : F) where
   found_before (x ∷ xs) ys (inl h) = inl h
   found_before (x ∷ xs) ys (inr h) = inr (found_before xs ys h)
 
-  found_behind : (xs ys : List Tree) → Found g f ys → Found g f (xs ++ ys)
-  found_behind [] ys h = h
-  found_behind (x ∷ xs) ys h = inr (found_behind xs ys h)
+  found_after : (xs ys : List Tree) → Found g f ys → Found g f (xs ++ ys)
+  found_after [] ys h = h
+  found_after (x ∷ xs) ys h = inr (found_after xs ys h)
 
   none_in_both : (xs ys : List Tree) → FoundNone g f xs → FoundNone g f ys → FoundNone g f (xs ++ ys)
   none_in_both [] ys h k = k
   none_in_both (x ∷ xs) ys h k = (h.0, none_in_both xs ys h.1 k)
 
-  -- nothing in front, and this behind it
+  -- nothing in front, and this after it
   found_next : (b : Bool) (xs ys : List Tree) → FoundNone g f xs → IsFound g f b ys → IsFound g f b (xs ++ ys)
-  found_next true xs ys h k = found_behind xs ys k
+  found_next true xs ys h k = found_after xs ys k
   found_next false xs ys h k = none_in_both xs ys h k
 
   module _ (in_groups : Bool) where

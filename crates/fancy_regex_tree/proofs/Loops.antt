@@ -11,7 +11,7 @@ use Rattle.fancy_regex_tree.specs.declared.parser_config.ParserConfig.{ParserCon
 use Rattle.fancy_regex_tree.specs.Tree.{Tree}
 use Rattle.fancy_regex_tree.specs.Parser.{Branches, AlternationParser, ends_branch, parse_piece, parse_branch, branches, parse_alternation, inner_parser}
 
--- a list that is read, with the flags behind it and the rest
+-- a list that is read, with the flags after it and the rest
 abbrev pub Many : Type 0 → Type 0
 Many A = ParseOutcome (List A × Flags × Text)
 

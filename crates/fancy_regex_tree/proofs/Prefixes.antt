@@ -7,25 +7,25 @@ use Rattle.fancy_regex_tree.specs.declared.error.Error.{Error}
 use Rattle.fancy_regex_tree.specs.declared.error.Error.TheVariants.{ParseError, Memory}
 use Rattle.fancy_regex_tree.specs.Numbering.{PositionedFault, ◌⨟◌, AgreesWith, resolved, all_resolved}
 
-abbrev pub behind_trees : List Tree → Trees → Trees
-behind_trees [] rest = rest
-behind_trees (t ∷ ts) rest = more_trees t (behind_trees ts rest)
+abbrev pub after_trees : List Tree → Trees → Trees
+after_trees [] rest = rest
+after_trees (t ∷ ts) rest = more_trees t (after_trees ts rest)
 
--- what is answered behind these trees
+-- what is answered after these trees
 abbrev pub prefixed : List Tree → Result (Trees × ℕ) PositionedFault → Result (Trees × ℕ) PositionedFault
-prefixed ts (Ok found) = Ok (behind_trees ts found.0, found.1)
+prefixed ts (Ok found) = Ok (after_trees ts found.0, found.1)
 prefixed ts (Err e) = Err e
 
-pub behind_none : (ts : List Tree) → behind_trees ts no_trees ≡ trees ts
-behind_none [] = refl
-behind_none (t ∷ ts) = ap (more_trees t) (behind_none ts)
+pub after_none : (ts : List Tree) → after_trees ts no_trees ≡ trees ts
+after_none [] = refl
+after_none (t ∷ ts) = ap (more_trees t) (after_none ts)
 
-pub behind_one : (ts : List Tree) (t : Tree) (rest : Trees) → behind_trees (ts ++ t ∷ []) rest ≡ behind_trees ts (more_trees t rest)
-behind_one [] t rest = refl
-behind_one (s ∷ ts) t rest = ap (more_trees s) (behind_one ts t rest)
+pub following_one : (ts : List Tree) (t : Tree) (rest : Trees) → after_trees (ts ++ t ∷ []) rest ≡ after_trees ts (more_trees t rest)
+following_one [] t rest = refl
+following_one (s ∷ ts) t rest = ap (more_trees s) (following_one ts t rest)
 
 prefixed_one : (ts : List Tree) (t : Tree) (r : Result (Trees × ℕ) PositionedFault) → prefixed (ts ++ t ∷ []) r ≡ prefixed ts (r ⨟ λ others. Ok (more_trees t others.0, others.1))
-prefixed_one ts t (Ok found) = ap (λ us. Ok (us, found.1)) (behind_one ts t found.0)
+prefixed_one ts t (Ok found) = ap (λ us. Ok (us, found.1)) (following_one ts t found.0)
 prefixed_one ts t (Err e) = refl
 
 module _ (ignored : Bool) (group_named : Text → Option ℕ) where
@@ -76,7 +76,7 @@ module _ (ignored : Bool) (group_named : Text → Option ℕ) where
   row_end old now whole i n past short made =
       sym made
       ∙ ap (λ es. prefixed (map tree_of (take i now)) (all_resolved ignored group_named n (trees (map tree_of es)))) (drop_all i old past)
-      ∙ ap (λ ts. Ok (ts, n)) (behind_none (map tree_of (take i now)) ∙ ap (λ es. trees (map tree_of es)) (take_all i now short))
+      ∙ ap (λ ts. Ok (ts, n)) (after_none (map tree_of (take i now)) ∙ ap (λ es. trees (map tree_of es)) (take_all i now short))
 
   -- the same, or memory ran out
   pub row_fails : {Y : Type 0} (w : Y → Trees × ℕ) (v : ℕ → Tree × ℕ) (old now : List Expr) (whole : Result (Trees × ℕ) PositionedFault) (i n : ℕ) (d x : Expr) (e : Error) → i < length old → get_or old i d ≡ x

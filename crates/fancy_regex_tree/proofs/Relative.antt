@@ -16,11 +16,11 @@ none_there n k (pos (suc j)) h e far = absurd (omega (arith, ltb-false 0 (suc j)
 none_there n k (negsuc j) h e (inl none) = cc
 none_there n k (negsuc j) h e (inr far) = let past : nat_lt j n ≡ false = le-ltb j n (omega (arith, e, far)) in rw past refl
 
-pub behind_here : (n k : ℕ) (z : ℤ) → int_lt (pos 0) z ≡ false → k ≡ nat_abs z → (k ≡ 0 → ⊥) → k ≤ n → Some (n - k + 1) ≡ relative_number n z
+pub after_here : (n k : ℕ) (z : ℤ) → int_lt (pos 0) z ≡ false → k ≡ nat_abs z → (k ≡ 0 → ⊥) → k ≤ n → Some (n - k + 1) ≡ relative_number n z
 unfolding relative_number
-behind_here n k (pos zero) h e some near = absurd (some e)
-behind_here n k (pos (suc j)) h e some near = absurd (omega (arith, ltb-false 0 (suc j) h))
-behind_here n k (negsuc j) h e some near =
+after_here n k (pos zero) h e some near = absurd (some e)
+after_here n k (pos (suc j)) h e some near = absurd (omega (arith, ltb-false 0 (suc j) h))
+after_here n k (negsuc j) h e some near =
     let here : nat_lt j n ≡ true = lt-ltb j n (omega (arith, e, near)) in
     let same : n - k + 1 ≡ n - j = omega (arith, e, near) in
     rw here (ap Some same)

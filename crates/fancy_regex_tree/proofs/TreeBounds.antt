@@ -141,7 +141,7 @@ absent_small n bs h two = if_small (is_empty_body bs) _ (absent_of_branches bs) 
 pub absent_low : (d : ℕ) (bs : Branches) → max_depth_of_all bs ≤ d → depth (absent_bar_of bs) ≤ d + 3
 absent_low d bs h = if_low (is_empty_body bs) _ (absent_of_branches bs) _ (omega arith) (bounded_low d bs h)
 
--- The steps of the parser. Lengths are those of the texts before and behind what is read.
+-- The steps of the parser. Lengths are those of the texts before and after what is read.
 
 pub if_ok : {X E : Type 0} (P Q : X → Type 0) (r : Result X E) → ((x : X) → P x → Q x) → IfOk r P → IfOk r Q
 if_ok P Q (Ok x) f h = f x h
@@ -186,8 +186,8 @@ absent_read bs text rest h k =
 pub whole_read : (bs : Branches) (text rest : ℕ) → branches_measure bs + 2 * rest ≤ 2 * text + 2 → nodes (pattern_of bs) ≤ 2 * text + 1
 whole_read bs text rest h = omega (arith, pattern_small (2 * text + 2) bs (omega (arith, h)) (omega arith))
 
-pub opened_read : (n text rest behind extra_nodes : ℕ) → n + 2 * rest ≤ 2 * behind + 1 + extra_nodes → behind ≤ text - 1 → extra_nodes ≤ 1 →
-    (0 < extra_nodes → behind + 2 ≤ text) → n + 2 * rest ≤ 2 * (text - 1) + 1
-opened_read n text rest behind zero small fits least long = omega (arith, small, fits)
-opened_read n zero rest behind (suc extra_nodes) small fits least long = absurd (omega (arith, long (omega arith)))
-opened_read n (suc text) rest behind (suc extra_nodes) small fits least long = omega (arith, small, least, long (omega arith))
+pub opened_read : (n text rest following extra_nodes : ℕ) → n + 2 * rest ≤ 2 * following + 1 + extra_nodes → following ≤ text - 1 → extra_nodes ≤ 1 →
+    (0 < extra_nodes → following + 2 ≤ text) → n + 2 * rest ≤ 2 * (text - 1) + 1
+opened_read n text rest following zero small fits least long = omega (arith, small, fits)
+opened_read n zero rest following (suc extra_nodes) small fits least long = absurd (omega (arith, long (omega arith)))
+opened_read n (suc text) rest following (suc extra_nodes) small fits least long = omega (arith, small, least, long (omega arith))

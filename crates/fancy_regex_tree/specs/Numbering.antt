@@ -108,13 +108,13 @@ named_target limit (Some g) position name = if is_within limit g then Ok g else 
 
 -- `group_named` has the last group of a name.
 module _ (group_named : Text → Option ℕ) where
-  -- the group of a back reference or condition behind n openings; a group by name is within the limit
+  -- the group of a back reference or condition after n openings; a group by name is within the limit
   abbrev pub group_target : Option ℕ → ℕ → ℕ → Target → Result ℕ PositionedFault
   group_target limit n position (by_number k) = Ok k
   group_target limit n position (relative k) = relative_target n position k
   group_target limit n position (by_name name) = named_target limit (group_named name) position name
 
-  -- the group of a call behind n openings
+  -- the group of a call after n openings
   abbrev pub call_target : ℕ → Target → Option ℕ
   call_target n (by_number k) = Some k
   call_target n (relative k) = relative_number n k
@@ -126,7 +126,7 @@ module _ (group_named : Text → Option ℕ) where
 
 -- The same, where `ignored` says that openings without a name do not count.
 module _ (ignored : Bool) (group_named : Text → Option ℕ) where
-  -- the tree behind n openings with its references resolved, and how many openings are before its end
+  -- the tree after n openings with its references resolved, and how many openings are before its end
   abbrev mutual
     pub resolved : ℕ → Tree → Result (Tree × ℕ) PositionedFault
     resolved n (ast_group name e position) =

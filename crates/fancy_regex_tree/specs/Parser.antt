@@ -20,7 +20,7 @@ abbrev pub Branches : Type 0
 Branches = List (List Tree)
 
 -- A parser of branches up to their `)` or to the end of the text. Its arguments are whether it is inside a look-around, the flags in
--- force there, and the text; it answers the branches, the flags in force behind them, and the rest of the text.
+-- force there, and the text; it answers the branches, the flags in force after them, and the rest of the text.
 abbrev pub AlternationParser : Type 0
 AlternationParser = Bool → Flags → Text → ParseOutcome (Branches × Flags × Text)
 
@@ -32,7 +32,7 @@ is_empty_body _ = false
 abbrev pub plain : Tree → Atom
 plain e = record { tree = e; is_non_capturing_group = false }
 
--- the alternation of the branches behind the first
+-- the alternation of the branches after the first
 abbrev pub others_of : Branches → Tree
 others_of branches = joined alt (all_branches branches)
 
@@ -77,7 +77,7 @@ module _ (p : ParserConfig) where
     (branches, g, rest) ← parse_group_body inner in_look f t
     Ok (pattern_of branches, g, rest)
 
-  -- a conditional whose condition is an expression, from behind `(?(`; `here` begins with its `(`
+  -- a conditional whose condition is an expression, from after `(?(`; `here` begins with its `(`
   unfoldable pub parse_expression_conditional : AlternationParser → Bool → Text → Flags → Text → ParseOutcome (Tree × Flags × Text)
   parse_expression_conditional inner in_look here f t = do
     (c, g, between) ← parse_group_expression inner in_look f t
@@ -85,7 +85,7 @@ module _ (p : ParserConfig) where
     if is_empty_body body then fail_at (general_parse_error (codes "condition without branches")) here
         else Ok (conditional_of_branches c body, h, rest)
 
-  -- The rest of a group, from behind its opening token; `here` begins with its `(`. Only `(?flags:..)` restores the flags at its end.
+  -- The rest of a group, from after its opening token; `here` begins with its `(`. Only `(?flags:..)` restores the flags at its end.
   unfoldable pub parse_group : AlternationParser → Bool → Text → Flags → Opening → Text → ParseOutcome (Atom × Flags × Text)
   parse_group inner in_look here f (capturing name) t = do
     (body, g, rest) ← parse_group_expression inner in_look f t

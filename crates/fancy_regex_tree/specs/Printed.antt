@@ -10,7 +10,7 @@ use Rattle.fancy_regex_tree.specs.declared.expr.Assertion.TheVariants.{RightWord
 abbrev pub is_metacharacter : ℕ → Bool
 is_metacharacter c = c ∈ "\\.+*?()|[]{}^$#"
 
--- a character as a literal: metacharacters behind a backslash; newline, carriage return and tab as `\n`, `\r`, `\t`
+-- a character as a literal: metacharacters after a backslash; newline, carriage return and tab as `\n`, `\r`, `\t`
 unfoldable pub escaped_char : ℕ → Text
 escaped_char c =
     if c ∈ "\n" then codes "\\n"
@@ -116,7 +116,7 @@ unfoldable mutual
   printed_branches no_trees = []
   printed_branches (more_trees t ts) = printed 1 t ++ later_branches ts
 
-  -- branches, each behind a `|`
+  -- branches, each after a `|`
   pub later_branches : Trees → Text
   later_branches no_trees = []
   later_branches (more_trees t ts) = codes "|" ++ printed 1 t ++ later_branches ts

@@ -36,7 +36,7 @@ module _ (p : ParserConfig) (f : Flags) where
       let loop = loop_of p q (same m.lazy f.swap_greed) e in
       if m.possessive || is_reversed p q then atomic_group loop else loop
 
-  -- the node under the quantifier q, and the rest behind its suffix; t is the text behind q without its suffix
+  -- the node under the quantifier q, and the rest after its suffix; t is the text after q without its suffix
   unfoldable pub marked : Quantifier → Tree → Text → ParseOutcome (Tree × Text)
   marked q e t = do
     (m, rest) ← quantifier_suffix p.oniguruma f.verbose q.braces t
@@ -52,7 +52,7 @@ module _ (p : ParserConfig) (f : Flags) where
   full here e =
       if p.oniguruma && is_some (leading_quantifier f.verbose here) then fail_at recursion_exceeded here else Ok (e, here)
 
-  -- The node under the quantifiers behind an atom, of which there may be `more`, and the rest.
+  -- The node under the quantifiers after an atom, of which there may be `more`, and the rest.
   unfoldable pub parse_quantifiers : ℕ → Atom → Text → ParseOutcome (Tree × Text)
   parse_quantifiers zero e t = do
     here ← skip f.verbose t

@@ -289,7 +289,7 @@ fn parse_character<'t>(
 }
 
 /// Parses an atom that does not begin with a parenthesis: a class, an escape, a dot, an anchor or a literal. `text` is `c` and
-/// `rest`. Answers the node and the rest behind it, or the first error with how many bytes are left there.
+/// `rest`. Answers the node and the rest after it, or the first error with how many bytes are left there.
 #[tactic(auto, unfolding(crate::specs::Parser::parse_simple_atom))]
 pub fn parse_simple_atom<'t>(
     alloc: Global,

@@ -94,7 +94,7 @@ fn ends_branch(text: &str) -> bool
     }
 }
 
-/// Parses a branch, up to `|`, `)` or the end of the text. Answers its pieces, the flags in force behind it, and the rest.
+/// Parses a branch, up to `|`, `)` or the end of the text. Answers its pieces, the flags in force after it, and the rest.
 #[cycle(parser)]
 fn parse_branch(
     parser: Parser,
@@ -123,7 +123,7 @@ fn parse_branch(
 }
 
 /// Parses branches with `|` between them, up to `)` or the end of the text. Answers the pieces of each, the flags in force
-/// behind them, and the rest.
+/// after them, and the rest.
 #[cycle(parser)]
 fn parse_alternation(
     parser: Parser,
@@ -190,7 +190,7 @@ fn parse_group_expression(
     Ok((pattern_of(parser.alloc, branches)?, changed, rest))
 }
 
-/// Parses a conditional whose condition is an expression, from behind `(?(`; `here` is where the group opens. A conditional
+/// Parses a conditional whose condition is an expression, from after `(?(`; `here` is where the group opens. A conditional
 /// without branches is an error.
 #[cycle(parser)]
 #[tactic(auto, unfolding(crate::specs::Parser::parse_expression_conditional))]
@@ -207,19 +207,19 @@ fn parse_expression_conditional<'t>(
     ensures low { IfOk result (λ x. depth (tree_of x.0) ≤ 13 * parser.levels + 14) }
 {
     let (condition, between, body_text) = parse_group_expression(parser, flags, text)?;
-    let (body, behind, rest) = parse_group_body(parser, between, body_text)?;
+    let (body, following, rest) = parse_group_body(parser, between, body_text)?;
     if is_empty_body(&body) {
         return general_error(parser.alloc, "condition without branches", here);
     }
     Ok((
         conditional_of_branches(parser.alloc, condition, body)?,
-        behind,
+        following,
         rest,
     ))
 }
 
-/// Parses the rest of a group, behind its opening token `how`; `here` is where the group opens. Answers the atom, the flags
-/// in force behind the group, and the rest of the text.
+/// Parses the rest of a group, after its opening token `how`; `here` is where the group opens. Answers the atom, the flags
+/// in force after the group, and the rest of the text.
 #[cycle(parser)]
 #[tactic(auto, unfolding(crate::specs::Parser::parse_group))]
 fn parse_group<'t>(
@@ -239,8 +239,12 @@ fn parse_group<'t>(
     let position = place(parser.config, here);
     match how {
         Opening::Capturing(name) => {
-            let (body, behind, rest) = parse_group_expression(parser, flags, text)?;
-            Ok((plain(capture(alloc, position, name, body)?), behind, rest))
+            let (body, following, rest) = parse_group_expression(parser, flags, text)?;
+            Ok((
+                plain(capture(alloc, position, name, body)?),
+                following,
+                rest,
+            ))
         }
         Opening::NonCapturing(changed) => {
             let (tree, _, rest) = parse_group_expression(parser, changed, text)?;
@@ -248,41 +252,41 @@ fn parse_group<'t>(
         }
         Opening::SetFlags(changed) => Ok((plain(Expr::Empty), changed, text)),
         Opening::Atomic => {
-            let (body, behind, rest) = parse_group_expression(parser, flags, text)?;
+            let (body, following, rest) = parse_group_expression(parser, flags, text)?;
             let atomic = Expr::AtomicGroup(Box::new(alloc, body)?);
-            Ok((plain(atomic), behind, rest))
+            Ok((plain(atomic), following, rest))
         }
         Opening::LookAround(look) => {
-            let (body, behind, rest) = parse_group_expression(parser.in_look(), flags, text)?;
+            let (body, following, rest) = parse_group_expression(parser.in_look(), flags, text)?;
             let around = Expr::LookAround(Box::new(alloc, body)?, look_of(look));
-            Ok((plain(around), behind, rest))
+            Ok((plain(around), following, rest))
         }
         Opening::IfSet(reference) => {
-            let (body, behind, rest) = parse_group_body(parser, flags, text)?;
+            let (body, following, rest) = parse_group_body(parser, flags, text)?;
             let condition = condition(alloc, position, reference)?;
             Ok((
                 plain(make_conditional(alloc, condition, body)?),
-                behind,
+                following,
                 rest,
             ))
         }
         Opening::IfMatches => {
-            let (tree, behind, rest) = parse_expression_conditional(parser, here, flags, text)?;
-            Ok((plain(tree), behind, rest))
+            let (tree, following, rest) = parse_expression_conditional(parser, here, flags, text)?;
+            Ok((plain(tree), following, rest))
         }
         Opening::Define => {
-            let (body, behind, rest) = parse_group_expression(parser, flags, text)?;
+            let (body, following, rest) = parse_group_expression(parser, flags, text)?;
             let definitions = Box::new(alloc, body)?;
-            Ok((plain(Expr::DefineGroup { definitions }), behind, rest))
+            Ok((plain(Expr::DefineGroup { definitions }), following, rest))
         }
         Opening::Absent => {
-            let (body, behind, rest) = parse_group_expression(parser, flags, text)?;
+            let (body, following, rest) = parse_group_expression(parser, flags, text)?;
             let repeater = Absent::Repeater(Box::new(alloc, body)?);
-            Ok((plain(Expr::Absent(repeater)), behind, rest))
+            Ok((plain(Expr::Absent(repeater)), following, rest))
         }
         Opening::AbsentBar => {
-            let (body, behind, rest) = parse_group_body(parser, flags, text)?;
-            Ok((plain(absent_bar_of(alloc, body)?), behind, rest))
+            let (body, following, rest) = parse_group_body(parser, flags, text)?;
+            Ok((plain(absent_bar_of(alloc, body)?), following, rest))
         }
         Opening::BackReference(reference) => {
             let tree = back_reference(alloc, flags, position, reference)?;
@@ -317,7 +321,7 @@ fn parse_parenthesized(
     parse_group(Parser { levels, ..parser }, text, flags, how, rest)
 }
 
-/// Parses the atom at the front of the text; answers it, the flags in force behind it, and the rest.
+/// Parses the atom at the front of the text; answers it, the flags in force after it, and the rest.
 #[cycle(parser)]
 #[tactic(auto, unfolding(crate::specs::Parser::parse_atom))]
 fn parse_atom(parser: Parser, flags: Flags, text: &str) -> Result<(Atom, Flags, &str), ReadError>
@@ -344,7 +348,7 @@ fn parse_atom(parser: Parser, flags: Flags, text: &str) -> Result<(Atom, Flags, 
     }
 }
 
-/// Parses an atom and its quantifiers; answers the node, the flags in force behind it, and the rest.
+/// Parses an atom and its quantifiers; answers the node, the flags in force after it, and the rest.
 #[cycle(parser)]
 #[tactic(auto, unfolding(crate::specs::Parser::parse_piece))]
 fn parse_piece(parser: Parser, flags: Flags, text: &str) -> Result<(Expr, Flags, &str), ReadError>

@@ -14,7 +14,7 @@ impl Expr {
     /// Appends the printed text of a printable tree.
     ///
     /// `precedence` says what the text is part of: 0 a whole pattern or a group, 1 a branch, 2 a concatenation, 3 an expression
-    /// with a quantifier behind it. Where needed, the text is put in a non-capturing group. In its place it reads back as the
+    /// with a quantifier after it. Where needed, the text is put in a non-capturing group. In its place it reads back as the
     /// normal form of the tree, with the same matches where each class reads back unchanged: the laws of `fancy_regex_print_laws`.
     ///
     /// Fails only if an allocation fails; the buffer is then unchanged.

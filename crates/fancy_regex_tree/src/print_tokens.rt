@@ -94,7 +94,7 @@ fn print_bounds(out: &mut String, lo: usize, hi: usize) -> Result<(), AllocError
     }
 }
 
-/// Appends a quantifier, with `?` behind it if it is lazy; `hi` of `usize::MAX` is no limit.
+/// Appends a quantifier, with `?` after it if it is lazy; `hi` of `usize::MAX` is no limit.
 #[tactic(auto, unfolding(crate::specs::Printed::quantifier_text))]
 pub fn print_quantifier(
     out: &mut String,

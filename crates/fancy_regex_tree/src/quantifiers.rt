@@ -1,4 +1,4 @@
-//! Parses the quantifiers behind an atom.
+//! Parses the quantifiers after an atom.
 
 ghost use Rattle.std.specs.Prelude.{◌≡◌, ◌≤◌, ◌+◌, ◌*◌, IfOk, chars, length};
 ghost use Rattle.fancy_regex_text.specs.Fault.{Gives};
@@ -135,7 +135,7 @@ fn full(
     Ok((tree, here))
 }
 
-/// Parses at most `more` quantifiers behind an atom; answers the node under them and the rest of the text.
+/// Parses at most `more` quantifiers after an atom; answers the node under them and the rest of the text.
 #[tactic(auto, unfolding(crate::specs::Quantifiers::parse_quantifiers))]
 pub fn parse_quantifiers(
     alloc: Global,

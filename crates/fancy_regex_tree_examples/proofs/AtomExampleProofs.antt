@@ -21,6 +21,6 @@ atom_examples = record {
   two_bytes = refl;
   line_start_oniguruma = refl;
   line_start_in_look_around = refl;
-  line_start_behind_look_around = refl;
+  line_start_after_look_around = refl;
   plain_start_oniguruma = refl;
 }

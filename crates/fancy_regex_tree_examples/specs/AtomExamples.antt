@@ -22,5 +22,5 @@ pub record AtomExamples : Type 0 where
   pub two_bytes : FailsWith unicode_only "é(" unclosed_open_paren 3
   pub line_start_oniguruma : ParsesAs in_oniguruma_mode "(?m)^" (assertion (StartLineOniguruma false))
   pub line_start_in_look_around : ParsesAs in_oniguruma_mode "(?m)(?=(^))" (look_around (ast_group None (assertion (StartLine false)) 7) LookAhead)
-  pub line_start_behind_look_around : ParsesAs in_oniguruma_mode "(?m)(?=a)^" (concat_of (look_around (ch "a") LookAhead ∷ assertion (StartLineOniguruma false) ∷ []))
+  pub line_start_after_look_around : ParsesAs in_oniguruma_mode "(?m)(?=a)^" (concat_of (look_around (ch "a") LookAhead ∷ assertion (StartLineOniguruma false) ∷ []))
   pub plain_start_oniguruma : ParsesAs in_oniguruma_mode "^" (assertion StartText)

@@ -57,7 +57,7 @@ pub record GroupExamples : Type 0 where
   pub condition_flags_alone : ParsesAs unicode_only "(?(1)(?i))" (conditional (ast_condition (by_number 1) None 0) empty empty)
   pub condition_comment_alone : ParsesAs unicode_only "(?(1)(?#c))" (ast_condition (by_number 1) None 0)
   pub first_letter_first : FailsWith no_options "(?uq)" changing_unicode_mode_unsupported 0
-  pub clear_behind_comment : ParsesAs unicode_only "(?~|(?#c))" (absent_clear)
+  pub clear_after_comment : ParsesAs unicode_only "(?~|(?#c))" (absent_clear)
   pub stopper_of_nothing : ParsesAs unicode_only "(?~|(?:))" (absent_stopper empty)
   pub definitions : ParsesAs unicode_only "(?(DEFINE)(a))" (define_group (ast_group None (ch "a") 10))
   pub no_definitions : ParsesAs unicode_only "(?(DEFINE))" (define_group empty)

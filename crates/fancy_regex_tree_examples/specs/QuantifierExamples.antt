@@ -28,8 +28,8 @@ pub record QuantifierExamples : Type 0 where
   pub reversed_lazy_oniguruma : ParsesAs in_oniguruma_mode "x{3,0}?" (atomic_group (repeat (ch "x") 0 3 false))
   pub second_braces : FailsWith unicode_only "a{1,2}{3}" target_not_repeatable 6
   pub second_braces_oniguruma : ParsesAs in_oniguruma_mode "a{1,2}{3}" (repeat (repeat (ch "a") 1 2 true) 3 3 true)
-  pub plus_behind_braces_oniguruma : ParsesAs in_oniguruma_mode "x{2}+" (repeat (repeat (ch "x") 2 2 true) 1 unbounded true)
-  pub plus_behind_lazy_braces_oniguruma : ParsesAs in_oniguruma_mode "x{2}?+" (repeat (repeat (ch "x") 2 2 false) 1 unbounded true)
+  pub plus_after_braces_oniguruma : ParsesAs in_oniguruma_mode "x{2}+" (repeat (repeat (ch "x") 2 2 true) 1 unbounded true)
+  pub plus_after_lazy_braces_oniguruma : ParsesAs in_oniguruma_mode "x{2}?+" (repeat (repeat (ch "x") 2 2 false) 1 unbounded true)
   pub possessive_oniguruma : ParsesAs in_oniguruma_mode "x*+" (atomic_group (repeat (ch "x") 0 unbounded true))
   pub five_oniguruma : ParsesAs in_oniguruma_mode "a{1}{2}{3}{4}{5}" (repeat (repeat (repeat (repeat (repeat (ch "a") 1 1 true) 2 2 true) 3 3 true) 4 4 true) 5 5 true)
   pub sixth_oniguruma : FailsWith in_oniguruma_mode "a{1}{1}{1}{1}{1}{1}" recursion_exceeded 16

@@ -25,7 +25,7 @@ pub record ReferenceExamples : Type 0 where
   pub k_after : ParsesAs unicode_only "(a)\\k<+1>(b)" (concat_of (group (ch "a") ∷ backref 2 false ∷ group (ch "b") ∷ []))
   pub k_level : ParsesAs unicode_only "\\k<1+2>" (backref_with_level 1 (pos 2) false)
   pub k_name_level : ParsesAs unicode_only "(?<a>x)\\k'a-1'" (concat_of (group (ch "x") ∷ backref_with_level 1 (negsuc 0) false ∷ []))
-  pub k_level_behind_relative : FailsWith unicode_only "(a)\\k<-1+0>" invalid_group_name 3
+  pub k_level_after_relative : FailsWith unicode_only "(a)\\k<-1+0>" invalid_group_name 3
   pub k_level_past_the_type : ParsesAs unicode_only "\\k<1-9223372036854775809>" (backref_with_level 1 (negsuc 9223372036854775807) false)
   pub k_empty : FailsWith unicode_only "\\k<>" invalid_group_name 0
   pub k_open : FailsWith unicode_only "a\\k<b" invalid_group_name 1

@@ -1,4 +1,4 @@
--- How many units pieces and branches make. Lengths are those of the texts before and behind what is read.
+-- How many units pieces and branches make. Lengths are those of the texts before and after what is read.
 use Rattle.std.proofs.Common.{◌≡◌, ℕ, ◌+◌, ◌-◌, ◌*◌, ◌≤◌, ◌<◌, Bool, true, false, cond, List, [], ◌∷◌, refl, arith}
 use Rattle.fancy_regex_tree.specs.Tree.{Tree, concat, trees}
 use Rattle.fancy_regex_tree.specs.TreeBuilders.{is_empty_tree, without_empty, joined, branch_of, all_branches, pattern_of}

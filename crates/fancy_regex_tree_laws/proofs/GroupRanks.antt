@@ -66,40 +66,40 @@ tail_same {xs = xs} h = ap (λ l. elim l [ [] ↦ xs | z ∷ zs ↦ zs ]) h
 -- with one opening more in front
 pub further : (name : Text) (first : Option Text) (names : Names) (j : ℕ) → HasName names name j → HasName (first ∷ names) name (suc j)
 further name first names j c =
-    record { before = first ∷ c.before; behind = c.behind; parts = ap (λ ns. first ∷ ns) c.parts; place = ap (λ k. suc k) c.place }
+    record { before = first ∷ c.before; following = c.following; parts = ap (λ ns. first ∷ ns) c.parts; place = ap (λ k. suc k) c.place }
 
--- a number is the rank of an opening with the name, behind those before
+-- a number is the rank of an opening with the name, after those before
 rank_of : (name : Text) (n : ℕ) (names : Names) (ks : List ℕ) (k : ℕ) → Numbers name n names ks → Contains ks k → (j : ℕ) × HasName names name j × (k ≡ n + j)
 rank_of name n names ks k none h = absurd (inside_none k h)
 rank_of name n names ks k (pass {other = other} {names = rest} differs more) h =
     let found = rank_of name (suc n) rest ks k more h in
     (suc found.0, further name other rest found.0 found.1, omega (arith, found.2))
 rank_of name n names ks k (next {names = rest} {ks = others} more) h = elim (inside_either (suc n) k others h) [
-  | inl e ↦ (1, record { before = []; behind = rest; parts = refl; place = refl }, omega (arith, e))
+  | inl e ↦ (1, record { before = []; following = rest; parts = refl; place = refl }, omega (arith, e))
   | inr later ↦
       let found = rank_of name (suc n) rest others k more later in
       (suc found.0, further name (Some name) rest found.0 found.1, omega (arith, found.2))
 ]
 
 -- and the rank of each is a number
-number_at : (name : Text) (n : ℕ) (names : Names) (ks : List ℕ) → Numbers name n names ks → (before behind : Names) → names ≡ before ++ (Some name ∷ behind)
+number_at : (name : Text) (n : ℕ) (names : Names) (ks : List ℕ) → Numbers name n names ks → (before following : Names) → names ≡ before ++ (Some name ∷ following)
     → Contains ks (n + suc (length before))
-number_at name n names ks none [] behind h = cc
-number_at name n names ks none (x ∷ before) behind h = cc
-number_at name n names ks (pass differs more) [] behind h = absurd (differs (head_same h))
-number_at name n names ks (pass {names = rest} differs more) (x ∷ before) behind h =
+number_at name n names ks none [] following h = cc
+number_at name n names ks none (x ∷ before) following h = cc
+number_at name n names ks (pass differs more) [] following h = absurd (differs (head_same h))
+number_at name n names ks (pass {names = rest} differs more) (x ∷ before) following h =
     let e : suc n + suc (length before) ≡ n + suc (suc (length before)) = omega arith in
-    subst (λ k. Contains ks k) e (number_at name (suc n) rest ks more before behind (tail_same h))
-number_at name n names ks (next {ks = others} more) [] behind h =
+    subst (λ k. Contains ks k) e (number_at name (suc n) rest ks more before following (tail_same h))
+number_at name n names ks (next {ks = others} more) [] following h =
     let e : suc n ≡ n + 1 = omega arith in subst (λ k. Contains (suc n ∷ others) k) e (inside_head (suc n) others)
-number_at name n names ks (next {names = rest} {ks = others} more) (x ∷ before) behind h =
+number_at name n names ks (next {names = rest} {ks = others} more) (x ∷ before) following h =
     let e : suc n + suc (length before) ≡ n + suc (suc (length before)) = omega arith in
-    subst (λ k. Contains (suc n ∷ others) k) e (inside_tail (suc n) _ others (number_at name (suc n) rest others more before behind (tail_same h)))
+    subst (λ k. Contains (suc n ∷ others) k) e (inside_tail (suc n) _ others (number_at name (suc n) rest others more before following (tail_same h)))
 
 number_of : (name : Text) (names : Names) (k : ℕ) → HasName names name k → Contains (numbers_of name 0 names) k
 number_of name names k c =
     let e : 0 + suc (length c.before) ≡ k = omega (arith, c.place) in
-    subst (λ j. Contains (numbers_of name 0 names) j) e (number_at name 0 names (numbers_of name 0 names) (numbered name 0 names) c.before c.behind c.parts)
+    subst (λ j. Contains (numbers_of name 0 names) j) e (number_at name 0 names (numbers_of name 0 names) (numbered name 0 names) c.before c.following c.parts)
 
 carried : (name : Text) (names : Names) (k : ℕ) → Contains (numbers_of name 0 names) k → HasName names name k
 carried name names k h =
@@ -113,7 +113,7 @@ above name n names ks k numbers h =
     let found = rank_of name n names ks k numbers h in
     omega (arith, found.2, found.1.place)
 
--- each is below those behind it
+-- each is below those after it
 data Rising : List ℕ → Type 0 where
   no_more : Rising []
   then_above : {n : ℕ} {ns : List ℕ} → ((k : ℕ) → Contains ns k → n < k) → Rising ns → Rising (n ∷ ns)
@@ -204,9 +204,9 @@ last_named_law = record {
   no_characters = without_characters;
 }
 
-behind : (n k : ℕ) → k < n → relative_number n (negsuc k) ≡ Some (n - k)
+following : (n k : ℕ) → k < n → relative_number n (negsuc k) ≡ Some (n - k)
 unfolding relative_number
-behind n k h = let here : nat_lt k n ≡ true = lt-ltb k n h in rw here refl
+following n k h = let here : nat_lt k n ≡ true = lt-ltb k n h in rw here refl
 
 too_few : (n k : ℕ) → n ≤ k → relative_number n (negsuc k) ≡ None
 unfolding relative_number
@@ -222,10 +222,10 @@ no_zero n = refl
 
 pub relative_law : RelativeLaw
 relative_law = record {
-  behind = λ front between this.
+  following = λ front between this.
       let size : length (front ++ (this ∷ between)) ≡ length front + suc (length between) = length-append front (this ∷ between) in
       let e : length (front ++ (this ∷ between)) - length between ≡ suc (length front) = omega (arith, size) in
-      behind (length (front ++ (this ∷ between))) (length between) (omega (arith, size)) ∙ ap Some e;
+      following (length (front ++ (this ∷ between))) (length between) (omega (arith, size)) ∙ ap Some e;
   too_few = λ front k h. too_few (length front) k h;
   ahead = λ front between rest this h.
       let all = length-append front (between ++ (this ∷ [])) in

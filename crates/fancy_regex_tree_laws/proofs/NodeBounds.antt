@@ -1,4 +1,4 @@
--- How many nodes pieces and branches make, by the rows of the grammar. Lengths are those of the texts before and behind what is read.
+-- How many nodes pieces and branches make, by the rows of the grammar. Lengths are those of the texts before and after what is read.
 use Rattle.std.proofs.Common.{ℕ, suc, ◌+◌, ◌*◌, ◌≤◌, ◌<◌, Bool, List, ◌∷◌, Option, ℤ, length, refl, arith}
 use Rattle.fancy_regex_text.specs.Text.{Text}
 use Rattle.fancy_regex_text.specs.Names.{Named}

@@ -177,8 +177,8 @@ record Steps (o : Options) (t : Text) (found : Parsed) : Type 0 where
   read : HasNoNumberedGroups found.unresolved
   ignoring : found.ignored ≡ ignores o (openings found.unresolved)
   names : found.names ≡ counted found.ignored (openings found.unresolved)
-  behind : ℕ
-  resolving : resolved found.ignored (last_named found.names) 0 found.unresolved ≡ Ok (found.tree, behind)
+  following : ℕ
+  resolving : resolved found.ignored (last_named found.names) 0 found.unresolved ≡ Ok (found.tree, following)
 
 steps : (o : Options) (t : Text) (found : Parsed) → parse o t ≡ Ok found → Steps o t found
 unfolding parse
@@ -189,17 +189,17 @@ steps o t found h =
     let names = counted ignored (openings first.0) in
     let second = after (resolved ignored (last_named names) 0 first.0) (λ r. Ok (record { tree = r.0; names = names; unresolved = first.0; ignored = ignored })) found first.2 in
     subst (λ r. Steps o t r) (ok_same (record { tree = second.0.0; names = names; unresolved = first.0; ignored = ignored }) found second.2)
-    (record { read = read_free o.oniguruma o.unicode o.flags t first.0 read; ignoring = refl; names = refl; behind = second.0.1; resolving = second.1 })
+    (record { read = read_free o.oniguruma o.unicode o.flags t first.0 read; ignoring = refl; names = refl; following = second.0.1; resolving = second.1 })
 
 some_carries : (names : Names) → list_any is_some names ≡ true → (name : Text) × (rank : ℕ) × HasName names name rank
 some_carries [] h = absurd (false≢true h)
-some_carries (Some name ∷ names) h = (name, 1, record { before = []; behind = names; parts = refl; place = refl })
+some_carries (Some name ∷ names) h = (name, 1, record { before = []; following = names; parts = refl; place = refl })
 some_carries (None ∷ names) h = let found = some_carries names h in (found.0, suc found.1, further found.0 None names found.1 found.2)
 
-has_some : (before behind : Names) (name : Text) → list_any is_some (before ++ (Some name ∷ behind)) ≡ true
-has_some [] behind name = refl
-has_some (Some other ∷ before) behind name = refl
-has_some (None ∷ before) behind name = has_some before behind name
+has_some : (before following : Names) (name : Text) → list_any is_some (before ++ (Some name ∷ following)) ≡ true
+has_some [] following name = refl
+has_some (Some other ∷ before) following name = refl
+has_some (None ∷ before) following name = has_some before following name
 
 ignored_where : (o : Options) (t : Text) (found : Parsed) → Steps o t found →
     (found.ignored ≡ true) ↔ ((o.ignore_numbered ≡ true) × ((name : Text) × (rank : ℕ) × HasName (openings found.unresolved) name rank))
@@ -207,7 +207,7 @@ ignored_where o t found s =
     let names = openings found.unresolved in (
       λ h. let parts = and_parts o.ignore_numbered (list_any is_some names) (sym s.ignoring ∙ h) in (parts.0, some_carries names parts.1),
       λ k. let c = k.1.2 in
-          let some : list_any is_some names ≡ true = ap (λ ns. list_any is_some ns) c.parts ∙ has_some c.before c.behind k.1.0 in
+          let some : list_any is_some names ≡ true = ap (λ ns. list_any is_some ns) c.parts ∙ has_some c.before c.following k.1.0 in
           s.ignoring ∙ (λ i. k.0 i && some i),
     )
 
@@ -215,17 +215,17 @@ pub parsed_law : ParsedLaw
 parsed_law = record {
   nothing_left = λ o t found h.
       let s = steps o t found h in
-      all_hold is_resolved_node (nodes found.tree) (turns found.ignored (last_named found.names) 0 found.unresolved (found.tree, s.behind) s.resolving).done;
+      all_hold is_resolved_node (nodes found.tree) (turns found.ignored (last_named found.names) 0 found.unresolved (found.tree, s.following) s.resolving).done;
   as_read = λ o t found h. (steps o t found h).read;
   bodies = λ o t found h.
       let s = steps o t found h in
-      (turns found.ignored (last_named found.names) 0 found.unresolved (found.tree, s.behind) s.resolving).groups;
+      (turns found.ignored (last_named found.names) 0 found.unresolved (found.tree, s.following) s.resolving).groups;
   ignored = λ o t found h. ignored_where o t found (steps o t found h);
   names = λ o t found h. (steps o t found h).names;
   count = λ o t found h.
       let s = steps o t found h in
       groups_are_many found.ignored (last_named found.names) 0 (counted_bodies found.ignored found.unresolved) (group_bodies found.tree)
-      (turns found.ignored (last_named found.names) 0 found.unresolved (found.tree, s.behind) s.resolving).groups
+      (turns found.ignored (last_named found.names) 0 found.unresolved (found.tree, s.following) s.resolving).groups
       ∙ no_group found.ignored (nodes found.unresolved) s.read
       ∙ ap length (sym s.names);
 }

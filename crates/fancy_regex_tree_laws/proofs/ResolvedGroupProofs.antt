@@ -1,4 +1,4 @@
--- Trees behind resolving.
+-- Trees after resolving.
 use Rattle.std.proofs.Common.{◌≡◌, ℕ, ℤ, suc, ◌+◌, Bool, true, false, ◌&&◌, List, [], ◌∷◌, ◌++◌, length, Option, Some, None, Result, Ok, Err, refl, ap, sym, ◌∙◌, subst, arith, add-zero}
 use Rattle.std.specs.List.{All, filter_map, list_all}
 use Rattle.std.proofs.lemmas.Bool.{and_parts, false≢true}
@@ -19,7 +19,7 @@ answer a = Ok a
 pub ok_same : {A : Type 0} (x y : A) → answer x ≡ Ok y → x ≡ y
 ok_same x y h = ap (λ r. elim r [ Ok z ↦ z | Err e ↦ x ]) h
 
--- what is answered behind a step
+-- what is answered after a step
 pub after : {A B : Type 0} (r : Result A PositionedFault) (f : A → Result B PositionedFault) (y : B) → r ⨟ f ≡ Ok y → (x : A) × (r ≡ Ok x) × (f x ≡ Ok y)
 after (Ok x) f y h = (x, refl, h)
 after (Err e) f y h = cc
@@ -31,7 +31,7 @@ module _ (ignored : Bool) (named : Text → Option ℕ) where
   bodies : List Tree → List Tree
   bodies = filter_map (counted_body ignored)
 
-  -- nodes behind n openings became these, with so many openings before their end
+  -- nodes after n openings became these, with so many openings before their end
   pub record Became (n : ℕ) (from to : List Tree) (m : ℕ) : Type 0 where
     pub count : m ≡ n + length (filter_map (counted_body ignored) from)
     pub groups : AreGroups ignored named n (filter_map (counted_body ignored) from) (filter_map group_body to)

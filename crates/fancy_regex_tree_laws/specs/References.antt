@@ -10,8 +10,8 @@ use Rattle.fancy_regex_tree.specs.Numbering.{Names, counted, last_named, numbers
 -- The group with this number has the name; numbers count from 1.
 pub record HasName (names : Names) (name : Text) (rank : ℕ) : Type 0 where
   pub before : Names
-  pub behind : Names
-  pub parts : names ≡ before ++ (Some name ∷ behind)
+  pub following : Names
+  pub parts : names ≡ before ++ (Some name ∷ following)
   pub place : rank ≡ suc (length before)
 
 -- the group with this number has the name, and no later one has it
@@ -53,7 +53,7 @@ pub record LastNamedLaw : Type 0 where
 -- The group that a relative number refers to. `front` are the groups that open before the reference.
 pub record RelativeLaw : Type 0 where
   -- a negative number counts backwards from the reference: -1 is the last group that opens before it
-  pub behind : (front between : Names) (this : Option Text) →
+  pub following : (front between : Names) (this : Option Text) →
       relative_number (length (front ++ (this ∷ between))) (negsuc (length between)) ≡ Some (suc (length front))
   -- a negative number that counts past the first group refers to none
   pub too_few : (front : Names) (k : ℕ) → length front ≤ k → relative_number (length front) (negsuc k) ≡ None

@@ -1,4 +1,4 @@
-//! Tests of `Expr::to_str` behind other text, and of trees that no parser makes and that have no text.
+//! Tests of `Expr::to_str` after other text, and of trees that no parser makes and that have no text.
 
 use fancy_regex_tree::{Assertion, Expr};
 use std::alloc::{AllocError, Global};
@@ -44,7 +44,7 @@ fn tree_or_repeat(alloc: Global, shape: Shape, repeated: bool) -> Result<Expr, A
     })
 }
 
-/// The text `x` with that of the tree behind it, as a part that may be repeated; empty where the tree is not printable.
+/// The text `x` with that of the tree after it, as a part that may be repeated; empty where the tree is not printable.
 fn printed(alloc: Global, shape: Shape, repeated: bool) -> Result<String, AllocError> {
     let expr = tree_or_repeat(alloc, shape, repeated)?;
     let mut text = String::new(alloc);
@@ -55,7 +55,7 @@ fn printed(alloc: Global, shape: Shape, repeated: bool) -> Result<String, AllocE
     Ok(text)
 }
 
-/// Shapes, whether they are repeated, and their texts behind `x`.
+/// Shapes, whether they are repeated, and their texts after `x`.
 static PRINTED: [(Shape, bool, &str); 4] = [
     (Shape::Literal("é"), true, "x(?:é{2,3}?)"),
     (Shape::Boundary, true, ""),
@@ -64,7 +64,7 @@ static PRINTED: [(Shape, bool, &str); 4] = [
 ];
 
 #[test]
-fn prints_behind_what_the_buffer_holds(rt: HostRuntime) -> Result<(), Fail> {
+fn prints_after_what_the_buffer_holds(rt: HostRuntime) -> Result<(), Fail> {
     for (shape, repeated, wanted) in PRINTED.iter() {
         let found = printed(rt.alloc(), *shape, *repeated)?;
         assert_eq!(rt; found.as_str(), *wanted);

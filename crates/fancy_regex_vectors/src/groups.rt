@@ -89,7 +89,7 @@ fn append_all(
     Ok(())
 }
 
-/// Appends the groups of a match, behind ` / ` if it is not the first.
+/// Appends the groups of a match, after ` / ` if it is not the first.
 fn append_next(out: &mut String, groups: &Captures<'_, &str>) -> Result<(), AllocError> {
     if !out.is_empty() {
         out.push_str(" / ")?;

@@ -55,7 +55,7 @@ fn append_members(
     Ok(())
 }
 
-/// Appends the number of a member and the span of its match, or the text of its error; behind a blank if it is not the first.
+/// Appends the number of a member and the span of its match, or the text of its error; after a blank if it is not the first.
 fn append_member(
     alloc: Global,
     out: &mut String,

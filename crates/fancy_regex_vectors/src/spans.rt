@@ -87,7 +87,7 @@ fn append_all(
     Ok(())
 }
 
-/// Appends a span, behind a blank if it is not the first.
+/// Appends a span, after a blank if it is not the first.
 fn append_next(out: &mut String, found: Match<'_>) -> Result<(), AllocError> {
     if !out.is_empty() {
         out.push(' ')?;

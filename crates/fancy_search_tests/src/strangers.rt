@@ -1,5 +1,5 @@
 //! Words, inputs and patterns from strangers: what the program tells of each and what it writes, for writers that take one byte a
-//! call and are full, or fail, behind each beginning of the output.
+//! call and are full, or fail, after each beginning of the output.
 
 use crate::program::Input::{Broken, Unread, Whole};
 use crate::program::{Call, is_right};

@@ -59,9 +59,9 @@ module _ (set : RegexSet) (text : List ℕ) where
   -- the position of the answer
   pub answer_asked : (p : ℕ) → IsCharBoundary text p → p ≤ length text → (answer : SetAnswer) → answer_of_set set.regexes.items text (whole text) ≡ Some answer → answer.position ≡ p
       → IsAskedAt (sources_of set) text p
-  answer_asked p cut within answer is here = (record { boundary = cut; behind = omega arith; inside = within }, inr (answer, sym answer_same ∙ is, here))
+  answer_asked p cut within answer is here = (record { boundary = cut; following = omega arith; inside = within }, inr (answer, sym answer_same ∙ is, here))
 
--- What is left to show, by the member that is shown next, if it is known, and the number of the one behind it.
+-- What is left to show, by the member that is shown next, if it is known, and the number of the one after it.
 abbrev pub IsLeft : {X : Type 0} → (X → ℕ × (ℕ × ℕ)) → RegexSet → List ℕ → ℕ → Option X → ℕ → List (ℕ × Match) → Type 0
 IsLeft view set text p first next left =
     MatchOption first (left ≡ found_from set.regexes.items text (whole text) p next)

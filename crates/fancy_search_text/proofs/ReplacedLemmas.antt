@@ -61,7 +61,7 @@ module _ {S : Type 0} (template_of : S → List ℕ) (r : MetaRegex) (text : Lis
   call_fails _ _ _ _ (later t next last m rest w e call h) = call_fails rest next last e h
 
   pub error_is : (ms : List Match) (fixed : Option (List ℕ)) (e : Error) → IsReplaceError (AnswersTemplate template_of) r text ms s fixed e → IsErrorOfSearch r.options (string_bytes r.pattern) text e
-  error_is ms _ _ (of_search fixed done rest answers last e is behind turns) = iteration_error_is r text e (error_made r text (whole text) done e behind)
-  error_is ms _ _ (of_search_by_text t done rest e is behind) = iteration_error_is r text e (error_made r text (whole text) done e behind)
+  error_is ms _ _ (of_search fixed done rest answers last e is following turns) = iteration_error_is r text e (error_made r text (whole text) done e following)
+  error_is ms _ _ (of_search_by_text t done rest e is following) = iteration_error_is r text e (error_made r text (whole text) done e following)
   error_is ms _ _ (of_call fixed e last h) = subst (λ (x : Error). IsErrorOfSearch r.options (string_bytes r.pattern) text x) (sym (call_fails (map (shown r text) ms) s last e h)) (memory_is_error r.options (string_bytes r.pattern) text)
   error_is ms _ _ (of_memory fixed) = memory_is_error r.options (string_bytes r.pattern) text

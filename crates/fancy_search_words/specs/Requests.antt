@@ -96,7 +96,7 @@ request_if_accepted (k ∷ ks) found = None
 abbrev pub requested : List Text → Option Request
 requested words = request_if_accepted (fault_of the_app words) (subcommand_of the_app words)
 
--- the patterns behind references
+-- the patterns after references
 abbrev pub texts_of : List (Bor Text) → List Text
 texts_of patterns = map (λ p. p.now) patterns
 

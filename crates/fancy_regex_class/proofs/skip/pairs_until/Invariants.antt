@@ -6,7 +6,7 @@ abbrev pub invariant-bytes : goal.invariant-bytes
 invariant-bytes l = record {
   range : (l.from ≤ l.at) × (l.at ≤ l.stop);
   boundary : IsCharBoundary l.text l.at;
-  passed : (i : ℕ) → l.from ≤ i → i < l.at → HasMarkedPair l.text l.marked l.behind i;
+  passed : (i : ℕ) → l.from ≤ i → i < l.at → HasMarkedPair l.text l.marked l.following i;
 }
 
 abbrev pub decreases-bytes : goal.decreases-bytes

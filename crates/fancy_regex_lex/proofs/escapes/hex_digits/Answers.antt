@@ -15,7 +15,7 @@ pub returns-in_default-clause-small : goal.returns-in_default-clause-small
 returns-in_default-clause-small c = let l = c.loop-found in hex_small _ _ _ _ _ l.invariant.3
 
 pub returns-in_default-clause-rest : goal.returns-in_default-clause-rest
-returns-in_default-clause-rest c = let l = c.loop-found in (hex_stops _ _ _ _ _ c.in_default.ensures.value l.invariant.3).behind
+returns-in_default-clause-rest c = let l = c.loop-found in (hex_stops _ _ _ _ _ c.in_default.ensures.value l.invariant.3).after
 
 pub overflow_mul-found : goal.overflow_mul-found
 overflow_mul-found c =
@@ -46,4 +46,4 @@ pub returns-clause-small : goal.returns-clause-small
 returns-clause-small c = let l = c.loop-found in hex_small _ _ _ _ _ l.invariant.3
 
 pub returns-clause-rest : goal.returns-clause-rest
-returns-clause-rest c = let l = c.loop-found in (hex_all _ _ _ _ _ (omega (arith, c.loop-found-test.false)) l.invariant.3).behind
+returns-clause-rest c = let l = c.loop-found in (hex_all _ _ _ _ _ (omega (arith, c.loop-found-test.false)) l.invariant.3).after

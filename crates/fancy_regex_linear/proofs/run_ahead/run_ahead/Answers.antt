@@ -11,7 +11,7 @@ use Rattle.fancy_regex_linear.proofs.AheadLemmas.{ascii_pair, start_comes, start
 use Rattle.fancy_regex_linear.proofs.run_ahead.run_ahead.Goals as goal
 use Rattle.fancy_regex_linear.proofs.run_ahead.run_ahead.Goals.{After-may_match}
 
--- the loop begins behind the start
+-- the loop begins after the start
 one : (c : After-may_match) → (c.in-Pair.from ≡ c.args.start.at + 1)
     × (read_next c.args.context.now.rules.unicode c.args.context.now.matchers.now c.args.context.now.stop c.in_ok-plan.plan.leaf c.in_ok-plan.plan.head c.args.start.at c.args.start.after
     ≡ Pair c.in_ok-plan.plan.head (c.args.start.at + 1))
@@ -26,11 +26,11 @@ returns-clause-counted c =
     let from : ℕ = c.args.start.at in
     let end : ℕ = c.pass_stretch-end.result.0 in
     let on : from < end = omega (arith, next, c.pass_stretch-end.ensures.range.0) in
-    let rows = c.is_behind.ensures c.if-not-is_behind.false in
-    let dropped = c.drop_behind.ensures.dropped (omega (arith, rows, on)) in
+    let rows = c.is_after.ensures c.if-not-is_after.false in
+    let dropped = c.drop_after.ensures.dropped (omega (arith, rows, on)) in
     let place : from + (end - from) ≡ end = omega (arith, on) in
     let some : 0 < v.count = omega (arith, c.requires.count, c.requires.entry) in
-    (dropped.0, dropped.1, spent_ahead v c.drop_behind.new.self from (end - from) c.requires.base rows (dropped.0 ∙ sym place) c.drop_behind.ensures.count some)
+    (dropped.0, dropped.1, spent_ahead v c.drop_after.new.self from (end - from) c.requires.base rows (dropped.0 ∙ sym place) c.drop_after.ensures.count some)
 
 pub returns-clause-ahead : goal.returns-clause-ahead
 returns-clause-ahead c =
@@ -57,17 +57,17 @@ returns-clause-ahead c =
         | inr other ↦ let over = has i (omega (arith, low, other)) less in (over.c, over.small, over.here)
       ];
       comes = λ view go explains.
-          start_comes context text view go explains plan.head plan.found is.is_loop is.below.1 plan.behind is.exit plan.stretch is.stretch
+          start_comes context text view go explains plan.head plan.found is.is_loop is.below.1 plan.following is.exit plan.stretch is.stretch
           plan.slot plan.leaf plan.first end at is.entry c.requires.entry is.first is.below.0 high has inside start.boundary
           (ap (read_next context.rules.unicode context.matchers.now context.stop plan.leaf plan.head at) (sym start.after) ∙ first.1);
       fails = λ view go explains none i low less. elim (cases_eq i at) [
         | inl same ↦
             subst (λ (k : ℕ). (go context.entry k).answer ≡ None) (sym same)
-            (start_fails context text view go explains plan.head plan.found is.is_loop is.below.1 plan.behind is.exit plan.stretch is.stretch
+            (start_fails context text view go explains plan.head plan.found is.is_loop is.below.1 plan.following is.exit plan.stretch is.stretch
             plan.slot plan.leaf plan.first end at c.in_ok-c.c is.entry c.requires.entry is.first is.below.0 high has inside start.boundary here small none)
         | inr other ↦
             let over = has i (omega (arith, low, other)) less in
-            start_fails context text view go explains plan.head plan.found is.is_loop is.below.1 plan.behind is.exit plan.stretch is.stretch
+            start_fails context text view go explains plan.head plan.found is.is_loop is.below.1 plan.following is.exit plan.stretch is.stretch
             plan.slot plan.leaf plan.first end i over.c is.entry c.requires.entry is.first is.below.0 high (λ k from to. has k (omega (arith, low, from)) to) less over.boundary over.here over.small none
       ];
       dead = λ e view go explains. c.may_match.ensures e text view go explains c.pass_stretch-end.ensures.boundary after;

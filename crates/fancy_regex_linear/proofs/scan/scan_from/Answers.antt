@@ -13,7 +13,7 @@ use Rattle.fancy_regex_linear.proofs.LoopLemmas.{read_leads_on, reads_first, rea
 use Rattle.fancy_regex_linear.proofs.scan.scan_from.Goals as goal
 use Rattle.fancy_regex_linear.proofs.scan.scan_from.Goals.{After-read}
 
--- what was read behind the stretch
+-- what was read after the stretch
 reads : (c : After-read) (next : Next) → c.read.result ≡ next
     → read_next c.args.context.now.rules.unicode c.args.context.now.matchers.now c.args.context.now.stop c.args.scan.found.leaf c.args.scan.head c.pass_stretch-end.result.0
     (char_at (looked_text c.args.text.now) c.pass_stretch-end.result.0) ≡ next
@@ -27,7 +27,7 @@ reads c next e =
 boundary : (c : After-read) → IsCharBoundary (looked_text c.args.text.now) c.pass_stretch-end.result.0
 boundary c = rw c.places.invariant.text at c.pass_stretch-end.ensures.boundary
 
--- the loop matches from the place before the stretch as it does behind it
+-- the loop matches from the place before the stretch as it does after it
 over : (c : After-read) (view : View) (go : ℕ → Continuation) → Explains c.args.context.now (looked_text c.args.text.now) view go
     → (end : ℕ) → EndsAt go c.args.scan.head c.pass_stretch-end.result.0 end → EndsAt go c.args.scan.head c.args.from end
 over c view go explains end h =

@@ -8,7 +8,7 @@ use Rattle.fancy_regex_linear.specs.Visited.{Has, spent}
 use Rattle.fancy_regex_linear.specs.Search.{AllFail, Explains, ended}
 use Rattle.fancy_regex_linear.specs.declared.visited.Visited.{Visited}
 use Rattle.fancy_regex_linear.proofs.VisitedLemmas.{spent_most, looks_within, none_has}
-use Rattle.fancy_regex_linear.proofs.StartLemmas.{passed_over, earliest_next, earliest_here, earliest_none, tried_next, tried_here, tried_none, behind_from, above_base, next_after}
+use Rattle.fancy_regex_linear.proofs.StartLemmas.{passed_over, earliest_next, earliest_here, earliest_none, tried_next, tried_here, tried_none, after_from, above_base, next_after}
 use Rattle.fancy_regex_linear.proofs.DfsLemmas.{land_none}
 use Rattle.fancy_regex_linear.proofs.search.earliest_way.Goals as goal
 use Rattle.fancy_regex_linear.proofs.search.earliest_way.Goals.{After-next_start, In-Some-scanned, In-Some-run_ahead, After-begin, After-begin_ahead, In_ok-end, In_ok-end-2}
@@ -203,7 +203,7 @@ starts-preserved c =
     let is = rw c.starts.invariant.text at c.in-Some-next_start.ensures.start in
     let from = rw c.in-Some.is at c.starts.invariant.from in
     let so_far = rw c.in-Some.is at c.starts.invariant.at_most in
-    let after = next_after text stop place.at place.next is.high is.behind in
+    let after = next_after text stop place.at place.next is.high is.following in
     let same = c.run_ahead.ensures.same c.in_default-run_ahead.is in
     let scan_same = c.scanned.ensures.same c.in_default-scanned.is in
     let spent_same : spent c.run_ahead.new.visited ≡ spent c.starts.visited = ap spent same.1 in
@@ -222,9 +222,9 @@ starts-preserved c =
             over.0 ∙ next,
             omega (arith, over.1, more, same.0, scan_same, c.begin.ensures.more),
           );
-      from = behind_from text stop c.args.start place.at place.next (omega (arith, from.0, is.low)) is.behind;
+      from = after_from text stop c.args.start place.at place.next (omega (arith, from.0, is.low)) is.following;
       count = c.begin.ensures.count ∙ c.run_ahead.ensures.count ∙ c.starts.invariant.count;
-      base = (omega (arith, c.starts.invariant.base.0, base_same, c.begin.ensures.base.0), omega (arith, c.begin.ensures.base.1, is.high), above_base text stop c.begin.new.visited.base place.at place.next c.begin.ensures.base.1 is.behind);
+      base = (omega (arith, c.starts.invariant.base.0, base_same, c.begin.ensures.base.0), omega (arith, c.begin.ensures.base.1, is.high), above_base text stop c.begin.new.visited.base place.at place.next c.begin.ensures.base.1 is.following);
       rows = c.begin.ensures.rows;
       empty = rw c.in_default-3.is at c.in_ok-end-2.ensures.empty;
       slots = c.begin.ensures.slots ∙ c.starts.invariant.slots;

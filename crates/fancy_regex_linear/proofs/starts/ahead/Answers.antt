@@ -4,13 +4,13 @@ use Rattle.fancy_regex_linear.proofs.starts.ahead.Goals as goal
 pub returns-in-Some-clause-passed : goal.returns-in-Some-clause-passed
 returns-in-Some-clause-passed c i low high = record {
   many = c.if-anchored.false;
-  behind = omega (arith, c.if-at-eq0.false, low);
-  ascii = inr (record { pair = c.in-Some.pair; into = c.in-Some.ensures; behind = c.pass_visited.ensures.passed i low high });
+  following = omega (arith, c.if-at-eq0.false, low);
+  ascii = inr (record { pair = c.in-Some.pair; into = c.in-Some.ensures; following = c.pass_visited.ensures.passed i low high });
 }
 
 pub returns-in_default-clause-passed : goal.returns-in_default-clause-passed
 returns-in_default-clause-passed c i low high = record {
   many = c.if-anchored.false;
-  behind = omega (arith, c.if-at-eq0.false, low);
+  following = omega (arith, c.if-at-eq0.false, low);
   ascii = inl (c.pass_refused.ensures.passed i low high);
 }

@@ -15,7 +15,7 @@ use Rattle.fancy_regex_linear.proofs.StartLemmas.{passed_over, earliest_none, tr
 use Rattle.fancy_regex_linear.proofs.starts.next_start.Goals as goal
 use Rattle.fancy_regex_linear.proofs.starts.next_start.Goals.{After-is_refused, After-refuses_all}
 
--- where all starts behind the first place of the text are refused, none of these has a match
+-- where all starts after the first place of the text are refused, none of these has a match
 none_left : (c : After-refuses_all) → c.refuses_all.result ≡ true → 0 < c.args.from → (view : View) (go : ℕ → Continuation)
     → Explains c.args.context.now (looked_text c.args.text.now) view go → (slots : List ℕ)
     → (earliest (spot_from go c.args.context.now.entry slots) (places (looked_text c.args.text.now) c.args.anchored c.args.from c.args.context.now.stop) ≡ None)
@@ -57,8 +57,8 @@ char_here c = ap (λ t. char_at t c.ahead-place.result.0) (sym c.starts.invarian
 boundary_here : (c : After-is_refused) → IsCharBoundary (text_of c) c.ahead-place.result.0
 boundary_here c = rw c.starts.invariant.text at c.ahead-place.ensures.boundary
 
-split : (c : After-is_refused) → places_at c c.ahead-place.result.0 ≡ c.ahead-place.result.0 ∷ places_from (text_of c) c.args.anchored c.start_behind-next.result c.args.context.now.stop
-split c = c.start_behind-next.ensures.left (text_of c) c.requires.text (boundary_here c) c.requires.range.1 (char_here c)
+split : (c : After-is_refused) → places_at c c.ahead-place.result.0 ≡ c.ahead-place.result.0 ∷ places_from (text_of c) c.args.anchored c.start_after-next.result c.args.context.now.stop
+split c = c.start_after-next.ensures.left (text_of c) c.requires.text (boundary_here c) c.requires.range.1 (char_here c)
 
 -- a start where this character stands that is refused has no match
 no_spot : (c : After-is_refused) (i : ℕ) (after : Option ℕ) → IsCharBoundary (text_of c) i → 0 < i → i ≤ c.args.context.now.stop → char_at (text_of c) i ≡ after
@@ -94,14 +94,14 @@ passed c view go explains failed slots =
       | inl refused ↦ elim refused [
         | inl a ↦
             let cannot = marks_say context.rules.unicode context.matchers.now context.states.now context.entry context.refused.now c.requires.marks a.0 a.1 a.3 in
-            (is.many, no_spot c i (Some a.0) b is.behind high a.2 cannot view go explains slots, (a.0, a.1, a.2))
+            (is.many, no_spot c i (Some a.0) b is.following high a.2 cannot view go explains slots, (a.0, a.1, a.2))
         | inr pair ↦
-            let none = pair_fails context (text_of c) view go explains c.requires.text i b is.behind c.requires.entry pair in
+            let none = pair_fails context (text_of c) view go explains c.requires.text i b is.following c.requires.entry pair in
             (is.many, ap (land slots) none ∙ land_none slots, (pair.first.0, pair.first.1, pair.first.2))
       ]
       | inr led ↦
           let none = visited_fails context (text_of c) view go explains c.args.visited.now failed i b high led in
-          (is.many, ap (land slots) none ∙ land_none slots, (led.behind.0, led.behind.1, led.behind.2))
+          (is.many, ap (land slots) none ∙ land_none slots, (led.following.0, led.following.1, led.following.2))
     ]) in
     record { found = inv.0 ∙ over.0; tried = omega (arith, inv.1, over.1) }
 
@@ -118,7 +118,7 @@ returns-then-not-is_refused-clause-at_least c view go explains failed slots =
     let d = (goal.at.returns-then-not-is_refused-clause-at_least c).After-is_refused in
     let before = (passed d view go explains failed slots).tried in
     let same = ap (attempted (spots d go slots)) (split d) in
-    let one = tried_some (spots d go slots) c.ahead-place.result.0 (places_from (text_of d) c.args.anchored c.start_behind-next.result c.args.context.now.stop) in
+    let one = tried_some (spots d go slots) c.ahead-place.result.0 (places_from (text_of d) c.args.anchored c.start_after-next.result c.args.context.now.stop) in
     omega (arith, before, same, one, c.ahead-place.ensures.ticked)
 
 pub returns-in_default-clause-passed : goal.returns-in_default-clause-passed
@@ -141,7 +141,7 @@ pub starts-preserved : goal.starts-preserved
 starts-preserved c =
     let d = (goal.at.starts-preserved c).After-is_refused in
     let boundary : IfSome c.ahead-place.result.1 (λ k. IsCharBoundary (text_of d) (c.ahead-place.result.0 + len_utf8 k)) = rw c.starts.invariant.text at c.ahead-place.ensures.next in
-    let behind = rw c.in-Some.is at (c.start_behind-next.ensures.behind (text_of d) boundary) in
+    let following = rw c.in-Some.is at (c.start_after-next.ensures.following (text_of d) boundary) in
     let more = rw c.in-Some.is at (split d) in
     record {
       passed = λ view go explains failed slots.
@@ -149,8 +149,8 @@ starts-preserved c =
           let both = failed_next (spots d go slots) c.ahead-place.result.0 (places_at d c.ahead-place.result.0) _ more (fails d c.if-not-is_refused.false view go explains slots) in
           let tried = before.tried in
           (before.found ∙ both.0, omega (arith, tried, both.1, c.ahead-place.ensures.ticked));
-      at = (omega (arith, c.starts.invariant.at.0, c.ahead-place.ensures.range.0, behind.0), behind.1, behind.2);
-      at_most = omega (arith, c.starts.invariant.at_most, c.ahead-place.ensures.ticked, c.ahead-place.ensures.range.0, behind.0);
+      at = (omega (arith, c.starts.invariant.at.0, c.ahead-place.ensures.range.0, following.0), following.1, following.2);
+      at_most = omega (arith, c.starts.invariant.at_most, c.ahead-place.ensures.ticked, c.ahead-place.ensures.range.0, following.0);
       more = omega (arith, c.starts.invariant.more, c.ahead-place.ensures.ticked);
       text = c.ahead-place.ensures.text ∙ c.starts.invariant.text;
       same_counter = c.ahead-place.ensures.same_counter ∙ c.starts.invariant.same_counter;

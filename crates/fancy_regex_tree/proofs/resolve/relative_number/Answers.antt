@@ -1,6 +1,6 @@
 use Rattle.std.proofs.Common.{inl, inr}
 use Rattle.std.proofs.Math.Facts.{to_z-of_z}
-use Rattle.fancy_regex_tree.proofs.Relative.{ahead, none_there, behind_here}
+use Rattle.fancy_regex_tree.proofs.Relative.{ahead, none_there, after_here}
 use Rattle.fancy_regex_tree.proofs.resolve.relative_number.Goals as goal
 
 pub returns-then-distance-gt0 : goal.returns-then-distance-gt0
@@ -16,4 +16,4 @@ returns-then-back-eq0 c =
 pub returns : goal.returns
 returns c =
     let same = to_z-of_z c.ranges.distance in
-    behind_here c.args.openings c.unsigned_abs-back.result c.args.distance (rw same at c.if-distance-gt0.false) (rw same at c.unsigned_abs-back.ensures.value) c.if-back-eq0.false c.if-back-openings.false
+    after_here c.args.openings c.unsigned_abs-back.result c.args.distance (rw same at c.if-distance-gt0.false) (rw same at c.unsigned_abs-back.ensures.value) c.if-back-eq0.false c.if-back-openings.false

@@ -2,7 +2,7 @@ use Rattle.std.proofs.Common.{◌≡◌, ◌∙◌, ◌≤◌, ℕ, length, sym,
 use Rattle.fancy_regex_input.specs.SearchInputs.{FitsText}
 use Rattle.fancy_regex_meta.specs.SearchLimits.{effective_start}
 use Rattle.fancy_regex.specs.SetAnswers.{last_tried, found_from, AreInLimits}
-use Rattle.fancy_regex.proofs.SetSearchLemmas.{first_cut, answer_first, none_before, found_here, tried_here, none_later, all_later, answer_behind}
+use Rattle.fancy_regex.proofs.SetSearchLemmas.{first_cut, answer_first, none_before, found_here, tried_here, none_later, all_later, answer_after}
 use Rattle.fancy_regex.proofs.set.RegexSet.first_answer.Goals as goal
 
 pub loop-position-init : goal.loop-position-init
@@ -14,8 +14,8 @@ loop-position-init g c =
     let start : p ≡ effective_start config = c.effective_start-position.ensures ∙ ap effective_start (sym c.config-config.ensures) in
     record {
       cut = λ le. first_cut text config fits p start le;
-      behind = omega (arith, start);
-      limits = λ q tried lt. let late : effective_start config ≤ q = tried.behind in absurd (omega (arith, start, lt, late));
+      following = omega (arith, start);
+      limits = λ q tried lt. let late : effective_start config ≤ q = tried.following in absurd (omega (arith, start, lt, late));
       none = none_before c.args.self.now.regexes.items text config c.as_bytes-text.ensures.utf8 fits p start;
       answer = answer_first c.args.self.now.regexes.items text config c.as_bytes-text.ensures.utf8 fits p start;
     }
@@ -45,7 +45,7 @@ returns-in-Some-Err-clause-limits g c =
     let y = rw c.in-Some-Err.field-0-is at c.in-Some-Err.ensures.item in
     let within_limits = rw c.in-Some-Err.field-0-is at c.in-Some-Err.ensures.limits in
     rw (← c.haystack-haystack.ensures, ← c.config-config.ensures, c.in-Some-Err.field-0-is)
-    (p, y.0, tried_here items text config c.as_bytes-text.ensures.utf8 fits p inv.cut within inv.behind, inv.none, y.3, y.4, inv.limits, within_limits y.0 y.2)
+    (p, y.0, tried_here items text config c.as_bytes-text.ensures.utf8 fits p inv.cut within inv.following, inv.none, y.3, y.4, inv.limits, within_limits y.0 y.2)
 
 pub loop-position-preserved : goal.loop-position-preserved
 loop-position-preserved g c =
@@ -61,11 +61,11 @@ loop-position-preserved g c =
     let next = c.advance_position-position.ensures in
     record {
       cut = next.boundary;
-      behind = omega (arith, inv.behind, next.after);
+      following = omega (arith, inv.following, next.after);
       limits = λ q tried lt. all_later items text config utf8 fits p inv.cut within (λ (x : ℕ). AreInLimits items text config x 0 (length items)) inv.limits c.in-None.ensures.limits q tried
           (omega (arith, lt, next.value));
       none = λ q tried lt. none_later items text config utf8 fits p inv.cut within inv.none here q tried (omega (arith, lt, next.value));
-      answer = rw next.value (answer_behind items text config utf8 fits p inv.cut within inv.answer here);
+      answer = rw next.value (answer_after items text config utf8 fits p inv.cut within inv.answer here);
     }
 
 pub returns-in-Some-Ok-clause-stays : goal.returns-in-Some-Ok-clause-stays

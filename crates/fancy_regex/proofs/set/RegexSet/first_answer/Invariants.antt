@@ -12,7 +12,7 @@ invariant-loop-position g l =
     let text = g.S.Input.text l.haystack in
     record {
       cut : l.position ≤ length text → IsCharBoundary text l.position;
-      behind : effective_start l.config ≤ l.position;
+      following : effective_start l.config ≤ l.position;
       limits : AreInLimitsBefore regexes text l.config l.position;
       none : (q : ℕ) → IsTriedAt text l.config q → q < l.position → found_from regexes text l.config q 0 ≡ [];
       answer : answer_of_set regexes text l.config ≡ first_some (answer_at regexes text l.config) (boundaries text l.position (last_tried l.config));

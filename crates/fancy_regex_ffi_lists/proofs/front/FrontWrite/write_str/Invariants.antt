@@ -1,4 +1,4 @@
--- The bytes before the index are written behind what stood there; the rest is as it was.
+-- The bytes before the index are written after what stood there; the rest is as it was.
 use Rattle.std.specs.Prelude.{◌≡◌, ℕ, ◌<◌, ◌≤◌, ◌-◌, length, slice_index_or}
 use Rattle.fancy_regex_ffi_lists.proofs.front.FrontWrite.write_str.Given as goal
 
@@ -11,5 +11,5 @@ invariant-loop-i l = record {
   high : l.i ≤ l.end;
   before : (k : ℕ) (d : ℕ) → k < l.initial.self.length → slice_index_or l.self.room.now k d ≡ slice_index_or l.initial.self.room.now k d;
   between : (k : ℕ) (d : ℕ) → l.initial.self.length ≤ k → k < l.i → slice_index_or l.self.room.now k d ≡ slice_index_or l.bytes (k - l.initial.self.length) d;
-  behind : (k : ℕ) (d : ℕ) → l.i ≤ k → slice_index_or l.self.room.now k d ≡ slice_index_or l.initial.self.room.now k d;
+  after : (k : ℕ) (d : ℕ) → l.i ≤ k → slice_index_or l.self.room.now k d ≡ slice_index_or l.initial.self.room.now k d;
 }

@@ -1,6 +1,6 @@
 use Rattle.std.proofs.Common.{refl, arith}
 use Rattle.fancy_regex_linear.proofs.VisitedLemmas.{none_has, spent_dropped}
-use Rattle.fancy_regex_linear.proofs.visited.Visited.drop_behind.Goals as goal
+use Rattle.fancy_regex_linear.proofs.visited.Visited.drop_after.Goals as goal
 
 pub returns-then-self-from-clause-pairs : goal.returns-then-self-from-clause-pairs
 returns-then-self-from-clause-pairs c q i has = absurd (none_has _ q i refl has)

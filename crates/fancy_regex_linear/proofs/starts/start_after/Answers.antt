@@ -1,11 +1,11 @@
 use Rattle.std.proofs.Common.{arith, ◌∙◌}
 use Rattle.fancy_regex_meaning.proofs.NextBoundaryLemmas.{last_place, end_place}
-use Rattle.fancy_regex_linear.proofs.StartLemmas.{place_behind, last_of}
-use Rattle.fancy_regex_linear.proofs.starts.start_behind.Goals as goal
+use Rattle.fancy_regex_linear.proofs.StartLemmas.{place_after, last_of}
+use Rattle.fancy_regex_linear.proofs.starts.start_after.Goals as goal
 
 pub returns-in-Some-clause-left : goal.returns-in-Some-clause-left
 returns-in-Some-clause-left c text u b inside is =
-    place_behind text c.args.anchored c.args.at c.args.stop c.in-Some.c c.len_utf8-in-Some.result c.if-not-anchored.true b (is ∙ c.in-Some.is) c.len_utf8-in-Some.ensures.value
+    place_after text c.args.anchored c.args.at c.args.stop c.in-Some.c c.len_utf8-in-Some.result c.if-not-anchored.true b (is ∙ c.in-Some.is) c.len_utf8-in-Some.ensures.value
     (omega (arith, c.len_utf8.ensures.value, c.if-len_utf8-stop.true)) c.requires
 
 pub returns-in_default-clause-left : goal.returns-in_default-clause-left
