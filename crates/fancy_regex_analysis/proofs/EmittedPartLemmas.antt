@@ -9,7 +9,7 @@ use Rattle.fancy_regex_analysis.specs.EmittedParts.{in_look_around, some_descend
 use Rattle.fancy_regex_analysis.specs.EmittedParts.{itself, called, inside_of_children, skips_children, IsEmitted, the_root, child, body, SomeEmittedPart}
 use Rattle.fancy_regex_analysis.specs.declared.emitted.Inside.{Inside}
 use Rattle.fancy_regex_analysis.specs.declared.emitted.Inside.TheVariants.{Nothing, Absent}
-use Rattle.fancy_regex_analysis.specs.declared.emitted.Call.{Call}
+use Rattle.fancy_regex_analysis.specs.declared.emitted.EmittedCall.{EmittedCall}
 use Rattle.fancy_regex_info.proofs.ReachabilityLemmas.{or_left, or_right, or_cases}
 use Rattle.fancy_regex_analysis.proofs.AnyLemmas.{any_has}
 
@@ -26,7 +26,7 @@ first_or_later : {X : Type 0} (y : X) (xs : List X) (x : X) → Contains (y ∷ 
 first_or_later y xs x (zero, low, is) = inl is
 first_or_later y xs x (suc n, low, is) = inr (n, omega arith, is)
 
-unless : (b : Bool) (xs : List Call) (c : Call) → Contains (if b then [] else xs) c → (b ≡ false) × Contains xs c
+unless : (b : Bool) (xs : List EmittedCall) (c : EmittedCall) → Contains (if b then [] else xs) c → (b ≡ false) × Contains xs c
 unless true xs c h = absurd (none_there c h)
 unless false xs c h = (refl, h)
 
@@ -73,7 +73,7 @@ module _ (test : Inside → Tree → Bool) where
 only_child : (t u : Tree) → Contains (t ∷ []) u → t ≡ u
 only_child t u m = ⊎_elim (λ e. e) (λ e. absurd (none_there u e)) (first_or_later t [] u m)
 
-row_calls : (i : Inside) (ts : Trees) (u : Tree) → Contains (listed ts) u → (c : Call) → Contains (emitted_calls i u) c →
+row_calls : (i : Inside) (ts : Trees) (u : Tree) → Contains (listed ts) u → (c : EmittedCall) → Contains (emitted_calls i u) c →
     Contains (emitted_calls_in_row i ts) c
 unfolding emitted_calls emitted_calls_in_row
 row_calls i no_trees u m c h = absurd (none_there u m)
@@ -83,7 +83,7 @@ row_calls i (more_trees t ts) u m c h =
     (λ e. Contains-append_right (emitted_calls i t) (emitted_calls_in_row i ts) c (row_calls i ts u e c h))
     (first_or_later t (listed ts) u m)
 
-child_calls : (i : Inside) (t u : Tree) → skips_children t ≡ false → Contains (subtrees t) u → (c : Call) →
+child_calls : (i : Inside) (t u : Tree) → skips_children t ≡ false → Contains (subtrees t) u → (c : EmittedCall) →
     Contains (emitted_calls (inside_of_children i t) u) c → Contains (emitted_calls i t) c
 unfolding emitted_calls emitted_calls_in_row
 child_calls i (concat ts) u seen m c h = row_calls i ts u m c h
@@ -121,10 +121,10 @@ module _ (groups : List Tree) (root : Tree) where
   mutual
     unfolding emitted_calls emitted_calls_in_row
 
-    call_written : (i : Inside) (t : Tree) → W i t → (c : Call) → Contains (emitted_calls i t) c → W c.inside (subroutine_call c.group)
+    call_written : (i : Inside) (t : Tree) → W i t → (c : EmittedCall) → Contains (emitted_calls i t) c → W c.inside (subroutine_call c.group)
     call_written i (subroutine_call k) w c h =
         ⊎_elim (λ e. absurd (none_there c e))
-        (λ (e : record { group = k; inside = i } ≡ c). subst (λ (d : Call). W d.inside (subroutine_call d.group)) e w)
+        (λ (e : record { group = k; inside = i } ≡ c). subst (λ (d : EmittedCall). W d.inside (subroutine_call d.group)) e w)
         (Contains-push_cases [] (record { group = k; inside = i }) c h)
     call_written i (concat ts) w c h = row_written i ts (λ u e. child i (concat ts) u w refl e) c h
     call_written i (alt ts) w c h = row_written i ts (λ u e. child i (alt ts) u w refl e) c h
@@ -152,7 +152,7 @@ module _ (groups : List Tree) (root : Tree) where
     call_written i (ast_group name t position) w c h = call_written i t (child i (ast_group name t position) t w refl (here t [])) c h
     call_written i t w c h = absurd (none_there c h)
 
-    row_written : (i : Inside) (ts : Trees) → ((u : Tree) → Contains (listed ts) u → W i u) → (c : Call) →
+    row_written : (i : Inside) (ts : Trees) → ((u : Tree) → Contains (listed ts) u → W i u) → (c : EmittedCall) →
         Contains (emitted_calls_in_row i ts) c → W c.inside (subroutine_call c.group)
     row_written i no_trees all c h = absurd (none_there c h)
     row_written i (more_trees t ts) all c h =
@@ -219,7 +219,7 @@ module _ (groups : List Tree) (root : Tree) where
   abbrev Above : Inside → Tree → Type 0
   Above i t = (j : Inside) × (r : Tree) × IsWhole groups root j r
       × ((test : Inside → Tree → Bool) → some_emitted test i t ≡ true → some_emitted test j r ≡ true)
-      × ((c : Call) → Contains (emitted_calls i t) c → Contains (emitted_calls j r) c)
+      × ((c : EmittedCall) → Contains (emitted_calls i t) c → Contains (emitted_calls j r) c)
 
   own_call : (i : Inside) (k : ℕ) → Contains (emitted_calls i (subroutine_call k)) (record { group = k; inside = i })
   unfolding emitted_calls emitted_calls_in_row
@@ -232,7 +232,7 @@ module _ (groups : List Tree) (root : Tree) where
       (a.0, a.1, a.2, (λ test h. a.3 test (child_shows test i t u seen m h)), (λ c h. a.4 c (child_calls i t u seen m c h)))
   above x y (body i k u w is) =
       let a = above i (subroutine_call k) w in
-      let c : Call = record { group = k; inside = i } in
+      let c : EmittedCall = record { group = k; inside = i } in
       (i, u, called a.0 a.1 u c a.2 (a.4 c (own_call i k)) is, (λ test h. h), (λ d h. h))
 
   -- what a part that is written out shows, a whole does

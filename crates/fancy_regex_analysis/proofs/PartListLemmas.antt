@@ -9,14 +9,14 @@ use Rattle.fancy_regex_analysis.specs.EmittedParts.{in_look_around, some_descend
 use Rattle.fancy_regex_analysis.specs.EmittedParts.{emitted_parts, emitted_parts_in_row, call_of, inside_of_children, skips_children}
 use Rattle.fancy_regex_analysis.specs.declared.emitted.Inside.{Inside}
 use Rattle.fancy_regex_analysis.specs.declared.emitted.Inside.TheVariants.{Absent}
-use Rattle.fancy_regex_analysis.specs.declared.emitted.Call.{Call}
+use Rattle.fancy_regex_analysis.specs.declared.emitted.EmittedCall.{EmittedCall}
 use Rattle.fancy_regex_info.proofs.NodeListLemmas.{both_add}
 use Rattle.fancy_regex_analysis.proofs.NodeListLemmas.{either_passes}
 
 abbrev Part : Type 0
 Part = Inside × Tree
 
-unless_calls : (b : Bool) (cs : List Call) (ps : List Part) → cs ≡ filter_map call_of ps →
+unless_calls : (b : Bool) (cs : List EmittedCall) (ps : List Part) → cs ≡ filter_map call_of ps →
     (if b then [] else cs) ≡ filter_map call_of (if b then [] else ps)
 unless_calls true cs ps h = refl
 unless_calls false cs ps h = h

@@ -15,7 +15,7 @@ use Rattle.fancy_regex_analysis.specs.EmittedParts.{some_emitted, emitted_calls,
 use Rattle.fancy_regex_info.specs.declared.error.CompileError.{CompileError}
 use Rattle.fancy_regex_analysis.specs.declared.emitted.Inside.{Inside}
 use Rattle.fancy_regex_analysis.specs.declared.emitted.Inside.TheVariants.{Nothing, LookAround, Absent}
-use Rattle.fancy_regex_analysis.specs.declared.emitted.Call.{Call}
+use Rattle.fancy_regex_analysis.specs.declared.emitted.EmittedCall.{EmittedCall}
 use Rattle.fancy_regex_analysis.specs.declared.emitted.Visited.{Visited}
 use Rattle.fancy_regex_analysis.proofs.EmittedPartLemmas.{part_found}
 use Rattle.fancy_regex_info.proofs.ReachabilityLemmas.{or_cases}
@@ -100,7 +100,7 @@ set_marks (w ∷ ws) zero v i inside = meet_marks v i
 set_marks (w ∷ ws) (suc k) v i inside = set_marks ws k v i (omega arith)
 
 -- how much is left to be looked at: for each body and what it may stand inside of the calls in it, and one
-abbrev open_calls : Bool → List Call → ℕ
+abbrev open_calls : Bool → List EmittedCall → ℕ
 open_calls is_met calls = cond is_met 0 (length calls + 1)
 
 unfoldable pub left : List Visited → List Tree → ℕ
@@ -137,24 +137,24 @@ met_is ws k w inside is = is ∙ get_or_default ws k w nowhere inside
 abbrev pub IsVisited : List Tree → Tree → List Visited → Inside → Tree → Type 0
 IsVisited groups root met i t = ((i ≡ Nothing) × (t ≡ root)) ⊎ ((k : ℕ) × (target groups k ≡ Some t) × (was_visited_in (met_at met k) i ≡ true))
 
-abbrev IsSettled : List Visited → List Call → Call → Type 0
+abbrev IsSettled : List Visited → List EmittedCall → EmittedCall → Type 0
 IsSettled met todo call = (was_visited_in (met_at met call.group) call.inside ≡ true) ⊎ Contains todo call
 
 -- how far the worklist has come
-pub record Progress (groups : List Tree) (root : Tree) (test : Inside → Tree → Bool) (met : List Visited) (todo : List Call) : Type 0 where
+pub record Progress (groups : List Tree) (root : Tree) (test : Inside → Tree → Bool) (met : List Visited) (todo : List EmittedCall) : Type 0 where
   pub same : length met ≡ length groups
   pub met_is_whole : (k : ℕ) (i : Inside) (body : Tree) → was_visited_in (met_at met k) i ≡ true → target groups k ≡ Some body → IsWhole groups root i body
-  pub todo_is_whole : (call : Call) (body : Tree) → Contains todo call → target groups call.group ≡ Some body → IsWhole groups root call.inside body
-  pub closed : (i : Inside) (t : Tree) → IsVisited groups root met i t → (call : Call) (body : Tree) → Contains (emitted_calls i t) call →
+  pub todo_is_whole : (call : EmittedCall) (body : Tree) → Contains todo call → target groups call.group ≡ Some body → IsWhole groups root call.inside body
+  pub closed : (i : Inside) (t : Tree) → IsVisited groups root met i t → (call : EmittedCall) (body : Tree) → Contains (emitted_calls i t) call →
       target groups call.group ≡ Some body → IsSettled met todo call
   pub clear : (i : Inside) (t : Tree) → IsVisited groups root met i t → some_emitted test i t ≡ false
 
 module _ (groups : List Tree) (root : Tree) (test : Inside → Tree → Bool) where
-  abbrev P : List Visited → List Call → Type 0
+  abbrev P : List Visited → List EmittedCall → Type 0
   P = Progress groups root test
 
   -- before the first body of a group
-  pub begins : (n : ℕ) (todo : List Call) → n ≡ length groups → todo ≡ emitted_calls Nothing root → some_emitted test Nothing root ≡ false →
+  pub begins : (n : ℕ) (todo : List EmittedCall) → n ≡ length groups → todo ≡ emitted_calls Nothing root → some_emitted test Nothing root ≡ false →
       P (replicate n nowhere) todo
   begins n todo long is clear =
       let fresh : (k : ℕ) (i : Inside) → was_visited_in (met_at (replicate n nowhere) k) i ≡ true → ⊥ =
@@ -178,7 +178,7 @@ module _ (groups : List Tree) (root : Tree) (test : Inside → Tree → Bool) wh
       }
 
   -- a call of what was met already, or of no group
-  pub passes_over : (met : List Visited) (todo rest : List Call) (call : Call) → P met todo → todo ≡ rest ++ call ∷ [] →
+  pub passes_over : (met : List Visited) (todo rest : List EmittedCall) (call : EmittedCall) → P met todo → todo ≡ rest ++ call ∷ [] →
       (length groups ≤ call.group) ⊎ (was_visited_in (met_at met call.group) call.inside ≡ true) → P met rest
   passes_over met todo rest call was is why = record {
     same = was.same;
@@ -201,7 +201,7 @@ module _ (groups : List Tree) (root : Tree) (test : Inside → Tree → Bool) wh
   }
 
   -- a body that is met puts the calls in it on the list
-  pub meets : (met : List Visited) (todo rest more : List Call) (call : Call) (v : Visited) (u : Tree) → P met todo → todo ≡ rest ++ call ∷ [] →
+  pub meets : (met : List Visited) (todo rest more : List EmittedCall) (call : EmittedCall) (v : Visited) (u : Tree) → P met todo → todo ≡ rest ++ call ∷ [] →
       v ≡ met_at met call.group → target groups call.group ≡ Some u → more ≡ rest ++ emitted_calls call.inside u →
       some_emitted test call.inside u ≡ false → P (set met call.group (with_visited_in v call.inside)) more
   meets met todo rest more call v u was is same_v is_u made clear =
@@ -209,7 +209,7 @@ module _ (groups : List Tree) (root : Tree) (test : Inside → Tree → Bool) wh
       let low : call.group < length met = omega (arith, target_inside groups call.group u is_u, was.same) in
       let whole : IsWhole groups root call.inside u =
       was.todo_is_whole call u (subst (λ cs. Contains cs call) (sym is) (Contains-push rest call)) is_u in
-      let settle : (c : Call) → IsSettled met todo c → IsSettled next more c =
+      let settle : (c : EmittedCall) → IsSettled met todo c → IsSettled next more c =
       λ c now.
       ⊎_elim (λ e. inl (set_keeps met call.group v call.inside c.group c.inside same_v e))
       (λ e. ⊎_elim
@@ -258,7 +258,7 @@ module _ (groups : List Tree) (root : Tree) (test : Inside → Tree → Bool) wh
       (was.closed i t (all_visited met was i t whole) call body h is_body)
 
   -- When nothing is left, all that is written out was looked at.
-  pub finished : (met : List Visited) (todo : List Call) → todo ≡ [] → P met todo → (i : Inside) (t : Tree) → IsWhole groups root i t →
+  pub finished : (met : List Visited) (todo : List EmittedCall) → todo ≡ [] → P met todo → (i : Inside) (t : Tree) → IsWhole groups root i t →
       some_emitted test i t ≡ false
   finished met todo is was i t whole =
       let end : P met [] = subst (P met) is was in

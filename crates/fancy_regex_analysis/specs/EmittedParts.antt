@@ -8,7 +8,7 @@ use Rattle.fancy_regex_tree.specs.Traversal.{subtrees}
 use Rattle.fancy_regex_meaning.specs.Sizes.{target}
 use Rattle.fancy_regex_analysis.specs.declared.emitted.Inside.{Inside}
 use Rattle.fancy_regex_analysis.specs.declared.emitted.Inside.TheVariants.{Nothing, LookAround, Absent}
-use Rattle.fancy_regex_analysis.specs.declared.emitted.Call.{Call}
+use Rattle.fancy_regex_analysis.specs.declared.emitted.EmittedCall.{EmittedCall}
 use Rattle.fancy_regex_analysis.specs.declared.emitted.EmittedPart.{EmittedPart}
 use Rattle.fancy_regex_analysis.specs.declared.emitted.Visited.{Visited}
 
@@ -68,16 +68,16 @@ abbrev pub part_at : EmittedPart → Inside × Tree
 part_at part = (part.inside, tree_of part.expr.now)
 
 -- the call that a node is, in its context
-abbrev pub call_in : Inside → Tree → Option Call
+abbrev pub call_in : Inside → Tree → Option EmittedCall
 call_in i (subroutine_call k) = Some (record { group = k; inside = i })
 call_in i _ = None
 
-abbrev pub call_of : Inside × Tree → Option Call
+abbrev pub call_of : Inside × Tree → Option EmittedCall
 call_of part = call_in part.0 part.1
 
 -- the subroutine calls that code is emitted for with the tree, in pattern order, each with its context
 unfoldable mutual
-  pub emitted_calls : Inside → Tree → List Call
+  pub emitted_calls : Inside → Tree → List EmittedCall
   emitted_calls i (subroutine_call k) = record { group = k; inside = i } ∷ []
   emitted_calls i (concat ts) = emitted_calls_in_row i ts
   emitted_calls i (alt ts) = emitted_calls_in_row i ts
@@ -92,14 +92,14 @@ unfoldable mutual
   emitted_calls i (ast_group name t position) = emitted_calls i t
   emitted_calls i _ = []
 
-  pub emitted_calls_in_row : Inside → Trees → List Call
+  pub emitted_calls_in_row : Inside → Trees → List EmittedCall
   emitted_calls_in_row i no_trees = []
   emitted_calls_in_row i (more_trees t ts) = emitted_calls i t ++ emitted_calls_in_row i ts
 
 -- A body that is emitted as a whole, and its context: the root, and the body of each group that an emitted call names.
 pub data IsWhole (groups : List Tree) (root : Tree) : Inside → Tree → Type 0 where
   itself : IsWhole groups root Nothing root
-  called : (i : Inside) (t body : Tree) (call : Call) → IsWhole groups root i t → Contains (emitted_calls i t) call →
+  called : (i : Inside) (t body : Tree) (call : EmittedCall) → IsWhole groups root i t → Contains (emitted_calls i t) call →
       target groups call.group ≡ Some body → IsWhole groups root call.inside body
 
 -- the context of the children of a node, from that of the node

@@ -35,7 +35,7 @@ impl Inside {
 
 /// A subroutine call of a group, and its context.
 #[derive(Clone, Copy, Debug, PartialEq, Eq)]
-pub(crate) struct Call {
+pub(crate) struct EmittedCall {
     /// The number of the called group.
     pub group: usize,
     /// The context of the call.
@@ -163,7 +163,7 @@ fn inside_of_absent(absent: &Absent, inside: Inside) -> Inside
 /// Appends the subroutine calls among the parts, in their order, each with its context. Fails only if memory runs out.
 pub(crate) fn add_emitted_calls(
     parts: &[EmittedPart<'_>],
-    calls: &mut Vec<Call>,
+    calls: &mut Vec<EmittedCall>,
 ) -> Result<(), AllocError>
     ensures { IfOk result (λ _. calls.new.items ≡ calls.old.items ++ filter_map call_of (map part_at parts.now)) }
 {
@@ -176,11 +176,11 @@ pub(crate) fn add_emitted_calls(
 }
 
 /// The call that the node is, if it is a subroutine call.
-fn call_of(node: &Expr, inside: Inside) -> Option<Call>
+fn call_of(node: &Expr, inside: Inside) -> Option<EmittedCall>
     ensures { result ≡ call_in inside (tree_of node.now) }
 {
     match node {
-        Expr::SubroutineCall(group) => Some(Call {
+        Expr::SubroutineCall(group) => Some(EmittedCall {
             group: *group,
             inside,
         }),

@@ -13,7 +13,7 @@ ghost use Rattle.fancy_regex_analysis.specs.EmittedParts.{some_emitted, emitted_
 ghost use Rattle.fancy_regex_analysis.specs.declared.emitted.Inside.{Inside as InsideView};
 ghost use Rattle.fancy_regex_analysis.specs.declared.emitted.Inside.TheVariants as inside_of;
 
-use crate::emitted::{Call, EmittedPart, Inside, Visited, add_emitted_calls, emitted_parts};
+use crate::emitted::{EmittedCall, EmittedPart, Inside, Visited, add_emitted_calls, emitted_parts};
 use fancy_regex_info::{CompileError, Size, size_in};
 use fancy_regex_tree::{Absent, BacktrackingControlVerb, Expr, LookAround};
 use std::alloc::Global;
@@ -84,7 +84,7 @@ fn check_body(
     expr: &Expr,
     sizes: &[Size],
     inside: Inside,
-    calls: &mut Vec<Call>,
+    calls: &mut Vec<EmittedCall>,
 ) -> Result<(), CompileError>
     ensures refused { IfErr result (λ e. (is_memory e || some_emitted (stops (size_with (size_at sizes.now)) e) inside (tree_of expr.now)) ≡ true) }
     ensures complete { IfOk result (λ _. some_emitted (is_unsupported (size_with (size_at sizes.now))) inside (tree_of expr.now) ≡ false) }

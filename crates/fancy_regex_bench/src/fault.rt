@@ -7,7 +7,7 @@ use std::num::ParseIntError;
 
 /// Why a measurement failed.
 #[derive(Clone, Copy, Debug)]
-pub enum Fault {
+pub enum BenchError {
     /// The first word is no size.
     Words,
     /// Reading the clock or writing to standard error failed.
@@ -18,26 +18,26 @@ pub enum Fault {
     Memory,
 }
 
-impl From<AllocError> for Fault {
-    fn from(_: AllocError) -> Fault {
-        Fault::Memory
+impl From<AllocError> for BenchError {
+    fn from(_: AllocError) -> BenchError {
+        BenchError::Memory
     }
 }
 
-impl From<Error> for Fault {
-    fn from(_: Error) -> Fault {
-        Fault::Regex
+impl From<Error> for BenchError {
+    fn from(_: Error) -> BenchError {
+        BenchError::Regex
     }
 }
 
-impl From<io::Error> for Fault {
-    fn from(_: io::Error) -> Fault {
-        Fault::System
+impl From<io::Error> for BenchError {
+    fn from(_: io::Error) -> BenchError {
+        BenchError::System
     }
 }
 
-impl From<ParseIntError> for Fault {
-    fn from(_: ParseIntError) -> Fault {
-        Fault::Words
+impl From<ParseIntError> for BenchError {
+    fn from(_: ParseIntError) -> BenchError {
+        BenchError::Words
     }
 }

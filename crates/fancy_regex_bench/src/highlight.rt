@@ -1,6 +1,6 @@
 //! A highlighter: the tokens of a source text, found by a set of thirty patterns.
 
-use crate::fault::Fault;
+use crate::fault::BenchError;
 use fancy_regex::{RegexInput, RegexSet};
 use std::alloc::Global;
 
@@ -39,13 +39,13 @@ const TOKENS: [&str; 30] = [
 ];
 
 /// The number of tokens of a text.
-pub fn tokens(alloc: Global, text: &str) -> Result<u64, Fault> {
+pub fn tokens(alloc: Global, text: &str) -> Result<u64, BenchError> {
     let set = RegexSet::new(alloc, &TOKENS)?;
     tokens_by(alloc, &set, text)
 }
 
 /// The number of tokens that a set finds: at each place the match of the first member that has one, and on from its end.
-fn tokens_by(alloc: Global, set: &RegexSet, text: &str) -> Result<u64, Fault> {
+fn tokens_by(alloc: Global, set: &RegexSet, text: &str) -> Result<u64, BenchError> {
     let mut count: u64 = 0;
     let mut place = 0;
     for _ in 0..text.len() {
@@ -64,7 +64,7 @@ fn next_end(
     set: &RegexSet,
     text: &str,
     place: usize,
-) -> Result<Option<usize>, Fault> {
+) -> Result<Option<usize>, BenchError> {
     if !text.is_char_boundary(place) {
         return Ok(None);
     }

@@ -1,6 +1,6 @@
 //! The generated haystacks.
 
-use crate::work::Call;
+use crate::work::TimedCall;
 use std::alloc::{AllocError, Global};
 
 /// The words of a haystack, without digits and upper-case letters.
@@ -25,9 +25,9 @@ static LINES: [&str; 12] = [
 ];
 
 /// The haystack of a call, of about this many bytes: a source text for the highlighter, else words.
-pub fn text_of(alloc: Global, call: Call, size: usize) -> Result<String, AllocError> {
+pub fn text_of(alloc: Global, call: TimedCall, size: usize) -> Result<String, AllocError> {
     match call {
-        Call::Tokens => made(alloc, &LINES, size),
+        TimedCall::Tokens => made(alloc, &LINES, size),
         _ => made(alloc, &WORDS, size),
     }
 }

@@ -1,13 +1,13 @@
 //! What is measured.
 
-use crate::fault::Fault;
+use crate::fault::BenchError;
 use crate::highlight::tokens;
 use fancy_regex::{Regex, RegexInput, RegexOptionsBuilder, Steps};
 use std::alloc::Global;
 
 /// A call that is measured.
 #[derive(Clone, Copy)]
-pub enum Call {
+pub enum TimedCall {
     /// A search on the runner of one table, with its looks at the haystack.
     Looks,
     /// A search on the backtracking machine.
@@ -22,22 +22,22 @@ pub enum Call {
     Tokens,
 }
 
-impl Call {
+impl TimedCall {
     /// What is done, and what is counted.
     pub fn names(self) -> (&'static str, &'static str) {
         match self {
-            Call::Looks => ("plain", "looks"),
-            Call::Search => ("hard", "matches"),
-            Call::Matches => ("find_iter", "matches"),
-            Call::Pieces => ("split", "pieces"),
-            Call::Replaced => ("replace_all", "bytes"),
-            Call::Tokens => ("highlight", "tokens"),
+            TimedCall::Looks => ("plain", "looks"),
+            TimedCall::Search => ("hard", "matches"),
+            TimedCall::Matches => ("find_iter", "matches"),
+            TimedCall::Pieces => ("split", "pieces"),
+            TimedCall::Replaced => ("replace_all", "bytes"),
+            TimedCall::Tokens => ("highlight", "tokens"),
         }
     }
 }
 
 /// A call and its argument: a pattern, a template, or how the highlighter asks its patterns.
-pub type Work = (Call, &'static str);
+pub type Work = (TimedCall, &'static str);
 
 /// A limit on backtracks that no search here comes near to.
 const LIMIT: usize = 1_000_000_000;
@@ -46,16 +46,16 @@ const LIMIT: usize = 1_000_000_000;
 const WORD: &str = "\\w+";
 
 /// Does a work on a haystack, the building of its regex included. Returns what it counts.
-pub fn done(alloc: Global, work: Work, text: &str) -> Result<u64, Fault> {
+pub fn done(alloc: Global, work: Work, text: &str) -> Result<u64, BenchError> {
     match work.0 {
-        Call::Tokens => tokens(alloc, text),
-        Call::Replaced => done_by(alloc, WORD, work, text),
+        TimedCall::Tokens => tokens(alloc, text),
+        TimedCall::Replaced => done_by(alloc, WORD, work, text),
         _ => done_by(alloc, work.1, work, text),
     }
 }
 
 /// Does a work by a regex of this pattern.
-fn done_by(alloc: Global, pattern: &str, work: Work, text: &str) -> Result<u64, Fault> {
+fn done_by(alloc: Global, pattern: &str, work: Work, text: &str) -> Result<u64, BenchError> {
     let pattern = String::from_str(alloc, pattern)?;
     let mut options = RegexOptionsBuilder::new();
     options.backtrack_limit(LIMIT);
@@ -64,25 +64,25 @@ fn done_by(alloc: Global, pattern: &str, work: Work, text: &str) -> Result<u64, 
 }
 
 /// What a work counts.
-fn counted(alloc: Global, regex: &Regex, work: Work, text: &str) -> Result<u64, Fault> {
+fn counted(alloc: Global, regex: &Regex, work: Work, text: &str) -> Result<u64, BenchError> {
     match work.0 {
-        Call::Looks => looks(alloc, regex, text),
-        Call::Matches => matches(alloc, regex, text),
-        Call::Pieces => pieces(alloc, regex, text),
-        Call::Replaced => replaced(alloc, regex, work.1, text),
+        TimedCall::Looks => looks(alloc, regex, text),
+        TimedCall::Matches => matches(alloc, regex, text),
+        TimedCall::Pieces => pieces(alloc, regex, text),
+        TimedCall::Replaced => replaced(alloc, regex, work.1, text),
         _ => Ok(u64::from(regex.is_match(alloc, text)?)),
     }
 }
 
 /// The number of looks of a search.
-fn looks(alloc: Global, regex: &Regex, text: &str) -> Result<u64, Fault> {
+fn looks(alloc: Global, regex: &Regex, text: &str) -> Result<u64, BenchError> {
     let mut steps = Steps::new();
     let _found = regex.find_input_counted(alloc, RegexInput::new(text), &mut steps)?;
     Ok(steps.count())
 }
 
 /// The number of matches.
-fn matches(alloc: Global, regex: &Regex, text: &str) -> Result<u64, Fault> {
+fn matches(alloc: Global, regex: &Regex, text: &str) -> Result<u64, BenchError> {
     let mut count: u64 = 0;
     let mut matches = regex.find_iter(alloc, text);
     while let Some(found) = matches.next() {
@@ -93,7 +93,7 @@ fn matches(alloc: Global, regex: &Regex, text: &str) -> Result<u64, Fault> {
 }
 
 /// The number of pieces between the matches.
-fn pieces(alloc: Global, regex: &Regex, text: &str) -> Result<u64, Fault> {
+fn pieces(alloc: Global, regex: &Regex, text: &str) -> Result<u64, BenchError> {
     let mut count: u64 = 0;
     for piece in regex.split(alloc, text) {
         let _ = piece?;
@@ -103,7 +103,7 @@ fn pieces(alloc: Global, regex: &Regex, text: &str) -> Result<u64, Fault> {
 }
 
 /// The size of the text with each match replaced by a template.
-fn replaced(alloc: Global, regex: &Regex, template: &str, text: &str) -> Result<u64, Fault> {
+fn replaced(alloc: Global, regex: &Regex, template: &str, text: &str) -> Result<u64, BenchError> {
     let replaced = regex.replace_all(alloc, text, template)?;
     Ok(replaced.as_str().len() as u64)
 }

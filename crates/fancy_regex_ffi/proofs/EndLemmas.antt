@@ -15,8 +15,8 @@ use Rattle.fancy_regex_ffi_lists.specs.Spans.{span_of}
 use Rattle.fancy_regex_ffi.specs.Ends.{FindEnds, CapturesEnd, FindReports, CapturesReport, LooksCounted, NameReports, IsNameWritten, IsBuilt, IsAnswer, IsBuildFault, BuildEnds, IsHeldAs}
 use Rattle.fancy_regex_ffi.specs.Searches.{IsFoundBy, IsCapturedBy, CountsLooksBy, CountsStartsBy, AreGroupSpans, AreGroupsFound, config_of}
 use Rattle.fancy_regex_ffi.specs.Bytes.{FaultHeld, AreStartsOrFault, AreRequiredOrFault, IsAskedEnd, StartBytesEnd, RequiredBytesEnd}
-use Rattle.fancy_regex_ffi.specs.declared.fault.Fault.{Fault}
-use Rattle.fancy_regex_ffi.specs.declared.fault.Fault.TheVariants as faults
+use Rattle.fancy_regex_ffi.specs.declared.fault.CallError.{CallError}
+use Rattle.fancy_regex_ffi.specs.declared.fault.CallError.TheVariants as faults
 use Rattle.fancy_regex_meta.specs.declared.error.Error.TheVariants.{ParseError, CompileError, RuntimeError, Memory}
 use Rattle.fancy_regex_ffi.specs.declared.held.Held.{Held}
 use Rattle.fancy_regex_ffi.specs.declared.held.Subject.{Subject}
@@ -27,17 +27,17 @@ use Rattle.fancy_regex_ffi.specs.declared.status.Status.{Status}
 use Rattle.fancy_regex_ffi.specs.declared.status.Status.TheVariants as statuses
 
 -- a match that is found
-pub found_ends : (subject : Subject) (text : List ℕ) (query : Query) (found : ℕ × ℕ) (old new : Option Fault) → IsFoundBy subject text query (Ok (Some found)) → new ≡ old
+pub found_ends : (subject : Subject) (text : List ℕ) (query : Query) (found : ℕ × ℕ) (old new : Option CallError) → IsFoundBy subject text query (Ok (Some found)) → new ≡ old
     → FindEnds subject text query statuses.Done (span_of (Some found)) old new
 found_ends subject text query found old new by same = record { answer = Ok (Some found); is_found = by; is_told = (refl, refl); kept = same }
 
 -- no match
-pub missing_ends : (subject : Subject) (text : List ℕ) (query : Query) (old new : Option Fault) → IsFoundBy subject text query (Ok None) → new ≡ old
+pub missing_ends : (subject : Subject) (text : List ℕ) (query : Query) (old new : Option CallError) → IsFoundBy subject text query (Ok None) → new ≡ old
     → FindEnds subject text query statuses.NoMatch (span_of None) old new
 missing_ends subject text query old new by same = record { answer = Ok None; is_found = by; is_told = (refl, refl); kept = same }
 
 -- a search that has a fault
-pub fault_ends : (subject : Subject) (text : List ℕ) (query : Query) (fault : Fault) (old new : Option Fault) → IsFoundBy subject text query (Err fault) → new ≡ Some fault
+pub fault_ends : (subject : Subject) (text : List ℕ) (query : Query) (fault : CallError) (old new : Option CallError) → IsFoundBy subject text query (Err fault) → new ≡ Some fault
     → FindEnds subject text query (fault_status fault) (span_of None) old new
 fault_ends subject text query fault old new by kept = record { answer = Err fault; is_found = by; is_told = (refl, refl); kept = kept }
 
@@ -47,31 +47,31 @@ pub groups_found : (meta : MetaRegex) (text : List ℕ) (query : Query) (slots :
 groups_found meta text query slots spans found same are here = (found, same, subst (λ (s : List ℕ). AreGroupSpans text s spans) are here)
 
 -- groups that are found
-pub captured_ends : (subject : Subject) (text : List ℕ) (query : Query) (spans written : List Span) (old new : Option Fault) → IsCapturedBy subject text query (Ok true) spans written → new ≡ old
+pub captured_ends : (subject : Subject) (text : List ℕ) (query : Query) (spans written : List Span) (old new : Option CallError) → IsCapturedBy subject text query (Ok true) spans written → new ≡ old
     → CapturesEnd subject text query statuses.Done spans written old new
 captured_ends subject text query spans written old new by same = record { answer = Ok true; is_captured = by; is_told = refl; kept = same }
 
 -- no groups
-pub uncaptured_ends : (subject : Subject) (text : List ℕ) (query : Query) (spans written : List Span) (old new : Option Fault) → IsCapturedBy subject text query (Ok false) spans written → new ≡ old
+pub uncaptured_ends : (subject : Subject) (text : List ℕ) (query : Query) (spans written : List Span) (old new : Option CallError) → IsCapturedBy subject text query (Ok false) spans written → new ≡ old
     → CapturesEnd subject text query statuses.NoMatch spans written old new
 uncaptured_ends subject text query spans written old new by same = record { answer = Ok false; is_captured = by; is_told = refl; kept = same }
 
 -- a search for groups that has a fault
-pub captures_fault_ends : (subject : Subject) (text : List ℕ) (query : Query) (fault : Fault) (spans written : List Span) (old new : Option Fault) → IsCapturedBy subject text query (Err fault) spans written
+pub captures_fault_ends : (subject : Subject) (text : List ℕ) (query : Query) (fault : CallError) (spans written : List Span) (old new : Option CallError) → IsCapturedBy subject text query (Err fault) spans written
     → new ≡ Some fault → CapturesEnd subject text query (fault_status fault) spans written old new
 captures_fault_ends subject text query fault spans written old new by kept = record { answer = Err fault; is_captured = by; is_told = refl; kept = kept }
 
 -- a regex that is built
-pub built_ends : (options : RegexOptions) (pattern : List ℕ) (subject : Subject) (kept : Option Fault) (regex : Regex) → subject ≡ subjects.Regex regex → kept ≡ None
+pub built_ends : (options : RegexOptions) (pattern : List ℕ) (subject : Subject) (kept : Option CallError) (regex : Regex) → subject ≡ subjects.Regex regex → kept ≡ None
     → string_bytes regex.meta.pattern ≡ pattern → regex.meta.options ≡ options → MetaKeepsCap regex.meta → Accepts options pattern → IsBuilt options pattern subject kept statuses.Done
 built_ends options pattern subject kept regex same none text chosen cap accepted =
     subst (λ (s : Subject). IsBuilt options pattern s kept statuses.Done) (sym same) (refl, none, text, chosen, cap, accepted)
 
 -- a pattern that is refused
-pub refused_ends : (options : RegexOptions) (pattern : List ℕ) (subject : Subject) (kept : Option Fault) (fault : Fault) → subject ≡ subjects.Nothing → kept ≡ Some fault
+pub refused_ends : (options : RegexOptions) (pattern : List ℕ) (subject : Subject) (kept : Option CallError) (fault : CallError) → subject ≡ subjects.Nothing → kept ≡ Some fault
     → IsBuildFault options pattern fault → IsBuilt options pattern subject kept (fault_status fault)
 refused_ends options pattern subject kept fault same holds wrong =
-    subst (λ (s : Subject). IsBuilt options pattern s kept (fault_status fault)) (sym same) (subst (λ (k : Option Fault). IsBuilt options pattern subjects.Nothing k (fault_status fault)) (sym holds) (refl, wrong))
+    subst (λ (s : Subject). IsBuilt options pattern s kept (fault_status fault)) (sym same) (subst (λ (k : Option CallError). IsBuilt options pattern subjects.Nothing k (fault_status fault)) (sym holds) (refl, wrong))
 
 -- what a search of a handle that holds something reports
 pub find_reports : (old left : Option Held) (held after : Held) (text : List ℕ) (query : Query) (status : Status) (code : ℤ) (span : Span) → old ≡ Some held → left ≡ Some after → code ≡ code_of status
@@ -93,17 +93,17 @@ build_reports options pattern (Some left) held status code told built =
     (status, told.1, subst (λ (h : Held). IsBuilt options pattern h.subject h.fault status) (sym told.0) built)
 
 -- a fault that is held alone
-pub fault_held : (held : Held) (fault : Fault) (left : Option Held) (code : ℤ) → IsHeldAs held (fault_status fault) left code → held.subject ≡ subjects.Nothing → held.fault ≡ Some fault
+pub fault_held : (held : Held) (fault : CallError) (left : Option Held) (code : ℤ) → IsHeldAs held (fault_status fault) left code → held.subject ≡ subjects.Nothing → held.fault ≡ Some fault
     → FaultHeld fault left code
 fault_held held fault None code told nothing kept = told
 fault_held held fault (Some left) code told nothing kept = (ap (λ (h : Held). h.subject) told.0 ∙ nothing, ap (λ (h : Held). h.fault) told.0 ∙ kept, told.1)
 
 -- what a question about the starts reports
-pub start_bytes_end : (options : RegexOptions) (pattern : List ℕ) (left : Option Held) (code : ℤ) (old new : List Bool) (answer : Result Bool Fault)
+pub start_bytes_end : (options : RegexOptions) (pattern : List ℕ) (left : Option Held) (code : ℤ) (old new : List Bool) (answer : Result Bool CallError)
     → AreStartsOrFault options pattern answer old new → IsAskedEnd answer left code → StartBytesEnd options pattern left code old new
 start_bytes_end options pattern left code old new answer marked ended = (answer, marked, ended)
 
-pub required_bytes_end : (options : RegexOptions) (pattern : List ℕ) (left : Option Held) (code : ℤ) (old new : List Bool) (answer : Result Bool Fault)
+pub required_bytes_end : (options : RegexOptions) (pattern : List ℕ) (left : Option Held) (code : ℤ) (old new : List Bool) (answer : Result Bool CallError)
     → AreRequiredOrFault options pattern answer old new → IsAskedEnd answer left code → RequiredBytesEnd options pattern left code old new
 required_bytes_end options pattern left code old new answer marked ended = (answer, marked, ended)
 
@@ -115,7 +115,7 @@ looks_reported old held text query first count status code before none told coun
     (status, told, subst (λ (n : ℕ). CountsLooksBy held.subject text query n count) none counts, λ is. subst (λ (n : ℕ). CountsStartsBy held.subject text query n count) none (starts is))
 
 -- a fault is no answer
-pub no_answer : (fault : Fault) → IsAnswer (fault_status fault) → ⊥
+pub no_answer : (fault : CallError) → IsAnswer (fault_status fault) → ⊥
 no_answer faults.NoRegex h = h
 no_answer faults.NoSet h = h
 no_answer faults.WrongEnds h = h

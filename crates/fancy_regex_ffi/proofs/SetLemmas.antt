@@ -14,8 +14,8 @@ use Rattle.fancy_regex_ffi.specs.Ends.{IsHeldAs}
 use Rattle.fancy_regex_ffi_lists.specs.Mixed.{AreBuiltEach}
 use Rattle.fancy_regex_ffi_lists.specs.declared.options.Options.{Options}
 use Rattle.fancy_regex_ffi.specs.Sets.{cut_at, Rise, AreTexts, IsPieceFault, IsPieceOrFault, IsSetBuilt, IsSetRefused, IsSetTold, SetBuildEnds, IsMixedBuilt, IsMixedRefused, MixedBuildEnds}
-use Rattle.fancy_regex_ffi.specs.declared.fault.Fault.{Fault}
-use Rattle.fancy_regex_ffi.specs.declared.fault.Fault.TheVariants as faults
+use Rattle.fancy_regex_ffi.specs.declared.fault.CallError.{CallError}
+use Rattle.fancy_regex_ffi.specs.declared.fault.CallError.TheVariants as faults
 use Rattle.fancy_regex_ffi.specs.declared.held.Held.{Held}
 use Rattle.fancy_regex_ffi.specs.declared.held.Subject.{Subject}
 use Rattle.fancy_regex_ffi.specs.declared.held.Subject.TheVariants as subjects
@@ -23,7 +23,7 @@ use Rattle.fancy_regex_ffi.specs.declared.status.Status.{Status}
 use Rattle.fancy_regex_ffi.specs.declared.status.Status.TheVariants as statuses
 
 -- patterns that are no texts
-pub piece_refuses : (options : RegexOptions) (bytes ends : List ℕ) (fault : Fault) → IsPieceFault bytes ends fault → IsSetRefused options bytes ends fault
+pub piece_refuses : (options : RegexOptions) (bytes ends : List ℕ) (fault : CallError) → IsPieceFault bytes ends fault → IsSetRefused options bytes ends fault
 piece_refuses options bytes ends (faults.Regex e) memory = subst (λ (x : Error). IsSetRefused options bytes ends (faults.Regex x)) (sym memory) (λ other. absurd (other refl), tt)
 piece_refuses options bytes ends faults.NotUtf8 wrong = wrong
 piece_refuses options bytes ends faults.WrongEnds wrong = wrong
@@ -32,7 +32,7 @@ piece_refuses options bytes ends faults.NoSet wrong = wrong
 piece_refuses options bytes ends faults.PastEnd wrong = wrong
 piece_refuses options bytes ends faults.OffBoundary wrong = wrong
 
-pub piece_refuses_mixed : (options : List Options) (bytes ends : List ℕ) (fault : Fault) → IsPieceFault bytes ends fault → IsMixedRefused options bytes ends fault
+pub piece_refuses_mixed : (options : List Options) (bytes ends : List ℕ) (fault : CallError) → IsPieceFault bytes ends fault → IsMixedRefused options bytes ends fault
 piece_refuses_mixed options bytes ends (faults.Regex e) memory = subst (λ (x : Error). IsMixedRefused options bytes ends (faults.Regex x)) (sym memory) (λ other. absurd (other refl), tt)
 piece_refuses_mixed options bytes ends faults.NotUtf8 wrong = wrong
 piece_refuses_mixed options bytes ends faults.WrongEnds wrong = wrong
@@ -53,32 +53,32 @@ as_many text_of bytes ends options texts shown so_many same is =
     so_many ∙ sym (length-cut_at bytes ends 0) ∙ ap length (sym same) ∙ length-map texts text_of ∙ ap length (sym is)
 
 -- what a build of a set reports
-set_holds : (options : RegexOptions) (bytes ends : List ℕ) (answer : Result RegexSet Fault) (held : Held) (status : Status) → IfOk answer (λ _. AreTexts bytes 0 ends)
+set_holds : (options : RegexOptions) (bytes ends : List ℕ) (answer : Result RegexSet CallError) (held : Held) (status : Status) → IfOk answer (λ _. AreTexts bytes 0 ends)
     → IfOk answer (λ set. AreBuiltOf options (cut_at bytes 0 ends) set.regexes.items) → IfErr answer (IsSetRefused options bytes ends) → IsSetTold answer held status
     → IsSetBuilt options bytes ends held.subject held.fault status
 set_holds options bytes ends (Ok set) held status texts members refused told =
     subst (λ (s : Subject). IsSetBuilt options bytes ends s held.fault status) (sym told.0) (told.2, told.1, texts, members)
 set_holds options bytes ends (Err fault) held status texts members refused told =
     subst (λ (s : Subject). IsSetBuilt options bytes ends s held.fault status) (sym told.0)
-    (subst (λ (k : Option Fault). IsSetBuilt options bytes ends subjects.Nothing k status) (sym told.1) (told.2, refused))
+    (subst (λ (k : Option CallError). IsSetBuilt options bytes ends subjects.Nothing k status) (sym told.1) (told.2, refused))
 
-pub set_build_reports : (options : RegexOptions) (bytes ends : List ℕ) (left : Option Held) (answer : Result RegexSet Fault) (held : Held) (status : Status) (code : ℤ)
+pub set_build_reports : (options : RegexOptions) (bytes ends : List ℕ) (left : Option Held) (answer : Result RegexSet CallError) (held : Held) (status : Status) (code : ℤ)
     → IfOk answer (λ _. AreTexts bytes 0 ends) → IfOk answer (λ set. AreBuiltOf options (cut_at bytes 0 ends) set.regexes.items) → IfErr answer (IsSetRefused options bytes ends)
     → IsSetTold answer held status → IsHeldAs held status left code → SetBuildEnds options bytes ends left code
 set_build_reports options bytes ends None answer held status code texts members refused told ends_so = ends_so
 set_build_reports options bytes ends (Some left) answer held status code texts members refused told ends_so =
     (status, ends_so.1, subst (λ (h : Held). IsSetBuilt options bytes ends h.subject h.fault status) (sym ends_so.0) (set_holds options bytes ends answer held status texts members refused told))
 
-mixed_holds : (options : List Options) (bytes ends : List ℕ) (answer : Result RegexSet Fault) (held : Held) (status : Status) → IfOk answer (λ _. AreTexts bytes 0 ends)
+mixed_holds : (options : List Options) (bytes ends : List ℕ) (answer : Result RegexSet CallError) (held : Held) (status : Status) → IfOk answer (λ _. AreTexts bytes 0 ends)
     → IfOk answer (λ set. AreBuiltEach options (cut_at bytes 0 ends) set.regexes.items) → IfErr answer (IsMixedRefused options bytes ends) → IsSetTold answer held status
     → IsMixedBuilt options bytes ends held.subject held.fault status
 mixed_holds options bytes ends (Ok set) held status texts members refused told =
     subst (λ (s : Subject). IsMixedBuilt options bytes ends s held.fault status) (sym told.0) (told.2, told.1, texts, members)
 mixed_holds options bytes ends (Err fault) held status texts members refused told =
     subst (λ (s : Subject). IsMixedBuilt options bytes ends s held.fault status) (sym told.0)
-    (subst (λ (k : Option Fault). IsMixedBuilt options bytes ends subjects.Nothing k status) (sym told.1) (told.2, refused))
+    (subst (λ (k : Option CallError). IsMixedBuilt options bytes ends subjects.Nothing k status) (sym told.1) (told.2, refused))
 
-pub mixed_build_reports : (options : List Options) (bytes ends : List ℕ) (left : Option Held) (answer : Result RegexSet Fault) (held : Held) (status : Status) (code : ℤ)
+pub mixed_build_reports : (options : List Options) (bytes ends : List ℕ) (left : Option Held) (answer : Result RegexSet CallError) (held : Held) (status : Status) (code : ℤ)
     → IfOk answer (λ _. AreTexts bytes 0 ends) → IfOk answer (λ set. AreBuiltEach options (cut_at bytes 0 ends) set.regexes.items) → IfErr answer (IsMixedRefused options bytes ends)
     → IsSetTold answer held status → IsHeldAs held status left code → MixedBuildEnds options bytes ends left code
 mixed_build_reports options bytes ends None answer held status code texts members refused told ends_so = ends_so
@@ -125,7 +125,7 @@ each_after P [] ys h = h
 each_after P (x ∷ xs) ys h = each_after P xs ys h.1
 
 -- a piece that is no pattern refuses them all
-pub refused_at : {A : Type 0} (text_of : A → List ℕ) (bytes ends : List ℕ) (from i end : ℕ) (texts : List A) (fault : Fault) → i < length ends → end ≡ slice_index ends i
+pub refused_at : {A : Type 0} (text_of : A → List ℕ) (bytes ends : List ℕ) (from i end : ℕ) (texts : List A) (fault : CallError) → i < length ends → end ≡ slice_index ends i
     → IsPieceOrFault bytes from end (Err fault) → map text_of texts ++ cut_at bytes from (drop i ends) ≡ cut_at bytes 0 ends → (Rise bytes 0 ends → Rise bytes from (drop i ends))
     → IsPieceFault bytes ends fault
 refused_at text_of bytes ends from i end texts faults.WrongEnds h e piece so_far rise = λ rises. let next = rise_next bytes ends from i end h e (rise rises) in piece (next.0, next.1)

@@ -2,8 +2,8 @@
 use Rattle.std.specs.Prelude.{ℤ, pos, negsuc}
 use Rattle.fancy_regex_ffi.specs.declared.status.Status.{Status}
 use Rattle.fancy_regex_ffi.specs.declared.status.Status.TheVariants as statuses
-use Rattle.fancy_regex_ffi.specs.declared.fault.Fault.{Fault}
-use Rattle.fancy_regex_ffi.specs.declared.fault.Fault.TheVariants as faults
+use Rattle.fancy_regex_ffi.specs.declared.fault.CallError.{CallError}
+use Rattle.fancy_regex_ffi.specs.declared.fault.CallError.TheVariants as faults
 use Rattle.fancy_regex_meta.specs.declared.error.Error.TheVariants.{ParseError, CompileError, RuntimeError, Memory}
 
 -- the number of a status: 1 for an answer, 0 for none, and below 0 for each fault
@@ -23,7 +23,7 @@ code_of statuses.NoSet = negsuc 11
 code_of statuses.WrongEnds = negsuc 12
 
 -- the status of a fault
-abbrev pub fault_status : Fault → Status
+abbrev pub fault_status : CallError → Status
 fault_status faults.NoRegex = statuses.NoRegex
 fault_status faults.NoSet = statuses.NoSet
 fault_status faults.WrongEnds = statuses.WrongEnds

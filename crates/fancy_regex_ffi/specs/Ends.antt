@@ -11,8 +11,8 @@ use Rattle.fancy_regex_ffi_lists.specs.Spans.{span_of}
 use Rattle.fancy_regex_ffi.specs.Places.{place_of}
 use Rattle.fancy_regex_ffi_lists.specs.Fronts.{IsFrontOf}
 use Rattle.fancy_regex_ffi.specs.Searches.{IsFoundBy, IsCapturedBy, CountsLooksBy, CountsStartsBy}
-use Rattle.fancy_regex_ffi.specs.declared.fault.Fault.{Fault}
-use Rattle.fancy_regex_ffi.specs.declared.fault.Fault.TheVariants as faults
+use Rattle.fancy_regex_ffi.specs.declared.fault.CallError.{CallError}
+use Rattle.fancy_regex_ffi.specs.declared.fault.CallError.TheVariants as faults
 use Rattle.fancy_regex_ffi.specs.declared.held.Held.{Held}
 use Rattle.fancy_regex_ffi.specs.declared.held.Subject.{Subject}
 use Rattle.fancy_regex_ffi.specs.declared.held.Subject.TheVariants as subjects
@@ -22,13 +22,13 @@ use Rattle.fancy_regex_ffi.specs.declared.status.Status.{Status}
 use Rattle.fancy_regex_ffi.specs.declared.status.Status.TheVariants as statuses
 
 -- why a pattern is not built
-abbrev pub IsBuildFault : RegexOptions → List ℕ → Fault → Type 0
+abbrev pub IsBuildFault : RegexOptions → List ℕ → CallError → Type 0
 IsBuildFault options pattern (faults.Regex e) = IsUtf8 pattern × Refuses options pattern e
 IsBuildFault options pattern faults.NotUtf8 = IsUtf8 pattern → ⊥
 IsBuildFault options pattern _ = ⊥
 
 -- what is built of a pattern, and how the call ends
-abbrev pub IsBuilt : RegexOptions → List ℕ → Subject → Option Fault → Status → Type 0
+abbrev pub IsBuilt : RegexOptions → List ℕ → Subject → Option CallError → Status → Type 0
 IsBuilt options pattern (subjects.Regex regex) fault status =
     (status ≡ statuses.Done) × (fault ≡ None) × (string_bytes regex.meta.pattern ≡ pattern) × (regex.meta.options ≡ options) × MetaKeepsCap regex.meta
     × Accepts options pattern
@@ -53,7 +53,7 @@ groups_for (subjects.Set set) = 0
 groups_for subjects.Nothing = 0
 
 -- the place of a fault, and the largest number where it has none
-abbrev pub place_kept : Option Fault → ℕ
+abbrev pub place_kept : Option CallError → ℕ
 place_kept (Some fault) = unwrap_or (place_of fault) (2 ^ 64 - 1)
 place_kept None = 2 ^ 64 - 1
 
@@ -68,33 +68,33 @@ place_in (Some held) = place_kept held.fault
 place_in None = 2 ^ 64 - 1
 
 -- the fault that is kept after a call: the earlier one after an answer, else that of the call
-abbrev pub FaultAfter : {X : Type 0} → Result X Fault → Option Fault → Option Fault → Type 0
+abbrev pub FaultAfter : {X : Type 0} → Result X CallError → Option CallError → Option CallError → Type 0
 FaultAfter (Ok _) old new = new ≡ old
 FaultAfter (Err fault) old new = new ≡ Some fault
 
 -- how a search that answers this ends: its number, and the span that it gives, unset without a match
-abbrev pub IsSpanTold : Result (Option (ℕ × ℕ)) Fault → Status → Span → Type 0
+abbrev pub IsSpanTold : Result (Option (ℕ × ℕ)) CallError → Status → Span → Type 0
 IsSpanTold (Ok (Some found)) status span = (status ≡ statuses.Done) × (span ≡ span_of (Some found))
 IsSpanTold (Ok None) status span = (status ≡ statuses.NoMatch) × (span ≡ span_of None)
 IsSpanTold (Err fault) status span = (status ≡ fault_status fault) × (span ≡ span_of None)
 
 -- How a search of what was built ends: with the match that the definitions give, or without one; or with a fault, which is kept.
-pub record FindEnds (subject : Subject) (text : List ℕ) (query : Query) (status : Status) (span : Span) (old new : Option Fault) : Type 0 where
-  pub answer : Result (Option (ℕ × ℕ)) Fault
+pub record FindEnds (subject : Subject) (text : List ℕ) (query : Query) (status : Status) (span : Span) (old new : Option CallError) : Type 0 where
+  pub answer : Result (Option (ℕ × ℕ)) CallError
   pub is_found : IsFoundBy subject text query answer
   pub is_told : IsSpanTold answer status span
   pub kept : FaultAfter answer old new
 
 -- how a search for groups that answers this ends
-abbrev pub captured_status : Result Bool Fault → Status
+abbrev pub captured_status : Result Bool CallError → Status
 captured_status (Ok true) = statuses.Done
 captured_status (Ok false) = statuses.NoMatch
 captured_status (Err fault) = fault_status fault
 
 -- How a search of what was built for groups ends: their spans are written; or all spans stay as they were, without a match, or with a
 -- fault, which is kept.
-pub record CapturesEnd (subject : Subject) (text : List ℕ) (query : Query) (status : Status) (spans written : List Span) (old new : Option Fault) : Type 0 where
-  pub answer : Result Bool Fault
+pub record CapturesEnd (subject : Subject) (text : List ℕ) (query : Query) (status : Status) (spans written : List Span) (old new : Option CallError) : Type 0 where
+  pub answer : Result Bool CallError
   pub is_captured : IsCapturedBy subject text query answer spans written
   pub is_told : status ≡ captured_status answer
   pub kept : FaultAfter answer old new

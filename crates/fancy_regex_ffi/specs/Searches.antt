@@ -10,15 +10,15 @@ use Rattle.fancy_regex_meta.specs.SearchLimits.{IsMetaSearchError, meta_starts_t
 use Rattle.fancy_regex_input.specs.SearchInputs.{whole}
 use Rattle.fancy_regex_search.specs.CaptureSpans.{span_in}
 use Rattle.fancy_regex_ffi_lists.specs.Groups.{IsGroupSpan}
-use Rattle.fancy_regex_ffi.specs.declared.fault.Fault.{Fault}
-use Rattle.fancy_regex_ffi.specs.declared.fault.Fault.TheVariants as faults
+use Rattle.fancy_regex_ffi.specs.declared.fault.CallError.{CallError}
+use Rattle.fancy_regex_ffi.specs.declared.fault.CallError.TheVariants as faults
 use Rattle.fancy_regex_ffi.specs.declared.query.Query.{Query}
 use Rattle.fancy_regex_ffi_lists.specs.declared.spans.Span.{Span}
 use Rattle.fancy_regex_ffi.specs.declared.held.Subject.{Subject}
 use Rattle.fancy_regex_ffi.specs.declared.held.Subject.TheVariants as subjects
 
 -- the text itself if it is UTF-8, else the fault that says so
-abbrev pub IsTextOrFault : List ℕ → Result (Bor (List ℕ)) Fault → Type 0
+abbrev pub IsTextOrFault : List ℕ → Result (Bor (List ℕ)) CallError → Type 0
 IsTextOrFault bytes (Ok text) = (text.now ≡ bytes) × IsUtf8 bytes
 IsTextOrFault bytes (Err fault) = (fault ≡ faults.NotUtf8) × (IsUtf8 bytes → ⊥)
 
@@ -28,13 +28,13 @@ pub record CanBegin (text : List ℕ) (position : ℕ) : Type 0 where
   pub boundary : IsCharBoundary text position
 
 -- why a search of a text that is UTF-8 cannot begin there
-abbrev pub IsPlaceFault : List ℕ → ℕ → Fault → Type 0
+abbrev pub IsPlaceFault : List ℕ → ℕ → CallError → Type 0
 IsPlaceFault text position faults.PastEnd = IsUtf8 text × (length text < position)
 IsPlaceFault text position faults.OffBoundary = IsUtf8 text × (position ≤ length text) × (IsCharBoundary text position → ⊥)
 IsPlaceFault text position _ = ⊥
 
 -- nothing if a search can begin there, else the fault that says why not
-abbrev pub IsPlaceOrFault : List ℕ → ℕ → Result (Unit {0}) Fault → Type 0
+abbrev pub IsPlaceOrFault : List ℕ → ℕ → Result (Unit {0}) CallError → Type 0
 IsPlaceOrFault text position (Ok _) = CanBegin text position
 IsPlaceOrFault text position (Err fault) = IsPlaceFault text position fault
 
@@ -47,18 +47,18 @@ abbrev pub found_by : MetaRegex → List ℕ → Query → Option (ℕ × ℕ)
 found_by meta text query = option_map span_in (meta_match meta text (config_of text query))
 
 -- why a search does not answer
-abbrev pub IsSearchFault : MetaRegex → List ℕ → Query → Fault → Type 0
+abbrev pub IsSearchFault : MetaRegex → List ℕ → Query → CallError → Type 0
 IsSearchFault meta text query (faults.Regex e) = CanBegin text query.position × IsMetaSearchError meta text (config_of text query) false e
 IsSearchFault meta text query faults.NotUtf8 = IsUtf8 text → ⊥
 IsSearchFault meta text query fault = IsPlaceFault text query.position fault
 
 -- the match that the definitions give, or why there is no answer
-abbrev pub IsFoundIn : MetaRegex → List ℕ → Query → Result (Option (ℕ × ℕ)) Fault → Type 0
+abbrev pub IsFoundIn : MetaRegex → List ℕ → Query → Result (Option (ℕ × ℕ)) CallError → Type 0
 IsFoundIn meta text query (Ok found) = CanBegin text query.position × (found ≡ found_by meta text query)
 IsFoundIn meta text query (Err fault) = IsSearchFault meta text query fault
 
 -- the match that the definitions give for what was built, or why there is no answer
-abbrev pub IsFoundBy : Subject → List ℕ → Query → Result (Option (ℕ × ℕ)) Fault → Type 0
+abbrev pub IsFoundBy : Subject → List ℕ → Query → Result (Option (ℕ × ℕ)) CallError → Type 0
 IsFoundBy (subjects.Regex regex) text query found = IsFoundIn regex.meta text query found
 IsFoundBy (subjects.Set set) text query (Ok _) = ⊥
 IsFoundBy (subjects.Set set) text query (Err fault) = fault ≡ faults.NoRegex
@@ -97,13 +97,13 @@ AreGroupsFound meta text query spans = (found : Match) × (meta_match meta text 
     × AreGroupSpans text (match_slots (meta_pattern meta) found) spans
 
 -- whether the definitions give a match, with the spans of its groups; or why there is no answer, and the spans are as they were
-abbrev pub IsCapturedIn : MetaRegex → List ℕ → Query → Result Bool Fault → List Span → List Span → Type 0
+abbrev pub IsCapturedIn : MetaRegex → List ℕ → Query → Result Bool CallError → List Span → List Span → Type 0
 IsCapturedIn meta text query (Ok true) old new = CanBegin text query.position × AreGroupsFound meta text query new
 IsCapturedIn meta text query (Ok false) old new = CanBegin text query.position × (found_by meta text query ≡ None) × (new ≡ old)
 IsCapturedIn meta text query (Err fault) old new = IsSearchFault meta text query fault × (new ≡ old)
 
 -- the same for what was built
-abbrev pub IsCapturedBy : Subject → List ℕ → Query → Result Bool Fault → List Span → List Span → Type 0
+abbrev pub IsCapturedBy : Subject → List ℕ → Query → Result Bool CallError → List Span → List Span → Type 0
 IsCapturedBy (subjects.Regex regex) text query captured old new = IsCapturedIn regex.meta text query captured old new
 IsCapturedBy (subjects.Set set) text query (Ok _) old new = ⊥
 IsCapturedBy (subjects.Set set) text query (Err fault) old new = (fault ≡ faults.NoRegex) × (new ≡ old)

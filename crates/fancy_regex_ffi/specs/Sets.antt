@@ -9,8 +9,8 @@ use Rattle.fancy_regex.specs.declared.set.RegexSet.{RegexSet}
 use Rattle.fancy_regex_ffi_lists.specs.Mixed.{AreBuiltEach, RefusesEach}
 use Rattle.fancy_regex_ffi_lists.specs.declared.options.Options.{Options}
 use Rattle.fancy_regex_ffi.specs.Codes.{code_of, fault_status}
-use Rattle.fancy_regex_ffi.specs.declared.fault.Fault.{Fault}
-use Rattle.fancy_regex_ffi.specs.declared.fault.Fault.TheVariants as faults
+use Rattle.fancy_regex_ffi.specs.declared.fault.CallError.{CallError}
+use Rattle.fancy_regex_ffi.specs.declared.fault.CallError.TheVariants as faults
 use Rattle.fancy_regex_ffi.specs.declared.held.Held.{Held}
 use Rattle.fancy_regex_ffi.specs.declared.held.Subject.{Subject}
 use Rattle.fancy_regex_ffi.specs.declared.held.Subject.TheVariants as subjects
@@ -33,33 +33,33 @@ pub record AreTexts (bytes : List ℕ) (from : ℕ) (ends : List ℕ) : Type 0 w
   pub utf8 : Each IsUtf8 (cut_at bytes from ends)
 
 -- the piece between two offsets, or the fault that says why it is none
-abbrev pub IsPieceOrFault : List ℕ → ℕ → ℕ → Result (Bor (List ℕ)) Fault → Type 0
+abbrev pub IsPieceOrFault : List ℕ → ℕ → ℕ → Result (Bor (List ℕ)) CallError → Type 0
 IsPieceOrFault bytes from end (Ok text) = (from ≤ end) × (end ≤ length bytes) × (text.now ≡ slice_range bytes from end) × IsUtf8 (slice_range bytes from end)
 IsPieceOrFault bytes from end (Err faults.WrongEnds) = (from ≤ end) × (end ≤ length bytes) → ⊥
 IsPieceOrFault bytes from end (Err faults.NotUtf8) = IsUtf8 (slice_range bytes from end) → ⊥
 IsPieceOrFault bytes from end (Err _) = ⊥
 
 -- why the patterns are no texts: their ends are wrong, or one is not UTF-8; or want of memory
-abbrev pub IsPieceFault : List ℕ → List ℕ → Fault → Type 0
+abbrev pub IsPieceFault : List ℕ → List ℕ → CallError → Type 0
 IsPieceFault bytes ends (faults.Regex e) = e ≡ Memory
 IsPieceFault bytes ends faults.NotUtf8 = Each IsUtf8 (cut_at bytes 0 ends) → ⊥
 IsPieceFault bytes ends faults.WrongEnds = Rise bytes 0 ends → ⊥
 IsPieceFault bytes ends _ = ⊥
 
 -- why a set is not built of these patterns
-abbrev pub IsSetRefused : RegexOptions → List ℕ → List ℕ → Fault → Type 0
+abbrev pub IsSetRefused : RegexOptions → List ℕ → List ℕ → CallError → Type 0
 IsSetRefused options bytes ends (faults.Regex e) = (e ≢ Memory → AreTexts bytes 0 ends) × RefusesPatterns options (cut_at bytes 0 ends) e
 IsSetRefused options bytes ends faults.NotUtf8 = Each IsUtf8 (cut_at bytes 0 ends) → ⊥
 IsSetRefused options bytes ends faults.WrongEnds = Rise bytes 0 ends → ⊥
 IsSetRefused options bytes ends _ = ⊥
 
 -- a set is held with no fault, or nothing with the fault; and how that ends
-abbrev pub IsSetTold : Result RegexSet Fault → Held → Status → Type 0
+abbrev pub IsSetTold : Result RegexSet CallError → Held → Status → Type 0
 IsSetTold (Ok set) held status = (held.subject ≡ subjects.Set set) × (held.fault ≡ None) × (status ≡ statuses.Done)
 IsSetTold (Err fault) held status = (held.subject ≡ subjects.Nothing) × (held.fault ≡ Some fault) × (status ≡ fault_status fault)
 
 -- what is built of these patterns, and how the call ends
-abbrev pub IsSetBuilt : RegexOptions → List ℕ → List ℕ → Subject → Option Fault → Status → Type 0
+abbrev pub IsSetBuilt : RegexOptions → List ℕ → List ℕ → Subject → Option CallError → Status → Type 0
 IsSetBuilt options bytes ends (subjects.Set set) fault status =
     (status ≡ statuses.Done) × (fault ≡ None) × AreTexts bytes 0 ends × AreBuiltOf options (cut_at bytes 0 ends) set.regexes.items
 IsSetBuilt options bytes ends subjects.Nothing (Some fault) status = (status ≡ fault_status fault) × IsSetRefused options bytes ends fault
@@ -72,13 +72,13 @@ SetBuildEnds options bytes ends (Some held) code = (status : Status) × (code �
 SetBuildEnds options bytes ends None code = code ≡ code_of statuses.Memory
 
 -- The same where each pattern has options of its own.
-abbrev pub IsMixedRefused : List Options → List ℕ → List ℕ → Fault → Type 0
+abbrev pub IsMixedRefused : List Options → List ℕ → List ℕ → CallError → Type 0
 IsMixedRefused options bytes ends (faults.Regex e) = (e ≢ Memory → AreTexts bytes 0 ends) × RefusesEach options (cut_at bytes 0 ends) e
 IsMixedRefused options bytes ends faults.NotUtf8 = Each IsUtf8 (cut_at bytes 0 ends) → ⊥
 IsMixedRefused options bytes ends faults.WrongEnds = Rise bytes 0 ends → ⊥
 IsMixedRefused options bytes ends _ = ⊥
 
-abbrev pub IsMixedBuilt : List Options → List ℕ → List ℕ → Subject → Option Fault → Status → Type 0
+abbrev pub IsMixedBuilt : List Options → List ℕ → List ℕ → Subject → Option CallError → Status → Type 0
 IsMixedBuilt options bytes ends (subjects.Set set) fault status =
     (status ≡ statuses.Done) × (fault ≡ None) × AreTexts bytes 0 ends × AreBuiltEach options (cut_at bytes 0 ends) set.regexes.items
 IsMixedBuilt options bytes ends subjects.Nothing (Some fault) status = (status ≡ fault_status fault) × IsMixedRefused options bytes ends fault

@@ -2,8 +2,8 @@
 use Rattle.std.specs.Prelude.{◌≡◌, ℕ, List, length, Option, Some, None, codes}
 use Rattle.fancy_regex_meta.specs.declared.error.Error.{Error}
 use Rattle.fancy_regex_ffi_lists.specs.Fronts.{IsFrontOf, IsErrorWritten}
-use Rattle.fancy_regex_ffi.specs.declared.fault.Fault.{Fault}
-use Rattle.fancy_regex_ffi.specs.declared.fault.Fault.TheVariants as faults
+use Rattle.fancy_regex_ffi.specs.declared.fault.CallError.{CallError}
+use Rattle.fancy_regex_ffi.specs.declared.fault.CallError.TheVariants as faults
 use Rattle.fancy_regex_ffi.specs.declared.held.Held.{Held}
 
 -- the number is the length of the text, and the bytes begin with it; after it they are as they were
@@ -11,7 +11,7 @@ abbrev pub IsTold : List ℕ → List ℕ → List ℕ → ℕ → Type 0
 IsTold text old new count = (count ≡ length text) × IsFrontOf text old new
 
 -- the text of a fault is told, where `shown` gives that of an error of the library
-abbrev pub IsFaultWritten : (Error → Option (List ℕ)) → Fault → List ℕ → List ℕ → ℕ → Type 0
+abbrev pub IsFaultWritten : (Error → Option (List ℕ)) → CallError → List ℕ → List ℕ → ℕ → Type 0
 IsFaultWritten shown faults.NoRegex = IsTold (codes "the handle holds no regex")
 IsFaultWritten shown faults.NoSet = IsTold (codes "the handle holds no set")
 IsFaultWritten shown faults.WrongEnds = IsTold (codes "the ends of the patterns fall, or lie past their bytes")
@@ -21,7 +21,7 @@ IsFaultWritten shown faults.OffBoundary = IsTold (codes "the search begins insid
 IsFaultWritten shown (faults.Regex error) = IsErrorWritten (shown error)
 
 -- the same for the fault that is kept; without one nothing is told
-abbrev pub IsTextWritten : (Error → Option (List ℕ)) → Option Fault → List ℕ → List ℕ → ℕ → Type 0
+abbrev pub IsTextWritten : (Error → Option (List ℕ)) → Option CallError → List ℕ → List ℕ → ℕ → Type 0
 IsTextWritten shown (Some fault) old new count = IsFaultWritten shown fault old new count
 IsTextWritten shown None old new count = (count ≡ 0) × (new ≡ old)
 

@@ -8,7 +8,7 @@ ghost use Rattle.fancy_regex_ffi.specs.Lists.{IsListWritten, listed};
 ghost use Rattle.fancy_regex_ffi.specs.Templates.{done_code};
 
 use crate::calls::keep;
-use crate::fault::Fault;
+use crate::fault::CallError;
 use crate::handle::Handle;
 use crate::held::Held;
 use crate::status::Status;
@@ -19,7 +19,7 @@ use std::borrow::CowStr;
 /// Writes a list, as much of it as there is room for, and counts it, or keeps the fault; and tells how the call ends.
 pub fn answer_items<T: Copy>(
     held: &mut Held,
-    answer: Result<Vec<T>, Fault>,
+    answer: Result<Vec<T>, CallError>,
     out: &mut [T],
     count: &mut usize,
 ) -> Status
@@ -42,7 +42,7 @@ pub fn answer_items<T: Copy>(
 /// Writes a text, as much of it as there is room for, and its length, or keeps the fault; and tells how the call ends.
 pub fn answer_text(
     held: &mut Held,
-    answer: Result<CowStr<'_>, Fault>,
+    answer: Result<CowStr<'_>, CallError>,
     out: &mut [u8],
     length: &mut usize,
 ) -> Status
@@ -63,7 +63,7 @@ pub fn answer_text(
 }
 
 /// Writes a text, as much of it as there is room for, and its length; and tells how the call ends, which keeps no fault.
-pub fn end_text(answer: Result<CowStr<'_>, Fault>, out: &mut [u8], length: &mut usize) -> Status
+pub fn end_text(answer: Result<CowStr<'_>, CallError>, out: &mut [u8], length: &mut usize) -> Status
     ensures { IsListWritten (listed (λ text. cow_str_bytes text) answer.entry) (code_of result) out.old out.new length.new }
 {
     match answer {
@@ -79,7 +79,7 @@ pub fn end_text(answer: Result<CowStr<'_>, Fault>, out: &mut [u8], length: &mut 
 }
 
 /// Tells how a call ends that answers nothing, or keeps the fault.
-pub fn answer_done(held: &mut Held, answer: Result<(), Fault>) -> Status
+pub fn answer_done(held: &mut Held, answer: Result<(), CallError>) -> Status
     ensures subject { held.new.subject ≡ held.old.subject }
     ensures fault { FaultAfter answer held.old.fault held.new.fault }
     ensures code { code_of result ≡ done_code answer }

@@ -5,7 +5,7 @@ ghost use Rattle.fancy_regex_ffi_lists.specs.Choices.{chosen};
 ghost use Rattle.fancy_regex_ffi.specs.Bytes.{AreStartsOrFault, AreRequiredOrFault, IsAskedEnd};
 
 use crate::answers::hold;
-use crate::fault::Fault;
+use crate::fault::CallError;
 use crate::handle::Handle;
 use crate::held::Held;
 use crate::query::text_of;
@@ -19,7 +19,7 @@ pub fn starts_of(
     pattern: &[u8],
     options: &Options,
     table: &mut [bool],
-) -> Result<bool, Fault>
+) -> Result<bool, CallError>
     ensures { AreStartsOrFault (chosen options.now) pattern.now result table.old table.new }
 {
     let pattern = text_of(pattern, false)?;
@@ -32,7 +32,7 @@ pub fn required_of(
     pattern: &[u8],
     options: &Options,
     table: &mut [bool],
-) -> Result<bool, Fault>
+) -> Result<bool, CallError>
     ensures { AreRequiredOrFault (chosen options.now) pattern.now result table.old table.new }
 {
     let pattern = text_of(pattern, false)?;
@@ -42,7 +42,7 @@ pub fn required_of(
 
 /// Tells how a question about a pattern ends. The handle holds the fault, if there is one.
 #[tactic(auto, using(crate::proofs::EndLemmas::fault_held))]
-pub fn end_asked(alloc: Global, handle: &mut Handle, answer: Result<bool, Fault>) -> i32
+pub fn end_asked(alloc: Global, handle: &mut Handle, answer: Result<bool, CallError>) -> i32
     requires { handle.old.held ≡ None }
     ensures { IsAskedEnd answer handle.new.held result }
 {

@@ -10,7 +10,7 @@ ghost use Rattle.fancy_regex_ffi.specs.Searches.{IsFoundBy, CountsLooksBy, Count
 ghost use Rattle.fancy_regex_ffi.specs.Texts.{IsFaultWritten, IsTextWritten};
 ghost use Rattle.fancy_regex_ffi.specs.declared.held.Subject.TheVariants as subjects;
 
-use crate::fault::Fault;
+use crate::fault::CallError;
 use crate::held::{Held, Subject};
 use crate::query::{Query, check_place, find_in, text_of};
 use crate::status::Status;
@@ -34,7 +34,7 @@ pub fn built(alloc: Global, pattern: &[u8], options: &Options) -> (Held, Status)
 }
 
 /// Builds a regex.
-fn build(alloc: Global, pattern: &[u8], options: &Options) -> Result<Regex, Fault>
+fn build(alloc: Global, pattern: &[u8], options: &Options) -> Result<Regex, CallError>
     ensures pattern { IfOk result (λ regex. string_bytes regex.meta.pattern ≡ pattern.now) }
     ensures options { IfOk result (λ regex. regex.meta.options ≡ chosen options.now) }
     ensures cap { IfOk result (λ regex. MetaKeepsCap regex.meta) }
@@ -44,9 +44,9 @@ fn build(alloc: Global, pattern: &[u8], options: &Options) -> Result<Regex, Faul
     match str::from_utf8(pattern) {
         Ok(text) => match String::from_str(alloc, text) {
             Ok(text) => Ok(options.builder().build(alloc, text)?),
-            Err(_) => Err(Fault::Regex(Error::Memory)),
+            Err(_) => Err(CallError::Regex(Error::Memory)),
         },
-        Err(_) => Err(Fault::NotUtf8),
+        Err(_) => Err(CallError::NotUtf8),
     }
 }
 
@@ -80,7 +80,7 @@ fn find(
     text: &[u8],
     query: &Query,
     steps: &mut Steps,
-) -> Result<Option<(usize, usize)>, Fault>
+) -> Result<Option<(usize, usize)>, CallError>
     requires { query.now.is_utf8 ≡ true → IsUtf8 text.now }
     ensures answer { IsFoundBy subject.now text.now query.now result }
     ensures looks { CountsLooksBy subject.now text.now query.now steps.old steps.new }
@@ -91,7 +91,7 @@ fn find(
             Ok(text) => find_in(alloc, regex, text, query, steps),
             Err(fault) => Err(fault),
         },
-        Subject::Set(_) | Subject::Nothing => Err(Fault::NoRegex),
+        Subject::Set(_) | Subject::Nothing => Err(CallError::NoRegex),
     }
 }
 
@@ -122,7 +122,7 @@ fn captures(
     text: &[u8],
     query: &Query,
     spans: &mut [Span],
-) -> Result<bool, Fault>
+) -> Result<bool, CallError>
     requires { query.now.is_utf8 ≡ true → IsUtf8 text.now }
     ensures { IsCapturedBy subject.now text.now query.now result spans.old spans.new }
 {
@@ -131,7 +131,7 @@ fn captures(
             Ok(text) => captures_in(alloc, regex, text, query, spans),
             Err(fault) => Err(fault),
         },
-        Subject::Set(_) | Subject::Nothing => Err(Fault::NoRegex),
+        Subject::Set(_) | Subject::Nothing => Err(CallError::NoRegex),
     }
 }
 
@@ -142,7 +142,7 @@ fn captures_in(
     text: &str,
     query: &Query,
     spans: &mut [Span],
-) -> Result<bool, Fault>
+) -> Result<bool, CallError>
     ensures { IsCapturedIn regex.now.meta text.now query.now result spans.old spans.new }
 {
     check_place(text, query.position)?;
@@ -168,7 +168,7 @@ fn write_groups(captures: &Captures<'_, &str>, spans: &mut [Span])
 }
 
 /// Keeps the fault, and tells how the call ends that has it.
-pub fn keep(held: &mut Held, fault: Fault) -> Status
+pub fn keep(held: &mut Held, fault: CallError) -> Status
     ensures status { result ≡ fault_status fault }
     ensures fault { held.new.fault ≡ Some fault }
     ensures subject { held.new.subject ≡ held.old.subject }
@@ -244,19 +244,19 @@ pub fn write_fault(held: &Held, out: &mut [u8]) -> usize
 }
 
 /// Writes the text of a fault, as much as there is room for, and returns how long it is.
-fn write_told(fault: &Fault, out: &mut [u8]) -> usize
+fn write_told(fault: &CallError, out: &mut [u8]) -> usize
     ensures { IsFaultWritten ⟦<Error as fmt::Display>⟧.output fault.now out.old out.new result }
 {
     match fault {
-        Fault::NoRegex => write_front(out, b"the handle holds no regex"),
-        Fault::NoSet => write_front(out, b"the handle holds no set"),
-        Fault::WrongEnds => write_front(
+        CallError::NoRegex => write_front(out, b"the handle holds no regex"),
+        CallError::NoSet => write_front(out, b"the handle holds no set"),
+        CallError::WrongEnds => write_front(
             out,
             b"the ends of the patterns fall, or lie past their bytes",
         ),
-        Fault::NotUtf8 => write_front(out, b"the text is not UTF-8"),
-        Fault::PastEnd => write_front(out, b"the search begins past the end of the text"),
-        Fault::OffBoundary => write_front(out, b"the search begins inside a character"),
-        Fault::Regex(error) => write_error(error, out),
+        CallError::NotUtf8 => write_front(out, b"the text is not UTF-8"),
+        CallError::PastEnd => write_front(out, b"the search begins past the end of the text"),
+        CallError::OffBoundary => write_front(out, b"the search begins inside a character"),
+        CallError::Regex(error) => write_error(error, out),
     }
 }

@@ -1,14 +1,14 @@
-//! `Fault`: why a call does not answer, with its text and its place in the pattern.
+//! `CallError`: why a call does not answer, with its text and its place in the pattern.
 
 ghost use Rattle.std.specs.Prelude.{◌≡◌};
-ghost use Rattle.fancy_regex_ffi.specs.declared.fault.Fault.TheVariants.{Regex};
+ghost use Rattle.fancy_regex_ffi.specs.declared.fault.CallError.TheVariants.{Regex};
 ghost use Rattle.fancy_regex_ffi.specs.Places.{place_of};
 
 use fancy_regex::Error as RegexError;
 
 /// Why a call does not answer.
 #[derive(Debug, Drop)]
-pub enum Fault {
+pub enum CallError {
     /// The handle holds no regex.
     NoRegex,
     /// The handle holds no set.
@@ -25,21 +25,21 @@ pub enum Fault {
     Regex(RegexError),
 }
 
-impl From<RegexError> for Fault {
+impl From<RegexError> for CallError {
     ghost from_gives = { λ cause fault. fault ≡ Regex cause };
 
-    fn from(cause: RegexError) -> Fault {
-        Fault::Regex(cause)
+    fn from(cause: RegexError) -> CallError {
+        CallError::Regex(cause)
     }
 }
 
-impl Fault {
+impl CallError {
     /// The byte of the pattern at which its first error stands; `None` if the fault is another.
     pub fn place(&self) -> Option<usize>
         ensures { result ≡ place_of self.now }
     {
         match self {
-            Fault::Regex(RegexError::ParseError(position, _)) => Some(*position),
+            CallError::Regex(RegexError::ParseError(position, _)) => Some(*position),
             _ => None,
         }
     }

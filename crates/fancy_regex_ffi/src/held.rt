@@ -3,7 +3,7 @@
 ghost use Rattle.std.specs.Prelude.{◌≡◌, Some, None};
 ghost use Rattle.fancy_regex_ffi.specs.declared.held.Subject.TheVariants as subjects;
 
-use crate::fault::Fault;
+use crate::fault::CallError;
 use fancy_regex::{Regex, RegexSet};
 
 /// What was built.
@@ -23,7 +23,7 @@ pub struct Held {
     /// What was built.
     pub subject: Subject,
     /// The fault of the last call that had one.
-    pub fault: Option<Fault>,
+    pub fault: Option<CallError>,
 }
 
 impl Held {
@@ -50,7 +50,7 @@ impl Held {
     }
 
     /// What holds a fault of building.
-    pub fn of_fault(fault: Fault) -> Held
+    pub fn of_fault(fault: CallError) -> Held
         ensures subject { result.subject ≡ subjects.Nothing }
         ensures fault { result.fault ≡ Some fault }
     {

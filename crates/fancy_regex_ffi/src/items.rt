@@ -4,7 +4,7 @@ ghost use Rattle.std.specs.Prelude.{◌≡◌, true, IsUtf8};
 ghost use Rattle.std.specs.Cow.{cow_str_bytes};
 ghost use Rattle.fancy_regex_ffi.specs.Lists.{AreMatchSpans, ArePieceSpans, IsReplacedText, OfRegex, listed};
 
-use crate::fault::Fault;
+use crate::fault::CallError;
 use crate::held::Subject;
 use crate::query::text_of;
 use fancy_regex_ffi_lists::{Span, match_spans, piece_spans};
@@ -18,7 +18,7 @@ pub fn spans_of(
     subject: &Subject,
     text: &[u8],
     is_utf8: bool,
-) -> Result<Vec<Span>, Fault>
+) -> Result<Vec<Span>, CallError>
     requires { is_utf8 ≡ true → IsUtf8 text.now }
     ensures { OfRegex (AreMatchSpans text.now) subject.now (listed (λ spans. spans.items) result) }
 {
@@ -27,7 +27,7 @@ pub fn spans_of(
             Ok(text) => Ok(match_spans(alloc, regex, text)?),
             Err(fault) => Err(fault),
         },
-        Subject::Set(_) | Subject::Nothing => Err(Fault::NoRegex),
+        Subject::Set(_) | Subject::Nothing => Err(CallError::NoRegex),
     }
 }
 
@@ -37,7 +37,7 @@ pub fn pieces_of(
     subject: &Subject,
     text: &[u8],
     is_utf8: bool,
-) -> Result<Vec<Span>, Fault>
+) -> Result<Vec<Span>, CallError>
     requires { is_utf8 ≡ true → IsUtf8 text.now }
     ensures { OfRegex (ArePieceSpans text.now) subject.now (listed (λ spans. spans.items) result) }
 {
@@ -46,7 +46,7 @@ pub fn pieces_of(
             Ok(text) => Ok(piece_spans(alloc, regex, text)?),
             Err(fault) => Err(fault),
         },
-        Subject::Set(_) | Subject::Nothing => Err(Fault::NoRegex),
+        Subject::Set(_) | Subject::Nothing => Err(CallError::NoRegex),
     }
 }
 
@@ -57,7 +57,7 @@ pub fn replaced_of<'t>(
     text: &'t [u8],
     is_utf8: bool,
     template: &[u8],
-) -> Result<CowStr<'t>, Fault>
+) -> Result<CowStr<'t>, CallError>
     requires { is_utf8 ≡ true → IsUtf8 text.now }
     ensures { OfRegex (IsReplacedText text.entry.now template.now) subject.now (listed (λ text. cow_str_bytes text) result) }
 {
@@ -67,6 +67,6 @@ pub fn replaced_of<'t>(
             let template = text_of(template, false)?;
             Ok(replaced_text(alloc, regex, text, template)?)
         }
-        Subject::Set(_) | Subject::Nothing => Err(Fault::NoRegex),
+        Subject::Set(_) | Subject::Nothing => Err(CallError::NoRegex),
     }
 }

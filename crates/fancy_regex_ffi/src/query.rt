@@ -3,7 +3,7 @@
 ghost use Rattle.std.specs.Prelude.{◌≡◌, true, IfOk, IsUtf8};
 ghost use Rattle.fancy_regex_ffi.specs.Searches.{IsTextOrFault, IsPlaceOrFault, IsFoundIn, CountsLooks, CountsStarts};
 
-use crate::fault::Fault;
+use crate::fault::CallError;
 use fancy_regex::{Regex, RegexInput, Steps};
 use std::alloc::Global;
 use std::str;
@@ -21,7 +21,7 @@ pub struct Query {
 }
 
 /// The text, which is tested unless it is known to be UTF-8.
-pub fn text_of(bytes: &[u8], is_utf8: bool) -> Result<&str, Fault>
+pub fn text_of(bytes: &[u8], is_utf8: bool) -> Result<&str, CallError>
     requires { is_utf8 ≡ true → IsUtf8 bytes.now }
     ensures { IsTextOrFault bytes.now result }
 {
@@ -30,20 +30,20 @@ pub fn text_of(bytes: &[u8], is_utf8: bool) -> Result<&str, Fault>
     }
     match str::from_utf8(bytes) {
         Ok(text) => Ok(text),
-        Err(_) => Err(Fault::NotUtf8),
+        Err(_) => Err(CallError::NotUtf8),
     }
 }
 
 /// A fault if a search of the text cannot begin at this byte offset.
-pub fn check_place(text: &str, position: usize) -> Result<(), Fault>
+pub fn check_place(text: &str, position: usize) -> Result<(), CallError>
     ensures { IsPlaceOrFault text.now position result }
 {
     if position > text.len() {
-        Err(Fault::PastEnd)
+        Err(CallError::PastEnd)
     } else if text.is_char_boundary(position) {
         Ok(())
     } else {
-        Err(Fault::OffBoundary)
+        Err(CallError::OffBoundary)
     }
 }
 
@@ -54,7 +54,7 @@ pub fn find_in(
     text: &str,
     query: &Query,
     steps: &mut Steps,
-) -> Result<Option<(usize, usize)>, Fault>
+) -> Result<Option<(usize, usize)>, CallError>
     ensures answer { IsFoundIn regex.now.meta text.now query.now result }
     ensures looks { CountsLooks regex.now.meta text.now query.now steps.old steps.new }
     ensures starts { IfOk result (λ _. CountsStarts regex.now.meta text.now query.now steps.old steps.new) }

@@ -7,7 +7,7 @@ ghost use Rattle.fancy_regex_ffi_lists.specs.Mixed.{AreBuiltEach};
 ghost use Rattle.fancy_regex_ffi.specs.Lists.{AreMemberGroups, AreMembers, listed};
 ghost use Rattle.fancy_regex_ffi.specs.Sets.{cut_at, AreTexts, IsPieceFault, IsPieceOrFault, IsSetRefused, IsSetTold, IsMixedRefused};
 
-use crate::fault::Fault;
+use crate::fault::CallError;
 use crate::held::{Held, Subject};
 use crate::query::{Query, check_place, text_of};
 use crate::status::Status;
@@ -16,7 +16,7 @@ use fancy_regex_ffi_lists::{Member, Options, mixed_set, set_groups, set_members}
 use std::alloc::Global;
 
 /// What holds a set, or the fault of building it; and how that ends.
-pub fn set_told(answer: Result<RegexSet, Fault>) -> (Held, Status)
+pub fn set_told(answer: Result<RegexSet, CallError>) -> (Held, Status)
     ensures { IsSetTold answer result.0 result.1 }
 {
     match answer {
@@ -34,7 +34,7 @@ pub fn build_set(
     patterns: &[u8],
     ends: &[usize],
     options: &Options,
-) -> Result<RegexSet, Fault>
+) -> Result<RegexSet, CallError>
     ensures texts { IfOk result (λ _. AreTexts patterns.now 0 ends.now) }
     ensures members { IfOk result (λ set. AreBuiltOf (chosen options.now) (cut_at patterns.now 0 ends.now) set.regexes.items) }
     ensures refused { IfErr result (IsSetRefused (chosen options.now) patterns.now ends.now) }
@@ -45,7 +45,7 @@ pub fn build_set(
 
 /// The texts of patterns that stand one after another, by where each of them ends.
 #[tactic(auto, using(crate::proofs::SetLemmas::texts_next, crate::proofs::SetLemmas::texts_none))]
-fn patterns_of<'p>(alloc: Global, bytes: &'p [u8], ends: &[usize]) -> Result<Vec<&'p str>, Fault>
+fn patterns_of<'p>(alloc: Global, bytes: &'p [u8], ends: &[usize]) -> Result<Vec<&'p str>, CallError>
     ensures texts { IfOk result (λ _. AreTexts bytes.entry.now 0 ends.now) }
     ensures same { IfOk result (λ texts. map (λ text. text.now) texts.items ≡ cut_at bytes.entry.now 0 ends.now) }
     ensures refused { IfErr result (λ fault. IsPieceFault bytes.entry.now ends.now fault) }
@@ -56,18 +56,18 @@ fn patterns_of<'p>(alloc: Global, bytes: &'p [u8], ends: &[usize]) -> Result<Vec
         let text = pattern_at(bytes, start, *end)?;
         match texts.push(text) {
             Ok(()) => start = *end,
-            Err(_) => return Err(Fault::Regex(Error::Memory)),
+            Err(_) => return Err(CallError::Regex(Error::Memory)),
         }
     }
     Ok(texts)
 }
 
 /// The text between two offsets.
-fn pattern_at(bytes: &[u8], start: usize, end: usize) -> Result<&str, Fault>
+fn pattern_at(bytes: &[u8], start: usize, end: usize) -> Result<&str, CallError>
     ensures { IsPieceOrFault bytes.now start end result }
 {
     if start > end || end > bytes.len() {
-        return Err(Fault::WrongEnds);
+        return Err(CallError::WrongEnds);
     }
     text_of(&bytes[start..end], false)
 }
@@ -78,7 +78,7 @@ pub fn members_of(
     subject: &Subject,
     text: &[u8],
     query: &Query,
-) -> Result<Vec<Member>, Fault>
+) -> Result<Vec<Member>, CallError>
     requires { query.now.is_utf8 ≡ true → IsUtf8 text.now }
     ensures { AreMembers text.now query.now subject.now (listed (λ members. members.items) result) }
 {
@@ -88,7 +88,7 @@ pub fn members_of(
             check_place(text, query.position)?;
             Ok(set_members(alloc, set, text, query.position, query.continues)?)
         }
-        Subject::Regex(_) | Subject::Nothing => Err(Fault::NoSet),
+        Subject::Regex(_) | Subject::Nothing => Err(CallError::NoSet),
     }
 }
 
@@ -98,7 +98,7 @@ pub fn member_groups_of(
     subject: &Subject,
     text: &[u8],
     query: &Query,
-) -> Result<Vec<Member>, Fault>
+) -> Result<Vec<Member>, CallError>
     requires { query.now.is_utf8 ≡ true → IsUtf8 text.now }
     ensures { AreMemberGroups text.now query.now subject.now (listed (λ groups. groups.items) result) }
 {
@@ -108,7 +108,7 @@ pub fn member_groups_of(
             check_place(text, query.position)?;
             Ok(set_groups(alloc, set, text, query.position, query.continues)?)
         }
-        Subject::Regex(_) | Subject::Nothing => Err(Fault::NoSet),
+        Subject::Regex(_) | Subject::Nothing => Err(CallError::NoSet),
     }
 }
 
@@ -119,7 +119,7 @@ pub fn build_mixed(
     patterns: &[u8],
     ends: &[usize],
     options: &[Options],
-) -> Result<RegexSet, Fault>
+) -> Result<RegexSet, CallError>
     requires { length options.now ≡ length ends.now }
     ensures texts { IfOk result (λ _. AreTexts patterns.now 0 ends.now) }
     ensures members { IfOk result (λ set. AreBuiltEach options.now (cut_at patterns.now 0 ends.now) set.regexes.items) }

@@ -3,7 +3,7 @@
 ghost use Rattle.std.specs.Prelude.{◌≡◌};
 ghost use Rattle.fancy_regex_ffi.specs.Codes.{code_of, fault_status};
 
-use crate::fault::Fault;
+use crate::fault::CallError;
 use fancy_regex::Error;
 
 /// How a call ended.
@@ -60,20 +60,20 @@ impl Status {
     }
 
     /// How a call ends that has this fault.
-    pub fn of_fault(fault: &Fault) -> Status
+    pub fn of_fault(fault: &CallError) -> Status
         ensures { result ≡ fault_status fault.now }
     {
         match fault {
-            Fault::NoRegex => Status::NoRegex,
-            Fault::NoSet => Status::NoSet,
-            Fault::WrongEnds => Status::WrongEnds,
-            Fault::NotUtf8 => Status::NotUtf8,
-            Fault::PastEnd => Status::PastEnd,
-            Fault::OffBoundary => Status::OffBoundary,
-            Fault::Regex(Error::ParseError(_, _)) => Status::NoPattern,
-            Fault::Regex(Error::CompileError(_)) => Status::Refused,
-            Fault::Regex(Error::RuntimeError(_)) => Status::Limit,
-            Fault::Regex(Error::Memory) => Status::Memory,
+            CallError::NoRegex => Status::NoRegex,
+            CallError::NoSet => Status::NoSet,
+            CallError::WrongEnds => Status::WrongEnds,
+            CallError::NotUtf8 => Status::NotUtf8,
+            CallError::PastEnd => Status::PastEnd,
+            CallError::OffBoundary => Status::OffBoundary,
+            CallError::Regex(Error::ParseError(_, _)) => Status::NoPattern,
+            CallError::Regex(Error::CompileError(_)) => Status::Refused,
+            CallError::Regex(Error::RuntimeError(_)) => Status::Limit,
+            CallError::Regex(Error::Memory) => Status::Memory,
         }
     }
 }

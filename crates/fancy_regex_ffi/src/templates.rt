@@ -5,7 +5,7 @@ ghost use Rattle.std.specs.Cow.{cow_str_bytes};
 ghost use Rattle.fancy_regex_ffi.specs.Lists.{listed};
 ghost use Rattle.fancy_regex_ffi.specs.Templates.{AreNames, IsChecked, IsEscaped};
 
-use crate::fault::Fault;
+use crate::fault::CallError;
 use crate::held::Subject;
 use crate::query::text_of;
 use fancy_regex::{Expander, escape};
@@ -14,12 +14,12 @@ use std::alloc::Global;
 use std::borrow::CowStr;
 
 /// The names of the groups, a line for each group.
-pub fn names_of<'t>(alloc: Global, subject: &Subject) -> Result<CowStr<'t>, Fault>
+pub fn names_of<'t>(alloc: Global, subject: &Subject) -> Result<CowStr<'t>, CallError>
     ensures { AreNames subject.now (listed (λ text. cow_str_bytes text) result) }
 {
     match subject {
         Subject::Regex(regex) => Ok(CowStr::Owned(group_names(alloc, regex)?)),
-        Subject::Set(_) | Subject::Nothing => Err(Fault::NoRegex),
+        Subject::Set(_) | Subject::Nothing => Err(CallError::NoRegex),
     }
 }
 
@@ -29,7 +29,7 @@ pub fn checked(
     subject: &Subject,
     template: &[u8],
     is_python: bool,
-) -> Result<(), Fault>
+) -> Result<(), CallError>
     ensures { IsChecked template.now is_python subject.now result }
 {
     match subject {
@@ -42,12 +42,12 @@ pub fn checked(
             };
             Ok(expander.check(alloc, template, regex)?)
         }
-        Subject::Set(_) | Subject::Nothing => Err(Fault::NoRegex),
+        Subject::Set(_) | Subject::Nothing => Err(CallError::NoRegex),
     }
 }
 
 /// The text as a pattern that matches exactly it.
-pub fn escaped(alloc: Global, text: &[u8]) -> Result<CowStr<'_>, Fault>
+pub fn escaped(alloc: Global, text: &[u8]) -> Result<CowStr<'_>, CallError>
     ensures { IsEscaped text.entry.now (listed (λ text. cow_str_bytes text) result) }
 {
     let text = text_of(text, false)?;

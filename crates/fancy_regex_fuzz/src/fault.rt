@@ -6,7 +6,7 @@ use std::num::ParseIntError;
 
 /// Why the fuzzer cannot go on.
 #[derive(Debug, Drop)]
-pub enum Fault {
+pub enum FuzzError {
     /// A word is no number.
     Words,
     /// Reading the words or writing failed.
@@ -15,26 +15,26 @@ pub enum Fault {
     Memory,
 }
 
-impl From<AllocError> for Fault {
-    fn from(_: AllocError) -> Fault {
-        Fault::Memory
+impl From<AllocError> for FuzzError {
+    fn from(_: AllocError) -> FuzzError {
+        FuzzError::Memory
     }
 }
 
-impl<T: Drop> From<AllocFailed<T>> for Fault {
-    fn from(_: AllocFailed<T>) -> Fault {
-        Fault::Memory
+impl<T: Drop> From<AllocFailed<T>> for FuzzError {
+    fn from(_: AllocFailed<T>) -> FuzzError {
+        FuzzError::Memory
     }
 }
 
-impl From<io::Error> for Fault {
-    fn from(_: io::Error) -> Fault {
-        Fault::System
+impl From<io::Error> for FuzzError {
+    fn from(_: io::Error) -> FuzzError {
+        FuzzError::System
     }
 }
 
-impl From<ParseIntError> for Fault {
-    fn from(_: ParseIntError) -> Fault {
-        Fault::Words
+impl From<ParseIntError> for FuzzError {
+    fn from(_: ParseIntError) -> FuzzError {
+        FuzzError::Words
     }
 }

@@ -16,7 +16,7 @@ use fancy_regex_fuzz_checks::ending::{Ending, ending_of};
 use fancy_regex_fuzz_checks::part::Part;
 use fancy_regex_fuzz_checks::setting::Setting;
 use fancy_regex_fuzz_checks::shrink::shortest_pattern;
-use fault::Fault;
+use fault::FuzzError;
 use report::{Report, print_contradiction};
 use std::env;
 use std::process::ExitCode;
@@ -36,14 +36,14 @@ fn main(rt: HostRuntime) -> ExitCode {
 }
 
 /// Runs as many cases from the seed as the words say; whether all agree.
-fn fuzz_as_asked(rt: &HostRuntime) -> Result<bool, Fault> {
+fn fuzz_as_asked(rt: &HostRuntime) -> Result<bool, FuzzError> {
     let seed = asked(rt, 1, SEED)?;
     let count = asked(rt, 2, COUNT)?;
     fuzz(rt, seed, count)
 }
 
-/// The number that the word at this index gives; `Fault::Words` if it is no number.
-fn asked(rt: &HostRuntime, index: usize, otherwise: u64) -> Result<u64, Fault> {
+/// The number that the word at this index gives; `FuzzError::Words` if it is no number.
+fn asked(rt: &HostRuntime, index: usize, otherwise: u64) -> Result<u64, FuzzError> {
     match env::args(rt)?.nth(index) {
         Some(word) => Ok(word.parse::<u64>()?),
         None => Ok(otherwise),
@@ -51,7 +51,7 @@ fn asked(rt: &HostRuntime, index: usize, otherwise: u64) -> Result<u64, Fault> {
 }
 
 /// Runs the cases and prints that they agree, and how they ended; whether all agree.
-fn fuzz(rt: &HostRuntime, seed: u64, count: u64) -> Result<bool, Fault> {
+fn fuzz(rt: &HostRuntime, seed: u64, count: u64) -> Result<bool, FuzzError> {
     let mut random = Random::new(seed);
     let mut report = Report::new();
     for number in 0..count {
@@ -71,7 +71,7 @@ fn runs_well(
     random: &mut Random,
     kind: Kind,
     report: &mut Report,
-) -> Result<bool, Fault> {
+) -> Result<bool, FuzzError> {
     let pattern = make_pattern(rt.alloc(), random, kind)?;
     let text = make_text(rt.alloc(), random)?;
     let template = make_template(rt.alloc(), random)?;
@@ -94,7 +94,7 @@ fn runs_well(
             print_contradiction(rt, case, check)?;
             Ok(false)
         }
-        Ending::Memory => Err(Fault::Memory),
+        Ending::Memory => Err(FuzzError::Memory),
         Ending::Refused | Ending::Limited | Ending::Agrees => Ok(true),
     }
 }

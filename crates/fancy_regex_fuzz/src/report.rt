@@ -1,6 +1,6 @@
 //! What is printed: how the cases ended, counted by the kind of their patterns, and a contradiction.
 
-use crate::fault::Fault;
+use crate::fault::FuzzError;
 use fancy_regex_fuzz_cases::pattern::Kind;
 use fancy_regex_fuzz_checks::case::Case;
 use fancy_regex_fuzz_checks::check::Check;
@@ -42,7 +42,7 @@ impl Counts {
         }
     }
 
-    fn print(self, rt: &HostRuntime, kind: &str) -> Result<(), Fault> {
+    fn print(self, rt: &HostRuntime, kind: &str) -> Result<(), FuzzError> {
         let Counts {
             refused,
             limited,
@@ -81,7 +81,7 @@ impl Report {
     }
 
     /// Prints a line for each kind.
-    pub fn print(&self, rt: &HostRuntime) -> Result<(), Fault> {
+    pub fn print(&self, rt: &HostRuntime) -> Result<(), FuzzError> {
         self.plain.print(rt, "plain")?;
         self.grammar.print(rt, "by grammar")?;
         self.mutated.print(rt, "mutated")
@@ -89,7 +89,7 @@ impl Report {
 }
 
 /// Prints a case and the check that does not hold.
-pub fn print_contradiction(rt: &HostRuntime, case: Case<'_>, check: Check) -> Result<(), Fault> {
+pub fn print_contradiction(rt: &HostRuntime, case: Case<'_>, check: Check) -> Result<(), FuzzError> {
     println!(rt; "contradiction: {check:?}")?;
     println!(rt; "pattern: {:?}", case.pattern)?;
     println!(rt; "text: {:?}", case.text)?;

@@ -1,7 +1,7 @@
 -- What the relations have, the functions read, or stop at.
 use Rattle.std.proofs.Common.{◌≡◌, ℕ, zero, suc, ◌+◌, ◌<◌, Bool, true, false, Option, Ok, Err, List, [], ◌∷◌, length, refl, ap, ◌∙◌, not-suc-le-zero, arith, if◌then◌else◌}
 use Rattle.fancy_regex_text.specs.Text.{Text, strip_prefix}
-use Rattle.fancy_regex_text.specs.Fault.{Fault, ParseOutcome, ◌>>=◌, unclosed_open_paren}
+use Rattle.fancy_regex_text.specs.ParseFault.{ParseFault, ParseOutcome, ◌>>=◌, unclosed_open_paren}
 use Rattle.fancy_regex_lex.specs.Quantifiers.{most_quantifiers}
 use Rattle.fancy_regex_lex.specs.declared.token.Flags.{Flags}
 use Rattle.fancy_regex_tree.specs.declared.parser_config.ParserConfig.{ParserConfig}
@@ -125,7 +125,7 @@ module _ (p : ParserConfig) where
 
   -- the faults
 
-  atom_stop_goes_on : {n : ℕ} {in_look : Bool} {f : Flags} {t : Text} {e : Fault} → AtomFails p n in_look f t e → ends_branch t ≡ false
+  atom_stop_goes_on : {n : ℕ} {in_look : Bool} {f : Flags} {t : Text} {e : ParseFault} → AtomFails p n in_look f t e → ends_branch t ≡ false
   atom_stop_goes_on (class_stops s) = refl
   atom_stop_goes_on (escape_stops s) = refl
   atom_stop_goes_on (no_atom q) = quantifier_goes_on q
@@ -137,12 +137,12 @@ module _ (p : ParserConfig) where
   atom_stop_goes_on (body_unclosed o b c l) = refl
   atom_stop_goes_on (without_branches o b c h) = refl
 
-  piece_stop_goes_on : {n : ℕ} {in_look : Bool} {f : Flags} {t : Text} {e : Fault} → PieceFails p n in_look f t e → ends_branch t ≡ false
+  piece_stop_goes_on : {n : ℕ} {in_look : Bool} {f : Flags} {t : Text} {e : ParseFault} → PieceFails p n in_look f t e → ends_branch t ≡ false
   piece_stop_goes_on (atom_stops s) = atom_stop_goes_on s
   piece_stop_goes_on (quantifiers_stop a s) = atom_goes_on a
 
   -- branches inside a construct, that stop or have no `)` after them
-  inside_stopped : (n : ℕ) (in_look : Bool) (f : Flags) (t : Text) {e : Fault} → branches p (inner_parser p n) (length t + 1) in_look f t ≡ Err e →
+  inside_stopped : (n : ℕ) (in_look : Bool) (f : Flags) (t : Text) {e : ParseFault} → branches p (inner_parser p n) (length t + 1) in_look f t ≡ Err e →
       parse_group_body p (parse_alternation p n) in_look f t ≡ Err e
   inside_stopped n in_look f t h = closed_stops p (parse_alternation p n) in_look f t (nested_is p n in_look f t ∙ h)
 
@@ -154,7 +154,7 @@ module _ (p : ParserConfig) where
   mutual
     unfolding parse_piece strip_prefix
 
-    pub atom_stop : {n : ℕ} {in_look : Bool} {f : Flags} {t : Text} {e : Fault} → AtomFails p n in_look f t e → parse_atom p (inner_parser p n) in_look f t ≡ Err e
+    pub atom_stop : {n : ℕ} {in_look : Bool} {f : Flags} {t : Text} {e : ParseFault} → AtomFails p n in_look f t e → parse_atom p (inner_parser p n) in_look f t ≡ Err e
     atom_stop (class_stops {n} {in_look} {f} s) = class_stopped p (inner_parser p n) in_look f s
     atom_stop (escape_stops {n} {in_look} {f} s) = escape_stopped p (inner_parser p n) in_look f s
     atom_stop (no_atom {n} {in_look} {f} q) = no_atom_stopped p (inner_parser p n) in_look f q
@@ -174,13 +174,13 @@ module _ (p : ParserConfig) where
         opened p n in_look f o ∙ condition_then p _ _ _ _ _ (inside n _ _ _ (branches_complete b _ (one_more_is_greater _)))
         ∙ no_branches p _ _ _ (inside n _ _ _ (branches_complete c _ (one_more_is_greater _))) h
 
-    pub piece_stop : {n : ℕ} {in_look : Bool} {f : Flags} {t : Text} {e : Fault} → PieceFails p n in_look f t e → parse_piece p (inner_parser p n) in_look f t ≡ Err e
+    pub piece_stop : {n : ℕ} {in_look : Bool} {f : Flags} {t : Text} {e : ParseFault} → PieceFails p n in_look f t e → parse_piece p (inner_parser p n) in_look f t ≡ Err e
     piece_stop (atom_stops s) = ap piece_from (atom_stop s)
     piece_stop (quantifiers_stop {g = g} {after = after} {a} {e} h s) =
         ap piece_from (atom_complete h)
         ∙ ap (λ r. r >>= λ y. Ok (y.0, g, y.1)) ((quantifiers_are_exact p g (most_quantifiers p.oniguruma) a after).fault_is_complete e s)
 
-    pub branch_stop : {n : ℕ} {in_look : Bool} {f : Flags} {t : Text} {e : Fault} → BranchFails p n in_look f t e → (m : ℕ) → length t < m →
+    pub branch_stop : {n : ℕ} {in_look : Bool} {f : Flags} {t : Text} {e : ParseFault} → BranchFails p n in_look f t e → (m : ℕ) → length t < m →
         parse_branch p (inner_parser p n) m in_look f t ≡ Err e
     branch_stop s zero k = absurd (not-suc-le-zero k)
     branch_stop (layout_stops {n} {in_look} {f} s) (suc m) k = layout_stopped p (inner_parser p n) m in_look f s
@@ -190,7 +190,7 @@ module _ (p : ParserConfig) where
         pieces_go_on p (inner_parser p n) m in_look f s (piece_goes_on q) ∙ ap (branch_from (inner_parser p n) m in_look) (piece_complete q)
         ∙ ap (with_others tree) (branch_stop b m (let x = skipped_shorter s in let y = piece_shorter p q in omega arith))
 
-    pub branches_stop : {n : ℕ} {in_look : Bool} {f : Flags} {t : Text} {e : Fault} → BranchesFail p n in_look f t e → (m : ℕ) → length t < m →
+    pub branches_stop : {n : ℕ} {in_look : Bool} {f : Flags} {t : Text} {e : ParseFault} → BranchesFail p n in_look f t e → (m : ℕ) → length t < m →
         branches p (inner_parser p n) m in_look f t ≡ Err e
     branches_stop s zero k = absurd (not-suc-le-zero k)
     branches_stop (first_stops {n} {in_look} {f} {t} s) (suc m) k =

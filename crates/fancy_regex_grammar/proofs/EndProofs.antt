@@ -1,7 +1,7 @@
 -- What is left after branches is an end of the text, and no fault lies outside of it.
 use Rattle.std.proofs.Common.{◌≤◌, ℕ, Bool, List, ◌∷◌, le_refl, le_trans, le_of_eq}
 use Rattle.fancy_regex_text.specs.Text.{Text, bytes}
-use Rattle.fancy_regex_text.specs.Fault.{Fault}
+use Rattle.fancy_regex_text.specs.ParseFault.{ParseFault}
 use Rattle.fancy_regex_lex.specs.declared.token.Flags.{Flags}
 use Rattle.fancy_regex_tree.specs.declared.parser_config.ParserConfig.{ParserConfig}
 use Rattle.fancy_regex_tree.specs.Tree.{Tree}
@@ -18,7 +18,7 @@ quantified_ends (no_more s n) = skipped_ends s
 quantified_ends (enough s n) = skipped_ends s
 quantified_ends (and_quantifier s q m u more) = further (quantified_ends more) (further (marks_end m) (further (quantifier_ends q) (skipped_ends s)))
 
-quantifiers_inside : {p : ParserConfig} {f : Flags} {more : ℕ} {e : Atom} {t : Text} {fault : Fault} → QuantifiersFail p f more e t fault → fault.left ≤ bytes t
+quantifiers_inside : {p : ParserConfig} {f : Flags} {more : ℕ} {e : Atom} {t : Text} {fault : ParseFault} → QuantifiersFail p f more e t fault → fault.left ≤ bytes t
 quantifiers_inside (before_quantifier l) = layout_inside l
 quantifiers_inside (too_many s h q) = bytes_left (skipped_ends s)
 quantifiers_inside (no_target s q h n) = bytes_left (skipped_ends s)
@@ -66,7 +66,7 @@ module _ (p : ParserConfig) where
     branches_end (and_branch b c) = further (branches_end c) (further (past all) (branch_ends b))
 
   mutual
-    atom_inside : {n : ℕ} {in_look : Bool} {f : Flags} {t : Text} {e : Fault} → AtomFails p n in_look f t e → e.left ≤ bytes t
+    atom_inside : {n : ℕ} {in_look : Bool} {f : Flags} {t : Text} {e : ParseFault} → AtomFails p n in_look f t e → e.left ≤ bytes t
     atom_inside (class_stops s) = le_trans (class_inside s) (bytes_left (past all))
     atom_inside (escape_stops s) = le_of_eq s.place
     atom_inside (no_atom {t = t} q) = le_refl (bytes t)
@@ -78,20 +78,20 @@ module _ (p : ParserConfig) where
     atom_inside (body_unclosed {t = t} o b c l) = none_left (0x28 ∷ t)
     atom_inside (without_branches {t = t} o b c h) = le_refl (bytes (0x28 ∷ t))
 
-    piece_inside : {n : ℕ} {in_look : Bool} {f : Flags} {t : Text} {e : Fault} → PieceFails p n in_look f t e → e.left ≤ bytes t
+    piece_inside : {n : ℕ} {in_look : Bool} {f : Flags} {t : Text} {e : ParseFault} → PieceFails p n in_look f t e → e.left ≤ bytes t
     piece_inside (atom_stops s) = atom_inside s
     piece_inside (quantifiers_stop a s) = le_trans (quantifiers_inside s) (bytes_left (atom_ends a))
 
-    branch_inside : {n : ℕ} {in_look : Bool} {f : Flags} {t : Text} {e : Fault} → BranchFails p n in_look f t e → e.left ≤ bytes t
+    branch_inside : {n : ℕ} {in_look : Bool} {f : Flags} {t : Text} {e : ParseFault} → BranchFails p n in_look f t e → e.left ≤ bytes t
     branch_inside (layout_stops s) = layout_inside s
     branch_inside (piece_stops s q) = le_trans (piece_inside q) (bytes_left (skipped_ends s))
     branch_inside (later_piece_stops s q b) = le_trans (branch_inside b) (bytes_left (further (piece_ends q) (skipped_ends s)))
 
-    branches_inside : {n : ℕ} {in_look : Bool} {f : Flags} {t : Text} {e : Fault} → BranchesFail p n in_look f t e → e.left ≤ bytes t
+    branches_inside : {n : ℕ} {in_look : Bool} {f : Flags} {t : Text} {e : ParseFault} → BranchesFail p n in_look f t e → e.left ≤ bytes t
     branches_inside (first_stops s) = branch_inside s
     branches_inside (later_branch_stops b s) = le_trans (branches_inside s) (bytes_left (further (past all) (branch_ends b)))
 
-  pattern_inside : {f : Flags} {t : Text} {e : Fault} → PatternFails p f t e → e.left ≤ bytes t
+  pattern_inside : {f : Flags} {t : Text} {e : ParseFault} → PatternFails p f t e → e.left ≤ bytes t
   pattern_inside (inside_pattern s) = branches_inside s
   pattern_inside (nothing_to_close b n) = bytes_left (branches_end b)
 

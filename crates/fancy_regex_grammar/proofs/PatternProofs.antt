@@ -1,7 +1,7 @@
 -- Whole patterns, as the function reads them.
 use Rattle.std.proofs.Common.{◌≡◌, ◌≢◌, ℕ, false, Ok, Err, [], ◌∷◌, codes, refl, sym, ap, ◌∙◌}
 use Rattle.fancy_regex_text.specs.Text.{Text, bytes}
-use Rattle.fancy_regex_text.specs.Fault.{Fault, ParseOutcome, ◌>>=◌, general_parse_error}
+use Rattle.fancy_regex_text.specs.ParseFault.{ParseFault, ParseOutcome, ◌>>=◌, general_parse_error}
 use Rattle.fancy_regex_lex.specs.declared.token.Flags.{Flags}
 use Rattle.fancy_regex_tree.specs.declared.parser_config.ParserConfig.{ParserConfig}
 use Rattle.fancy_regex_tree.specs.Tree.{Tree}
@@ -48,7 +48,7 @@ module _ (p : ParserConfig) (f : Flags) (t : Text) where
   not_at_end e [] n = absurd (n refl)
   not_at_end e (c ∷ rest) n = refl
 
-  pattern_stops : (e : Fault) → PatternFails p f t e → parse_whole_pattern p f t ≡ Err e
+  pattern_stops : (e : ParseFault) → PatternFails p f t e → parse_whole_pattern p f t ≡ Err e
   unfolding parse_whole_pattern
   pattern_stops e (inside_pattern s) = ap (λ r. r >>= to_end) ((branches_are_exact p 63 false f t).fault_is_complete e s)
   pattern_stops e (nothing_to_close {g} {rest} {body} b n) =

@@ -2,7 +2,7 @@
 use Rattle.std.proofs.Common.{◌≡◌, ℕ, zero, suc, ◌<◌, nat_lt, Bool, true, false, ◌&&◌, ◌||◌, Option, Some, None, is_some, Ok, Err, refl, sym, ap, ◌∙◌, subst, true≢false, ltb-true, ltb-false, lt-ltb, le-ltb, if◌then◌else◌}
 use Rattle.std.proofs.lemmas.Bool.{and_parts, and_from, and_left, and_right, or_left, or_right, false_from_ne_true}
 use Rattle.fancy_regex_text.specs.Text.{Text}
-use Rattle.fancy_regex_text.specs.Fault.{Fault, ParseOutcome, ◌>>=◌, fail_at, recursion_exceeded, target_not_repeatable}
+use Rattle.fancy_regex_text.specs.ParseFault.{ParseFault, ParseOutcome, ◌>>=◌, fail_at, recursion_exceeded, target_not_repeatable}
 use Rattle.fancy_regex_text.specs.Layout.{skip}
 use Rattle.fancy_regex_lex.specs.Quantifiers.{leading_quantifier, quantifier_suffix}
 use Rattle.fancy_regex_lex.specs.FlagLetters.{same}
@@ -97,7 +97,7 @@ module _ (p : ParserConfig) (f : Flags) where
   abbrev QuantifiedMeans : ℕ → Atom → Text → ParseOutcome (Tree × Text) → Type 0
   QuantifiedMeans more e t = Meant (λ (r : Tree × Text). IsQuantified p f more e t r.0 r.1) (QuantifiersFail p f more e t)
 
-  skip_stops : (more : ℕ) (e : Atom) (t : Text) (fault : Fault) → skip f.verbose t ≡ Err fault → QuantifiersFail p f more e t fault
+  skip_stops : (more : ℕ) (e : Atom) (t : Text) (fault : ParseFault) → skip f.verbose t ≡ Err fault → QuantifiersFail p f more e t fault
   skip_stops more e t fault h = before_quantifier ((skip_is_exact f.verbose t).fault_is_sound fault h)
 
   full_means : (e : Atom) (t here : Text) → IsSkipped f.verbose t here → QuantifiedMeans zero e t (full p f here e.tree)
@@ -125,7 +125,7 @@ module _ (p : ParserConfig) (f : Flags) where
           (LayoutFails f.verbose u)
       exact = counts.marks_are_exact p.oniguruma f.verbose q.braces u
 
-      marks_stop : (is_repeatable e.tree ≡ false → IsDropped p f e) → (fault : Fault) → quantifier_suffix p.oniguruma f.verbose q.braces u ≡ Err fault →
+      marks_stop : (is_repeatable e.tree ≡ false → IsDropped p f e) → (fault : ParseFault) → quantifier_suffix p.oniguruma f.verbose q.braces u ≡ Err fault →
           QuantifiersFail p f (suc more) e t fault
       marks_stop d fault h = before_marks s at_here d (exact.fault_is_sound fault h)
 
@@ -228,10 +228,10 @@ module _ (p : ParserConfig) (f : Flags) where
   quantified_read (and_quantifier {more} {e} {here = here} {marked} {after} s q m under rest) =
       marked_step more e s q ∙ ap (λ r. r >>= λ x. parse_quantifiers p f more (record e { tree = x.0 }) x.1) (under_read here marked after m under) ∙ quantified_read rest
 
-  skip_stopped : {t : Text} {fault : Fault} → LayoutFails f.verbose t fault → skip f.verbose t ≡ Err fault
+  skip_stopped : {t : Text} {fault : ParseFault} → LayoutFails f.verbose t fault → skip f.verbose t ≡ Err fault
   skip_stopped {t} {fault} l = (skip_is_exact f.verbose t).fault_is_complete fault l
 
-  marks_stopped : (e : Atom) (here : Text) (q : Quantifier) (u : Text) {fault : Fault} → (is_repeatable e.tree ≡ false → IsDropped p f e) →
+  marks_stopped : (e : Atom) (here : Text) (q : Quantifier) (u : Text) {fault : ParseFault} → (is_repeatable e.tree ≡ false → IsDropped p f e) →
       LayoutFails f.verbose u fault → apply_quantifier p f here q e u ≡ Err fault
   unfolding apply_quantifier marked
   marks_stopped e here q u {fault} d l =
@@ -250,7 +250,7 @@ module _ (p : ParserConfig) (f : Flags) where
   unfolding apply_quantifier
   no_target_there e here u q h n = rw (apply_quantifier, h, false_from_ne_true (is_dropped p e) (λ k. n (dropped_of e k))) refl
 
-  quantifiers_stop : {more : ℕ} {e : Atom} {t : Text} {fault : Fault} → QuantifiersFail p f more e t fault → parse_quantifiers p f more e t ≡ Err fault
+  quantifiers_stop : {more : ℕ} {e : Atom} {t : Text} {fault : ParseFault} → QuantifiersFail p f more e t fault → parse_quantifiers p f more e t ≡ Err fault
   unfolding parse_quantifiers full apply_quantifier marked
   quantifiers_stop (before_quantifier {more = zero} {e} l) = ap (λ r. r >>= λ h. full p f h e.tree) (skip_stopped l)
   quantifiers_stop (before_quantifier {more = suc more} {e} l) = ap (λ r. r >>= λ h. after_layout more e h (leading_quantifier f.verbose h)) (skip_stopped l)

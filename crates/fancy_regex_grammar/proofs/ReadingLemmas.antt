@@ -2,7 +2,7 @@
 use Rattle.std.proofs.Common.{◌≡◌, ◌≢◌, ℕ, zero, suc, ◌+◌, Bool, true, false, cond, ◌==◌, Option, Some, None, is_some, Ok, Err, List, [], ◌∷◌, length, codes, refl, ap, ◌∙◌, if◌then◌else◌}
 use Rattle.std.proofs.lemmas.Bool.{or_parts}
 use Rattle.fancy_regex_text.specs.Text.{Text, ◌∈◌, strip_prefix}
-use Rattle.fancy_regex_text.specs.Fault.{Fault, ParseOutcome, ◌>>=◌, fail_at, general_parse_error, unclosed_open_paren, recursion_exceeded, target_not_repeatable}
+use Rattle.fancy_regex_text.specs.ParseFault.{ParseFault, ParseOutcome, ◌>>=◌, fail_at, general_parse_error, unclosed_open_paren, recursion_exceeded, target_not_repeatable}
 use Rattle.fancy_regex_text.specs.Layout.{skip}
 use Rattle.fancy_regex_lex.specs.Escapes.{Escape}
 use Rattle.fancy_regex_lex.specs.Quantifiers.{leading_quantifier}
@@ -41,11 +41,11 @@ ok_tree p r next h = ap (λ y. (y >>= as_tree p) >>= next) h
 pub ok_body : {A B : Type 0} (r : ParseOutcome A) (next : A → ParseOutcome B) {x : A} → r ≡ Ok x → (r >>= next) ≡ next x
 ok_body r next h = ap (λ y. y >>= next) h
 
-pub err_tree : {B : Type 0} (p : ParserConfig) (r : ParseOutcome (Branches × Flags × Text)) (next : Tree × Flags × Text → ParseOutcome B) {e : Fault} →
+pub err_tree : {B : Type 0} (p : ParserConfig) (r : ParseOutcome (Branches × Flags × Text)) (next : Tree × Flags × Text → ParseOutcome B) {e : ParseFault} →
     r ≡ Err e → ((r >>= as_tree p) >>= next) ≡ Err e
 err_tree p r next h = ap (λ y. (y >>= as_tree p) >>= next) h
 
-pub err_body : {A B : Type 0} (r : ParseOutcome A) (next : A → ParseOutcome B) {e : Fault} → r ≡ Err e → (r >>= next) ≡ Err e
+pub err_body : {A B : Type 0} (r : ParseOutcome A) (next : A → ParseOutcome B) {e : ParseFault} → r ≡ Err e → (r >>= next) ≡ Err e
 err_body r next h = ap (λ y. y >>= next) h
 
 pub ends_there : {t : Text} → EndsBranch t → ends_branch t ≡ true
@@ -92,7 +92,7 @@ module _ (p : ParserConfig) where
   class_read inner in_look f {t} {text} {rest} c =
       ap (λ r. atom_from f (r >>= λ x. Ok (delegate x.0 f.casei, x.1))) ((classes_are_exact p.oniguruma t).complete (text, rest) c)
 
-  pub class_stopped : (inner : Option AlternationParser) (in_look : Bool) (f : Flags) {t : Text} {e : Fault} → ClassFails p.oniguruma t e →
+  pub class_stopped : (inner : Option AlternationParser) (in_look : Bool) (f : Flags) {t : Text} {e : ParseFault} → ClassFails p.oniguruma t e →
       parse_atom p inner in_look f (0x5B ∷ t) ≡ Err e
   unfolding parse_atom parse_simple_atom parse_bracketed_class
   class_stopped inner in_look f {t} {e} s =
@@ -104,7 +104,7 @@ module _ (p : ParserConfig) where
   escape_read inner in_look f {t} {rest} {e} h =
       ap (λ r. atom_from f (r >>= λ x. Ok (escape_tree p f (place p (0x5C ∷ t)) x.0, x.1))) ((escapes_are_exact p.oniguruma t).complete (e, rest) h)
 
-  pub escape_stopped : (inner : Option AlternationParser) (in_look : Bool) (f : Flags) {t : Text} {e : Fault} → FailsAt (EscapeFails p.oniguruma t) (0x5C ∷ t) e →
+  pub escape_stopped : (inner : Option AlternationParser) (in_look : Bool) (f : Flags) {t : Text} {e : ParseFault} → FailsAt (EscapeFails p.oniguruma t) (0x5C ∷ t) e →
       parse_atom p inner in_look f (0x5C ∷ t) ≡ Err e
   unfolding parse_atom parse_simple_atom functions.parse_escape
   escape_stopped inner in_look f {t} {e} s =
@@ -151,7 +151,7 @@ module _ (p : ParserConfig) where
   opened n in_look f {t} {inside} {how} o =
       ap (λ r. r >>= λ x. parse_group p (parse_alternation p n) in_look (0x28 ∷ t) f x.0 x.1) ((openings_are_exact p.unicode f t).complete (how, inside) o)
 
-  pub opening_stopped : (n : ℕ) (in_look : Bool) (f : Flags) {t : Text} {e : Fault} → OpeningFails p.unicode f (0x28 ∷ t) t e →
+  pub opening_stopped : (n : ℕ) (in_look : Bool) (f : Flags) {t : Text} {e : ParseFault} → OpeningFails p.unicode f (0x28 ∷ t) t e →
       parse_atom p (inner_parser p (suc n)) in_look f (0x28 ∷ t) ≡ Err e
   unfolding parse_atom parse_parenthesized
   opening_stopped n in_look f {t} {e} s =
@@ -169,7 +169,7 @@ module _ (p : ParserConfig) where
   unfolding parse_group_body strip_prefix
   closed_read inner in_look f t h = ap (λ r. r >>= closing) h
 
-  pub closed_stops : (inner : AlternationParser) (in_look : Bool) (f : Flags) (t : Text) {e : Fault} → inner in_look f t ≡ Err e → parse_group_body p inner in_look f t ≡ Err e
+  pub closed_stops : (inner : AlternationParser) (in_look : Bool) (f : Flags) (t : Text) {e : ParseFault} → inner in_look f t ≡ Err e → parse_group_body p inner in_look f t ≡ Err e
   unfolding parse_group_body
   closed_stops inner in_look f t h = ap (λ r. r >>= closing) h
 
@@ -180,7 +180,7 @@ module _ (p : ParserConfig) where
       ap (λ r. r >>= closing) h ∙ ap (λ o. elim o [ None ↦ fail_at unclosed_open_paren [] | Some after ↦ Ok (body, g, after) ]) (word_lacks (codes ")") rest n)
 
   -- where the inside of a construct stops, the construct does
-  pub construct_stops : {in_look look_inside : Bool} {f g : Flags} {how : Opening} (inner : AlternationParser) (here t : Text) {e : Fault} → HasBody in_look f how look_inside g →
+  pub construct_stops : {in_look look_inside : Bool} {f g : Flags} {how : Opening} (inner : AlternationParser) (here t : Text) {e : ParseFault} → HasBody in_look f how look_inside g →
       parse_group_body p inner look_inside g t ≡ Err e → parse_group p inner in_look here f how t ≡ Err e
   unfolding parse_group parse_group_expression parse_expression_conditional
   construct_stops inner here t in_group h = err_tree p _ _ h
@@ -213,7 +213,7 @@ module _ (p : ParserConfig) where
       ap (λ y. (y >>= after_condition p here c) >>= as_plain p) e
       ∙ ap (λ b. (if b then fail_at (general_parse_error (codes "condition without branches")) here else Ok (conditional_of_branches c body, h, rest)) >>= as_plain p) k
 
-  pub body_stopped : (here : Text) (c : Tree) (r : ParseOutcome (Branches × Flags × Text)) {e : Fault} →
+  pub body_stopped : (here : Text) (c : Tree) (r : ParseOutcome (Branches × Flags × Text)) {e : ParseFault} →
       r ≡ Err e → ((r >>= after_condition p here c) >>= as_plain p) ≡ Err e
   body_stopped here c r h = ap (λ y. (y >>= after_condition p here c) >>= as_plain p) h
 
@@ -226,7 +226,7 @@ module _ (p : ParserConfig) where
   after_layout inner m in_look f here =
       if ends_branch here then Ok ([], f, here) else (parse_piece p inner in_look f here >>= λ x. parse_branch p inner m in_look x.1 x.2 >>= λ y. Ok (x.0 ∷ y.0, y.1, y.2))
 
-  pub layout_stopped : (inner : Option AlternationParser) (m : ℕ) (in_look : Bool) (f : Flags) {t : Text} {e : Fault} → LayoutFails f.verbose t e →
+  pub layout_stopped : (inner : Option AlternationParser) (m : ℕ) (in_look : Bool) (f : Flags) {t : Text} {e : ParseFault} → LayoutFails f.verbose t e →
       parse_branch p inner (suc m) in_look f t ≡ Err e
   unfolding parse_branch
   layout_stopped inner m in_look f {t} {e} s = ap (λ r. r >>= after_layout inner m in_look f) ((skip_is_exact f.verbose t).fault_is_complete e s)

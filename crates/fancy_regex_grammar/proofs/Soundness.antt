@@ -2,7 +2,7 @@
 use Rattle.std.proofs.Common.{◌≡◌, ℕ, zero, suc, ◌+◌, ◌<◌, Bool, true, false, ◌==◌, Option, Some, None, is_some, Ok, Err, List, [], ◌∷◌, length, codes, refl, subst, true≢false, not-suc-le-zero, arith, if◌then◌else◌, ⊎_elim}
 use Rattle.std.proofs.lemmas.Bool.{or_cases, or_parts}
 use Rattle.fancy_regex_text.specs.Text.{Text, ◌∈◌, strip_prefix}
-use Rattle.fancy_regex_text.specs.Fault.{Fault, ParseOutcome, ◌>>=◌, fail_at, general_parse_error, unclosed_open_paren, target_not_repeatable}
+use Rattle.fancy_regex_text.specs.ParseFault.{ParseFault, ParseOutcome, ◌>>=◌, fail_at, general_parse_error, unclosed_open_paren, target_not_repeatable}
 use Rattle.fancy_regex_text.specs.Layout.{skip}
 use Rattle.fancy_regex_lex.specs.Escapes.{escape}
 use Rattle.fancy_regex_lex.specs.Classes.{bracketed_class}
@@ -51,11 +51,11 @@ module _ (p : ParserConfig) where
   AtomMeans n in_look f t = Meant (λ (r : Atom × Flags × Text). IsAtom p n in_look f t r.0 r.1 r.2) (AtomFails p n in_look f t)
 
   -- branches and the `)` after them; S is what stops the construct
-  abbrev ClosedMeans : ℕ → Bool → Flags → Text → (Fault → Type 0) → ParseOutcome (Branches × Flags × Text) → Type 0
+  abbrev ClosedMeans : ℕ → Bool → Flags → Text → (ParseFault → Type 0) → ParseOutcome (Branches × Flags × Text) → Type 0
   ClosedMeans n in_look f t S = Meant (λ (r : Branches × Flags × Text). IsBranches p n in_look f t r.0 r.1 (0x29 ∷ r.2)) S
 
-  closed_means : (n : ℕ) (inner : AlternationParser) → InnerMeans n inner → (in_look : Bool) (f : Flags) (t : Text) (S : Fault → Type 0) →
-      ((e : Fault) → BranchesFail p n in_look f t e → S e) →
+  closed_means : (n : ℕ) (inner : AlternationParser) → InnerMeans n inner → (in_look : Bool) (f : Flags) (t : Text) (S : ParseFault → Type 0) →
+      ((e : ParseFault) → BranchesFail p n in_look f t e → S e) →
       ((body : Branches) (g : Flags) (rest : Text) → IsBranches p n in_look f t body g rest → NoClosing rest → S (at unclosed_open_paren [])) →
       ClosedMeans n in_look f t S (parse_group_body p inner in_look f t)
   unfolding parse_group_body
@@ -110,7 +110,7 @@ module _ (p : ParserConfig) where
   unfolding parse_expression_conditional parse_group_expression
   expression_means {n} {in_look} {f} {t} {inside} inner means o = by_condition (parse_group_body p inner in_look f inside) (inside_means inner means o in_condition)
     where
-      Stops : Fault → Type 0
+      Stops : ParseFault → Type 0
       Stops = AtomFails p (suc n) in_look f (0x28 ∷ t)
 
       by_body : (c : Branches) (g : Flags) (between : Text) → IsBranches p n in_look f inside c g (0x29 ∷ between) → (r : ParseOutcome (Branches × Flags × Text)) →

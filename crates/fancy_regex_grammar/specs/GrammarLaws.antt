@@ -1,7 +1,7 @@
 -- The laws: the parsing functions return exactly what the relations describe.
 use Rattle.std.specs.Prelude.{◌≤◌, ℕ, Bool}
 use Rattle.fancy_regex_text.specs.Text.{Text, IsSuffix, bytes}
-use Rattle.fancy_regex_text.specs.Fault.{Fault}
+use Rattle.fancy_regex_text.specs.ParseFault.{ParseFault}
 use Rattle.fancy_regex_lex.specs.declared.token.Flags.{Flags}
 use Rattle.fancy_regex_tree.specs.declared.parser_config.ParserConfig.{ParserConfig}
 use Rattle.fancy_regex_tree.specs.Tree.{Tree}
@@ -34,4 +34,4 @@ RestIsSuffix = (p : ParserConfig) (n : ℕ) (in_look : Bool) (f g : Flags) (t re
 
 -- the number of bytes after a parse error is at most that of the pattern
 abbrev pub PatternFaultsAreInside : Type 0
-PatternFaultsAreInside = (p : ParserConfig) (f : Flags) (t : Text) (e : Fault) → PatternFails p f t e → e.left ≤ bytes t
+PatternFaultsAreInside = (p : ParserConfig) (f : Flags) (t : Text) (e : ParseFault) → PatternFails p f t e → e.left ≤ bytes t

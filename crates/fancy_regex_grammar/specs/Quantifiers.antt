@@ -1,7 +1,7 @@
 -- Atoms with quantifiers.
 use Rattle.std.specs.Prelude.{◌≡◌, ◌≤◌, ◌<◌, ℕ, zero, suc, Bool, true, false}
 use Rattle.fancy_regex_text.specs.Text.{Text}
-use Rattle.fancy_regex_text.specs.Fault.{Fault, recursion_exceeded, target_not_repeatable}
+use Rattle.fancy_regex_text.specs.ParseFault.{ParseFault, recursion_exceeded, target_not_repeatable}
 use Rattle.fancy_regex_lex.specs.declared.token.Quantifier.{Quantifier}
 use Rattle.fancy_regex_lex.specs.declared.token.QuantifierSuffix.{QuantifierSuffix}
 use Rattle.fancy_regex_lex.specs.declared.token.Flags.{Flags}
@@ -62,15 +62,15 @@ module _ (p : ParserConfig) (f : Flags) where
         IsQuantifierApplied count marks e tree → IsQuantified more (record e { tree = tree }) after whole rest → IsQuantified (suc more) e t whole rest
 
   -- where quantifiers fail, and the error
-  pub data QuantifiersFail : ℕ → Atom → Text → Fault → Type 0 where
-    before_quantifier : {more : ℕ} {e : Atom} {t : Text} {fault : Fault} → LayoutFails f.verbose t fault → QuantifiersFail more e t fault
+  pub data QuantifiersFail : ℕ → Atom → Text → ParseFault → Type 0 where
+    before_quantifier : {more : ℕ} {e : Atom} {t : Text} {fault : ParseFault} → LayoutFails f.verbose t fault → QuantifiersFail more e t fault
     too_many : {e : Atom} {t here rest : Text} {count : Quantifier} → IsSkipped f.verbose t here → p.oniguruma ≡ true →
         IsQuantifier f.verbose here count rest → QuantifiersFail zero e t (at recursion_exceeded here)
     no_target : {more : ℕ} {e : Atom} {t here marked : Text} {count : Quantifier} → IsSkipped f.verbose t here → IsQuantifier f.verbose here count marked →
         is_repeatable e.tree ≡ false → (IsDropped e → ⊥) → QuantifiersFail (suc more) e t (at target_not_repeatable here)
-    before_marks : {more : ℕ} {e : Atom} {t here marked : Text} {count : Quantifier} {fault : Fault} → IsSkipped f.verbose t here →
+    before_marks : {more : ℕ} {e : Atom} {t here marked : Text} {count : Quantifier} {fault : ParseFault} → IsSkipped f.verbose t here →
         IsQuantifier f.verbose here count marked → (is_repeatable e.tree ≡ false → IsDropped e) → LayoutFails f.verbose marked fault →
         QuantifiersFail (suc more) e t fault
-    after_quantifier : {more : ℕ} {e : Atom} {t here marked after : Text} {count : Quantifier} {marks : QuantifierSuffix} {tree : Tree} {fault : Fault} →
+    after_quantifier : {more : ℕ} {e : Atom} {t here marked after : Text} {count : Quantifier} {marks : QuantifierSuffix} {tree : Tree} {fault : ParseFault} →
         IsSkipped f.verbose t here → IsQuantifier f.verbose here count marked → IsMarks p.oniguruma f.verbose count.braces marked marks after →
         IsQuantifierApplied count marks e tree → QuantifiersFail more (record e { tree = tree }) after fault → QuantifiersFail (suc more) e t fault

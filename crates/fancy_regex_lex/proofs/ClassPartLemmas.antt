@@ -3,7 +3,7 @@ use Rattle.std.proofs.Common.{◌≡◌, ℕ, zero, suc, ◌+◌, ◌≤◌, ◌
 use Rattle.std.proofs.lemmas.Option.{none-some, same_Some}
 use Rattle.std.proofs.lemmas.Str.{length-le-encodes, encodes-chars}
 use Rattle.fancy_regex_text.specs.Text.{Text}
-use Rattle.fancy_regex_text.specs.Fault.{Fault, ParseOutcome, Fails, prepend}
+use Rattle.fancy_regex_text.specs.ParseFault.{ParseFault, ParseOutcome, Fails, prepend}
 use Rattle.fancy_regex_lex.specs.Classes.{nesting_after, class_part, class_parts, optional, bracketed_class}
 use Rattle.fancy_regex_text.specs.declared.fault.ReadError.{ReadError}
 use Rattle.fancy_regex_text.specs.declared.fault.ReadError.TheVariants as errors
@@ -23,7 +23,7 @@ ok_value : ParseOutcome Part → Part → Part
 ok_value (Ok x) y = x
 ok_value (Err e) y = y
 
-err-ok : (e : Fault) (x : Part) → Err e ≡ Ok x → ⊥
+err-ok : (e : ParseFault) (x : Part) → Err e ≡ Ok x → ⊥
 err-ok e x h = none-some tt (ap none_for h)
   where
     none_for : ParseOutcome Part → Option (Unit {0})
@@ -40,12 +40,12 @@ read_after front new u (Err e) h = absurd (err-ok e (new, u) h)
 
 fails_after : (front : Text) (e : ReadError) (r : ParseOutcome Part) → Fails e (prepend front r) → Fails e r
 fails_after front errors.Memory r h = tt
-fails_after front (errors.Fault f) (Ok x) h = absurd (err-ok _ (front ++ x.0, x.1) (sym h))
-fails_after front (errors.Fault f) (Err e) h = h
+fails_after front (errors.ParseFault f) (Ok x) h = absurd (err-ok _ (front ++ x.0, x.1) (sym h))
+fails_after front (errors.ParseFault f) (Err e) h = h
 
 fails_before : (front : Text) (e : ReadError) (r : ParseOutcome Part) → Fails e r → Fails e (prepend front r)
 fails_before front errors.Memory r h = tt
-fails_before front (errors.Fault f) r h = rw h refl
+fails_before front (errors.ParseFault f) r h = rw h refl
 
 module _ (oniguruma : Bool) where
   -- a part is read, and others follow

@@ -2,7 +2,7 @@
 use Rattle.std.proofs.Common.{◌≡◌, ℕ, Bool, true, false, cond, ◌||◌, ◌==◌, Some, None, Ok, [], ◌∷◌, ◌++◌, refl, sym, ap, ◌∙◌, subst, append_assoc, true≢false}
 use Rattle.std.proofs.lemmas.Option.{none-some, same_Some}
 use Rattle.fancy_regex_text.specs.Text.{Text, IsSuffix}
-use Rattle.fancy_regex_text.specs.Fault.{ParseOutcome, ◌>>=◌, Fails}
+use Rattle.fancy_regex_text.specs.ParseFault.{ParseOutcome, ◌>>=◌, Fails}
 use Rattle.fancy_regex_lex.specs.FlagLetters.{next_letter, closed, flag_letter, flag_letters}
 use Rattle.fancy_regex_lex.specs.declared.token.Flags.{Flags}
 use Rattle.fancy_regex_text.specs.declared.fault.ReadError.{ReadError}
@@ -10,7 +10,7 @@ use Rattle.fancy_regex_text.specs.declared.fault.ReadError.TheVariants as errors
 
 pub fails_with : {A B : Type 0} (e : ReadError) (r : ParseOutcome A) (f : A → ParseOutcome B) → Fails e r → Fails e (r >>= f)
 fails_with errors.Memory r f h = tt
-fails_with (errors.Fault x) r f h = rw h refl
+fails_with (errors.ParseFault x) r f h = rw h refl
 
 abbrev first_of : ℕ → Text → ℕ × Text
 first_of c t = (c, t)

@@ -1,7 +1,7 @@
 -- Worked examples: bracketed classes.
 use Rattle.std.specs.Prelude.{◌≡◌, ℕ, Bool, true, false, [], ◌∷◌, Ok, Err, codes, ◌++◌}
 use Prim.Native.String.{String}
-use Rattle.fancy_regex_text.specs.Fault.{Kind, trailing_backslash, invalid_escape, unclosed_unicode_name, invalid_hex, invalid_class, invalid_group_name}
+use Rattle.fancy_regex_text.specs.ParseFault.{Kind, trailing_backslash, invalid_escape, unclosed_unicode_name, invalid_hex, invalid_class, invalid_group_name}
 use Rattle.fancy_regex_lex.specs.Classes.{bracketed_class}
 
 -- the whole text is a class, and is rewritten to this text

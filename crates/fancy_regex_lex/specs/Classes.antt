@@ -1,7 +1,7 @@
 -- Bracketed classes: the text of the class for the class parser of `regex`, with its escapes replaced.
 use Rattle.std.specs.Prelude.{◌≡◌, ℕ, zero, suc, ◌+◌, Bool, true, false, not, [], ◌∷◌, ◌++◌, length, drop, Option, Some, None, Ok, if◌then◌else◌, codes}
 use Rattle.fancy_regex_text.specs.Text.{Text, ◌∈◌, strip_prefix}
-use Rattle.fancy_regex_text.specs.Fault.{ParseOutcome, ◌>>=◌, prepend, fail_at, invalid_class}
+use Rattle.fancy_regex_text.specs.ParseFault.{ParseOutcome, ◌>>=◌, prepend, fail_at, invalid_class}
 use Rattle.fancy_regex_lex.specs.Escapes.{Escape, char_escape, class_escape, escape}
 
 -- the character must be escaped in a class to be literal

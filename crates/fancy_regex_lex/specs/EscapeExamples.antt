@@ -1,7 +1,7 @@
 -- Worked examples: escapes.
 use Rattle.std.specs.Prelude.{◌≡◌, ℕ, Bool, true, false, [], Ok, Err, codes, ◌++◌, None, Some, pos, negsuc}
 use Prim.Native.String.{String}
-use Rattle.fancy_regex_text.specs.Fault.{Kind, trailing_backslash, invalid_escape, unclosed_unicode_name, invalid_hex, invalid_codepoint_value, invalid_group_name}
+use Rattle.fancy_regex_text.specs.ParseFault.{Kind, trailing_backslash, invalid_escape, unclosed_unicode_name, invalid_hex, invalid_codepoint_value, invalid_group_name}
 use Rattle.fancy_regex_text.specs.Names.{by_number, by_name, relative}
 use Rattle.fancy_regex_lex.specs.Escapes.{Escape, char_escape, byte_escape, class_escape, any_escape, newline_escape, assertion_escape, continue_escape, keep_out_escape, reference_escape, call_escape, escape}
 use Rattle.fancy_regex_lex.specs.declared.token.AssertionEscape.TheVariants.{TextStart, TextEnd, TextEndOrNewlines, WordBoundary, NotWordBoundary, LeftWordBoundary, RightWordBoundary, LeftWordHalfBoundary, RightWordHalfBoundary}

@@ -3,7 +3,7 @@ use Rattle.std.specs.Prelude.{ℕ, ℤ, Bool, true, false, not, ◌&&◌, ◌||�
 use Rattle.std.specs.Char.{is_ascii_alphabetic}
 use Rattle.fancy_regex_text.specs.Text.{Text, ◌∈◌, span_at_most, strip_prefix, is_empty, split_once, value, is_hexadecimal}
 use Rattle.fancy_regex_text.specs.Names.{Named, by_number, Referred, digits, reference, named_of}
-use Rattle.fancy_regex_text.specs.Fault.{ParseOutcome, ◌>>=◌, fail_at, trailing_backslash, invalid_escape, unclosed_unicode_name, invalid_hex, invalid_codepoint_value, invalid_group_name}
+use Rattle.fancy_regex_text.specs.ParseFault.{ParseOutcome, ◌>>=◌, fail_at, trailing_backslash, invalid_escape, unclosed_unicode_name, invalid_hex, invalid_codepoint_value, invalid_group_name}
 use Rattle.fancy_regex_lex.specs.declared.token.AssertionEscape.{AssertionEscape}
 use Rattle.fancy_regex_lex.specs.declared.token.AssertionEscape.TheVariants.{TextStart, TextEnd, TextEndOrNewlines, WordBoundary, NotWordBoundary, LeftWordBoundary, RightWordBoundary, LeftWordHalfBoundary, RightWordHalfBoundary}
 use Rattle.fancy_regex_lex.specs.declared.token.EscapedClass.{EscapedClass}

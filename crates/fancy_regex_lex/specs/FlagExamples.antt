@@ -2,7 +2,7 @@
 use Rattle.std.specs.Prelude.{◌≡◌, ℕ, Bool, true, false, Ok, Err, codes, ◌++◌}
 use Prim.Native.String.{String}
 use Rattle.fancy_regex_text.specs.Text.{Text}
-use Rattle.fancy_regex_text.specs.Fault.{Kind, ParseOutcome, unclosed_open_paren, unknown_flag, changing_unicode_mode_unsupported}
+use Rattle.fancy_regex_text.specs.ParseFault.{Kind, ParseOutcome, unclosed_open_paren, unknown_flag, changing_unicode_mode_unsupported}
 use Rattle.fancy_regex_lex.specs.FlagLetters.{flag_letters}
 use Rattle.fancy_regex_lex.specs.declared.token.Flags.{Flags}
 

@@ -1,7 +1,7 @@
 -- The flags after `(?`.
 use Rattle.std.specs.Prelude.{ℕ, Bool, true, false, [], ◌∷◌, Option, Some, None, Ok, if◌then◌else◌}
 use Rattle.fancy_regex_text.specs.Text.{Text, ◌∈◌, prefix_before}
-use Rattle.fancy_regex_text.specs.Fault.{ParseOutcome, ◌>>=◌, fail_at, unclosed_open_paren, unknown_flag, changing_unicode_mode_unsupported}
+use Rattle.fancy_regex_text.specs.ParseFault.{ParseOutcome, ◌>>=◌, fail_at, unclosed_open_paren, unknown_flag, changing_unicode_mode_unsupported}
 use Rattle.fancy_regex_lex.specs.declared.token.Flags.{Flags}
 
 -- the two are equal

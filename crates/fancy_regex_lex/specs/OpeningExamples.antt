@@ -1,7 +1,7 @@
 -- Worked examples: open parentheses.
 use Rattle.std.specs.Prelude.{◌≡◌, ℕ, true, Ok, Err, codes, None, Some, pos, negsuc}
 use Prim.Native.String.{String}
-use Rattle.fancy_regex_text.specs.Fault.{Kind, unclosed_open_paren, unknown_flag, invalid_group_name}
+use Rattle.fancy_regex_text.specs.ParseFault.{Kind, unclosed_open_paren, unknown_flag, invalid_group_name}
 use Rattle.fancy_regex_text.specs.Names.{by_number, by_name, relative}
 use Rattle.fancy_regex_lex.specs.FlagExamples.{no_flags}
 use Rattle.fancy_regex_lex.specs.Openings.{Opening, capturing, non_capturing, set_flags, atomic, look, if_set, if_matches, define, absent, absent_bar, whole_reference, whole_call, whole_verb, opening}

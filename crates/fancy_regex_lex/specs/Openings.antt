@@ -2,7 +2,7 @@
 use Rattle.std.specs.Prelude.{ℕ, ℤ, Bool, true, false, [], ◌∷◌, drop, Option, Some, None, option_map, Ok, if◌then◌else◌, codes, chars}
 use Rattle.fancy_regex_text.specs.Text.{Text, ◌∈◌, strip_prefix, is_empty, split_once}
 use Rattle.fancy_regex_text.specs.Names.{Named, by_number, Referred, is_name, digits, signed, reference, named_of}
-use Rattle.fancy_regex_text.specs.Fault.{ParseOutcome, ◌>>=◌, fail_at, invalid_group_name}
+use Rattle.fancy_regex_text.specs.ParseFault.{ParseOutcome, ◌>>=◌, fail_at, invalid_group_name}
 use Rattle.fancy_regex_lex.specs.FlagLetters.{flag_letters}
 use Rattle.fancy_regex_lex.specs.Escapes.{delimited_reference}
 use Rattle.fancy_regex_lex.specs.declared.token.Flags.{Flags}

@@ -2,7 +2,7 @@
 use Rattle.std.specs.Prelude.{◌≡◌, ℕ, Bool, true, false, Ok, Err, codes, Some, None}
 use Prim.Native.String.{String}
 use Rattle.fancy_regex_text.specs.Text.{unbounded}
-use Rattle.fancy_regex_text.specs.Fault.{unclosed_open_paren}
+use Rattle.fancy_regex_text.specs.ParseFault.{unclosed_open_paren}
 use Rattle.fancy_regex_lex.specs.Quantifiers.{leading_quantifier, quantifier_suffix, sign}
 
 -- the text starts with a quantifier in braces with these bounds, and this text follows it

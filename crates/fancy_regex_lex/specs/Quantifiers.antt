@@ -1,7 +1,7 @@
 -- Quantifiers and their suffixes.
 use Rattle.std.specs.Prelude.{ℕ, Bool, true, false, not, ◌&&◌, nat_lt, [], ◌∷◌, Option, Some, None, option_and_then, option_map, Ok, if◌then◌else◌, codes}
 use Rattle.fancy_regex_text.specs.Text.{Text, ◌∈◌, strip_prefix, unbounded}
-use Rattle.fancy_regex_text.specs.Fault.{ParseOutcome, ◌>>=◌}
+use Rattle.fancy_regex_text.specs.ParseFault.{ParseOutcome, ◌>>=◌}
 use Rattle.fancy_regex_text.specs.Layout.{next_token, skip}
 use Rattle.fancy_regex_text.specs.Names.{digits}
 use Rattle.fancy_regex_lex.specs.declared.token.Quantifier.{Quantifier}

@@ -2,7 +2,7 @@
 //! characters, escaped where needed, or class texts that it knows.
 
 ghost use Rattle.std.specs.Prelude.{◌≡◌, ◌<◌, ◌≤◌, ◌+◌, ◌-◌, ◌^◌, ◌++◌, length, chars, option_map, string_bytes, All, IfOk, OnOk, OnErr, [], ◌∷◌};
-ghost use Rattle.fancy_regex_text.specs.Fault.{Gives, prepend};
+ghost use Rattle.fancy_regex_text.specs.ParseFault.{Gives, prepend};
 ghost use Rattle.fancy_regex_lex.specs.Escapes.{property_letter, class_of, escape_of};
 ghost use Rattle.fancy_regex_lex.specs.Classes.{is_quoted, quoted, IsAdded, escaped_text, class_escape_at, class_part, nesting_after, class_parts, optional, bracketed_class};
 

@@ -3,7 +3,7 @@
 
 ghost use Rattle.std.specs.Prelude.{◌≡◌, ◌<◌, ◌≤◌, ◌^◌, length, chars, option_map, string_bytes, IfOk, IfErr, IfSome, OnOk, [], ◌∷◌};
 ghost use Rattle.fancy_regex_text.specs.Text.{split_digit, span_at_most, is_hexadecimal, value};
-ghost use Rattle.fancy_regex_text.specs.Fault.{Gives};
+ghost use Rattle.fancy_regex_text.specs.ParseFault.{Gives};
 ghost use Rattle.fancy_regex_text.specs.FaultOnly.{IsFault};
 ghost use Rattle.fancy_regex_text.specs.Names.{referred_of};
 ghost use Rattle.fancy_regex_lex.specs.Escapes.{class_escape, control_letter, class_letter, assertion_letter, other_letter, plain_sign, other_sign, one_letter, code_point, braced_digits, braced_hex, plain_digits, plain_hex, hex, property_class, property, half_boundary, boundary, delimited_reference, bracketed_reference, numbered_reference, single, after_backslash, escape, class_of, escape_of};

@@ -2,7 +2,7 @@
 
 ghost use Rattle.std.specs.Prelude.{◌≡◌, ◌<◌, ◌≤◌, length, chars, option_map, IfOk, IfSome, true, ◌∷◌};
 ghost use Rattle.fancy_regex_text.specs.Text.{IsSuffix, prefix_before};
-ghost use Rattle.fancy_regex_text.specs.Fault.{Gives, Stops, unknown_flag};
+ghost use Rattle.fancy_regex_text.specs.ParseFault.{Gives, Stops, unknown_flag};
 ghost use Rattle.fancy_regex_lex.specs.FlagLetters.{next_letter, closed, flag_letter, flag_letters};
 
 use crate::token::Flags;

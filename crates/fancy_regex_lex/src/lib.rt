@@ -18,7 +18,7 @@ pub use examples::{
     class_examples, escape_examples, flag_examples, opening_examples, quantifier_examples,
 };
 pub use fancy_regex_text::{
-    Fault, ParseError, ReadError, Reference, Target, digits, fail_at, fault_at, has_prefix,
+    ParseError, ParseFault, ReadError, Reference, Target, digits, fail_at, fault_at, has_prefix,
     is_empty, is_name, next_token, prefix_before, reference, rest_after_first, signed, skip,
     split_first, split_name, split_once, strip_prefix, whole_number,
 };

@@ -3,7 +3,7 @@
 
 ghost use Rattle.std.specs.Prelude.{◌≡◌, ◌-◌, ◌<◌, ◌≤◌, length, chars, option_map, IfOk, IfSome};
 ghost use Rattle.fancy_regex_text.specs.Text.{IsSuffix};
-ghost use Rattle.fancy_regex_text.specs.Fault.{Gives};
+ghost use Rattle.fancy_regex_text.specs.ParseFault.{Gives};
 ghost use Rattle.fancy_regex_text.specs.Names.{referred_of};
 ghost use Rattle.fancy_regex_lex.specs.Openings.{later_verb, control_verb, named, numbered, bracketed, reference_condition, tested, condition, after_angle, after_tilde, flags, python, after_question, opening, opening_of};
 

@@ -1,7 +1,7 @@
 //! Quantifiers: `?`, `*`, `+` and bounds in braces, and their suffixes `?` and `+`.
 
 ghost use Rattle.std.specs.Prelude.{◌≡◌, ◌<◌, ◌≤◌, length, chars, option_map, IfOk, IfErr, IfSome};
-ghost use Rattle.fancy_regex_text.specs.Fault.{Gives};
+ghost use Rattle.fancy_regex_text.specs.ParseFault.{Gives};
 ghost use Rattle.fancy_regex_text.specs.FaultOnly.{IsFault};
 ghost use Rattle.fancy_regex_lex.specs.Quantifiers.{spaced_digits, bounds, no_upper_bound, exactly, range, after_comma, after_number, counted, sign, leading_quantifier, lazy_suffix, possessive_suffix, quantifier_suffix};
 

@@ -3,7 +3,7 @@ use Rattle.std.proofs.Common.{◌≡◌, ◌≢◌, ℕ, zero, suc, ◌+◌, ◌
 use Rattle.std.proofs.lemmas.Bool.{or_from, or_parts}
 use Rattle.std.proofs.lemmas.List.{length-append}
 use Rattle.fancy_regex_text.specs.Text.{Text, ◌∈◌, strip_prefix}
-use Rattle.fancy_regex_text.specs.Fault.{Kind, Fault, ParseOutcome, ◌>>=◌, fail_at, prepend, invalid_class}
+use Rattle.fancy_regex_text.specs.ParseFault.{Kind, ParseFault, ParseOutcome, ◌>>=◌, fail_at, prepend, invalid_class}
 use Rattle.fancy_regex_lex.specs.Escapes.{Escape, char_escape, byte_escape, class_escape, any_escape, newline_escape, assertion_escape, continue_escape, keep_out_escape, reference_escape, call_escape, escape}
 use Rattle.fancy_regex_text.specs.Names.{Named}
 use Rattle.fancy_regex_lex_grammar.proofs.CharacterEscapeProofs.{sign_alone}
@@ -281,7 +281,7 @@ module _ (oniguruma : Bool) where
       no_b : (u : Text) → t ≢ 0x62 ∷ u
       no_b u is = no_fault_of_boundary (subst (λ v. EscapeFails oniguruma v kind) is s)
 
-  parts_stop : {level : ℕ} {t : Text} {e : Fault} → ClassItemsFail oniguruma level t e → (n : ℕ) → length t < n → class_parts oniguruma n level t ≡ Err e
+  parts_stop : {level : ℕ} {t : Text} {e : ParseFault} → ClassItemsFail oniguruma level t e → (n : ℕ) → length t < n → class_parts oniguruma n level t ≡ Err e
   unfolding class_parts class_part
   parts_stop s zero k = absurd (not-suc-le-zero k)
   parts_stop text_ends (suc n) k = refl
@@ -338,7 +338,7 @@ class_read : {oniguruma : Bool} {t text rest : Text} → IsClass oniguruma t tex
 class_read {oniguruma} (class {caret = caret} {bracket} {inside = inside} {text} {rest} a b p) =
     class_reached oniguruma a b ∙ ap (prepend (0x5B ∷ caret ++ bracket)) (parts_read oniguruma p (length inside + 1) (omega arith))
 
-class_stops : {oniguruma : Bool} {t : Text} {e : Fault} → ClassFails oniguruma t e → bracketed_class oniguruma (0x5B ∷ t) ≡ Err e
+class_stops : {oniguruma : Bool} {t : Text} {e : ParseFault} → ClassFails oniguruma t e → bracketed_class oniguruma (0x5B ∷ t) ≡ Err e
 class_stops {oniguruma} (inside_class {caret = caret} {bracket} {inside = inside} a b s) =
     class_reached oniguruma a b ∙ ap (prepend (0x5B ∷ caret ++ bracket)) (parts_stop oniguruma s (length inside + 1) (omega arith))
 

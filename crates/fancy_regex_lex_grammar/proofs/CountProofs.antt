@@ -3,7 +3,7 @@ use Rattle.std.proofs.Common.{arith, ◌≡◌, ◌≢◌, ℕ, ◌<◌, nat_lt,
 use Rattle.std.proofs.lemmas.Bool.{and_parts, and_from}
 use Rattle.std.proofs.lemmas.Option.{none-some, same_Some}
 use Rattle.fancy_regex_text.specs.Text.{Text, strip_prefix, is_decimal, unbounded}
-use Rattle.fancy_regex_text.specs.Fault.{Fault}
+use Rattle.fancy_regex_text.specs.ParseFault.{ParseFault}
 use Rattle.fancy_regex_text.specs.Layout.{next_token, skip}
 use Rattle.fancy_regex_text.specs.Names.{digits}
 use Rattle.fancy_regex_lex.specs.Quantifiers.{spaced_digits, bounds, no_upper_bound, exactly, range, after_comma, after_number, counted, leading_quantifier, sign, lazy_suffix, possessive_suffix, quantifier_suffix}
@@ -297,7 +297,7 @@ module _ (oniguruma verbose braces : Bool) where
       other_sign e = cc
   marks_read (lazy_and_possessive s mark) = marks_from s question (plus mark)
 
-  marks_stop : (t : Text) (e : Fault) → LayoutFails verbose t e → quantifier_suffix oniguruma verbose braces t ≡ Err e
+  marks_stop : (t : Text) (e : ParseFault) → LayoutFails verbose t e → quantifier_suffix oniguruma verbose braces t ≡ Err e
   unfolding quantifier_suffix
   marks_stop t e s = rw (quantifier_suffix, (skip_is_exact verbose t).fault_is_complete e s) refl
 

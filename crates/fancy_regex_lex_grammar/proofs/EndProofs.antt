@@ -2,7 +2,7 @@
 use Rattle.std.proofs.Common.{◌≤◌, ℕ, ℤ, ◌+◌, Bool, Option, [], ◌∷◌, ◌++◌, codes, refl, sym, ap, subst, le_refl, le_trans, arith}
 use Rattle.std.specs.Char.{len_utf8}
 use Rattle.fancy_regex_text.specs.Text.{Text, IsSuffix, bytes}
-use Rattle.fancy_regex_text.specs.Fault.{Fault}
+use Rattle.fancy_regex_text.specs.ParseFault.{ParseFault}
 use Rattle.fancy_regex_text.specs.Names.{Named}
 use Rattle.fancy_regex_lex.specs.Escapes.{Escape}
 use Rattle.fancy_regex_lex.specs.Openings.{Opening}
@@ -196,15 +196,15 @@ tokens_are_prefixes = record {
 
 -- faults
 
-pub layout_inside : {verbose : Bool} {t : Text} {e : Fault} → LayoutFails verbose t e → e.left ≤ bytes t
+pub layout_inside : {verbose : Bool} {t : Text} {e : ParseFault} → LayoutFails verbose t e → e.left ≤ bytes t
 layout_inside {t = t} s = subst (λ n. n ≤ bytes t) (sym (ap (λ x. x.left) s.fault)) (none_left t)
 
-pub flags_inside : {unicode : Bool} {start : Text} {on : Bool} {f : Flags} {t : Text} {e : Fault} → FlagsFail unicode start on f t e → e.left ≤ bytes start
+pub flags_inside : {unicode : Bool} {start : Text} {on : Bool} {f : Flags} {t : Text} {e : ParseFault} → FlagsFail unicode start on f t e → e.left ≤ bytes start
 flags_inside {start = start} text_ends = none_left start
 flags_inside {start = start} (at_letter s) = le_refl (bytes start)
 flags_inside (at_later_letter flag s) = flags_inside s
 
-parts_inside : {oniguruma : Bool} {level : ℕ} {t : Text} {e : Fault} → ClassItemsFail oniguruma level t e → e.left ≤ bytes t
+parts_inside : {oniguruma : Bool} {level : ℕ} {t : Text} {e : ParseFault} → ClassItemsFail oniguruma level t e → e.left ≤ bytes t
 parts_inside classes.text_ends = le_refl (bytes [])
 parts_inside (misplaced {t = t} h l n) = le_refl (bytes (0x5C ∷ t))
 parts_inside (classes.no_escape {t = t} s) = le_refl (bytes (0x5C ∷ t))
@@ -212,10 +212,10 @@ parts_inside (after_closing s) = le_trans (parts_inside s) (bytes_left (past all
 parts_inside (after_opening s) = le_trans (parts_inside s) (bytes_left (past all))
 parts_inside (after_part p s) = le_trans (parts_inside s) (bytes_left (part_ends p))
 
-pub class_inside : {oniguruma : Bool} {t : Text} {e : Fault} → ClassFails oniguruma t e → e.left ≤ bytes t
+pub class_inside : {oniguruma : Bool} {t : Text} {e : ParseFault} → ClassFails oniguruma t e → e.left ≤ bytes t
 class_inside (inside_class a b s) = le_trans (parts_inside s) (bytes_left (further (optional_ends b) (optional_ends a)))
 
-pub opening_inside : {unicode : Bool} {f : Flags} {start t : Text} {e : Fault} → OpeningFails unicode f start t e → e.left ≤ bytes start
+pub opening_inside : {unicode : Bool} {f : Flags} {start t : Text} {e : ParseFault} → OpeningFails unicode f start t e → e.left ≤ bytes start
 opening_inside {start = start} (no_name n m l) = le_refl (bytes start)
 opening_inside {start = start} (no_python_name l) = le_refl (bytes start)
 opening_inside {start = start} (openings.no_reference l) = le_refl (bytes start)

@@ -4,7 +4,7 @@ use Rattle.std.proofs.lemmas.Bool.{or_parts, false_from_ne_true, agree_below, ag
 use Rattle.std.proofs.lemmas.Option.{none-some}
 use Rattle.std.specs.Char.{is_ascii_alphabetic, digit_value}
 use Rattle.fancy_regex_text.specs.Text.{Text, ◌∈◌, strip_prefix, split_once, is_empty, is_decimal, is_hexadecimal, value, bytes}
-use Rattle.fancy_regex_text.specs.Fault.{Kind, Fault, ParseOutcome, ◌>>=◌, fail_at, trailing_backslash, invalid_escape, unclosed_unicode_name, invalid_hex, invalid_codepoint_value, invalid_group_name}
+use Rattle.fancy_regex_text.specs.ParseFault.{Kind, ParseFault, ParseOutcome, ◌>>=◌, fail_at, trailing_backslash, invalid_escape, unclosed_unicode_name, invalid_hex, invalid_codepoint_value, invalid_group_name}
 use Rattle.fancy_regex_text.specs.Names.{Named, by_number, Referred, digits, reference}
 use Rattle.fancy_regex_lex.specs.Escapes.{Escape, char_escape, byte_escape, class_escape, assertion_escape, reference_escape, call_escape, one_letter, is_character, code_point, braced_digits, braced_hex, plain_digits, plain_hex, hex, property_letter, named_class, property_class, property, half_boundary, boundary, delimited_reference, bracketed_reference, numbered_reference, single, after_backslash, escape}
 use Rattle.fancy_regex_lex.specs.declared.token.AssertionEscape.{AssertionEscape}
@@ -26,7 +26,7 @@ pub stopped : {A : Type 0} {Has : A → Type 0} {Stops : Kind → Type 0} (here 
 stopped here kind h = is_stopped (record { kind = h; place = refl })
 
 -- a fault by its kind and its place
-pub same_fault : (e : Fault) (kind : Kind) (here : Text) → e.kind ≡ kind → e.left ≡ bytes here → e ≡ at kind here
+pub same_fault : (e : ParseFault) (kind : Kind) (here : Text) → e.kind ≡ kind → e.left ≡ bytes here → e ≡ at kind here
 same_fault e kind here h k = ap₂ (λ x n. record { kind = x; left = n }) h k
 
 -- references in brackets

@@ -2,7 +2,7 @@
 use Rattle.std.proofs.Common.{◌≡◌, ◌≢◌, ℕ, Bool, true, false, cond, ◌==◌, Ok, Err, [], ◌∷◌, ◌++◌, refl, sym, ap, ◌∙◌, subst, true≢false, append_assoc}
 use Rattle.std.proofs.lemmas.Bool.{or_parts}
 use Rattle.fancy_regex_text.specs.Text.{Text, ◌∈◌, prefix_before}
-use Rattle.fancy_regex_text.specs.Fault.{Kind, Fault, ParseOutcome, ◌>>=◌, fail_at, unknown_flag, changing_unicode_mode_unsupported}
+use Rattle.fancy_regex_text.specs.ParseFault.{Kind, ParseFault, ParseOutcome, ◌>>=◌, fail_at, unknown_flag, changing_unicode_mode_unsupported}
 use Rattle.fancy_regex_lex.specs.FlagLetters.{same, flag_letter, flag_letters}
 use Rattle.fancy_regex_lex.specs.declared.token.Flags.{Flags}
 use Rattle.fancy_regex_text.proofs.SpanLemmas.{up_to_front}
@@ -176,7 +176,7 @@ module _ (unicode : Bool) (here : Text) where
   letter_stops (unicode_changed {on} {t} n) f =
       ap (λ b. flags_after (cond b (Ok (f, on)) (fail_at changing_unicode_mode_unsupported here)) t) (same_not on unicode n)
 
-  flags_stop : {on : Bool} {f : Flags} {t : Text} {e : Fault} → FlagsFail unicode here on f t e → flag_letters unicode here on f t ≡ Err e
+  flags_stop : {on : Bool} {f : Flags} {t : Text} {e : ParseFault} → FlagsFail unicode here on f t e → flag_letters unicode here on f t ≡ Err e
   unfolding flag_letters
   flags_stop text_ends = refl
   flags_stop (at_letter {f = f} s) = letter_stops s f

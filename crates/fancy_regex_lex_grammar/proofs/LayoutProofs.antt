@@ -2,7 +2,7 @@
 use Rattle.std.proofs.Common.{◌≡◌, ◌≢◌, ℕ, Bool, true, false, cond, ◌==◌, Option, Some, None, is_some, Ok, Err, [], ◌∷◌, refl, sym, ap, ◌∙◌, subst, true≢false, ◌⊎◌, inl, inr, ⊎_elim, codes, ne_eqb}
 use Rattle.std.proofs.lemmas.Bool.{or_cases, eqb-false}
 use Rattle.fancy_regex_text.specs.Text.{Text, ◌∈◌, strip_prefix}
-use Rattle.fancy_regex_text.specs.Fault.{Fault, fail_at, unclosed_open_paren}
+use Rattle.fancy_regex_text.specs.ParseFault.{ParseFault, fail_at, unclosed_open_paren}
 use Rattle.fancy_regex_text.specs.Layout.{LayoutState, nothing, line, comment, comment_escape, state_after_blank, begins_comment, state_after, ended, skip_layout_from, next_token, skip}
 use Rattle.fancy_regex_text.proofs.TextLemmas.{strip_prefix_is}
 use Rattle.fancy_regex_lex_grammar.specs.Layout.{IsComment, closes, hides, goes_on, IsOpenComment, ends, ends_hiding, hides_in_open, goes_on_open, IsLine, at_end, newline, longer, IsBlank, space, tab, return, line_feed, IsLayout, nothing_more, a_comment, a_blank, a_line, BeginsLayout, comment_begins, blank_begins, line_begins, IsSkipped, IsOpenLayout, LayoutFails, NextTokenIsExact, SkipIsExact}
@@ -302,7 +302,7 @@ skip_read : (verbose : Bool) (t rest : Text) → IsSkipped verbose t rest → sk
 unfolding skip
 skip_read verbose t rest s = ap (λ o. elim o [ Some rest ↦ Ok rest | None ↦ fail_at unclosed_open_paren [] ]) (token_read verbose t rest s)
 
-skip_stopped : (verbose : Bool) (t : Text) (e : Fault) → LayoutFails verbose t e → skip verbose t ≡ Err e
+skip_stopped : (verbose : Bool) (t : Text) (e : ParseFault) → LayoutFails verbose t e → skip verbose t ≡ Err e
 unfolding skip
 skip_stopped verbose t e s = ap (λ o. elim o [ Some rest ↦ Ok rest | None ↦ fail_at unclosed_open_paren [] ]) (none_next verbose t s.layout) ∙ ap Err (sym s.fault)
 

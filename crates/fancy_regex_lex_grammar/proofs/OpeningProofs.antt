@@ -2,7 +2,7 @@
 use Rattle.std.proofs.Common.{◌≡◌, ◌≢◌, ℕ, ℤ, Bool, true, false, cond, ◌==◌, Option, Some, None, Ok, Err, [], ◌∷◌, ◌++◌, codes, option_map, refl, sym, ap, ◌∙◌, subst, true≢false, eqb-true, append-nil, if◌then◌else◌, ⊎_elim}
 use Rattle.std.proofs.lemmas.Bool.{or_cases, or_parts, false_from_ne_true, eqb-false}
 use Rattle.fancy_regex_text.specs.Text.{Text, ◌∈◌, strip_prefix, is_empty, is_decimal}
-use Rattle.fancy_regex_text.specs.Fault.{Fault, ParseOutcome, ◌>>=◌, fail_at, invalid_group_name}
+use Rattle.fancy_regex_text.specs.ParseFault.{ParseFault, ParseOutcome, ◌>>=◌, fail_at, invalid_group_name}
 use Rattle.fancy_regex_text.specs.Names.{Named, by_number, Referred, digits, signed, reference, is_name, is_name_char}
 use Rattle.fancy_regex_lex.specs.FlagLetters.{flag_letters}
 use Rattle.fancy_regex_lex.specs.Escapes.{delimited_reference}
@@ -564,7 +564,7 @@ opening_read unicode f (a_reference c) = ap (λ r. r >>= λ (x : Referred × Tex
 opening_read unicode f (a_call c) = ap (λ r. r >>= λ (x : Referred × Text). Ok (whole_call x.0.0, x.1)) (closed_read false _ c)
 opening_read unicode f (a_verb {rest = rest} v) = whole_verb_read unicode f v rest
 
-opening_stops : (unicode : Bool) (f : Flags) {t : Text} {e : Fault} → OpeningFails unicode f (0x28 ∷ t) t e → opening unicode f (0x28 ∷ t) ≡ Err e
+opening_stops : (unicode : Bool) (f : Flags) {t : Text} {e : ParseFault} → OpeningFails unicode f (0x28 ∷ t) t e → opening unicode f (0x28 ∷ t) ≡ Err e
 unfolding opening strip_prefix after_question after_angle python flags
 opening_stops unicode f (no_name {t} n m lacks) = no_look unicode f (0x28 ∷ 0x3F ∷ 0x3C ∷ t) t n m ∙ none_named _ lacks
 opening_stops unicode f (no_python_name lacks) = none_named _ lacks

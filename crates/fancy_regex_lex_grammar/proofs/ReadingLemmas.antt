@@ -2,31 +2,31 @@
 use Rattle.std.proofs.Common.{◌≡◌, ◌≢◌, ℕ, Bool, true, false, cond, ◌==◌, Option, Some, None, Result, Ok, Err, is_ok, refl, sym, ap, ◌∙◌, subst, true≢false, eqb-true, option_map, option_and_then}
 use Rattle.std.proofs.lemmas.Bool.{eqb-false}
 use Rattle.std.proofs.lemmas.Option.{none-some, same_Some}
-use Rattle.fancy_regex_text.specs.Fault.{Fault, ParseOutcome, ◌>>=◌}
+use Rattle.fancy_regex_text.specs.ParseFault.{ParseFault, ParseOutcome, ◌>>=◌}
 use Rattle.fancy_regex_lex_grammar.specs.Exact.{FindsExactly, ReadsExactly}
 
 -- what an answer means: what is read, or where it stops
-pub data Meant {A : Type 0} (Has : A → Type 0) (Stops : Fault → Type 0) : ParseOutcome A → Type 0 where
+pub data Meant {A : Type 0} (Has : A → Type 0) (Stops : ParseFault → Type 0) : ParseOutcome A → Type 0 where
   is_read : {x : A} → Has x → Meant Has Stops (Ok x)
-  is_stopped : {e : Fault} → Stops e → Meant Has Stops (Err e)
+  is_stopped : {e : ParseFault} → Stops e → Meant Has Stops (Err e)
 
 -- what was found, or that nothing is there
 pub data Found {A : Type 0} (Has : A → Type 0) (Lacks : Type 0) : Option A → Type 0 where
   is_found : {x : A} → Has x → Found Has Lacks (Some x)
   is_none : Lacks → Found Has Lacks None
 
-pub if_meant : {A : Type 0} {Has : A → Type 0} {Stops : Fault → Type 0} (b : Bool) (r s : ParseOutcome A) →
+pub if_meant : {A : Type 0} {Has : A → Type 0} {Stops : ParseFault → Type 0} (b : Bool) (r s : ParseOutcome A) →
     (b ≡ true → Meant Has Stops r) → (b ≡ false → Meant Has Stops s) → Meant Has Stops (cond b r s)
 if_meant true r s h k = h refl
 if_meant false r s h k = k refl
 
-pub option_meant : {A B : Type 0} {Has : A → Type 0} {Stops : Fault → Type 0} (o : Option B) (x : ParseOutcome A) (f : B → ParseOutcome A) →
+pub option_meant : {A B : Type 0} {Has : A → Type 0} {Stops : ParseFault → Type 0} (o : Option B) (x : ParseOutcome A) (f : B → ParseOutcome A) →
     (o ≡ None → Meant Has Stops x) → ((b : B) → o ≡ Some b → Meant Has Stops (f b)) → Meant Has Stops (elim o [ None ↦ x | Some b ↦ f b ])
 option_meant None x f h k = h refl
 option_meant (Some b) x f h k = k b refl
 
-pub bind_meant : {A B : Type 0} {Has : A → Type 0} {Stops : Fault → Type 0} (r : ParseOutcome B) (f : B → ParseOutcome A) →
-    ((e : Fault) → r ≡ Err e → Stops e) → ((b : B) → r ≡ Ok b → Meant Has Stops (f b)) → Meant Has Stops (r >>= f)
+pub bind_meant : {A B : Type 0} {Has : A → Type 0} {Stops : ParseFault → Type 0} (r : ParseOutcome B) (f : B → ParseOutcome A) →
+    ((e : ParseFault) → r ≡ Err e → Stops e) → ((b : B) → r ≡ Ok b → Meant Has Stops (f b)) → Meant Has Stops (r >>= f)
 bind_meant (Ok b) f h k = k b refl
 bind_meant (Err e) f h k = is_stopped (h e refl)
 
@@ -72,22 +72,22 @@ err_value otherwise (Err e) = e
 abbrev pub ok : {A : Type 0} → A → ParseOutcome A
 ok x = Ok x
 
-abbrev pub err : {A : Type 0} → Fault → ParseOutcome A
+abbrev pub err : {A : Type 0} → ParseFault → ParseOutcome A
 err e = Err e
 
 pub same_Ok : {A : Type 0} (x y : A) → ok x ≡ ok y → x ≡ y
 unfolding ok_value
 same_Ok x y h = ap (ok_value x) h
 
-pub same_Err : {A : Type 0} (e d : Fault) → err {A = A} e ≡ err {A = A} d → e ≡ d
+pub same_Err : {A : Type 0} (e d : ParseFault) → err {A = A} e ≡ err {A = A} d → e ≡ d
 unfolding err_value
 same_Err e d h = ap (err_value e) h
 
-pub meant_has : {A : Type 0} {Has : A → Type 0} {Stops : Fault → Type 0} {r : ParseOutcome A} → Meant Has Stops r → (x : A) → r ≡ Ok x → Has x
+pub meant_has : {A : Type 0} {Has : A → Type 0} {Stops : ParseFault → Type 0} {r : ParseOutcome A} → Meant Has Stops r → (x : A) → r ≡ Ok x → Has x
 meant_has {Has = Has} (is_read {x = y} h) x e = subst Has (same_Ok y x e) h
 meant_has (is_stopped {e = d} h) x e = absurd (err-ok d x e)
 
-pub meant_stops : {A : Type 0} {Has : A → Type 0} {Stops : Fault → Type 0} {r : ParseOutcome A} → Meant Has Stops r → (e : Fault) → r ≡ Err e → Stops e
+pub meant_stops : {A : Type 0} {Has : A → Type 0} {Stops : ParseFault → Type 0} {r : ParseOutcome A} → Meant Has Stops r → (e : ParseFault) → r ≡ Err e → Stops e
 meant_stops (is_read {x = y} h) e k = absurd (err-ok e y (sym k))
 meant_stops {A = A} {Stops = Stops} (is_stopped {e = d} h) e k = subst Stops (same_Err {A = A} d e k) h
 
@@ -100,8 +100,8 @@ finds_exactly found sound complete = record {
   one = λ x y h k. same_Some x y (sym (complete x h) ∙ complete y k);
 }
 
-pub reads_exactly : {A : Type 0} {Has : A → Type 0} {Stops : Fault → Type 0} (read : ParseOutcome A) → Meant Has Stops read →
-    ((x : A) → Has x → read ≡ Ok x) → ((e : Fault) → Stops e → read ≡ Err e) → ReadsExactly read Has Stops
+pub reads_exactly : {A : Type 0} {Has : A → Type 0} {Stops : ParseFault → Type 0} (read : ParseOutcome A) → Meant Has Stops read →
+    ((x : A) → Has x → read ≡ Ok x) → ((e : ParseFault) → Stops e → read ≡ Err e) → ReadsExactly read Has Stops
 reads_exactly {A = A} read meant complete fault_is_complete = record {
   sound = meant_has meant;
   complete = complete;

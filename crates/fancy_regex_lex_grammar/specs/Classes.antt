@@ -1,7 +1,7 @@
 -- Bracketed classes. The relations take the text after the `[`, the text of the class, and the rest.
 use Rattle.std.specs.Prelude.{◌≡◌, ◌≢◌, ℕ, zero, suc, Bool, true, false, [], ◌∷◌, ◌++◌}
 use Rattle.fancy_regex_text.specs.Text.{Text, ◌∈◌}
-use Rattle.fancy_regex_text.specs.Fault.{Kind, Fault, invalid_class}
+use Rattle.fancy_regex_text.specs.ParseFault.{Kind, ParseFault, invalid_class}
 use Rattle.fancy_regex_lex.specs.Escapes.{Escape, char_escape, class_escape}
 use Rattle.fancy_regex_lex.specs.Classes.{bracketed_class}
 use Rattle.fancy_regex_lex_grammar.specs.Exact.{ReadsExactly, at}
@@ -38,20 +38,20 @@ module _ (oniguruma : Bool) where
         IsClassItems zero inside text rest → IsClass t (0x5B ∷ caret ++ bracket ++ text) rest
 
   -- where the items fail, and the error
-  pub data ClassItemsFail : ℕ → Text → Fault → Type 0 where
+  pub data ClassItemsFail : ℕ → Text → ParseFault → Type 0 where
     text_ends : {level : ℕ} → ClassItemsFail level [] (at invalid_class [])
     -- an escape that is not allowed in a class
     misplaced : {level : ℕ} {t rest : Text} {e : Escape} → IsEscape oniguruma t e rest → ((text : Text) → IsEscapeInClass e text → ⊥) →
         ((u : Text) → t ≢ 0x62 ∷ u) → ClassItemsFail level (0x5C ∷ t) (at invalid_class (0x5C ∷ t))
     -- an invalid escape
     no_escape : {level : ℕ} {t : Text} {kind : Kind} → EscapeFails oniguruma t kind → ClassItemsFail level (0x5C ∷ t) (at kind (0x5C ∷ t))
-    after_closing : {level : ℕ} {t : Text} {e : Fault} → ClassItemsFail level t e → ClassItemsFail (suc level) (0x5D ∷ t) e
-    after_opening : {level : ℕ} {t : Text} {e : Fault} → ClassItemsFail (suc level) t e → ClassItemsFail level (0x5B ∷ t) e
-    after_part : {level : ℕ} {t part after : Text} {e : Fault} → IsClassItem t part after → ClassItemsFail level after e → ClassItemsFail level t e
+    after_closing : {level : ℕ} {t : Text} {e : ParseFault} → ClassItemsFail level t e → ClassItemsFail (suc level) (0x5D ∷ t) e
+    after_opening : {level : ℕ} {t : Text} {e : ParseFault} → ClassItemsFail (suc level) t e → ClassItemsFail level (0x5B ∷ t) e
+    after_part : {level : ℕ} {t part after : Text} {e : ParseFault} → IsClassItem t part after → ClassItemsFail level after e → ClassItemsFail level t e
 
   -- where a class fails, and the error
-  pub data ClassFails : Text → Fault → Type 0 where
-    inside_class : {t caret bracket here inside : Text} {e : Fault} → IsOptional 0x5E t caret here → IsOptional 0x5D here bracket inside →
+  pub data ClassFails : Text → ParseFault → Type 0 where
+    inside_class : {t caret bracket here inside : Text} {e : ParseFault} → IsOptional 0x5E t caret here → IsOptional 0x5D here bracket inside →
         ClassItemsFail zero inside e → ClassFails t e
 
 abbrev pub ClassesAreExact : Type 0

@@ -3,7 +3,7 @@ use Rattle.std.specs.Prelude.{◌≡◌, ◌≢◌, ◌<◌, ◌≤◌, ℕ, ℤ
 use Rattle.std.specs.Char.{is_ascii_alphabetic}
 use Rattle.fancy_regex_text.specs.Text.{Text, ◌∈◌, is_decimal, is_hexadecimal, value}
 use Rattle.fancy_regex_text.specs.Names.{Named, by_number, Referred}
-use Rattle.fancy_regex_text.specs.Fault.{Kind, trailing_backslash, invalid_escape, unclosed_unicode_name, invalid_hex, invalid_codepoint_value, invalid_group_name}
+use Rattle.fancy_regex_text.specs.ParseFault.{Kind, trailing_backslash, invalid_escape, unclosed_unicode_name, invalid_hex, invalid_codepoint_value, invalid_group_name}
 use Rattle.fancy_regex_lex.specs.Escapes.{Escape, char_escape, byte_escape, class_escape, any_escape, newline_escape, assertion_escape, continue_escape, keep_out_escape, reference_escape, call_escape, escape, delimited_reference}
 use Rattle.fancy_regex_lex.specs.declared.token.AssertionEscape.{AssertionEscape}
 use Rattle.fancy_regex_lex.specs.declared.token.AssertionEscape.TheVariants.{TextStart, TextEnd, TextEndOrNewlines, WordBoundary, NotWordBoundary, LeftWordBoundary, RightWordBoundary, LeftWordHalfBoundary, RightWordHalfBoundary}

@@ -1,7 +1,7 @@
 -- The flag letters after `(?`, up to `:` or `)`.
 use Rattle.std.specs.Prelude.{◌≡◌, ◌≢◌, ℕ, Bool, true, false, [], ◌∷◌, ◌++◌}
 use Rattle.fancy_regex_text.specs.Text.{Text, ◌∈◌}
-use Rattle.fancy_regex_text.specs.Fault.{Kind, Fault, unclosed_open_paren, unknown_flag, changing_unicode_mode_unsupported}
+use Rattle.fancy_regex_text.specs.ParseFault.{Kind, ParseFault, unclosed_open_paren, unknown_flag, changing_unicode_mode_unsupported}
 use Rattle.fancy_regex_lex.specs.FlagLetters.{flag_letters}
 use Rattle.fancy_regex_lex.specs.declared.token.Flags.{Flags}
 use Rattle.fancy_regex_lex_grammar.specs.Exact.{ReadsExactly, at}
@@ -35,10 +35,10 @@ module _ (unicode : Bool) where
     unicode_changed : {on : Bool} {t : Text} → on ≢ unicode → FlagFails here on 0x75 t changing_unicode_mode_unsupported
 
   -- where the flag letters fail, and the error
-  pub data FlagsFail (here : Text) : Bool → Flags → Text → Fault → Type 0 where
+  pub data FlagsFail (here : Text) : Bool → Flags → Text → ParseFault → Type 0 where
     text_ends : {on : Bool} {f : Flags} → FlagsFail here on f [] (at unclosed_open_paren [])
     at_letter : {on : Bool} {f : Flags} {c : ℕ} {t : Text} {kind : Kind} → FlagFails here on c t kind → FlagsFail here on f (c ∷ t) (at kind here)
-    at_later_letter : {on next : Bool} {f g : Flags} {c : ℕ} {t : Text} {e : Fault} → IsFlag on f c g next → FlagsFail here next g t e →
+    at_later_letter : {on next : Bool} {f g : Flags} {c : ℕ} {t : Text} {e : ParseFault} → IsFlag on f c g next → FlagsFail here next g t e →
         FlagsFail here on f (c ∷ t) e
 
 -- `t` is a suffix of `here`

@@ -1,7 +1,7 @@
 -- Layout, which is skipped between tokens: comments, and in verbose mode white space. The relations take the text and the rest after it.
 use Rattle.std.specs.Prelude.{◌≡◌, ◌≢◌, ℕ, Bool, true, [], ◌∷◌}
 use Rattle.fancy_regex_text.specs.Text.{Text, bytes}
-use Rattle.fancy_regex_text.specs.Fault.{Fault, unclosed_open_paren}
+use Rattle.fancy_regex_text.specs.ParseFault.{ParseFault, unclosed_open_paren}
 use Rattle.fancy_regex_text.specs.Layout.{next_token, skip}
 use Rattle.fancy_regex_lex_grammar.specs.Exact.{FindsExactly, ReadsExactly}
 
@@ -57,7 +57,7 @@ pub record IsOpenLayout (verbose : Bool) (t : Text) : Type 0 where
   pub open_comment : IsOpenComment rest
 
 -- a comment that is not closed is an error at the end of the text
-pub record LayoutFails (verbose : Bool) (t : Text) (e : Fault) : Type 0 where
+pub record LayoutFails (verbose : Bool) (t : Text) (e : ParseFault) : Type 0 where
   pub layout : IsOpenLayout verbose t
   pub fault : e ≡ record { kind = unclosed_open_paren; left = bytes [] }
 

@@ -2,7 +2,7 @@
 use Rattle.std.specs.Prelude.{◌≡◌, ◌≢◌, ℕ, ℤ, Bool, true, false, [], ◌∷◌, ◌++◌, Option, Some, None, codes}
 use Rattle.fancy_regex_text.specs.Text.{Text, ◌∈◌}
 use Rattle.fancy_regex_text.specs.Names.{Named, by_number}
-use Rattle.fancy_regex_text.specs.Fault.{Fault, invalid_group_name}
+use Rattle.fancy_regex_text.specs.ParseFault.{ParseFault, invalid_group_name}
 use Rattle.fancy_regex_lex.specs.Openings.{Opening, capturing, non_capturing, set_flags, atomic, look, if_set, if_matches, define, absent, absent_bar, whole_reference, whole_call, whole_verb, opening}
 use Rattle.fancy_regex_lex.specs.declared.token.Flags.{Flags}
 use Rattle.fancy_regex_lex.specs.declared.token.Look.TheVariants.{Ahead, AheadNeg, Behind, BehindNeg}
@@ -77,7 +77,7 @@ module _ (unicode : Bool) (f : Flags) where
     a_verb : {word rest : Text} {verb : Verb} → IsVerb word verb → IsOpening (word ++ rest) (whole_verb verb) rest
 
   -- where an opening fails, and the error; `here` is the text from the parenthesis on
-  pub data OpeningFails (here : Text) : Text → Fault → Type 0 where
+  pub data OpeningFails (here : Text) : Text → ParseFault → Type 0 where
     no_name : {t : Text} → ((u : Text) → t ≢ 0x3D ∷ u) → ((u : Text) → t ≢ 0x21 ∷ u) → ((name rest : Text) → IsClosedName t name rest → ⊥) →
         OpeningFails here (0x3F ∷ 0x3C ∷ t) (at invalid_group_name here)
     no_python_name : {t : Text} → ((name rest : Text) → IsClosedName t name rest → ⊥) →
@@ -86,7 +86,7 @@ module _ (unicode : Bool) (f : Flags) where
         OpeningFails here (0x3F ∷ 0x50 ∷ 0x3D ∷ t) (at invalid_group_name here)
     no_call : {t : Text} → ((target : Named) (level : Option ℤ) (rest : Text) → IsClosedReference false 0x29 t target level rest → ⊥) →
         OpeningFails here (0x3F ∷ 0x50 ∷ 0x3E ∷ t) (at invalid_group_name here)
-    in_flags : {t : Text} {e : Fault} → (BeginsNonFlagConstruct t → ⊥) → FlagsFail unicode here true f t e → OpeningFails here (0x3F ∷ t) e
+    in_flags : {t : Text} {e : ParseFault} → (BeginsNonFlagConstruct t → ⊥) → FlagsFail unicode here true f t e → OpeningFails here (0x3F ∷ t) e
 
 abbrev pub OpeningsAreExact : Type 0
 OpeningsAreExact = (unicode : Bool) (f : Flags) (t : Text) →

@@ -2,7 +2,7 @@
 use Rattle.std.specs.Prelude.{◌≤◌, ℕ, ℤ, Bool, Option}
 use Rattle.fancy_regex_text.specs.Text.{Text, IsSuffix, bytes}
 use Rattle.fancy_regex_text.specs.Names.{Named}
-use Rattle.fancy_regex_text.specs.Fault.{Fault}
+use Rattle.fancy_regex_text.specs.ParseFault.{ParseFault}
 use Rattle.fancy_regex_lex.specs.Escapes.{Escape}
 use Rattle.fancy_regex_lex.specs.Openings.{Opening}
 use Rattle.fancy_regex_lex.specs.declared.token.Quantifier.{Quantifier}
@@ -30,7 +30,7 @@ pub record TokensArePrefixes : Type 0 where
 
 -- The number of bytes after an error position is at most that of the text, so the position is in the text or at its end.
 pub record TokenFaultsAreInside : Type 0 where
-  pub of_layout : (verbose : Bool) (t : Text) (e : Fault) → LayoutFails verbose t e → e.left ≤ bytes t
-  pub of_flags : (unicode on : Bool) (f : Flags) (here t : Text) (e : Fault) → FlagsFail unicode here on f t e → e.left ≤ bytes here
-  pub of_class : (oniguruma : Bool) (t : Text) (e : Fault) → ClassFails oniguruma t e → e.left ≤ bytes t
-  pub of_opening : (unicode : Bool) (f : Flags) (here t : Text) (e : Fault) → OpeningFails unicode f here t e → e.left ≤ bytes here
+  pub of_layout : (verbose : Bool) (t : Text) (e : ParseFault) → LayoutFails verbose t e → e.left ≤ bytes t
+  pub of_flags : (unicode on : Bool) (f : Flags) (here t : Text) (e : ParseFault) → FlagsFail unicode here on f t e → e.left ≤ bytes here
+  pub of_class : (oniguruma : Bool) (t : Text) (e : ParseFault) → ClassFails oniguruma t e → e.left ≤ bytes t
+  pub of_opening : (unicode : Bool) (f : Flags) (here t : Text) (e : ParseFault) → OpeningFails unicode f here t e → e.left ≤ bytes here

@@ -24,8 +24,8 @@ use Rattle.fancy_regex_meta.specs.MemberSearches.{member_setting, member_search,
 use Rattle.fancy_regex_meta.specs.MatchOffsets.{EndsSecond, IsMatchWithin}
 use Rattle.fancy_regex_meta.specs.FoundParts.{wanted_groups, wanted_parts, parts_in, found_parts}
 use Rattle.fancy_regex_meta.specs.declared.found.FoundMatch.{FoundMatch}
-use Rattle.fancy_regex_meta.specs.declared.found.Wanted.{Wanted}
-use Rattle.fancy_regex_meta.specs.declared.found.Wanted.TheVariants.{Span, Groups}
+use Rattle.fancy_regex_meta.specs.declared.found.MatchDetail.{MatchDetail}
+use Rattle.fancy_regex_meta.specs.declared.found.MatchDetail.TheVariants.{Span, Groups}
 use Rattle.fancy_regex_meta.specs.Patterns.{tree_in}
 use Rattle.fancy_regex_meta.specs.declared.meta_regex.MetaRegex.{MetaRegex}
 
@@ -120,7 +120,7 @@ first_fits text a fits inside =
     (cases_lt a.start a.range_start)
 
 -- the offsets of a match's groups begin with its span
-parts-same : (t : Tree) (wanted : Wanted) (o : Option Match) → ((m : Match) → o ≡ Some m → length m.pairs ≡ length (pattern_of t).groups) →
+parts-same : (t : Tree) (wanted : MatchDetail) (o : Option Match) → ((m : Match) → o ≡ Some m → length m.pairs ≡ length (pattern_of t).groups) →
     option_map (parts_in wanted) (option_map (match_slots (pattern_of t)) o) ≡ option_map (wanted_parts wanted (pattern_of t)) o
 parts-same t wanted None many = refl
 parts-same t wanted (Some m) many =
@@ -128,7 +128,7 @@ parts-same t wanted (Some m) many =
     λ i. Some (begins.first i, (begins.second i, wanted_groups wanted (pattern_of t) m))
 
 -- those of the match of a search
-pub first-parts : (t : Tree) (wanted : Wanted) (s : Setting) (find : Search) → IsUtf8 s.text → IsCharBoundary s.text find.first → find.stop ≤ length s.text →
+pub first-parts : (t : Tree) (wanted : MatchDetail) (s : Setting) (find : Search) → IsUtf8 s.text → IsCharBoundary s.text find.first → find.stop ≤ length s.text →
     option_map (parts_in wanted) (option_map (match_slots (pattern_of t)) (first_match s (pattern_of t) find)) ≡ option_map (wanted_parts wanted (pattern_of t)) (first_match s (pattern_of t) find)
 first-parts t wanted s find utf8 h inside =
     parts-same t wanted (first_match s (pattern_of t) find) (λ m e. (first_lies s (pattern_of t) find utf8 h inside m e).many)
@@ -137,13 +137,13 @@ first-parts t wanted s find utf8 h inside =
 pub coded_parts : Coded (ℕ × (ℕ × List ℕ))
 coded_parts = coded× coded_ℕ (coded× coded_ℕ (coded_list coded_ℕ))
 
-ends_second : (t : Tree) (wanted : Wanted) (x : FoundMatch) (m : Match) → found_parts x ≡ wanted_parts wanted (pattern_of t) m → length m.pairs ≡ length (pattern_of t).groups → EndsSecond wanted x
+ends_second : (t : Tree) (wanted : MatchDetail) (x : FoundMatch) (m : Match) → found_parts x ≡ wanted_parts wanted (pattern_of t) m → length m.pairs ≡ length (pattern_of t).groups → EndsSecond wanted x
 ends_second t Span x m e many = tt
 ends_second t Groups x m e many =
     ap (λ (p : ℕ × (ℕ × List ℕ)). slice_index p.1.1 1) e ∙ (places_begin t m many).second ∙ sym (ap (λ (p : ℕ × (ℕ × List ℕ)). p.1.0) e)
 
 -- What is found where a match lies is within the range.
-lies_within : (s : Setting) (t : Tree) (find : Search) (wanted : Wanted) (a : SearchConfig) (x : FoundMatch) (m : Match) → found_parts x ≡ wanted_parts wanted (pattern_of t) m →
+lies_within : (s : Setting) (t : Tree) (find : Search) (wanted : MatchDetail) (a : SearchConfig) (x : FoundMatch) (m : Match) → found_parts x ≡ wanted_parts wanted (pattern_of t) m →
     Lies s (pattern_of t) find m → find.first ≡ max a.start a.range_start → find.stop ≡ a.range_end → IsMatchWithin wanted s.text a x
 lies_within s t find wanted a x m e lies first stop =
     let start : x.start ≡ m.start = ap (λ (p : ℕ × (ℕ × List ℕ)). p.0) e in
@@ -160,7 +160,7 @@ lies_within s t find wanted a x m e lies first stop =
     }
 
 -- what a search has found lies where it was looked for
-pub found_within : (s : MetaRegex) (text : List ℕ) (a : SearchConfig) (continue_disabled : Bool) (wanted : Wanted) (found : Option FoundMatch) →
+pub found_within : (s : MetaRegex) (text : List ℕ) (a : SearchConfig) (continue_disabled : Bool) (wanted : MatchDetail) (found : Option FoundMatch) →
     IsUtf8 text → IsCharBoundary text (max a.start a.range_start) → a.range_end ≤ length text →
     option_map found_parts found ≡ option_map (wanted_parts wanted (meta_pattern s)) (meta_match_from s text a (max a.start a.range_start) continue_disabled) →
     IfSome found (IsMatchWithin wanted text a)
@@ -191,7 +191,7 @@ anchored_match s pattern find anchored inside =
     tries_one (match_at s pattern find) find.first (boundaries s.text find.first find.stop) (nat_lt find.stop find.first) find.anchored (nat_lt-no find.stop find.first inside) anchored
 
 -- the match that starts at an offset lies after it
-pub found_at_within : (s : MetaRegex) (text : List ℕ) (a : SearchConfig) (continue_at : Option ℕ) (p : ℕ) (wanted : Wanted) (found : Option FoundMatch) →
+pub found_at_within : (s : MetaRegex) (text : List ℕ) (a : SearchConfig) (continue_at : Option ℕ) (p : ℕ) (wanted : MatchDetail) (found : Option FoundMatch) →
     IsUtf8 text → IsCharBoundary text p → p ≤ a.range_end → a.range_end ≤ length text →
     option_map found_parts found ≡ option_map (wanted_parts wanted (meta_pattern s)) (meta_match_at s text a continue_at p) →
     IfSome found (IsMatchWithin wanted text (record a { start = p; range_start = p }))

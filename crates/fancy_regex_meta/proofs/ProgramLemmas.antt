@@ -20,7 +20,7 @@ use Rattle.fancy_regex_machine.specs.declared.error.RuntimeError.TheVariants.{St
 use Rattle.fancy_regex_machine.specs.declared.search.RunOptions.{RunOptions}
 use Rattle.fancy_regex_meta.specs.ErrorConversions.{from_runtime_error}
 use Rattle.fancy_regex_meta.specs.FoundParts.{wanted_parts}
-use Rattle.fancy_regex_meta.specs.declared.found.Wanted.TheVariants.{Span}
+use Rattle.fancy_regex_meta.specs.declared.found.MatchDetail.TheVariants.{Span}
 use Rattle.fancy_regex_meta.specs.Strategies.{search_of, run_options_of, IsCompiled}
 use Rattle.fancy_regex_meta.specs.SearchLimits.{IsSearchError, IsStrategyError, MachineStaysInLimits, run_choices}
 use Rattle.fancy_regex_meta.specs.declared.strategy.Strategy.TheVariants.{Program}

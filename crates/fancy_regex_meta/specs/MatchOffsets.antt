@@ -2,8 +2,8 @@
 use Rattle.std.specs.Prelude.{◌≡◌, ℕ, ◌≤◌, List, max, slice_index, IsCharBoundary}
 use Rattle.fancy_regex_input.specs.declared.config.SearchConfig.{SearchConfig}
 use Rattle.fancy_regex_meta.specs.declared.found.FoundMatch.{FoundMatch}
-use Rattle.fancy_regex_meta.specs.declared.found.Wanted.{Wanted}
-use Rattle.fancy_regex_meta.specs.declared.found.Wanted.TheVariants.{Span, Groups}
+use Rattle.fancy_regex_meta.specs.declared.found.MatchDetail.{MatchDetail}
+use Rattle.fancy_regex_meta.specs.declared.found.MatchDetail.TheVariants.{Span, Groups}
 
 -- Both offsets are character boundaries of the text, in order.
 pub record AreBoundaries (text : List ℕ) (start end : ℕ) : Type 0 where
@@ -12,12 +12,12 @@ pub record AreBoundaries (text : List ℕ) (start end : ℕ) : Type 0 where
   pub ends : IsCharBoundary text end
 
 -- Where the groups of a match are wanted, the second of their offsets is its end.
-abbrev pub EndsSecond : Wanted → FoundMatch → Type 0
+abbrev pub EndsSecond : MatchDetail → FoundMatch → Type 0
 EndsSecond Span x = Unit {0}
 EndsSecond Groups x = slice_index x.groups.items 1 ≡ x.end
 
 -- What was found lies in the range of the search, at or after its start.
-pub record IsMatchWithin (wanted : Wanted) (text : List ℕ) (config : SearchConfig) (x : FoundMatch) : Type 0 where
+pub record IsMatchWithin (wanted : MatchDetail) (text : List ℕ) (config : SearchConfig) (x : FoundMatch) : Type 0 where
   pub after : max config.start config.range_start ≤ x.start
   pub cuts : AreBoundaries text x.start x.end
   pub inside : x.end ≤ config.range_end

@@ -1,6 +1,6 @@
 -- What parsing a pattern under options returns.
 use Rattle.std.specs.Prelude.{◌≡◌, ℕ, List, Ok, Err}
-use Rattle.fancy_regex_text.specs.Fault.{kind_of}
+use Rattle.fancy_regex_text.specs.ParseFault.{kind_of}
 use Rattle.fancy_regex_tree.specs.Parse.{Parsed}
 use Rattle.fancy_regex_tree.specs.ParseResult.{IsExprTreeOf}
 use Rattle.fancy_regex_tree.specs.declared.expr_tree.ExprTree.{ExprTree}

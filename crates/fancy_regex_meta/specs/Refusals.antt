@@ -1,6 +1,6 @@
 -- Why a text cannot be compiled.
 use Rattle.std.specs.Prelude.{◌≡◌, ◌≢◌, ℕ, ◌+◌, ◌*◌, Bool, true, false, List, Ok, Err}
-use Rattle.fancy_regex_text.specs.Fault.{kind_of}
+use Rattle.fancy_regex_text.specs.ParseFault.{kind_of}
 use Rattle.fancy_regex_tree.specs.Tree.{Tree}
 use Rattle.fancy_regex_tree.specs.Parse.{Parsed}
 use Rattle.fancy_regex_tree.specs.ReferenceSummary.{named_backref_only, contains_subroutines}

@@ -2,14 +2,14 @@
 
 ghost use Rattle.std.specs.Prelude.{◌≡◌, [], option_map, slice_index};
 ghost use Rattle.fancy_regex_meta.specs.FoundParts.{found_parts, parts_in};
-ghost use Rattle.fancy_regex_meta.specs.declared.found.Wanted.TheVariants.{Groups};
+ghost use Rattle.fancy_regex_meta.specs.declared.found.MatchDetail.TheVariants.{Groups};
 
 use fancy_regex_linear::SearchMemory;
 use std::alloc::Global;
 
 /// Which byte offsets of a match a search is asked for.
 #[derive(Clone, Copy, Debug)]
-pub enum Wanted {
+pub enum MatchDetail {
     /// The start and the end of the match alone.
     Span,
     /// Those of each group too.
@@ -60,14 +60,14 @@ pub(crate) fn found_groups(slots: Option<Vec<usize>>) -> Option<FoundMatch>
 pub(crate) fn found_in(
     alloc: Global,
     slots: Option<Vec<usize>>,
-    wanted: Wanted,
+    wanted: MatchDetail,
     memory: &mut SearchMemory,
 ) -> Option<FoundMatch>
     ensures { option_map found_parts result ≡ option_map (parts_in wanted) (option_map (λ v. v.items) slots) }
 {
     match wanted {
-        Wanted::Groups => found_groups(slots),
-        Wanted::Span => {
+        MatchDetail::Groups => found_groups(slots),
+        MatchDetail::Span => {
             let groups = slots?;
             let span = (offset(&groups, 0), offset(&groups, 1));
             memory.give_back(groups);

@@ -14,7 +14,7 @@ mod seek;
 mod strategy;
 
 pub use error::{Error, Result};
-pub use found::{FoundMatch, Wanted};
+pub use found::{FoundMatch, MatchDetail};
 pub use memory::MetaMemory;
 pub use meta_regex::MetaRegex;
 pub use options::RegexOptions;

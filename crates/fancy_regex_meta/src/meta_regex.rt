@@ -11,7 +11,7 @@ ghost use Rattle.fancy_regex_meta.specs.PatternMatches.{IsCompiledFrom, names_in
 ghost use Rattle.fancy_regex_meta.specs.EasyPatterns.{uses_easy, pattern_uses_easy, is_easy_strategy};
 
 use crate::error::Result;
-use crate::found::{FoundMatch, Wanted};
+use crate::found::{FoundMatch, MatchDetail};
 use crate::memory::MetaMemory;
 use crate::options::RegexOptions;
 use crate::strategy::Strategy;
@@ -86,7 +86,7 @@ fn run_input(config: SearchConfig, first: usize, continue_disabled: bool) -> Run
 impl MetaRegex {
     ghost use Rattle.fancy_regex_meta.specs.MatchOffsets.{IsMatchWithin};
     ghost use Rattle.fancy_regex_meta.specs.FoundParts.{found_parts, wanted_parts};
-    ghost use Rattle.fancy_regex_meta.specs.declared.found.Wanted.TheVariants.{Groups};
+    ghost use Rattle.fancy_regex_meta.specs.declared.found.MatchDetail.TheVariants.{Groups};
     ghost use Rattle.fancy_regex_meta.specs.SearchLimits.{IsMetaSearchError, MetaStaysInLimits, meta_uses_easy, meta_starts_tried, max_looks};
     ghost use Rattle.fancy_regex_meta.specs.MetaMatches.{meta_pattern, meta_match_from};
     ghost use Rattle.fancy_regex_meta.specs.MemberSearches.{meta_match_at, IsMemberError, MemberStaysInLimits};
@@ -152,7 +152,7 @@ impl MetaRegex {
         text: &str,
         config: SearchConfig,
         continue_disabled: bool,
-        wanted: Wanted,
+        wanted: MatchDetail,
         steps: &mut Steps,
         memory: &mut MetaMemory,
     ) -> Result<Option<FoundMatch>>
@@ -212,7 +212,7 @@ impl MetaRegex {
             text,
             &input,
             &self.options,
-            Wanted::Groups,
+            MatchDetail::Groups,
             &mut Steps::new(),
             memory,
         )

@@ -19,7 +19,7 @@ ghost use Rattle.fancy_regex_linear.specs.Runner.{IsEasyOf};
 ghost use Rattle.fancy_regex_meta.specs.Refusals.{compile_options_of, IsCompileRefusal};
 
 use crate::error::Result;
-use crate::found::{FoundMatch, Wanted, found_groups, found_in, found_span};
+use crate::found::{FoundMatch, MatchDetail, found_groups, found_in, found_span};
 use crate::memory::MetaMemory;
 use crate::options::RegexOptions;
 use crate::seek::seek_table;
@@ -111,7 +111,7 @@ impl Strategy {
         text: &str,
         input: &RunInput,
         options: &RegexOptions,
-        wanted: Wanted,
+        wanted: MatchDetail,
         steps: &mut Steps,
         memory: &mut MetaMemory,
     ) -> Result<Option<FoundMatch>>
@@ -146,11 +146,11 @@ impl Strategy {
                 };
                 let memory = &mut memory.program;
                 match wanted {
-                    Wanted::Span => {
+                    MatchDetail::Span => {
                         let span = run_spans_in(alloc, prog, text, input, &options, memory)?;
                         Ok(found_span(alloc, span))
                     }
-                    Wanted::Groups => {
+                    MatchDetail::Groups => {
                         let slots = run_in(alloc, prog, text, input, &options, memory)?;
                         Ok(found_groups(slots))
                     }

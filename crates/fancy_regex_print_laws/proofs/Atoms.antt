@@ -3,7 +3,7 @@ use Rattle.std.proofs.Common.{◌≡◌, ℕ, zero, suc, ◌≤◌, Bool, true, 
 use Rattle.std.proofs.lemmas.Bool.{eqb-true, false≢true, true≢false}
 use Rattle.std.proofs.lemmas.Option.{none-some, same_Some}
 use Rattle.fancy_regex_text.specs.Text.{Text}
-use Rattle.fancy_regex_text.specs.Fault.{ParseOutcome}
+use Rattle.fancy_regex_text.specs.ParseFault.{ParseOutcome}
 use Rattle.fancy_regex_lex.specs.Escapes.{Escape, char_escape, byte_escape, class_escape, any_escape, newline_escape, assertion_escape, continue_escape, keep_out_escape, reference_escape}
 use Rattle.fancy_regex_lex.specs.Escapes.{call_escape, escape}
 use Rattle.fancy_regex_lex.specs.Classes.{bracketed_class}

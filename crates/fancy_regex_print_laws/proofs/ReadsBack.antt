@@ -1,7 +1,7 @@
 -- Whole printed patterns, read.
 use Rattle.std.proofs.Common.{◌≡◌, ◌<◌, ◌≤◌, ◌+◌, ◌-◌, ◌++◌, ℕ, Bool, true, false, [], ◌∷◌, None, replicate, refl, subst, ap, sym, ◌∙◌, append-nil, arith, Ok, Err}
 use Rattle.fancy_regex_text.specs.Text.{Text, bytes}
-use Rattle.fancy_regex_text.specs.Fault.{recursion_exceeded}
+use Rattle.fancy_regex_text.specs.ParseFault.{recursion_exceeded}
 use Rattle.fancy_regex_grammar.specs.Patterns.{IsPattern}
 use Rattle.fancy_regex_tree.specs.Tree.{Tree}
 use Rattle.fancy_regex_tree.specs.TreeBuilders.{pattern_of}

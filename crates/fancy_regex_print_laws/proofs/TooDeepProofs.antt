@@ -2,7 +2,7 @@
 use Rattle.std.proofs.Common.{◌≡◌, ℕ, zero, suc, ◌+◌, ◌≤◌, ◌<◌, Bool, true, false, ◌&&◌, ◌||◌, [], ◌∷◌, ◌++◌, codes, cond, refl, sym, ap, subst, ◌∙◌, arith, append_assoc, append-nil, nat_lt}
 use Rattle.std.proofs.lemmas.Bool.{false≢true, true≢false, and_parts, ltb-true, ltb-false, lt-ltb}
 use Rattle.fancy_regex_text.specs.Text.{Text, unbounded}
-use Rattle.fancy_regex_text.specs.Fault.{recursion_exceeded}
+use Rattle.fancy_regex_text.specs.ParseFault.{recursion_exceeded}
 use Rattle.fancy_regex_lex_grammar.specs.Exact.{at}
 use Rattle.fancy_regex_lex_grammar.specs.Flags.{before_body}
 use Rattle.fancy_regex_lex_grammar.specs.Openings.{a_group, flags_for_body}

@@ -1,7 +1,7 @@
 -- Parsing the printed text of a tree.
 use Rattle.std.specs.Prelude.{◌≡◌, ◌<◌, ◌≤◌, ◌+◌, ◌++◌, ℕ, zero, suc, Bool, true, false, ◌&&◌, nat_lt, List, [], ◌∷◌, codes, Option, None, replicate, Ok, Err, if◌then◌else◌}
 use Rattle.fancy_regex_text.specs.Text.{Text, bytes, unbounded}
-use Rattle.fancy_regex_text.specs.Fault.{recursion_exceeded}
+use Rattle.fancy_regex_text.specs.ParseFault.{recursion_exceeded}
 use Rattle.fancy_regex_lex.specs.declared.token.Flags.{Flags}
 use Rattle.fancy_regex_tree.specs.declared.parser_config.ParserConfig.{ParserConfig}
 use Rattle.fancy_regex_tree.specs.Tree.{Tree, Trees, concat, alt, group, look_around, repeat, atomic_group, conditional, absent_repeater, absent_expression, absent_stopper, define_group}

@@ -67,7 +67,7 @@ fn bracketed_class_alone(alloc: Global, text: &str) -> Result<Option<String>, Al
     match bracketed_class(alloc, false, text) {
         Ok((class, rest)) if is_empty(rest) => Ok(Some(class)),
         Ok(_) => Ok(None),
-        Err(ReadError::Fault(_)) => Ok(None),
+        Err(ReadError::ParseFault(_)) => Ok(None),
         Err(ReadError::Memory) => Err(AllocError),
     }
 }
@@ -80,7 +80,7 @@ fn escaped_class_alone(alloc: Global, text: &str) -> Result<Option<String>, Allo
     match escape(alloc, false, text) {
         Ok((Escape::Class(class), rest)) if is_empty(rest) => Ok(Some(class.text(alloc)?)),
         Ok(_) => Ok(None),
-        Err(ReadError::Fault(_)) => Ok(None),
+        Err(ReadError::ParseFault(_)) => Ok(None),
         Err(ReadError::Memory) => Err(AllocError),
     }
 }

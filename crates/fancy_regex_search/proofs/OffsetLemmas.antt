@@ -8,11 +8,11 @@ use Rattle.fancy_regex_meta.specs.MetaMatches.{meta_match, meta_match_from}
 use Rattle.fancy_regex_meta.specs.declared.meta_regex.MetaRegex.{MetaRegex}
 use Rattle.fancy_regex_meta.specs.FoundParts.{found_parts, wanted_parts}
 use Rattle.fancy_regex_meta.specs.declared.found.FoundMatch.{FoundMatch}
-use Rattle.fancy_regex_meta.specs.declared.found.Wanted.{Wanted}
+use Rattle.fancy_regex_meta.specs.declared.found.MatchDetail.{MatchDetail}
 use Rattle.fancy_regex_search.specs.CaptureSpans.{IsFoundOf}
 
 -- what has the parts of a match is what was found of it
-pub parts-of : (wanted : Wanted) (pattern : Pattern) (x : FoundMatch) (m : Match) → found_parts x ≡ wanted_parts wanted pattern m → IsFoundOf wanted pattern x m
+pub parts-of : (wanted : MatchDetail) (pattern : Pattern) (x : FoundMatch) (m : Match) → found_parts x ≡ wanted_parts wanted pattern m → IsFoundOf wanted pattern x m
 parts-of wanted pattern x m e = (ap (λ (p : ℕ × (ℕ × List ℕ)). p.0) e, ap (λ (p : ℕ × (ℕ × List ℕ)). p.1.0) e, ap (λ (p : ℕ × (ℕ × List ℕ)). p.1.1) e)
 
 -- a place where there is one

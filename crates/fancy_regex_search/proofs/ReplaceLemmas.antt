@@ -19,8 +19,8 @@ use Rattle.fancy_regex_search.proofs.IterationLemmas.{comes_from, comes_to, skip
 use Rattle.fancy_regex_meta.specs.declared.error.Error.{Error}
 use Rattle.fancy_regex_meta.specs.declared.meta_regex.MetaRegex.{MetaRegex}
 use Rattle.fancy_regex_meta.specs.FoundParts.{wanted_groups}
-use Rattle.fancy_regex_meta.specs.declared.found.Wanted.{Wanted}
-use Rattle.fancy_regex_meta.specs.declared.found.Wanted.TheVariants.{Span, Groups}
+use Rattle.fancy_regex_meta.specs.declared.found.MatchDetail.{MatchDetail}
+use Rattle.fancy_regex_meta.specs.declared.found.MatchDetail.TheVariants.{Span, Groups}
 use Rattle.fancy_regex_search.specs.Replacements.{Shown, shown, AnswersBy, IsReplacedByCalls, FailsInTurn, here, later, AnswersInTurn, AnswersText, still_replaced, is_spent, limit_of, IsReplacedBy, by_calls, by_text, IsReplacedLeaving, left_by_calls, left_by_text, IsReplaceError, of_search, of_search_by_text, of_call, of_memory, IsReplaceErrorLeaving, search_failed, search_failed_by_text, call_failed, memory_ran_out}
 
 -- What is still to be replaced from an offset on, after a text that is out, completes the replacement of all of these matches.
@@ -258,7 +258,7 @@ shown_same : (r r' : MetaRegex) (text text' slots : List ℕ) (m : Match) → r'
 shown_same r r' text text' slots m a b e = λ i. record { regex = a i; text = b i; slots = e i }
 
 -- a call that answered what was found of a match answers for the match
-pub call_shown : {S : Type 0} (Calls : S → Shown → Result (List ℕ) Error → S → Type 0) (wanted : Wanted) (r r' : MetaRegex) (text text' slots : List ℕ) (m : Match) (s next : S)
+pub call_shown : {S : Type 0} (Calls : S → Shown → Result (List ℕ) Error → S → Type 0) (wanted : MatchDetail) (r r' : MetaRegex) (text text' slots : List ℕ) (m : Match) (s next : S)
     (result : Result (List ℕ) Error) → AnswersBy wanted Calls → r' ≡ r → text' ≡ text → slots ≡ wanted_groups wanted (meta_pattern r) m →
     Calls s (record { regex = r'; text = text'; slots = slots }) result next → Calls s (shown r text m) result next
 call_shown Calls Groups r r' text text' slots m s next result alike a b e call = subst (λ (x : Shown). Calls s x result next) (shown_same r r' text text' slots m a b e) call

@@ -11,7 +11,7 @@ use Rattle.fancy_regex_meta.specs.MetaMatches.{meta_match_from, meta_pattern}
 use Rattle.fancy_regex_meta.specs.SearchLimits.{IsMetaSearchError, MetaStaysInLimits}
 use Rattle.fancy_regex_meta.specs.declared.error.Error.{Error}
 use Rattle.fancy_regex_meta.specs.declared.found.FoundMatch.{FoundMatch}
-use Rattle.fancy_regex_meta.specs.declared.found.Wanted.{Wanted}
+use Rattle.fancy_regex_meta.specs.declared.found.MatchDetail.{MatchDetail}
 use Rattle.fancy_regex_search.specs.CaptureSpans.{IsFoundOf}
 use Rattle.fancy_regex_meta.specs.declared.meta_regex.MetaRegex.{MetaRegex}
 use Rattle.fancy_regex_meta.proofs.SearchLemmas.{none-past}
@@ -49,7 +49,7 @@ repeated-is (Some l) e h = ap (λ (k : ℕ). Some k) (eqb-true l e h)
 unrepeated-is : (last : Option ℕ) (e : ℕ) → repeats last e ≡ false → last ≡ Some e → ⊥
 unrepeated-is last e h is = true≢false (sym (eq-eqb e e refl) ∙ sym (ap (λ (l : Option ℕ). repeats l e) is) ∙ h)
 
-module _ (s : MetaRegex) (text : List ℕ) (a : SearchConfig) (before : IterState) (wanted : Wanted) where
+module _ (s : MetaRegex) (text : List ℕ) (a : SearchConfig) (before : IterState) (wanted : MatchDetail) where
   pub over_step : before.is_done ≡ true → IsStep s text a before wanted End a before
   over_step over = record {
     gives = (left-over s text a before over, left-over s text a before over);

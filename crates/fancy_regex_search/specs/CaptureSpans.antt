@@ -6,7 +6,7 @@ use Rattle.fancy_regex_class.specs.RunInputs.{match_slots}
 use Rattle.fancy_regex_meta.specs.MatchOffsets.{AreBoundaries}
 use Rattle.fancy_regex_meta.specs.FoundParts.{wanted_groups}
 use Rattle.fancy_regex_meta.specs.declared.found.FoundMatch.{FoundMatch}
-use Rattle.fancy_regex_meta.specs.declared.found.Wanted.{Wanted}
+use Rattle.fancy_regex_meta.specs.declared.found.MatchDetail.{MatchDetail}
 
 -- The group participated in the match: it has offsets, which are character boundaries in order.
 pub record Participated (text : List ℕ) (slots : List ℕ) (k : ℕ) : Type 0 where
@@ -27,7 +27,7 @@ abbrev pub AreGroupsOf : Pattern → List ℕ → Match → Type 0
 AreGroupsOf pattern slots m = slots ≡ match_slots pattern m
 
 -- This is what was found of a match: its span, and the offsets of its groups where they are wanted.
-abbrev pub IsFoundOf : Wanted → Pattern → FoundMatch → Match → Type 0
+abbrev pub IsFoundOf : MatchDetail → Pattern → FoundMatch → Match → Type 0
 IsFoundOf wanted pattern x m = (x.start ≡ m.start) × (x.end ≡ m.end) × (x.groups.items ≡ wanted_groups wanted pattern m)
 
 -- A value for the wanted match, or `None` if there is no match.

@@ -6,7 +6,7 @@ use Rattle.fancy_regex_meaning.specs.Positions.{position_after}
 use Rattle.fancy_regex_meaning.specs.Searches.{Match}
 use Rattle.fancy_regex_input.specs.declared.config.SearchConfig.{SearchConfig}
 use Rattle.fancy_regex_meta.specs.MatchOffsets.{IsMatchWithin}
-use Rattle.fancy_regex_meta.specs.declared.found.Wanted.{Wanted}
+use Rattle.fancy_regex_meta.specs.declared.found.MatchDetail.{MatchDetail}
 use Rattle.fancy_regex_meta.specs.MetaMatches.{meta_pattern, meta_match_from}
 use Rattle.fancy_regex_meta.specs.SearchLimits.{IsMetaSearchError}
 use Rattle.fancy_regex_meta.specs.declared.meta_regex.MetaRegex.{MetaRegex}
@@ -19,14 +19,14 @@ use Rattle.fancy_regex_search.specs.declared.match_iter.Step.{Step}
 use Rattle.fancy_regex_search.specs.declared.match_iter.Step.TheVariants.{Item, Skip, End, Fault}
 
 -- The result of the step, by the matches that remained before and remain after it.
-abbrev pub StepGives : Wanted → Pattern → List Match → Step → List Match → Type 0
+abbrev pub StepGives : MatchDetail → Pattern → List Match → Step → List Match → Type 0
 StepGives wanted pattern before (Item x) after = (m : Match) × (before ≡ m ∷ after) × IsFoundOf wanted pattern x m
 StepGives wanted pattern before Skip after = before ≡ after
 StepGives wanted pattern before End after = (before ≡ []) × (after ≡ [])
 StepGives wanted pattern before (Fault e) after = after ≡ []
 
 -- The start of the next search after a step.
-abbrev pub StepMoves : Wanted → List ℕ → SearchConfig → Step → SearchConfig → Type 0
+abbrev pub StepMoves : MatchDetail → List ℕ → SearchConfig → Step → SearchConfig → Type 0
 StepMoves wanted text old (Item x) new = IsMatchWithin wanted text old x × (new.start ≡ next_start text x.start x.end)
 StepMoves wanted text old Skip new = Unit {0}
 StepMoves wanted text old End new = new ≡ old
@@ -87,7 +87,7 @@ module _ (s : MetaRegex) (text : List ℕ) (old : SearchConfig) (before : IterSt
   StepStays (Fault e) new after = Unit {0}
 
   -- One search of an iteration: its result, and the configuration and the state after it.
-  pub record IsStep (wanted : Wanted) (result : Step) (new : SearchConfig) (after : IterState) : Type 0 where
+  pub record IsStep (wanted : MatchDetail) (result : Step) (new : SearchConfig) (after : IterState) : Type 0 where
     pub gives : StepGives wanted (meta_pattern s) (remaining_matches s text old before) result (remaining_matches s text new after)
     pub moves : StepMoves wanted text old result new
     pub nears : StepDecreases (remaining_searches text old before) result (remaining_searches text new after)

@@ -5,12 +5,12 @@ use Rattle.std.specs.declared.result.Result.{Result}
 use Rattle.fancy_regex_meaning.specs.Searches.{Match, pieces_from}
 use Rattle.fancy_regex_meaning.specs.Groups.{Pattern}
 use Rattle.fancy_regex_meta.specs.FoundParts.{wanted_groups}
-use Rattle.fancy_regex_meta.specs.declared.found.Wanted.{Wanted}
+use Rattle.fancy_regex_meta.specs.declared.found.MatchDetail.{MatchDetail}
 use Rattle.fancy_regex_search.specs.declared.match_iter.IterState.{IterState}
 
 -- The call returned the first of the remaining matches, with the text between the previous match and it; or `None`, and there
 -- was none; or an error, and none remains. The number is where the last match ended.
-abbrev pub YieldsGap : {A E : Type 0} → (A → List ℕ) → (A → List ℕ) → Wanted → Pattern → List ℕ → ℕ → List Match → Option (Result A E) → ℕ → List Match → Type 0
+abbrev pub YieldsGap : {A E : Type 0} → (A → List ℕ) → (A → List ℕ) → MatchDetail → Pattern → List ℕ → ℕ → List Match → Option (Result A E) → ℕ → List Match → Type 0
 YieldsGap text_of groups_of wanted pattern text old before result new after =
     MatchOption result ((before ≡ []) × (after ≡ []) × (new ≡ old))
     (λ item. MatchResult item

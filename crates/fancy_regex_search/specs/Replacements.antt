@@ -9,8 +9,8 @@ use Rattle.fancy_regex_meta.specs.MetaMatches.{meta_pattern}
 use Rattle.fancy_regex_meta.specs.declared.error.Error.{Error}
 use Rattle.fancy_regex_meta.specs.declared.error.Error.TheVariants.{Memory}
 use Rattle.fancy_regex_meta.specs.declared.meta_regex.MetaRegex.{MetaRegex}
-use Rattle.fancy_regex_meta.specs.declared.found.Wanted.{Wanted}
-use Rattle.fancy_regex_meta.specs.declared.found.Wanted.TheVariants.{Span, Groups}
+use Rattle.fancy_regex_meta.specs.declared.found.MatchDetail.{MatchDetail}
+use Rattle.fancy_regex_meta.specs.declared.found.MatchDetail.TheVariants.{Span, Groups}
 use Rattle.fancy_regex_input.specs.SearchInputs.{whole}
 use Rattle.fancy_regex_search.specs.IterationErrors.{IsErrorAfter}
 
@@ -25,7 +25,7 @@ abbrev pub shown : MetaRegex → List ℕ → Match → Shown
 shown s text m = record { regex = s; text = text; slots = match_slots (meta_pattern s) m }
 
 -- Where the groups of a match are not wanted, a call answers the same whatever it is shown.
-abbrev pub AnswersBy : {S : Type 0} → Wanted → (S → Shown → Result (List ℕ) Error → S → Type 0) → Type 0
+abbrev pub AnswersBy : {S : Type 0} → MatchDetail → (S → Shown → Result (List ℕ) Error → S → Type 0) → Type 0
 AnswersBy Groups Calls = Unit {0}
 AnswersBy {S} Span Calls = (s : S) (m n : Shown) (result : Result (List ℕ) Error) (next : S) → Calls s m result next → Calls s n result next
 

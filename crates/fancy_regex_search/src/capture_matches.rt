@@ -4,7 +4,7 @@ ghost use Rattle.std.specs.Prelude.{◌≡◌, ◌≤◌, false, None, slice_ind
 ghost use Rattle.std.specs.Iterator.{at_most};
 ghost use Rattle.fancy_regex_class.specs.RunInputs.{match_slots};
 ghost use Rattle.fancy_regex_meta.specs.MetaMatches.{meta_pattern};
-ghost use Rattle.fancy_regex_meta.specs.declared.found.Wanted.TheVariants.{Groups};
+ghost use Rattle.fancy_regex_meta.specs.declared.found.MatchDetail.TheVariants.{Groups};
 ghost use Rattle.fancy_regex_search.specs.IterationErrors.{IsItemError};
 ghost use Rattle.fancy_regex_search.specs.IterationLimits.{NextStays};
 ghost use Rattle.fancy_regex_search.specs.IterationSearches.{KeepsSearches};
@@ -15,7 +15,7 @@ use crate::captures::Captures;
 use crate::match_iter::MatchIter;
 use crate::regex::Regex;
 use fancy_regex_input::{Input, RegexInput};
-use fancy_regex_meta::{Result, Wanted};
+use fancy_regex_meta::{Result, MatchDetail};
 use std::alloc::Global;
 
 /// The capture groups of the non-overlapping matches in a haystack, from left to right. An item may be an error; after an
@@ -43,7 +43,7 @@ impl<'r, S: Input> CaptureMatches<'r, S> {
         ensures first { result.match_iter.state.last ≡ None }
     {
         CaptureMatches {
-            match_iter: MatchIter::new(alloc, regex, input, Wanted::Groups),
+            match_iter: MatchIter::new(alloc, regex, input, MatchDetail::Groups),
         }
     }
 

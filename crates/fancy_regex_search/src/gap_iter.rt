@@ -7,7 +7,7 @@ ghost use Rattle.fancy_regex_meta.specs.MetaMatches.{meta_pattern};
 use crate::match_iter::MatchIter;
 use crate::regex::Regex;
 use fancy_regex_input::RegexInput;
-use fancy_regex_meta::{Result, Wanted};
+use fancy_regex_meta::{Result, MatchDetail};
 use std::alloc::Global;
 
 /// A match and the text between the previous match and it.
@@ -39,7 +39,7 @@ impl<'r, 'h> GapIter<'r, 'h> {
     ghost use Rattle.fancy_regex_search.specs.Pieces.{YieldsGap};
 
     /// The iteration before its first search.
-    pub fn new(alloc: Global, regex: &'r Regex, text: &'h str, wanted: Wanted) -> GapIter<'r, 'h>
+    pub fn new(alloc: Global, regex: &'r Regex, text: &'h str, wanted: MatchDetail) -> GapIter<'r, 'h>
         ensures left { remaining_matches result.match_iter.regex.now.meta result.match_iter.input.haystack.now result.match_iter.input.config
             result.match_iter.state ≡ all_matches regex.entry.now.meta text.entry.now (whole text.entry.now) }
         ensures input { (result.match_iter.input.haystack ≡ text.entry) × (result.match_iter.input.config ≡ whole text.entry.now) }

@@ -11,7 +11,7 @@ ghost use Rattle.fancy_regex_search.specs.CaptureSpans.{IsSpanAt};
 use crate::regex::Regex;
 use fancy_regex_class::Steps;
 use fancy_regex_input::{Input, SearchConfig};
-use fancy_regex_meta::{FoundMatch, MetaMemory, Result, Wanted};
+use fancy_regex_meta::{FoundMatch, MetaMemory, Result, MatchDetail};
 use std::alloc::Global;
 
 /// The first match, with the byte offsets that are wanted, or `None` if there is no match. If the flag is set, `\G` never
@@ -22,7 +22,7 @@ pub fn find_match<S: Input>(
     haystack: S,
     config: SearchConfig,
     continue_disabled: bool,
-    wanted: Wanted,
+    wanted: MatchDetail,
     steps: &mut Steps,
 ) -> Result<Option<FoundMatch>>
     requires { FitsText (S.text haystack) config }
@@ -57,7 +57,7 @@ pub fn find_match_in<S: Input>(
     haystack: S,
     config: SearchConfig,
     continue_disabled: bool,
-    wanted: Wanted,
+    wanted: MatchDetail,
     steps: &mut Steps,
     memory: &mut MetaMemory,
 ) -> Result<Option<FoundMatch>>

@@ -12,7 +12,7 @@ use crate::regex::Regex;
 use fancy_regex_class::Steps;
 use fancy_regex_input::{Input, RegexInput};
 use fancy_regex_meaning::laws_of_items;
-use fancy_regex_meta::{Error, FoundMatch, MetaMemory, Result, Wanted};
+use fancy_regex_meta::{Error, FoundMatch, MetaMemory, Result, MatchDetail};
 use std::alloc::Global;
 
 /// The state that an iteration keeps between its searches.
@@ -38,7 +38,7 @@ pub struct MatchIter<'r, S: Input> {
     /// The state between searches.
     pub state: IterState,
     /// Which byte offsets each match is to have.
-    pub wanted: Wanted,
+    pub wanted: MatchDetail,
     /// What the searches allocate, used again by each.
     memory: MetaMemory,
 }
@@ -69,7 +69,7 @@ impl<'r, S: Input> MatchIter<'r, S> {
         alloc: Global,
         regex: &'r Regex,
         input: RegexInput<S>,
-        wanted: Wanted,
+        wanted: MatchDetail,
     ) -> MatchIter<'r, S>
         ensures left { remaining_matches result.regex.now.meta (S.text result.input.haystack) result.input.config result.state
             ≡ all_matches regex.entry.now.meta (S.text input.haystack) input.config }

@@ -13,7 +13,7 @@ use crate::group_spans::whole_match;
 use crate::match_iter::MatchIter;
 use crate::regex::Regex;
 use fancy_regex_input::{Input, RegexInput};
-use fancy_regex_meta::{Result, Wanted};
+use fancy_regex_meta::{Result, MatchDetail};
 use std::alloc::Global;
 
 /// The non-overlapping matches in a haystack, from left to right. An item may be an error; after an error or `None` there are
@@ -36,7 +36,7 @@ impl<'r, S: Input> Matches<'r, S> {
         ensures first { result.match_iter.state.last ≡ None }
     {
         Matches {
-            match_iter: MatchIter::new(alloc, regex, input, Wanted::Span),
+            match_iter: MatchIter::new(alloc, regex, input, MatchDetail::Span),
         }
     }
 

@@ -13,7 +13,7 @@ use crate::captures::Captures;
 use crate::gap_iter::GapIter;
 use crate::regex::Regex;
 use crate::replacer::{NoExpand, Replacer};
-use fancy_regex_meta::{Result, Wanted};
+use fancy_regex_meta::{Result, MatchDetail};
 use std::alloc::Global;
 use std::borrow::CowStr;
 
@@ -54,7 +54,7 @@ fn replace_by_calls<'t, R: Replacer>(
     regex: &Regex,
     text: &'t str,
     limit: usize,
-    wanted: Wanted,
+    wanted: MatchDetail,
     replacer: &mut R,
 ) -> Result<CowStr<'t>>
     requires ready { R.is_ready replacer.old }
@@ -191,8 +191,8 @@ impl Regex {
     {
         if let Some(fixed) = rep.no_expansion() {
             let mut replacer = NoExpand(fixed.as_str());
-            return replace_by_calls(alloc, self, text, limit, Wanted::Span, &mut replacer);
+            return replace_by_calls(alloc, self, text, limit, MatchDetail::Span, &mut replacer);
         }
-        replace_by_calls(alloc, self, text, limit, Wanted::Groups, rep)
+        replace_by_calls(alloc, self, text, limit, MatchDetail::Groups, rep)
     }
 }

@@ -16,7 +16,7 @@ use crate::matches::Matches;
 use crate::regex::Regex;
 use fancy_regex_class::Steps;
 use fancy_regex_input::{Input, RegexInput};
-use fancy_regex_meta::{Result, Wanted};
+use fancy_regex_meta::{Result, MatchDetail};
 use fancy_regex_tree_laws::weight_bound;
 use std::alloc::Global;
 
@@ -42,7 +42,7 @@ impl Regex {
             input.haystack(),
             input.config(),
             false,
-            Wanted::Span,
+            MatchDetail::Span,
             &mut Steps::new(),
         )?;
         Ok(found.is_some())
@@ -114,7 +114,7 @@ impl Regex {
         weight_bound();
         let haystack = input.haystack();
         let config = input.config();
-        match find_match(alloc, self, haystack, config, false, Wanted::Span, steps)? {
+        match find_match(alloc, self, haystack, config, false, MatchDetail::Span, steps)? {
             Some(found) => Ok(Some(whole_match(haystack, &found))),
             None => Ok(None),
         }
@@ -171,7 +171,7 @@ impl Regex {
             haystack,
             input.config(),
             false,
-            Wanted::Groups,
+            MatchDetail::Groups,
             &mut Steps::new(),
         )?;
         match found {

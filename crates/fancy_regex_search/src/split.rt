@@ -12,7 +12,7 @@ ghost use Rattle.fancy_regex_search.specs.Pieces.{pieces_left, pieces_left_up_to
 
 use crate::gap_iter::GapIter;
 use crate::regex::Regex;
-use fancy_regex_meta::{Result, Wanted};
+use fancy_regex_meta::{Result, MatchDetail};
 use std::alloc::Global;
 use std::iter::FusedIterator;
 
@@ -41,7 +41,7 @@ impl<'r, 'h> Split<'r, 'h> {
         ensures going { result.gaps.match_iter.state.is_done ≡ false }
     {
         Split {
-            gaps: GapIter::new(alloc, regex, text, Wanted::Span),
+            gaps: GapIter::new(alloc, regex, text, MatchDetail::Span),
             is_done: false,
         }
     }

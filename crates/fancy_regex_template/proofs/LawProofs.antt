@@ -9,7 +9,7 @@ use Rattle.fancy_regex_template.specs.Numbers.{number_of, leading_number}
 use Rattle.fancy_regex_template.specs.Parts.{Part, literal, doubled_sign, named, numbered, loose_sign, parts, is_no_sign, sign_of}
 use Rattle.fancy_regex_template.specs.Cuts.{AllPass, StopsAt, BeginsWith, plain, doubled, NumbersAreDigits}
 use Rattle.fancy_regex_template.specs.Expansion.{Texts, expansion, part_text, parts_text, escaped, doubled_if_sign, PlainTemplatesStay, EscapedTextsComeBack}
-use Rattle.fancy_regex_template.specs.Faults.{Fault, named_backref_only, invalid_backref, invalid_group_name_backref, Groups, number_fault, digits_fault, part_fault, first_fault, NumberExists, Exists, AllExist, AcceptedTemplatesExist}
+use Rattle.fancy_regex_template.specs.Faults.{TemplateFault, named_backref_only, invalid_backref, invalid_group_name_backref, Groups, number_fault, digits_fault, part_fault, first_fault, NumberExists, Exists, AllExist, AcceptedTemplatesExist}
 use Rattle.fancy_regex_template.specs.declared.syntax.TemplateSyntax.{TemplateSyntax}
 use Rattle.fancy_regex_template.proofs.Runs.{IsSpan, span_is}
 use Rattle.fancy_regex_template.proofs.LongestNumber.{number_is_longest, number_only}
@@ -150,7 +150,7 @@ accepted_number groups n = (
     from false false true p q r (inr e) = refl
     from false false false p q r (inr e) = absurd (omega (arith, ltb-false n groups.count r, e.1))
 
-abbrev of_number : Groups → Text → Option ℕ → Option Fault
+abbrev of_number : Groups → Text → Option ℕ → Option TemplateFault
 of_number groups name o = elim o [ Some n ↦ number_fault groups n | None ↦ Some (invalid_group_name_backref name) ]
 
 accepted_digits : (groups : Groups) (name : Text) → (digits_fault groups name ≡ None) ↔ ((n : ℕ) × (number_of name ≡ Some n) × NumberExists groups n)
@@ -182,10 +182,10 @@ accepted_part groups (named name) = (λ h. to (groups.contains_name name) refl h
 accepted_part groups (numbered n) = accepted_number groups n
 accepted_part groups loose_sign = (λ h. some_none _ h, λ e. absurd e)
 
-abbrev or_later : Groups → List Part → Option Fault → Option Fault
+abbrev or_later : Groups → List Part → Option TemplateFault → Option TemplateFault
 or_later groups ps o = elim o [ Some fault ↦ Some fault | None ↦ first_fault groups ps ]
 
-all_exist : (groups : Groups) (p : Part) (ps : List Part) (o : Option Fault) → part_fault groups p ≡ o → (first_fault groups ps ≡ None → AllExist groups ps) →
+all_exist : (groups : Groups) (p : Part) (ps : List Part) (o : Option TemplateFault) → part_fault groups p ≡ o → (first_fault groups ps ≡ None → AllExist groups ps) →
     or_later groups ps o ≡ None → AllExist groups (p ∷ ps)
 all_exist groups p ps None q others h = ((accepted_part groups p).0 q, others h)
 all_exist groups p ps (Some fault) q others h = absurd (some_none fault h)

@@ -3,7 +3,7 @@ use Rattle.std.specs.Prelude.{◌≡◌, ◌==◌, true, false, List, [], ◌∷
 use Prim.Native.String.{String}
 use Rattle.fancy_regex_template.specs.Parts.{Part, literal, doubled_sign, named, numbered, loose_sign, parts}
 use Rattle.fancy_regex_template.specs.Expansion.{Texts, expansion, escaped}
-use Rattle.fancy_regex_template.specs.Faults.{Fault, begins_nothing, named_backref_only, invalid_backref, invalid_group_name_backref, Groups, first_fault}
+use Rattle.fancy_regex_template.specs.Faults.{TemplateFault, begins_nothing, named_backref_only, invalid_backref, invalid_group_name_backref, Groups, first_fault}
 use Rattle.fancy_regex_template.specs.PatternEscape.{escaped_pattern}
 use Rattle.fancy_regex_template.specs.declared.syntax.TemplateSyntax.{TemplateSyntax}
 use Rattle.fancy_regex_template.specs.declared.syntax.TemplateSyntax.TheVariants.{Dollar, Python}
@@ -25,7 +25,7 @@ unnamed = record { contains_name = λ name. false; has_names = false; count = 2 
 abbrev pub with_names : Groups
 with_names = record { contains_name = λ name. false; has_names = true; count = 2 }
 
-abbrev pub HasFault : Groups → String → Option Fault → Type 0
+abbrev pub HasFault : Groups → String → Option TemplateFault → Type 0
 HasFault groups template fault = first_fault groups (parts Dollar (codes template)) ≡ fault
 
 pub record TemplateExamples : Type 0 where

@@ -5,11 +5,11 @@ use Rattle.fancy_regex_template.specs.Numbers.{number_of}
 use Rattle.fancy_regex_template.specs.Parts.{Part, literal, doubled_sign, named, numbered, loose_sign}
 
 -- what is wrong with a part
-pub data Fault : Type 0 where
-  begins_nothing : Fault
-  named_backref_only : Fault
-  invalid_backref : ℕ → Fault
-  invalid_group_name_backref : Text → Fault
+pub data TemplateFault : Type 0 where
+  begins_nothing : TemplateFault
+  named_backref_only : TemplateFault
+  invalid_backref : ℕ → TemplateFault
+  invalid_group_name_backref : Text → TemplateFault
 
 -- The groups of a pattern: which names there are, whether there are any, and how many groups there are, with group 0.
 pub record Groups : Type 0 where
@@ -18,15 +18,15 @@ pub record Groups : Type 0 where
   pub count : ℕ
 
 -- what is wrong with a reference to a number
-abbrev pub number_fault : Groups → ℕ → Option Fault
+abbrev pub number_fault : Groups → ℕ → Option TemplateFault
 number_fault groups n =
     if n == 0 then None else if groups.has_names then Some named_backref_only else if nat_lt n groups.count then None else Some (invalid_backref n)
 
 -- what is wrong with a reference to a name that no group has
-abbrev pub digits_fault : Groups → Text → Option Fault
+abbrev pub digits_fault : Groups → Text → Option TemplateFault
 digits_fault groups name = elim (number_of name) [ Some n ↦ number_fault groups n | None ↦ Some (invalid_group_name_backref name) ]
 
-abbrev pub part_fault : Groups → Part → Option Fault
+abbrev pub part_fault : Groups → Part → Option TemplateFault
 part_fault groups (literal t) = None
 part_fault groups doubled_sign = None
 part_fault groups (named name) = if groups.contains_name name then None else digits_fault groups name
@@ -34,7 +34,7 @@ part_fault groups (numbered n) = number_fault groups n
 part_fault groups loose_sign = Some begins_nothing
 
 -- the first fault from the left
-abbrev pub first_fault : Groups → List Part → Option Fault
+abbrev pub first_fault : Groups → List Part → Option TemplateFault
 first_fault groups [] = None
 first_fault groups (p ∷ ps) = elim (part_fault groups p) [ Some fault ↦ Some fault | None ↦ first_fault groups ps ]
 

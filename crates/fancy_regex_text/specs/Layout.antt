@@ -1,7 +1,7 @@
 -- What stands between tokens: comments, and under the flag x blanks and lines from `#` on.
 use Rattle.std.specs.Prelude.{ℕ, Bool, [], ◌∷◌, Option, Some, None, is_some, option_map, Ok, if◌then◌else◌, codes}
 use Rattle.fancy_regex_text.specs.Text.{Text, ◌∈◌, strip_prefix}
-use Rattle.fancy_regex_text.specs.Fault.{ParseOutcome, fail_at, unclosed_open_paren}
+use Rattle.fancy_regex_text.specs.ParseFault.{ParseOutcome, fail_at, unclosed_open_paren}
 
 -- the state of the scanner of layout at a position
 pub data LayoutState : Type 0 where

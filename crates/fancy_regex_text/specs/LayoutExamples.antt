@@ -1,7 +1,7 @@
 -- Worked examples: comments, blanks, and comments from `#` to the end of the line.
 use Rattle.std.specs.Prelude.{◌≡◌, Bool, true, false, [], ◌∷◌, Ok, Err, codes}
 use Prim.Native.String.{String}
-use Rattle.fancy_regex_text.specs.Fault.{unclosed_open_paren}
+use Rattle.fancy_regex_text.specs.ParseFault.{unclosed_open_paren}
 use Rattle.fancy_regex_text.specs.Layout.{skip}
 
 -- the text after its leading layout is this one

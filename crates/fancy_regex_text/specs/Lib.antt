@@ -1,5 +1,5 @@
 pub mod Text
-pub mod Fault
+pub mod ParseFault
 pub mod Layout
 pub mod LayoutStates
 pub mod Names

@@ -61,7 +61,7 @@ pub enum ParseError {
 
 /// The first parse error from left to right, with its position.
 #[derive(Debug, PartialEq, Eq, Drop)]
-pub struct Fault {
+pub struct ParseFault {
     /// The number of bytes from the position of the error to the end of the pattern. The byte offset of the error is the
     /// length of the pattern less this.
     pub left: usize,
@@ -73,7 +73,7 @@ pub struct Fault {
 #[derive(Debug, PartialEq, Eq, Drop)]
 pub enum ReadError {
     /// The text is not a valid pattern.
-    Fault(Fault),
+    ParseFault(ParseFault),
     /// An allocation was refused. Nothing is said about the text.
     Memory,
 }

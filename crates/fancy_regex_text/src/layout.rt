@@ -3,11 +3,11 @@
 
 ghost use Rattle.std.specs.Prelude.{◌≡◌, ◌≤◌, ◌<◌, length, chars, option_map, IfOk, IfErr, IfSome, ◌∷◌};
 ghost use Rattle.fancy_regex_text.specs.Layout.{state_after_blank, begins_comment, state_after, layout_step, ended, next_token, skip};
-ghost use Rattle.fancy_regex_text.specs.Fault.{Gives};
+ghost use Rattle.fancy_regex_text.specs.ParseFault.{Gives};
 ghost use Rattle.fancy_regex_text.specs.LayoutStates.{layout_state_of};
 ghost use Rattle.fancy_regex_text.specs.FaultOnly.{IsFault};
 
-use crate::fault::{Fault, ParseError, ReadError};
+use crate::fault::{ParseError, ParseFault, ReadError};
 use crate::text::{has_prefix, split_first};
 
 /// The state of the scanner of layout at a position.
@@ -122,7 +122,7 @@ pub fn skip(verbose: bool, text: &str) -> Result<&str, ReadError>
     ensures fault_only { IfErr result IsFault }
 {
     let Some(rest) = next_token(verbose, text) else {
-        return Err(ReadError::Fault(Fault {
+        return Err(ReadError::ParseFault(ParseFault {
             left: 0,
             kind: ParseError::UnclosedOpenParen,
         }));

@@ -12,7 +12,7 @@ mod token;
 pub mod writing;
 
 pub use examples::{layout_examples, name_examples};
-pub use fault::{Fault, ParseError, ReadError};
+pub use fault::{ParseError, ParseFault, ReadError};
 pub use layout::{next_token, skip};
 pub use names::{digits, is_name, reference, signed, split_name, whole_number};
 pub use text::{

@@ -4,7 +4,7 @@ ghost use Rattle.std.specs.Prelude.{◌≡◌, ◌+◌, ◌<◌, ◌≤◌, ◌<
 ghost use Rattle.fancy_regex_text.specs.Text.{uncons, strip_prefix, split_once, bytes, is_empty, IsSuffix, prefix_before};
 ghost use Rattle.fancy_regex_text.specs.declared.fault.ReadError.TheVariants as errors;
 
-use crate::fault::{Fault, ParseError, ReadError};
+use crate::fault::{ParseError, ParseFault, ReadError};
 
 /// The first character and the rest. `None` if the text is empty.
 pub fn split_first(text: &str) -> Option<(char, &str)>
@@ -74,10 +74,10 @@ pub fn prefix_before<'t>(text: &'t str, rest: &str) -> &'t str
 }
 
 /// A parse error of this kind at the position where `text`, the rest of the pattern, begins.
-pub fn fault_at(kind: ParseError, text: &str) -> Fault
+pub fn fault_at(kind: ParseError, text: &str) -> ParseFault
     ensures { result ≡ record { left = bytes (chars text.now); kind = kind } }
 {
-    Fault {
+    ParseFault {
         left: text.len(),
         kind,
     }
@@ -85,7 +85,7 @@ pub fn fault_at(kind: ParseError, text: &str) -> Fault
 
 /// Fails with a parse error of this kind at the position where `text`, the rest of the pattern, begins.
 pub fn fail_at<T>(kind: ParseError, text: &str) -> Result<T, ReadError>
-    ensures { result ≡ Err (errors.Fault (record { left = bytes (chars text.now); kind = kind })) }
+    ensures { result ≡ Err (errors.ParseFault (record { left = bytes (chars text.now); kind = kind })) }
 {
-    Err(ReadError::Fault(fault_at(kind, text)))
+    Err(ReadError::ParseFault(fault_at(kind, text)))
 }

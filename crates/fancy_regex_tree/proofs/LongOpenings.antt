@@ -2,7 +2,7 @@
 use Rattle.std.proofs.Common.{◌≡◌, ℕ, ◌+◌, ◌≤◌, ◌<◌, Bool, true, false, cond, [], ◌∷◌, length, codes, Option, Some, None, Ok, Err, refl, ap, subst, arith, option_map, ◌==◌}
 use Rattle.std.proofs.lemmas.Option.{none-some, same_Some}
 use Rattle.fancy_regex_text.specs.Text.{Text, ◌∈◌, strip_prefix, split_once}
-use Rattle.fancy_regex_text.specs.Fault.{ParseOutcome, ◌>>=◌}
+use Rattle.fancy_regex_text.specs.ParseFault.{ParseOutcome, ◌>>=◌}
 use Rattle.fancy_regex_lex.specs.FlagLetters.{flag_letters}
 use Rattle.fancy_regex_lex.specs.Escapes.{delimited_reference}
 use Rattle.fancy_regex_text.specs.Names.{is_name}

@@ -2,7 +2,7 @@
 use Rattle.std.proofs.Common.{◌≡◌, ℕ, zero, suc, ◌+◌, ◌<◌, Bool, true, false, List, [], ◌∷◌, ◌++◌, length, codes, Option, Some, None, Ok, Err, refl, sym, ap, ◌∙◌, append_assoc, append-nil}
 use Rattle.std.proofs.Common.{true≢false, arith}
 use Rattle.fancy_regex_text.specs.Text.{Text, strip_prefix}
-use Rattle.fancy_regex_text.specs.Fault.{ParseOutcome, ◌>>=◌, Fails}
+use Rattle.fancy_regex_text.specs.ParseFault.{ParseOutcome, ◌>>=◌, Fails}
 use Rattle.fancy_regex_text.specs.Layout.{skip}
 use Rattle.fancy_regex_lex.specs.declared.token.Flags.{Flags}
 use Rattle.fancy_regex_text.specs.declared.fault.ReadError.{ReadError}

@@ -5,7 +5,7 @@ use Rattle.std.specs.Str.{all_scalars, encode_utf8_all}
 use Rattle.std.specs.BTreeMap.{BTreeMap}
 use Rattle.std.proofs.lemmas.Str.{chars_from_encodes}
 use Rattle.fancy_regex_text.specs.Text.{bytes}
-use Rattle.fancy_regex_text.specs.Fault.{ParseOutcome}
+use Rattle.fancy_regex_text.specs.ParseFault.{ParseOutcome}
 use Rattle.fancy_regex_tree.specs.declared.error.Error.{Error}
 use Rattle.fancy_regex_tree.specs.declared.error.Error.TheVariants.{ParseError, Memory}
 use Rattle.fancy_regex_tree.specs.declared.expr_tree.ExprTree.{ExprTree}

@@ -2,7 +2,7 @@
 use Rattle.std.proofs.Common.{ℕ, zero, suc, ◌+◌, ◌≤◌, Bool, true, false, cond, List, [], ◌∷◌, codes, length, Option, Some, None, Ok, Err, IfOk, is_some, ◌||◌, ◌&&◌}
 use Rattle.std.proofs.Math.Nat.{sub-le}
 use Rattle.fancy_regex_text.specs.Text.{Text, ◌∈◌, bytes, is_empty, strip_prefix}
-use Rattle.fancy_regex_text.specs.Fault.{ParseOutcome, ◌>>=◌}
+use Rattle.fancy_regex_text.specs.ParseFault.{ParseOutcome, ◌>>=◌}
 use Rattle.fancy_regex_text.specs.Layout.{skip}
 use Rattle.fancy_regex_lex.specs.Escapes.{Escape, char_escape, byte_escape, class_escape, any_escape, newline_escape, assertion_escape, continue_escape, keep_out_escape, reference_escape}
 use Rattle.fancy_regex_lex.specs.Escapes.{call_escape, escape}

@@ -1,7 +1,7 @@
 -- What follows where a step of the parser ends at a fault.
 use Rattle.std.proofs.Common.{◌≡◌, Bool, codes, None, Ok, Err, refl}
 use Rattle.fancy_regex_text.specs.Text.{Text, bytes, strip_prefix}
-use Rattle.fancy_regex_text.specs.Fault.{unclosed_open_paren}
+use Rattle.fancy_regex_text.specs.ParseFault.{unclosed_open_paren}
 use Rattle.fancy_regex_lex.specs.declared.token.Flags.{Flags}
 use Rattle.fancy_regex_tree.specs.declared.parser_config.ParserConfig.{ParserConfig}
 use Rattle.fancy_regex_tree.specs.Parser.{Branches, AlternationParser, parse_group_body}

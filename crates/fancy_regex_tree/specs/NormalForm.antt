@@ -1,7 +1,7 @@
 -- The normal form of a tree: what its printed text is parsed as.
 use Rattle.std.specs.Prelude.{false, [], ◌∷◌, Option, Some, None, Ok, Err, unwrap_or, if◌then◌else◌}
 use Rattle.fancy_regex_text.specs.Text.{Text, ◌∈◌}
-use Rattle.fancy_regex_text.specs.Fault.{ParseOutcome}
+use Rattle.fancy_regex_text.specs.ParseFault.{ParseOutcome}
 use Rattle.fancy_regex_lex.specs.Escapes.{Escape, class_escape, escape}
 use Rattle.fancy_regex_lex.specs.Classes.{bracketed_class}
 use Rattle.fancy_regex_tree.specs.Tree.{Tree, empty, any, assertion, concat, alt, group, repeat, delegate, Trees, no_trees, more_trees}

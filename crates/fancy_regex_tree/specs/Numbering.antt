@@ -9,7 +9,7 @@ use lib.Pointwise.{pointwise}
 use Rattle.std.specs.Str.{all_scalars, encode_utf8_all}
 use Rattle.std.specs.BTreeMap.{BTreeMap, get_by_text}
 use Rattle.fancy_regex_text.specs.Text.{unbounded}
-use Rattle.fancy_regex_text.specs.Fault.{Kind, kind_of, invalid_backref, invalid_group_name_backref}
+use Rattle.fancy_regex_text.specs.ParseFault.{Kind, kind_of, invalid_backref, invalid_group_name_backref}
 use Rattle.fancy_regex_tree.specs.Traversal.{nodes}
 use Rattle.fancy_regex_tree.specs.declared.error.Error.{Error}
 use Rattle.fancy_regex_tree.specs.declared.error.Error.TheVariants as errors

@@ -2,7 +2,7 @@
 use Rattle.std.specs.Prelude.{ℕ, ◌-◌, ◌^◌, Bool, not, ◌&&◌, ◌==◌, is_some, Result, Ok, Err, bit_and}
 use Rattle.std.specs.List.{list_any}
 use Rattle.fancy_regex_text.specs.Text.{bytes}
-use Rattle.fancy_regex_text.specs.Fault.{ParseOutcome}
+use Rattle.fancy_regex_text.specs.ParseFault.{ParseOutcome}
 use Rattle.fancy_regex_tree.specs.declared.parse_options.ParseOptions.{ParseOptions}
 use Rattle.fancy_regex_tree.specs.Tree.{Text, Tree}
 use Rattle.fancy_regex_tree.specs.Parser.{parse_pattern}

@@ -6,7 +6,7 @@ use Rattle.std.specs.List.{list_any}
 use Rattle.std.specs.Str.{IsUtf8}
 use Rattle.std.specs.BTreeSet.{contains}
 use Rattle.std.specs.Ordering.{nat_cmp}
-use Rattle.fancy_regex_text.specs.Fault.{kind_of}
+use Rattle.fancy_regex_text.specs.ParseFault.{kind_of}
 use Rattle.fancy_regex_tree.specs.declared.error.Error.{Error}
 use Rattle.fancy_regex_tree.specs.declared.error.Error.TheVariants.{ParseError, Memory}
 use Rattle.fancy_regex_tree.specs.declared.expr_tree.ExprTree.{ExprTree}

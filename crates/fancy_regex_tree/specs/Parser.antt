@@ -1,7 +1,7 @@
 -- The parser as functions: groups, pieces, branches, and whole patterns before their references are resolved.
 use Rattle.std.specs.Prelude.{ℕ, zero, suc, ◌+◌, Bool, true, false, List, [], ◌∷◌, length, Option, Some, None, is_some, Ok, if◌then◌else◌, codes}
 use Rattle.fancy_regex_text.specs.Text.{Text, ◌∈◌, is_empty, strip_prefix, bytes}
-use Rattle.fancy_regex_text.specs.Fault.{ParseOutcome, ◌>>=◌, fail_at, general_parse_error, unclosed_open_paren, recursion_exceeded, target_not_repeatable}
+use Rattle.fancy_regex_text.specs.ParseFault.{ParseOutcome, ◌>>=◌, fail_at, general_parse_error, unclosed_open_paren, recursion_exceeded, target_not_repeatable}
 use Rattle.fancy_regex_text.specs.Layout.{skip}
 use Rattle.fancy_regex_lex.specs.Escapes.{escape}
 use Rattle.fancy_regex_lex.specs.Classes.{bracketed_class}

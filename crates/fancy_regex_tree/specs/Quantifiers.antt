@@ -1,7 +1,7 @@
 -- The nodes of an atom with quantifiers.
 use Rattle.std.specs.Prelude.{ℕ, zero, suc, Bool, ◌&&◌, ◌||◌, nat_lt, Some, None, is_some, Ok, if◌then◌else◌}
 use Rattle.fancy_regex_text.specs.Text.{Text}
-use Rattle.fancy_regex_text.specs.Fault.{ParseOutcome, ◌>>=◌, fail_at, recursion_exceeded, target_not_repeatable}
+use Rattle.fancy_regex_text.specs.ParseFault.{ParseOutcome, ◌>>=◌, fail_at, recursion_exceeded, target_not_repeatable}
 use Rattle.fancy_regex_text.specs.Layout.{skip}
 use Rattle.fancy_regex_lex.specs.Quantifiers.{leading_quantifier, quantifier_suffix}
 use Rattle.fancy_regex_lex.specs.FlagLetters.{same}

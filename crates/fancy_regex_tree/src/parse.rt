@@ -34,7 +34,7 @@ fn parse_unresolved(alloc: Global, re: &str, options: ParseOptions) -> Result<Ex
 {
     match parse_pattern(alloc, options.oniguruma, options.unicode, options.flags, re) {
         Ok(expr) => Ok(expr),
-        Err(ReadError::Fault(fault)) => Err(Error::ParseError(
+        Err(ReadError::ParseFault(fault)) => Err(Error::ParseError(
             re.len().saturating_sub(fault.left),
             fault.kind,
         )),

@@ -2,7 +2,7 @@
 
 ghost use Rattle.std.specs.Prelude.{◌≡◌, ◌-◌, ◌≤◌, ◌∷◌, ◌<◌, [], IfOk, chars, length, option_map, string_bytes};
 ghost use Rattle.fancy_regex_text.specs.Text.{bytes};
-ghost use Rattle.fancy_regex_text.specs.Fault.{Gives};
+ghost use Rattle.fancy_regex_text.specs.ParseFault.{Gives};
 ghost use Rattle.fancy_regex_text.specs.Names.{named_of};
 ghost use Rattle.fancy_regex_lex.specs.Escapes.{escape_of};
 ghost use Rattle.fancy_regex_tree.specs.Tree.{tree_of, target_of, ast_backref, ast_call, ast_condition, ast_group};

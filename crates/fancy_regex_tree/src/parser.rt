@@ -5,7 +5,7 @@
 
 ghost use Rattle.std.specs.Prelude.{◌≡◌, ◌-◌, ◌+◌, ◌*◌, ◌≤◌, ◌<◌, IfOk, chars, length, map, nat_lt, true};
 ghost use Rattle.std.specs.List.{list_all};
-ghost use Rattle.fancy_regex_text.specs.Fault.{Gives, Stops, general_parse_error};
+ghost use Rattle.fancy_regex_text.specs.ParseFault.{Gives, Stops, general_parse_error};
 ghost use Rattle.fancy_regex_lex.specs.Openings.{opening_of};
 ghost use Rattle.fancy_regex_tree.specs.Tree.{tree_of};
 ghost use Rattle.fancy_regex_tree.specs.Views.{atom_of};
@@ -23,8 +23,8 @@ use crate::tree_builders::{
     absent_bar_of, conditional_of_branches, is_empty_body, make_conditional, pattern_of,
 };
 use fancy_regex_lex::{
-    Fault, Flags, Opening, ParseError, ReadError, fail_at, is_empty, opening, skip, split_first,
-    strip_prefix,
+    Flags, Opening, ParseError, ParseFault, ReadError, fail_at, is_empty, opening, skip,
+    split_first, strip_prefix,
 };
 use std::alloc::Global;
 
@@ -165,7 +165,7 @@ fn parse_group_body(
 {
     let (branches, changed, rest) = parse_alternation(parser, flags, text)?;
     let Some(after) = strip_prefix(rest, ")") else {
-        return Err(ReadError::Fault(Fault {
+        return Err(ReadError::ParseFault(ParseFault {
             left: 0,
             kind: ParseError::UnclosedOpenParen,
         }));

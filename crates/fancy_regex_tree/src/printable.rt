@@ -106,7 +106,7 @@ fn is_class_in_brackets(alloc: Global, text: &str) -> Result<bool, AllocError>
 {
     match bracketed_class(alloc, false, text) {
         Ok((_, rest)) => Ok(is_empty(rest)),
-        Err(ReadError::Fault(_)) => Ok(false),
+        Err(ReadError::ParseFault(_)) => Ok(false),
         Err(ReadError::Memory) => Err(AllocError),
     }
 }
@@ -119,7 +119,7 @@ fn is_class_escape(alloc: Global, text: &str) -> Result<bool, AllocError>
     match escape(alloc, false, text) {
         Ok((Escape::Class(_), rest)) => Ok(is_empty(rest)),
         Ok(_) => Ok(false),
-        Err(ReadError::Fault(_)) => Ok(false),
+        Err(ReadError::ParseFault(_)) => Ok(false),
         Err(ReadError::Memory) => Err(AllocError),
     }
 }

@@ -1,7 +1,7 @@
 //! Parses the quantifiers after an atom.
 
 ghost use Rattle.std.specs.Prelude.{◌≡◌, ◌≤◌, ◌+◌, ◌*◌, IfOk, chars, length};
-ghost use Rattle.fancy_regex_text.specs.Fault.{Gives};
+ghost use Rattle.fancy_regex_text.specs.ParseFault.{Gives};
 ghost use Rattle.fancy_regex_lex.specs.Quantifiers as counts;
 ghost use Rattle.fancy_regex_tree.specs.Tree.{tree_of};
 ghost use Rattle.fancy_regex_tree.specs.Views.{atom_of};

@@ -1,6 +1,6 @@
 -- Examples: characters, dots, anchors and alternations.
 use Rattle.std.specs.Prelude.{None, codes, false, true, ◌∷◌, []}
-use Rattle.fancy_regex_text.specs.Fault.{unclosed_open_paren}
+use Rattle.fancy_regex_text.specs.ParseFault.{unclosed_open_paren}
 use Rattle.fancy_regex_tree_examples.specs.PatternNotation.{ParsesAs, FailsWith, ch, concat_of, in_oniguruma_mode, alt_of, unicode_only}
 use Rattle.fancy_regex_tree.specs.Tree.{any, assertion, ast_group, empty, literal, look_around}
 use Rattle.fancy_regex_tree.specs.declared.expr.Assertion.TheVariants.{EndLine, EndText, StartLine, StartLineOniguruma, StartText}

@@ -1,6 +1,6 @@
 -- Examples: small patterns with an error.
 use Rattle.std.specs.Prelude.{codes, replicate, ◌++◌}
-use Rattle.fancy_regex_text.specs.Fault.{general_parse_error, invalid_class, invalid_escape, recursion_exceeded, target_not_repeatable, trailing_backslash, unclosed_open_paren}
+use Rattle.fancy_regex_text.specs.ParseFault.{general_parse_error, invalid_class, invalid_escape, recursion_exceeded, target_not_repeatable, trailing_backslash, unclosed_open_paren}
 use Rattle.fancy_regex_tree_examples.specs.PatternNotation.{TextParsesAs, FailsWith, TextFailsWith, group_in, unicode_only}
 use Rattle.fancy_regex_tree.specs.Tree.{empty}
 

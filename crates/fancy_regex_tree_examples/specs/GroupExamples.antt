@@ -1,6 +1,6 @@
 -- Examples: groups, look-around, conditionals, absent operators and control verbs.
 use Rattle.std.specs.Prelude.{None, Some, codes, false, negsuc, pos, true, ◌∷◌, []}
-use Rattle.fancy_regex_text.specs.Fault.{changing_unicode_mode_unsupported, general_parse_error, invalid_group_name, target_not_repeatable, unclosed_open_paren, unknown_flag}
+use Rattle.fancy_regex_text.specs.ParseFault.{changing_unicode_mode_unsupported, general_parse_error, invalid_group_name, target_not_repeatable, unclosed_open_paren, unknown_flag}
 use Rattle.fancy_regex_tree_examples.specs.PatternNotation.{ParsesAs, FailsWith, ch, concat_of, list_of_chars_in_a_row, no_options, alt_of, unicode_only}
 use Rattle.fancy_regex_tree.specs.Tree.{absent_clear, absent_expression, absent_repeater, absent_stopper, any, ast_condition, ast_group, atomic_group, by_name, by_number, conditional, define_group, empty, literal, look_around, verb}
 use Rattle.fancy_regex_tree.specs.declared.expr.BacktrackingControlVerb.TheVariants.{Accept, Commit, Fail, Prune, Skip}

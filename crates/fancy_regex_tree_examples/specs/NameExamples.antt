@@ -1,7 +1,7 @@
 -- Examples: group names outside ASCII, and longer patterns.
 use Rattle.std.specs.Prelude.{codes, true, false, replicate, [], ◌∷◌}
 use Rattle.fancy_regex_text.specs.Text.{unbounded}
-use Rattle.fancy_regex_text.specs.Fault.{invalid_group_name}
+use Rattle.fancy_regex_text.specs.ParseFault.{invalid_group_name}
 use Rattle.fancy_regex_tree.specs.declared.expr.Assertion.TheVariants.{LeftWordBoundary, RightWordBoundary}
 use Rattle.fancy_regex_tree.specs.declared.expr.LookAround.TheVariants.{LookAhead, LookAheadNeg}
 use Rattle.fancy_regex_tree.specs.Tree.{concat, alt, trees, empty, assertion, group, look_around, repeat, delegate, backref, subroutine_call, define_group}

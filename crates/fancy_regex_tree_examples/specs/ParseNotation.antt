@@ -1,7 +1,7 @@
 -- The notation of examples of parsed patterns, with groups numbered and references resolved.
 use Rattle.std.specs.Prelude.{◌≡◌, ℕ, true, List, [], Result, Ok, Err, codes}
 use Prim.Native.String.{String}
-use Rattle.fancy_regex_text.specs.Fault.{Kind}
+use Rattle.fancy_regex_text.specs.ParseFault.{Kind}
 use Rattle.fancy_regex_tree.specs.Tree.{Text, Tree}
 use Rattle.fancy_regex_tree.specs.Numbering.{Names, PositionedFault, numbers_of}
 use Rattle.fancy_regex_tree.specs.Parse.{Options, Parsed, parse}

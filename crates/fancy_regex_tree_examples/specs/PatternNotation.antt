@@ -2,7 +2,7 @@
 use Rattle.std.specs.Prelude.{◌≡◌, ℕ, zero, suc, ◌+◌, ◌-◌, Bool, true, false, List, [], ◌∷◌, None, Ok, Err, codes}
 use Prim.Native.String.{String}
 use Rattle.fancy_regex_text.specs.Text.{Text, bytes}
-use Rattle.fancy_regex_text.specs.Fault.{Kind}
+use Rattle.fancy_regex_text.specs.ParseFault.{Kind}
 use Rattle.fancy_regex_lex.specs.FlagExamples.{no_flags}
 use Rattle.fancy_regex_tree.specs.Tree.{Tree, ast_group, literal, concat, alt, trees}
 use Rattle.fancy_regex_tree.specs.Parser.{parse_pattern}

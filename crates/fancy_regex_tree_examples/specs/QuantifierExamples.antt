@@ -1,6 +1,6 @@
 -- Examples: quantifiers.
 use Rattle.std.specs.Prelude.{None, false, true, ◌∷◌, []}
-use Rattle.fancy_regex_text.specs.Fault.{recursion_exceeded, target_not_repeatable}
+use Rattle.fancy_regex_text.specs.ParseFault.{recursion_exceeded, target_not_repeatable}
 use Rattle.fancy_regex_text.specs.Text.{unbounded}
 use Rattle.fancy_regex_tree_examples.specs.PatternNotation.{ParsesAs, FailsWith, ch, concat_of, in_oniguruma_mode, list_of_chars, unicode_only}
 use Rattle.fancy_regex_tree.specs.Tree.{ast_group, atomic_group, empty, keep_out, repeat}

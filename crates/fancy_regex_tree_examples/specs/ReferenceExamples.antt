@@ -1,7 +1,7 @@
 -- Examples: references and group numbers.
 use Rattle.std.specs.Prelude.{codes, None, Some, pos, negsuc, true, false, [], ◌∷◌}
 use Rattle.fancy_regex_text.specs.Text.{unbounded}
-use Rattle.fancy_regex_text.specs.Fault.{general_parse_error, invalid_group_name, invalid_backref, invalid_group_name_backref}
+use Rattle.fancy_regex_text.specs.ParseFault.{general_parse_error, invalid_group_name, invalid_backref, invalid_group_name_backref}
 use Rattle.fancy_regex_tree.specs.Tree.{empty, group, repeat, backref, backref_with_level, backref_exists, conditional, subroutine_call, ast_call, by_name, relative}
 use Rattle.fancy_regex_tree_examples.specs.PatternNotation.{ch, concat_of}
 use Rattle.fancy_regex_tree.specs.Options.{unicode_only}

@@ -32,7 +32,7 @@ static READINGS: [(Reader, &str, &str); 28] = [
     (
         Reader::Layout { verbose: false },
         "(?#\\)",
-        "Err(Fault(Fault { left: 0, kind: UnclosedOpenParen }))",
+        "Err(ParseFault(ParseFault { left: 0, kind: UnclosedOpenParen }))",
     ),
     (
         Reader::Escape { oniguruma: false },
@@ -82,17 +82,17 @@ static READINGS: [(Reader, &str, &str); 28] = [
     (
         Reader::Escape { oniguruma: false },
         "\\x{000000041}",
-        "Err(Fault(Fault { left: 13, kind: InvalidHex }))",
+        "Err(ParseFault(ParseFault { left: 13, kind: InvalidHex }))",
     ),
     (
         Reader::Escape { oniguruma: false },
         "\\uD800",
-        "Err(Fault(Fault { left: 6, kind: InvalidCodepointValue }))",
+        "Err(ParseFault(ParseFault { left: 6, kind: InvalidCodepointValue }))",
     ),
     (
         Reader::Escape { oniguruma: false },
         "\\qa",
-        "Err(Fault(Fault { left: 3, kind: InvalidEscape(\"\\\\q\") }))",
+        "Err(ParseFault(ParseFault { left: 3, kind: InvalidEscape(\"\\\\q\") }))",
     ),
     (
         Reader::Class,
@@ -102,12 +102,12 @@ static READINGS: [(Reader, &str, &str); 28] = [
     (
         Reader::Class,
         "[a[b]",
-        "Err(Fault(Fault { left: 0, kind: InvalidClass }))",
+        "Err(ParseFault(ParseFault { left: 0, kind: InvalidClass }))",
     ),
     (
         Reader::Class,
         "[a\\B]",
-        "Err(Fault(Fault { left: 3, kind: InvalidClass }))",
+        "Err(ParseFault(ParseFault { left: 3, kind: InvalidClass }))",
     ),
     (
         Reader::Quantifier { oniguruma: true },
@@ -144,7 +144,7 @@ static READINGS: [(Reader, &str, &str); 28] = [
     (
         Reader::Opening,
         "(?i-m-s)",
-        "Err(Fault(Fault { left: 8, kind: UnknownFlag(\"(?i-m-\") }))",
+        "Err(ParseFault(ParseFault { left: 8, kind: UnknownFlag(\"(?i-m-\") }))",
     ),
 ];
 

@@ -1,6 +1,6 @@
 //! The cases of the table: a pattern and its expected result.
 
-use crate::fault::Fault;
+use crate::fault::TreeVectorsError;
 use fancy_regex_tree::{
     FLAG_CASEI, FLAG_CRLF, FLAG_DOTNL, FLAG_IGNORE_NUMBERED_GROUPS_WHEN_NAMED_GROUPS_EXIST,
     FLAG_IGNORE_SPACE, FLAG_MULTI, FLAG_ONIGURUMA_MODE, FLAG_SWAP_GREED, FLAG_UNICODE,
@@ -51,12 +51,12 @@ fn flags_of(letters: &str) -> Option<u32> {
     Some(flags)
 }
 
-/// Decodes a percent-encoded text. Fails with `Fault::Table` if the bytes are not UTF-8, or with `Fault::Memory`.
-pub fn plain(alloc: Global, quoted: &str) -> Result<String, Fault> {
+/// Decodes a percent-encoded text. Fails with `TreeVectorsError::Table` if the bytes are not UTF-8, or with `TreeVectorsError::Memory`.
+pub fn plain(alloc: Global, quoted: &str) -> Result<String, TreeVectorsError> {
     let mut bytes = Vec::new(alloc);
     percent_decode_str(quoted).append_to(&mut bytes)?;
     match String::from_utf8(bytes) {
         Ok(text) => Ok(text),
-        Err(_) => Err(Fault::Table),
+        Err(_) => Err(TreeVectorsError::Table),
     }
 }

@@ -5,7 +5,7 @@ use std::io;
 
 /// Why the cases could not be compared.
 #[derive(Debug, Drop)]
-pub enum Fault {
+pub enum TreeVectorsError {
     /// A line of the table is not a case.
     Table,
     /// Standard input or output failed.
@@ -14,14 +14,14 @@ pub enum Fault {
     Memory,
 }
 
-impl From<AllocError> for Fault {
-    fn from(_: AllocError) -> Fault {
-        Fault::Memory
+impl From<AllocError> for TreeVectorsError {
+    fn from(_: AllocError) -> TreeVectorsError {
+        TreeVectorsError::Memory
     }
 }
 
-impl From<io::Error> for Fault {
-    fn from(_: io::Error) -> Fault {
-        Fault::System
+impl From<io::Error> for TreeVectorsError {
+    fn from(_: io::Error) -> TreeVectorsError {
+        TreeVectorsError::System
     }
 }

@@ -5,7 +5,7 @@
 #![tactic(auto)]
 
 use case::{case_of, plain};
-use fault::Fault;
+use fault::TreeVectorsError;
 use std::io;
 use std::process::ExitCode;
 
@@ -23,7 +23,7 @@ fn main(rt: HostRuntime) -> ExitCode {
 
 /// Compares each case of the table and prints the totals. Returns whether all cases agree. Fails if a line is not a
 /// case, if memory runs out, and if standard input or output fails.
-fn compare_all(rt: &HostRuntime) -> Result<bool, Fault> {
+fn compare_all(rt: &HostRuntime) -> Result<bool, TreeVectorsError> {
     let table = io::read_to_string(rt.alloc(), rt.stdin())?;
     let mut cases: usize = 0;
     let mut agreeing: usize = 0;
@@ -42,9 +42,9 @@ fn compare_all(rt: &HostRuntime) -> Result<bool, Fault> {
 }
 
 /// Whether the case of this line agrees. If not, prints it and the actual result.
-fn compare(rt: &HostRuntime, line: &str) -> Result<bool, Fault> {
+fn compare(rt: &HostRuntime, line: &str) -> Result<bool, TreeVectorsError> {
     let Some(case) = case_of(line) else {
-        return Err(Fault::Table);
+        return Err(TreeVectorsError::Table);
     };
     let pattern = plain(rt.alloc(), case.quoted)?;
     let found = answer::answer(rt.alloc(), case.flags, &pattern)?;

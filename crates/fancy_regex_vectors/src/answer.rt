@@ -1,7 +1,7 @@
 //! The answer to a question, as a text.
 
 use crate::analysis::append_analysis;
-use crate::call::Call;
+use crate::call::LibraryCall;
 use crate::case::{Case, Question};
 use crate::groups::append_groups_call;
 use crate::patterns::{append_pattern_call, append_reprinted_answers};
@@ -23,9 +23,9 @@ pub fn append_answer(
     question: Question<'_>,
 ) -> Result<(), AllocError> {
     match question.call {
-        Call::Pattern(call) => append_pattern_call(alloc, out, case, call),
-        Call::Analysis(call) => append_analysis(alloc, out, case, call),
-        Call::Set => append_set(alloc, out, case, input),
+        LibraryCall::Pattern(call) => append_pattern_call(alloc, out, case, call),
+        LibraryCall::Analysis(call) => append_analysis(alloc, out, case, call),
+        LibraryCall::Set => append_set(alloc, out, case, input),
         _ => match built {
             Ok(regex) => append_searched(alloc, out, case, input, regex, question),
             Err(error) => put_error(alloc, out, error),
@@ -43,10 +43,10 @@ fn append_searched(
     question: Question<'_>,
 ) -> Result<(), AllocError> {
     match question.call {
-        Call::Span(call) => append_span_call(alloc, out, case, input, regex, question, call),
-        Call::Group(call) => append_groups_call(alloc, out, case, input, regex, question, call),
-        Call::Text(call) => append_text_call(alloc, out, case, regex, question, call),
-        Call::Reprinted => append_reprinted_answers(alloc, out, case, regex),
+        LibraryCall::Span(call) => append_span_call(alloc, out, case, input, regex, question, call),
+        LibraryCall::Group(call) => append_groups_call(alloc, out, case, input, regex, question, call),
+        LibraryCall::Text(call) => append_text_call(alloc, out, case, regex, question, call),
+        LibraryCall::Reprinted => append_reprinted_answers(alloc, out, case, regex),
         _ => out.push_str("built"),
     }
 }

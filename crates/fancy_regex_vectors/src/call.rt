@@ -69,7 +69,7 @@ pub enum AnalysisCall {
 
 /// A call that a case asks.
 #[derive(Clone, Copy)]
-pub enum Call {
+pub enum LibraryCall {
     /// Whether a regex is built.
     Build,
     Span(SpanCall),
@@ -84,53 +84,53 @@ pub enum Call {
 }
 
 /// All calls by their names, in the order in which their totals are printed.
-pub static CALLS: [(&str, Call); 36] = [
-    ("split", Call::Text(TextCall::Split)),
-    ("build", Call::Build),
-    ("reprint", Call::Pattern(PatternCall::Reprint)),
-    ("required_bytes", Call::Pattern(PatternCall::RequiredBytes)),
-    ("start_bytes", Call::Pattern(PatternCall::StartBytes)),
-    ("captures", Call::Group(GroupCall::Captures)),
-    ("is_match", Call::Span(SpanCall::IsMatch)),
-    ("weight", Call::Analysis(AnalysisCall::Weight)),
-    ("looks", Call::Span(SpanCall::Looks)),
-    ("find", Call::Span(SpanCall::Find)),
-    ("find_input", Call::Span(SpanCall::FindInput)),
-    ("is_match_input", Call::Span(SpanCall::IsMatchInput)),
-    ("find_iter", Call::Span(SpanCall::FindIter)),
-    ("set", Call::Set),
-    ("replacen", Call::Text(TextCall::ReplaceN)),
-    ("no_expand", Call::Text(TextCall::NoExpand)),
-    ("escape", Call::Pattern(PatternCall::Escape)),
-    ("capture_names", Call::Group(GroupCall::CaptureNames)),
-    ("expand", Call::Text(TextCall::Expand)),
-    ("python", Call::Text(TextCall::Python)),
-    ("splitn", Call::Text(TextCall::SplitN)),
-    ("sizes", Call::Analysis(AnalysisCall::Sizes)),
-    ("easy", Call::Analysis(AnalysisCall::Easy)),
-    ("check", Call::Text(TextCall::Check)),
+pub static CALLS: [(&str, LibraryCall); 36] = [
+    ("split", LibraryCall::Text(TextCall::Split)),
+    ("build", LibraryCall::Build),
+    ("reprint", LibraryCall::Pattern(PatternCall::Reprint)),
+    ("required_bytes", LibraryCall::Pattern(PatternCall::RequiredBytes)),
+    ("start_bytes", LibraryCall::Pattern(PatternCall::StartBytes)),
+    ("captures", LibraryCall::Group(GroupCall::Captures)),
+    ("is_match", LibraryCall::Span(SpanCall::IsMatch)),
+    ("weight", LibraryCall::Analysis(AnalysisCall::Weight)),
+    ("looks", LibraryCall::Span(SpanCall::Looks)),
+    ("find", LibraryCall::Span(SpanCall::Find)),
+    ("find_input", LibraryCall::Span(SpanCall::FindInput)),
+    ("is_match_input", LibraryCall::Span(SpanCall::IsMatchInput)),
+    ("find_iter", LibraryCall::Span(SpanCall::FindIter)),
+    ("set", LibraryCall::Set),
+    ("replacen", LibraryCall::Text(TextCall::ReplaceN)),
+    ("no_expand", LibraryCall::Text(TextCall::NoExpand)),
+    ("escape", LibraryCall::Pattern(PatternCall::Escape)),
+    ("capture_names", LibraryCall::Group(GroupCall::CaptureNames)),
+    ("expand", LibraryCall::Text(TextCall::Expand)),
+    ("python", LibraryCall::Text(TextCall::Python)),
+    ("splitn", LibraryCall::Text(TextCall::SplitN)),
+    ("sizes", LibraryCall::Analysis(AnalysisCall::Sizes)),
+    ("easy", LibraryCall::Analysis(AnalysisCall::Easy)),
+    ("check", LibraryCall::Text(TextCall::Check)),
     (
         "expander_escape",
-        Call::Pattern(PatternCall::ExpanderEscape),
+        LibraryCall::Pattern(PatternCall::ExpanderEscape),
     ),
-    ("machine", Call::Analysis(AnalysisCall::Machine)),
-    ("captures_input", Call::Group(GroupCall::CapturesInput)),
-    ("find_from_pos", Call::Span(SpanCall::FindFromPos)),
-    ("captures_from_pos", Call::Group(GroupCall::CapturesFromPos)),
-    ("captures_iter", Call::Group(GroupCall::CapturesIter)),
-    ("name", Call::Group(GroupCall::Name)),
-    ("reprinted", Call::Reprinted),
-    ("layout", Call::Analysis(AnalysisCall::Layout)),
-    ("repeats", Call::Analysis(AnalysisCall::Repeats)),
-    ("find_iter_input", Call::Span(SpanCall::FindIterInput)),
+    ("machine", LibraryCall::Analysis(AnalysisCall::Machine)),
+    ("captures_input", LibraryCall::Group(GroupCall::CapturesInput)),
+    ("find_from_pos", LibraryCall::Span(SpanCall::FindFromPos)),
+    ("captures_from_pos", LibraryCall::Group(GroupCall::CapturesFromPos)),
+    ("captures_iter", LibraryCall::Group(GroupCall::CapturesIter)),
+    ("name", LibraryCall::Group(GroupCall::Name)),
+    ("reprinted", LibraryCall::Reprinted),
+    ("layout", LibraryCall::Analysis(AnalysisCall::Layout)),
+    ("repeats", LibraryCall::Analysis(AnalysisCall::Repeats)),
+    ("find_iter_input", LibraryCall::Span(SpanCall::FindIterInput)),
     (
         "captures_iter_input",
-        Call::Group(GroupCall::CapturesIterInput),
+        LibraryCall::Group(GroupCall::CapturesIterInput),
     ),
 ];
 
 /// The place of the call of this name in the table, and the call; `None` if there is none.
-pub fn call_named(name: &str) -> Option<(usize, Call)> {
+pub fn call_named(name: &str) -> Option<(usize, LibraryCall)> {
     for (place, (known, call)) in CALLS.iter().enumerate() {
         if *known == name {
             return Some((place, *call));

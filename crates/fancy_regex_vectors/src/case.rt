@@ -1,7 +1,7 @@
 //! The cases of the table: what is asked, and of what.
 
-use crate::call::{Call, call_named};
-use crate::fault::Fault;
+use crate::call::{LibraryCall, call_named};
+use crate::fault::VectorsError;
 use fancy_regex::{
     FLAG_CASEI, FLAG_CRLF, FLAG_DOTNL, FLAG_IGNORE_NUMBERED_GROUPS_WHEN_NAMED_GROUPS_EXIST,
     FLAG_IGNORE_SPACE, FLAG_MULTI, FLAG_ONIGURUMA_MODE, FLAG_UNICODE, RegexInput,
@@ -27,13 +27,13 @@ pub struct Row<'t> {
     pub questions: &'t str,
 }
 
-/// Cuts a line into its columns. Fails with `Fault::Table` if it has too few.
-pub fn row_of(line: &str) -> Result<Row<'_>, Fault> {
-    let (options, rest) = line.split_once('\t').ok_or(Fault::Table)?;
-    let (patterns, rest) = rest.split_once('\t').ok_or(Fault::Table)?;
-    let (text, rest) = rest.split_once('\t').ok_or(Fault::Table)?;
-    let (input, rest) = rest.split_once('\t').ok_or(Fault::Table)?;
-    let (template, questions) = rest.split_once('\t').ok_or(Fault::Table)?;
+/// Cuts a line into its columns. Fails with `VectorsError::Table` if it has too few.
+pub fn row_of(line: &str) -> Result<Row<'_>, VectorsError> {
+    let (options, rest) = line.split_once('\t').ok_or(VectorsError::Table)?;
+    let (patterns, rest) = rest.split_once('\t').ok_or(VectorsError::Table)?;
+    let (text, rest) = rest.split_once('\t').ok_or(VectorsError::Table)?;
+    let (input, rest) = rest.split_once('\t').ok_or(VectorsError::Table)?;
+    let (template, questions) = rest.split_once('\t').ok_or(VectorsError::Table)?;
     let (letters, limits) = options.split_once(' ').unwrap_or((options, ""));
     Ok(Row {
         letters,
@@ -53,7 +53,7 @@ pub struct Question<'t> {
     pub name: &'t str,
     /// Its place in the table of calls.
     pub place: usize,
-    pub call: Call,
+    pub call: LibraryCall,
     /// The argument; empty if the call has none.
     pub argument: &'t str,
     /// The argument as a number; 0 if it is none.
@@ -62,11 +62,11 @@ pub struct Question<'t> {
     pub allowed: &'t str,
 }
 
-/// Cuts a question into its parts. Fails with `Fault::Table` if it has no answer or asks no call.
-pub fn question_of(field: &str) -> Result<Question<'_>, Fault> {
-    let (asked, allowed) = field.split_once('=').ok_or(Fault::Table)?;
+/// Cuts a question into its parts. Fails with `VectorsError::Table` if it has no answer or asks no call.
+pub fn question_of(field: &str) -> Result<Question<'_>, VectorsError> {
+    let (asked, allowed) = field.split_once('=').ok_or(VectorsError::Table)?;
     let (name, argument) = asked.split_once(' ').unwrap_or((asked, ""));
-    let (place, call) = call_named(name).ok_or(Fault::Table)?;
+    let (place, call) = call_named(name).ok_or(VectorsError::Table)?;
     Ok(Question {
         name,
         place,
@@ -100,16 +100,16 @@ impl Case<'_> {
     }
 }
 
-/// The number of these digits. Fails with `Fault::Table` if they are none.
-fn number_of(digits: &str) -> Result<usize, Fault> {
+/// The number of these digits. Fails with `VectorsError::Table` if they are none.
+fn number_of(digits: &str) -> Result<usize, VectorsError> {
     match digits.parse::<usize>() {
         Ok(number) => Ok(number),
-        Err(_) => Err(Fault::Table),
+        Err(_) => Err(VectorsError::Table),
     }
 }
 
 /// The limit that begins with this letter, if a row has one: `b` the backtrack limit, `c` the cap on the program.
-pub fn limit_of(row: Row<'_>, letter: char) -> Result<Option<usize>, Fault> {
+pub fn limit_of(row: Row<'_>, letter: char) -> Result<Option<usize>, VectorsError> {
     for word in row.limits.split(' ') {
         if let Some(digits) = word.strip_prefix(letter) {
             return Ok(Some(number_of(digits)?));
@@ -144,8 +144,8 @@ fn options_of(letters: &str) -> RegexOptionsBuilder {
     options
 }
 
-/// The options of a row with its limits. Fails with `Fault::Table` if a limit is no number.
-pub fn limited_options(row: Row<'_>) -> Result<RegexOptionsBuilder, Fault> {
+/// The options of a row with its limits. Fails with `VectorsError::Table` if a limit is no number.
+pub fn limited_options(row: Row<'_>) -> Result<RegexOptionsBuilder, VectorsError> {
     let mut options = options_of(row.letters);
     if let Some(limit) = limit_of(row, 'b')? {
         options.backtrack_limit(limit);
@@ -180,21 +180,21 @@ pub fn flags_of(letters: &str) -> u32 {
 }
 
 /// The input of a case. The column has the start, both ends of the range, and letters: `a` anchored, `s` no start of the text, `e`
-/// no end of it, `g` no `\G` at the start. Fails with `Fault::Table` if it has not, or an offset is no character boundary.
-pub fn input_of<'c>(case: &Case<'c>) -> Result<RegexInput<&'c str>, Fault> {
+/// no end of it, `g` no `\G` at the start. Fails with `VectorsError::Table` if it has not, or an offset is no character boundary.
+pub fn input_of<'c>(case: &Case<'c>) -> Result<RegexInput<&'c str>, VectorsError> {
     let text = case.text;
     if case.row.input.is_empty() {
         return Ok(RegexInput::new(text));
     }
-    let (start, rest) = case.row.input.split_once(' ').ok_or(Fault::Table)?;
-    let (from, rest) = rest.split_once(' ').ok_or(Fault::Table)?;
-    let (to, letters) = rest.split_once(' ').ok_or(Fault::Table)?;
+    let (start, rest) = case.row.input.split_once(' ').ok_or(VectorsError::Table)?;
+    let (from, rest) = rest.split_once(' ').ok_or(VectorsError::Table)?;
+    let (to, letters) = rest.split_once(' ').ok_or(VectorsError::Table)?;
     let (start, from, to) = (number_of(start)?, number_of(from)?, number_of(to)?);
     if to < from || !text.is_char_boundary(from) || !text.is_char_boundary(to) {
-        return Err(Fault::Table);
+        return Err(VectorsError::Table);
     }
     if start <= text.len() && !text.is_char_boundary(start) {
-        return Err(Fault::Table);
+        return Err(VectorsError::Table);
     }
     let input = RegexInput::new(text).from_pos(start).range(from..to);
     Ok(

@@ -2,7 +2,7 @@
 
 use crate::answer::append_answer;
 use crate::case::{Case, Question, Row, input_of, limit_of, limited_options, question_of, row_of};
-use crate::fault::Fault;
+use crate::fault::VectorsError;
 use crate::quoted::plain;
 use crate::totals::Totals;
 use fancy_regex::{Error, Regex};
@@ -16,16 +16,16 @@ struct Texts {
     template: String,
 }
 
-/// Compares the answers to each question of this line. Fails with `Fault::Table` if the line is no case, if standard output fails,
-/// or with `Fault::Memory`.
-pub fn compare_line(rt: &HostRuntime, line: &str, totals: &mut Totals) -> Result<(), Fault> {
+/// Compares the answers to each question of this line. Fails with `VectorsError::Table` if the line is no case, if standard output fails,
+/// or with `VectorsError::Memory`.
+pub fn compare_line(rt: &HostRuntime, line: &str, totals: &mut Totals) -> Result<(), VectorsError> {
     let row = row_of(line)?;
     let texts = texts_of(rt.alloc(), row)?;
     compare_row(rt, row, &texts, totals)
 }
 
 /// Decodes the texts of a row.
-fn texts_of(alloc: Global, row: Row<'_>) -> Result<Texts, Fault> {
+fn texts_of(alloc: Global, row: Row<'_>) -> Result<Texts, VectorsError> {
     let pattern = plain(alloc, row.patterns)?;
     let text = plain(alloc, row.text)?;
     let template = plain(alloc, row.template)?;
@@ -43,7 +43,7 @@ fn compare_row(
     row: Row<'_>,
     texts: &Texts,
     totals: &mut Totals,
-) -> Result<(), Fault> {
+) -> Result<(), VectorsError> {
     let case = Case {
         row,
         pattern: &texts.pattern,
@@ -63,7 +63,7 @@ fn compare_row(
 }
 
 /// Compares the answers to the questions of a case.
-fn compare_case(rt: &HostRuntime, case: &Case<'_>, totals: &mut Totals) -> Result<(), Fault> {
+fn compare_case(rt: &HostRuntime, case: &Case<'_>, totals: &mut Totals) -> Result<(), VectorsError> {
     let pattern = String::from_str(rt.alloc(), case.pattern)?;
     let built = case.options_to_build().build(rt.alloc(), pattern);
     compare_questions(rt, case, &built, totals)
@@ -75,7 +75,7 @@ fn compare_questions(
     case: &Case<'_>,
     built: &Result<Regex, Error>,
     totals: &mut Totals,
-) -> Result<(), Fault> {
+) -> Result<(), VectorsError> {
     for field in case.row.questions.split('\t') {
         let question = question_of(field)?;
         let agrees = compare_answer(rt, case, built, question)?;
@@ -90,7 +90,7 @@ fn compare_answer(
     case: &Case<'_>,
     built: &Result<Regex, Error>,
     question: Question<'_>,
-) -> Result<bool, Fault> {
+) -> Result<bool, VectorsError> {
     let input = input_of(case)?;
     let mut found = String::new(rt.alloc());
     append_answer(rt.alloc(), &mut found, case, input, built, question)?;
@@ -103,7 +103,7 @@ fn judge(
     row: Row<'_>,
     question: Question<'_>,
     found: &str,
-) -> Result<bool, Fault> {
+) -> Result<bool, VectorsError> {
     if allows(question.allowed, found) {
         return Ok(true);
     }

@@ -5,7 +5,7 @@ use std::io;
 
 /// Why the answers cannot be compared.
 #[derive(Clone, Copy, Debug)]
-pub enum Fault {
+pub enum VectorsError {
     /// A line of the table is not a case.
     Table,
     /// Standard input or output failed.
@@ -14,14 +14,14 @@ pub enum Fault {
     Memory,
 }
 
-impl From<AllocError> for Fault {
-    fn from(_: AllocError) -> Fault {
-        Fault::Memory
+impl From<AllocError> for VectorsError {
+    fn from(_: AllocError) -> VectorsError {
+        VectorsError::Memory
     }
 }
 
-impl From<io::Error> for Fault {
-    fn from(_: io::Error) -> Fault {
-        Fault::System
+impl From<io::Error> for VectorsError {
+    fn from(_: io::Error) -> VectorsError {
+        VectorsError::System
     }
 }

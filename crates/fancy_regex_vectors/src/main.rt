@@ -5,7 +5,7 @@
 #![tactic(auto)]
 
 use compare::compare_line;
-use fault::Fault;
+use fault::VectorsError;
 use std::io;
 use std::process::ExitCode;
 use totals::Totals;
@@ -36,13 +36,13 @@ fn main(rt: HostRuntime) -> ExitCode {
 
 /// Compares each case of the table and prints the totals. Returns whether all answers agree. Fails as `compare_line` does, and if
 /// standard input or output fails.
-fn compare_all(rt: &HostRuntime) -> Result<bool, Fault> {
+fn compare_all(rt: &HostRuntime) -> Result<bool, VectorsError> {
     let table = io::read_to_string(rt.alloc(), rt.stdin())?;
     compare_table(rt, &table)
 }
 
 /// Compares each case of a table and prints the totals.
-fn compare_table(rt: &HostRuntime, table: &str) -> Result<bool, Fault> {
+fn compare_table(rt: &HostRuntime, table: &str) -> Result<bool, VectorsError> {
     let mut totals = Totals::new();
     for line in table.lines() {
         compare_line(rt, line, &mut totals)?;

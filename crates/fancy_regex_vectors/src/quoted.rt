@@ -1,6 +1,6 @@
 //! Percent-encoded texts: `%`, and each byte that is not a visible ASCII character, is `%` and two hexadecimal digits.
 
-use crate::fault::Fault;
+use crate::fault::VectorsError;
 use fancy_regex::Error;
 use percent_encoding::{AsciiSet, CONTROLS, percent_decode_str, utf8_percent_encode};
 use std::alloc::{AllocError, Global};
@@ -25,12 +25,12 @@ pub fn put_error(alloc: Global, out: &mut String, error: &Error) -> Result<(), A
     append_error(alloc, out, error)
 }
 
-/// Decodes a percent-encoded text. Fails with `Fault::Table` if the bytes are not UTF-8, or with `Fault::Memory`.
-pub fn plain(alloc: Global, quoted: &str) -> Result<String, Fault> {
+/// Decodes a percent-encoded text. Fails with `VectorsError::Table` if the bytes are not UTF-8, or with `VectorsError::Memory`.
+pub fn plain(alloc: Global, quoted: &str) -> Result<String, VectorsError> {
     let mut bytes = Vec::new(alloc);
     percent_decode_str(quoted).append_to(&mut bytes)?;
     match str::from_utf8(&bytes) {
         Ok(text) => Ok(String::from_str(alloc, text)?),
-        Err(_) => Err(Fault::Table),
+        Err(_) => Err(VectorsError::Table),
     }
 }

@@ -1,7 +1,7 @@
 //! How many answers of each call agree.
 
 use crate::call::CALLS;
-use crate::fault::Fault;
+use crate::fault::VectorsError;
 
 /// How often a call was asked, and how often its answer agreed.
 #[derive(Clone, Copy)]
@@ -37,7 +37,7 @@ impl Totals {
     }
 
     /// Prints a line for each call that was asked. Returns whether all answers agree.
-    pub fn print(&self, rt: &HostRuntime) -> Result<bool, Fault> {
+    pub fn print(&self, rt: &HostRuntime) -> Result<bool, VectorsError> {
         let mut all_agree = true;
         for ((name, _call), total) in CALLS.iter().zip(self.calls.iter()) {
             if total.agreeing < total.asked {

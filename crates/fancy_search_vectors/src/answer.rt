@@ -1,15 +1,15 @@
 //! What the program does for a case, as a text.
 
 use crate::case::Case;
-use crate::fault::Fault;
+use crate::fault::SearchVectorsError;
 use crate::quoted::{append_quoted, plain, plain_bytes};
-use fancy_search_run::{Fault as ProgramFault, Status, exit_status, run};
+use fancy_search_run::{SearchVectorsError as ProgramFault, Status, exit_status, run};
 use std::alloc::{AllocError, Global};
 use std::fmt::Write;
 
 /// The answer of the program for a case: its exit status, and the bytes that it writes or the text of its fault, percent-encoded, with
 /// a blank between.
-pub fn answer(alloc: Global, case: &Case<'_>) -> Result<String, Fault> {
+pub fn answer(alloc: Global, case: &Case<'_>) -> Result<String, SearchVectorsError> {
     let words = words_of(alloc, case.words)?;
     let input = plain_bytes(alloc, case.input)?;
     let mut written = Vec::new(alloc);
@@ -18,7 +18,7 @@ pub fn answer(alloc: Global, case: &Case<'_>) -> Result<String, Fault> {
 }
 
 /// Decodes words that are percent-encoded, with a blank between.
-fn words_of(alloc: Global, quoted: &str) -> Result<Vec<String>, Fault> {
+fn words_of(alloc: Global, quoted: &str) -> Result<Vec<String>, SearchVectorsError> {
     let mut words = Vec::new(alloc);
     for word in quoted.split(' ') {
         words.push(plain(alloc, word)?)?;
@@ -31,7 +31,7 @@ fn answer_text(
     alloc: Global,
     outcome: &Result<Status, ProgramFault>,
     written: &[u8],
-) -> Result<String, Fault> {
+) -> Result<String, SearchVectorsError> {
     let mut text = String::new(alloc);
     write!(text, "{} ", exit_status(outcome))?;
     match outcome {

@@ -1,6 +1,6 @@
 //! The cases of the table: words, an input, and the answers that are allowed.
 
-use crate::fault::Fault;
+use crate::fault::SearchVectorsError;
 
 /// A line of the table.
 #[derive(Clone, Copy)]
@@ -13,10 +13,10 @@ pub struct Case<'t> {
     pub allowed: &'t str,
 }
 
-/// Cuts a line into its columns. Fails with `Fault::Table` if it has too few.
-pub fn case_of(line: &str) -> Result<Case<'_>, Fault> {
-    let (words, rest) = line.split_once('\t').ok_or(Fault::Table)?;
-    let (input, allowed) = rest.split_once('\t').ok_or(Fault::Table)?;
+/// Cuts a line into its columns. Fails with `SearchVectorsError::Table` if it has too few.
+pub fn case_of(line: &str) -> Result<Case<'_>, SearchVectorsError> {
+    let (words, rest) = line.split_once('\t').ok_or(SearchVectorsError::Table)?;
+    let (input, allowed) = rest.split_once('\t').ok_or(SearchVectorsError::Table)?;
     Ok(Case {
         words,
         input,

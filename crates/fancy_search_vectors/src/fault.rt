@@ -5,7 +5,7 @@ use std::io;
 
 /// Why the cases could not be compared.
 #[derive(Debug, Drop)]
-pub enum Fault {
+pub enum SearchVectorsError {
     /// A line of the table is not a case.
     Table,
     /// Standard input or output failed.
@@ -14,20 +14,20 @@ pub enum Fault {
     Memory,
 }
 
-impl From<AllocError> for Fault {
-    fn from(_: AllocError) -> Fault {
-        Fault::Memory
+impl From<AllocError> for SearchVectorsError {
+    fn from(_: AllocError) -> SearchVectorsError {
+        SearchVectorsError::Memory
     }
 }
 
-impl<T: Drop> From<AllocFailed<T>> for Fault {
-    fn from(_: AllocFailed<T>) -> Fault {
-        Fault::Memory
+impl<T: Drop> From<AllocFailed<T>> for SearchVectorsError {
+    fn from(_: AllocFailed<T>) -> SearchVectorsError {
+        SearchVectorsError::Memory
     }
 }
 
-impl From<io::Error> for Fault {
-    fn from(_: io::Error) -> Fault {
-        Fault::System
+impl From<io::Error> for SearchVectorsError {
+    fn from(_: io::Error) -> SearchVectorsError {
+        SearchVectorsError::System
     }
 }

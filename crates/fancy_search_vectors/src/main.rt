@@ -5,7 +5,7 @@
 #![tactic(auto)]
 
 use case::{Case, case_of};
-use fault::Fault;
+use fault::SearchVectorsError;
 use std::io;
 use std::process::ExitCode;
 
@@ -24,7 +24,7 @@ fn main(rt: HostRuntime) -> ExitCode {
 
 /// Compares each case of the table and prints the totals. Returns whether all cases agree. Fails as `case_of` does, and if
 /// standard input or output fails.
-fn compare_all(rt: &HostRuntime) -> Result<bool, Fault> {
+fn compare_all(rt: &HostRuntime) -> Result<bool, SearchVectorsError> {
     let table = io::read_to_string(rt.alloc(), rt.stdin())?;
     let mut cases: usize = 0;
     let mut agreeing: usize = 0;
@@ -43,7 +43,7 @@ fn compare_all(rt: &HostRuntime) -> Result<bool, Fault> {
 }
 
 /// Whether the case of this line agrees. If not, prints it and the actual answer.
-fn compare(rt: &HostRuntime, line: &str) -> Result<bool, Fault> {
+fn compare(rt: &HostRuntime, line: &str) -> Result<bool, SearchVectorsError> {
     let case = case_of(line)?;
     let found = answer::answer(rt.alloc(), &case)?;
     if allows(&case, &found) {

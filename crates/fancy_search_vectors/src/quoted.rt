@@ -1,6 +1,6 @@
 //! Percent-encoded texts: `%`, and each byte that is not a visible ASCII character, is `%` and two hexadecimal digits.
 
-use crate::fault::Fault;
+use crate::fault::SearchVectorsError;
 use percent_encoding::{AsciiSet, CONTROLS, percent_decode_str, utf8_percent_encode};
 use std::alloc::{AllocError, Global};
 
@@ -18,11 +18,11 @@ pub fn plain_bytes(alloc: Global, quoted: &str) -> Result<Vec<u8>, AllocError> {
     Ok(bytes)
 }
 
-/// Decodes a percent-encoded text. Fails with `Fault::Table` if the bytes are not UTF-8, or with `Fault::Memory`.
-pub fn plain(alloc: Global, quoted: &str) -> Result<String, Fault> {
+/// Decodes a percent-encoded text. Fails with `SearchVectorsError::Table` if the bytes are not UTF-8, or with `SearchVectorsError::Memory`.
+pub fn plain(alloc: Global, quoted: &str) -> Result<String, SearchVectorsError> {
     let bytes = plain_bytes(alloc, quoted)?;
     match str::from_utf8(&bytes) {
         Ok(text) => Ok(String::from_str(alloc, text)?),
-        Err(_) => Err(Fault::Table),
+        Err(_) => Err(SearchVectorsError::Table),
     }
 }

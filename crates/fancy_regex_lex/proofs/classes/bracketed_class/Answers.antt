@@ -1,6 +1,6 @@
 use Rattle.std.proofs.Common.{chars, sym, ◌∙◌, subst}
 use Rattle.std.proofs.lemmas.Result.{err_from_is_err_and}
-use Rattle.fancy_regex_text.specs.Fault.{Fails}
+use Rattle.fancy_regex_text.specs.ParseFault.{Fails}
 use Rattle.fancy_regex_lex.proofs.ClassPartLemmas.{class_text}
 use Rattle.fancy_regex_lex.proofs.classes.bracketed_class.Goals as goal
 

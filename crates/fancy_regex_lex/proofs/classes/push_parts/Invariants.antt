@@ -1,5 +1,5 @@
 use Rattle.std.proofs.Common.{◌≡◌, ◌≤◌, ◌<◌, ◌+◌, ℕ, length, chars, string_bytes, IsUtf8}
-use Rattle.fancy_regex_text.specs.Fault.{prepend}
+use Rattle.fancy_regex_text.specs.ParseFault.{prepend}
 use Rattle.fancy_regex_lex.specs.Classes.{class_parts}
 use Rattle.fancy_regex_lex.proofs.classes.push_parts.Given as goal
 

@@ -1,6 +1,6 @@
 use Rattle.std.proofs.Common.{rules, chars, length, sym, ap, ◌∙◌, refl, subst, arith}
 use Rattle.std.proofs.lemmas.Result.{err_from_is_err_and}
-use Rattle.fancy_regex_text.specs.Fault.{Gives, Fails}
+use Rattle.fancy_regex_text.specs.ParseFault.{Gives, Fails}
 use Rattle.fancy_regex_lex.proofs.FlagLetterLemmas.{letter_goes, letter_fails, letters_end, end_next}
 use Rattle.fancy_regex_lex.proofs.flags.flag_letters.Goals as goal
 

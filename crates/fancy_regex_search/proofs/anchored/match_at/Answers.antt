@@ -3,7 +3,7 @@ use Rattle.std.specs.Prelude.{option_map}
 use Rattle.fancy_regex_meta.specs.FoundParts.{found_parts, wanted_parts}
 use Rattle.fancy_regex_meta.specs.MemberSearches.{meta_match_at}
 use Rattle.fancy_regex_meta.specs.MetaMatches.{meta_pattern}
-use Rattle.fancy_regex_meta.specs.declared.found.Wanted.TheVariants.{Groups}
+use Rattle.fancy_regex_meta.specs.declared.found.MatchDetail.TheVariants.{Groups}
 use Rattle.fancy_regex_search.proofs.OffsetLemmas.{some-of, parts-of}
 use Rattle.fancy_regex_search.proofs.anchored.match_at.Goals as goal
 

@@ -1,7 +1,7 @@
 use Rattle.std.proofs.Common.{ap, ◌∙◌, chars, refl}
 use Rattle.std.proofs.lemmas.Str.{chars-IsAscii}
 use Rattle.std.proofs.lemmas.Str.Ascii.{IsAscii-from_all}
-use Rattle.fancy_regex_text.specs.Fault.{general_parse_error}
+use Rattle.fancy_regex_text.specs.ParseFault.{general_parse_error}
 use Rattle.fancy_regex_tree.proofs.Words.{all_below}
 use Rattle.fancy_regex_tree.proofs.parser.general_error.Goals as goal
 

@@ -14,7 +14,7 @@ use Rattle.std_alloc.proofs.SendSync.{quiet, lies}
 use Rattle.fancy_regex_meta.proofs.Sending.{regex_send}
 use Rattle.fancy_regex_ffi.specs.Handles.{owns_if_live, token}
 use Rattle.fancy_regex_ffi.specs.contracts.held.Held.{the_row as held_row}
-use Rattle.fancy_regex_ffi.proofs.fault.Fault.TheSendSync as fault
+use Rattle.fancy_regex_ffi.proofs.fault.CallError.TheSendSync as fault
 use Rattle.fancy_regex_ffi.specs.contracts.handle.Handle.{the_row, the_type}
 
 -- what a handle holds, of which the toolchain writes no such proof, since a program may hold a tree

@@ -8,7 +8,7 @@ use Rattle.fancy_regex_meaning.specs.Choices.{choices}
 use Rattle.fancy_regex_meta.specs.Patterns.{tree_in}
 use Rattle.fancy_regex_meta.specs.MetaMatches.{meta_pattern}
 use Rattle.fancy_regex_meta.specs.FoundParts.{wanted_parts}
-use Rattle.fancy_regex_meta.specs.declared.found.Wanted.TheVariants.{Groups}
+use Rattle.fancy_regex_meta.specs.declared.found.MatchDetail.TheVariants.{Groups}
 use Rattle.fancy_regex_meta.specs.MemberSearches.{member_setting, member_search, member_input}
 use Rattle.fancy_regex_meta.specs.SearchLimits.{IsSearchError, meta_tree, meta_uses_easy}
 use Rattle.fancy_regex_meta.proofs.SearchLemmas.{IsSearchError-prop, IsStrategyError-prop}

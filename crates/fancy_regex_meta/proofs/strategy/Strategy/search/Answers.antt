@@ -7,7 +7,7 @@ use Rattle.fancy_regex_class.specs.RunInputs.{setting_for, match_slots}
 use Rattle.fancy_regex_meta.specs.SeekTables.{IsSeekTable}
 use Rattle.fancy_regex_meta.specs.FoundParts.{parts_in}
 use Rattle.fancy_regex_meta.specs.Strategies.{IsCompiled, run_options_of, search_of}
-use Rattle.fancy_regex_meta.specs.declared.found.Wanted.TheVariants.{Groups}
+use Rattle.fancy_regex_meta.specs.declared.found.MatchDetail.TheVariants.{Groups}
 use Rattle.fancy_regex_meta.proofs.SeekLemmas.{CanSeek}
 use Rattle.fancy_regex_meta.proofs.MatchOffsetLemmas.{first-parts}
 use Rattle.fancy_regex_meta.proofs.ProgramLemmas.{program-answers, program-spans, span-parts, span-error, run-requirements, program-limits, program-stays, span-stays}

@@ -1,7 +1,7 @@
 use Rattle.std.proofs.Common.{◌≡◌, ◌∙◌, max, sym, ap, Some, None, false}
 use Rattle.std.specs.Prelude.{option_map}
 use Rattle.fancy_regex_meta.specs.FoundParts.{found_parts, wanted_parts}
-use Rattle.fancy_regex_meta.specs.declared.found.Wanted.TheVariants.{Groups}
+use Rattle.fancy_regex_meta.specs.declared.found.MatchDetail.TheVariants.{Groups}
 use Rattle.fancy_regex_meta.specs.MetaMatches.{meta_pattern, meta_match_from}
 use Rattle.fancy_regex_search.proofs.OffsetLemmas.{some-of, none-of, parts-of, found-is}
 use Rattle.fancy_regex_search.proofs.regex.Regex.captures_input.Goals as goal

@@ -26,14 +26,14 @@ pub data Kind : Type 0 where
   invalid_group_name_backref : Text → Kind
 
 -- a parse error
-pub record Fault : Type 0 where
+pub record ParseFault : Type 0 where
   pub kind : Kind
   -- the number of bytes from the position of the error to the end of the pattern
   pub left : ℕ
 
 -- the result of parsing: a value, or the first error
 abbrev pub ParseOutcome : Type 0 → Type 0
-ParseOutcome A = Result A Fault
+ParseOutcome A = Result A ParseFault
 
 -- one parsing step and then another, where each may fail
 infixl 10 ◌>>=◌
@@ -66,7 +66,7 @@ kind_of (InvalidGroupNameBackref s) = invalid_group_name_backref (chars (string_
 
 -- this error of the code is the error of the definition; want of memory says nothing
 abbrev pub Fails : {A : Type 0} → ReadError → ParseOutcome A → Type 0
-Fails (errors.Fault f) read = read ≡ Err (record { kind = kind_of f.kind; left = f.left })
+Fails (errors.ParseFault f) read = read ≡ Err (record { kind = kind_of f.kind; left = f.left })
 Fails errors.Memory read = Unit {0}
 
 -- what a function returned, converted by `view`, is the result of the definition; want of memory says nothing
@@ -82,5 +82,5 @@ prepend front (Err e) = Err e
 -- a function failed with this kind at the position where the text begins, or for want of memory
 abbrev pub Stops : {X : Type 0} → Result X ReadError → Kind → Text → Type 0
 Stops (Ok x) kind t = ⊥
-Stops (Err (errors.Fault f)) kind t = (kind_of f.kind ≡ kind) × (f.left ≡ bytes t)
+Stops (Err (errors.ParseFault f)) kind t = (kind_of f.kind ≡ kind) × (f.left ≡ bytes t)
 Stops (Err errors.Memory) kind t = Unit {0}
