@@ -67,7 +67,7 @@ spaced n c rest fits other token =
     let clipped : min (value 10 (decimal n)) unbounded ≡ n = omega (arith, written.1) in
     record {
       digits = decimal n ++ (c ∷ rest);
-      following = c ∷ rest;
+      after = c ∷ rest;
       layout_before = skipped (digits_are_token (decimal n) (c ∷ rest) written.0);
       number = some_digits (run_of (decimal n) (c ∷ rest) written.0 (at_other other)) (subst (λ (k : ℕ). IsNumber (decimal n) k) clipped (a_number written.0));
       layout_after = skipped token;
