@@ -85,30 +85,30 @@ no_node_shows n e t none h =
     clash (some_node (is_invalid_node n) t) (some_node_keeps (shows n e) (is_invalid_node n) (shows_faulty n e) t h) none
 
 -- Each refusal holds.
-abbrev pub Told : AnalyzeContext → Bool → Tree → CompileError → Type 0
-Told context is_marked t e = (is_memory e ≡ true) ⊎ ErrorHolds context is_marked t e
+abbrev pub IsMemoryOrHolds : AnalyzeContext → Bool → Tree → CompileError → Type 0
+IsMemoryOrHolds context is_marked t e = (is_memory e ≡ true) ⊎ ErrorHolds context is_marked t e
 
 module _ (context : AnalyzeContext) (is_marked : Bool) (t : Tree) where
   abbrev groups : List Tree
   groups = (pattern_in context.explicit_capture_group_0 t).groups
 
   abbrev Here : CompileError → Type 0
-  Here = Told context is_marked t
+  Here = IsMemoryOrHolds context is_marked t
 
-  pub memory_told : (e : CompileError) → e ≡ Memory → Here e
-  memory_told e is = inl (ap is_memory is)
+  pub memory_error_holds : (e : CompileError) → e ≡ Memory → Here e
+  memory_error_holds e is = inl (ap is_memory is)
 
-  pub mark_told : is_marked ≡ true → Here NamedBackrefOnly
-  mark_told h = inr (inl h)
+  pub mark_error_holds : is_marked ≡ true → Here NamedBackrefOnly
+  mark_error_holds h = inr (inl h)
 
-  pub node_told : (n : ℕ) (e : CompileError) → n ≡ length groups → (is_memory e || some_node (shows n e) t) ≡ true → Here e
-  node_told n e is h =
+  pub node_error_holds : (n : ℕ) (e : CompileError) → n ≡ length groups → (is_memory e || some_node (shows n e) t) ≡ true → Here e
+  node_error_holds n e is h =
       ⊎_elim (λ m. inl m)
       (λ s. inr (inr (inl (subst (λ k. some_node (shows k e) t ≡ true) is s))))
       (or_cases (is_memory e) (some_node (shows n e) t) h)
 
-  pub end_told : (gs : List Tree) (e : CompileError) → gs ≡ groups → (is_memory e || (never_ends gs t && is_never_ending e)) ≡ true → Here e
-  end_told gs e is h =
+  pub end_error_holds : (gs : List Tree) (e : CompileError) → gs ≡ groups → (is_memory e || (never_ends gs t && is_never_ending e)) ≡ true → Here e
+  end_error_holds gs e is h =
       ⊎_elim (λ m. inl m)
       (λ s.
       subst Here (sym (never_ending_is e (and_right (never_ends gs t) (is_never_ending e) s)))
@@ -121,9 +121,9 @@ module _ (context : AnalyzeContext) (is_marked : Bool) (t : Tree) where
       let same = ap properties_in is ∙ own groups (is_read (length groups) t) (pattern_in context.explicit_capture_group_0 t).first_group t in
       (ap (λ f. f.size) same, ap (λ f. f.weight) same)
 
-  pub root_told : (x : InfoTree) (e : CompileError) → x ≡ analysis context.explicit_capture_group_0 t →
+  pub root_error_holds : (x : InfoTree) (e : CompileError) → x ≡ analysis context.explicit_capture_group_0 t →
       is_root_error context.find_not_empty (properties_in x) e ≡ true → Here e
-  root_told x e is h =
+  root_error_holds x e is h =
       let f = properties_in x in
       let known = root_facts x is in
       ⊎_elim
@@ -148,19 +148,19 @@ module _ (context : AnalyzeContext) (is_marked : Bool) (t : Tree) where
       ap (λ s. is_on_cycle (map (first_calls s) gs) k) (sym (fun_ext known))
       ∙ ap (λ us. is_on_cycle (map (first_calls (size us)) us) k) is
 
-  pub start_told : (gs : List Tree) (sizes : List code.Size) (e : CompileError) → gs ≡ groups → AreCallSizes gs sizes →
+  pub start_error_holds : (gs : List Tree) (sizes : List code.Size) (e : CompileError) → gs ≡ groups → AreCallSizes gs sizes →
       (is_memory e ≡ true) ⊎ ((k : ℕ) × (e ≡ LeftRecursiveSubroutineCall k)
       × (is_on_cycle (map (first_calls (size_with (size_at sizes))) gs) k ≡ true)) → Here e
-  start_told gs sizes e is known h =
+  start_error_holds gs sizes e is known h =
       ⊎_elim (λ m. inl m)
       (λ r.
       subst Here (sym r.1) (inr (inl (left_recursive groups r.0 (sym (recursion_is gs sizes r.0 is known) ∙ r.2)))))
       h
 
   -- what is written out stands in bodies whose sizes are known
-  pub part_told : (gs : List Tree) (sizes : List code.Size) (e : CompileError) → gs ≡ groups → AreCallSizes gs sizes →
+  pub part_error_holds : (gs : List Tree) (sizes : List code.Size) (e : CompileError) → gs ≡ groups → AreCallSizes gs sizes →
       (is_memory e ≡ true) ⊎ SomeEmittedPart gs t (stops (size_with (size_at sizes)) e) → Here e
-  part_told gs sizes e is known h =
+  part_error_holds gs sizes e is known h =
       ⊎_elim (λ m. inl m)
       (λ p.
       inr (inr (inr (subst (λ us. SomeEmittedPart us t (stops (size us) e)) is

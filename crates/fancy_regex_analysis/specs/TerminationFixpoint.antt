@@ -1,4 +1,4 @@
--- Termination by fixpoint iteration: each round follows calls one level deeper.
+-- Termination by fixpoint iteration: each iteration follows calls one level deeper.
 use Rattle.std.specs.Prelude.{ℕ, zero, suc, Bool, true, false, not, ◌&&◌, List, [], ◌∷◌, slice_get, Option, Some, None}
 use Rattle.fancy_regex_tree.specs.Tree.{Tree}
 use Rattle.fancy_regex_meaning.specs.Sizes.{target, calls_in}
@@ -22,10 +22,10 @@ end_of_target f (Some body) = f body
 abbrev pub next_end : List Tree → (ℕ → Bool) → ℕ → Bool
 next_end groups call k = end_of_target (can_end_with call) (target groups k)
 
--- whether calls can end after so many rounds
-unfoldable pub can_end_in_round : List Tree → ℕ → ℕ → Bool
-can_end_in_round groups zero k = end_of_target (λ body. false) (target groups k)
-can_end_in_round groups (suc n) k = next_end groups (can_end_in_round groups n) k
+-- whether calls can end after so many iterations
+unfoldable pub iterated_end : List Tree → ℕ → ℕ → Bool
+iterated_end groups zero k = end_of_target (λ body. false) (target groups k)
+iterated_end groups (suc n) k = next_end groups (iterated_end groups n) k
 
 abbrev pub is_some_list : List ℕ → Bool
 is_some_list [] = false

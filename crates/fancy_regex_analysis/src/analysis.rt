@@ -39,7 +39,8 @@ pub fn analyze<'a>(
     requires { context.find_not_empty ≡ true → context.explicit_capture_group_0 ≡ false }
     ensures answer { IfOk result (λ info. info_of info ≡ analysis context.explicit_capture_group_0 (tree_of tree.now.expr)) }
     ensures refused { IfErr result (λ e. (is_memory e ≡ true) ⊎ ErrorHolds context tree.now.named_backref_only (tree_of tree.now.expr) e) }
-    ensures complete { IfOk result (λ _. (e : CompileError) → ErrorHolds context tree.now.named_backref_only (tree_of tree.now.expr) e → ⊥) }
+    ensures complete { IfOk result (λ _. (e : CompileError)
+        → ErrorHolds context tree.now.named_backref_only (tree_of tree.now.expr) e → ⊥) }
     ensures nodes { IfOk result (λ _. has_invalid_node context.explicit_capture_group_0 (tree_of tree.now.expr) ≡ false) }
     ensures parts { IfOk result (λ _. HasUnsupportedPart context.explicit_capture_group_0 (tree_of tree.now.expr) → ⊥) }
 {
@@ -59,7 +60,8 @@ pub fn analyze<'a>(
 
 /// Refuses a pattern with subroutine calls in which every path calls again, with `NeverEndingRecursion`.
 fn check_termination(alloc: Global, expr: &Expr, groups: &[&Expr]) -> Result<(), CompileError>
-    ensures refused { IfErr result (λ e. (is_memory e || (never_ends (map body_tree groups.now) (tree_of expr.now) && is_never_ending e)) ≡ true) }
+    ensures refused { IfErr result
+        (λ e. (is_memory e || (never_ends (map body_tree groups.now) (tree_of expr.now) && is_never_ending e)) ≡ true) }
     ensures complete { IfOk result (λ _. never_ends (map body_tree groups.now) (tree_of expr.now) ≡ false) }
 {
     let mut calls = Vec::new(alloc);

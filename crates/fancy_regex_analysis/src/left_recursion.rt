@@ -102,7 +102,8 @@ fn add_first_calls(expr: &Expr, sizes: &[Size], calls: &mut Vec<usize>) -> Resul
 /// The calls of a concatenation, up to the first item of least size above 0.
 #[cycle(starts)]
 fn add_row_starts(parts: &[Expr], sizes: &[Size], calls: &mut Vec<usize>) -> Result<(), AllocError>
-    ensures { IfOk result (λ _. calls.new.items ≡ calls.old.items ++ first_calls_in_row (size_with (size_at sizes.now)) (trees (map tree_of parts.now))) }
+    ensures { IfOk result (λ _. calls.new.items ≡ calls.old.items
+        ++ first_calls_in_row (size_with (size_at sizes.now)) (trees (map tree_of parts.now))) }
 {
     for part in parts {
         add_first_calls(part, sizes, calls)?;
@@ -116,7 +117,8 @@ fn add_row_starts(parts: &[Expr], sizes: &[Size], calls: &mut Vec<usize>) -> Res
 /// The calls of each child, where each stands at the start of the node.
 #[cycle(starts)]
 fn add_child_starts(node: &Expr, sizes: &[Size], calls: &mut Vec<usize>) -> Result<(), AllocError>
-    ensures { IfOk result (λ _. calls.new.items ≡ calls.old.items ++ flat_map (first_calls (size_with (size_at sizes.now))) (subtrees (tree_of node.now))) }
+    ensures { IfOk result (λ _. calls.new.items ≡ calls.old.items
+        ++ flat_map (first_calls (size_with (size_at sizes.now))) (subtrees (tree_of node.now))) }
 {
     for child in node.subtrees_iter() {
         add_first_calls(child, sizes, calls)?;

@@ -5,7 +5,7 @@ ghost use Rattle.std.specs.List.{list_all};
 ghost use Rattle.fancy_regex_tree.specs.Tree.{tree_of, trees};
 ghost use Rattle.fancy_regex_tree.specs.Traversal.{subtrees};
 ghost use Rattle.fancy_regex_meaning.specs.Termination.{can_end_with, some_can_end};
-ghost use Rattle.fancy_regex_analysis.specs.TerminationFixpoint.{ends_in, next_end, can_end_in_round};
+ghost use Rattle.fancy_regex_analysis.specs.TerminationFixpoint.{ends_in, next_end, iterated_end};
 ghost use Rattle.fancy_regex_info.specs.Views.{body_tree};
 
 use crate::flow::{Flow, flow_of};
@@ -70,13 +70,13 @@ fn some_can_end_in(branches: &[Expr], ends: &[bool]) -> bool
     false
 }
 
-/// For each group, whether its body has a terminating path. Each round follows calls one level deeper; at most as many
-/// rounds as there are groups. Fails only if memory runs out.
+/// For each group, whether its body has a terminating path. Each iteration follows calls one level deeper; at most as many
+/// iterations as there are groups. Fails only if memory runs out.
 pub(crate) fn ending_groups(alloc: Global, groups: &[&Expr]) -> Result<Vec<bool>, AllocError>
-    ensures { IfOk result (λ ends. (k : ℕ) → ends_in ends.items k ≡ can_end_in_round (map body_tree groups.now) (length groups.now) k) }
+    ensures { IfOk result (λ ends. (k : ℕ) → ends_in ends.items k ≡ iterated_end (map body_tree groups.now) (length groups.now) k) }
 {
     let mut ends = vec![in alloc; false; groups.len()]?;
-    for _round in 0..groups.len() {
+    for _iteration in 0..groups.len() {
         let next = next_ends(alloc, groups, &ends)?;
         if are_same_marks(&next, &ends) {
             return Ok(ends);
@@ -86,7 +86,7 @@ pub(crate) fn ending_groups(alloc: Global, groups: &[&Expr]) -> Result<Vec<bool>
     Ok(ends)
 }
 
-/// One round: termination with calls followed one level deeper.
+/// One iteration: termination with calls followed one level deeper.
 fn next_ends(alloc: Global, groups: &[&Expr], ends: &[bool]) -> Result<Vec<bool>, AllocError>
     ensures { IfOk result (λ next. (k : ℕ) → ends_in next.items k ≡ next_end (map body_tree groups.now) (ends_in ends.now) k) }
 {

@@ -86,7 +86,8 @@ fn check_body(
     inside: Inside,
     calls: &mut Vec<EmittedCall>,
 ) -> Result<(), CompileError>
-    ensures refused { IfErr result (λ e. (is_memory e || some_emitted (stops (size_with (size_at sizes.now)) e) inside (tree_of expr.now)) ≡ true) }
+    ensures refused { IfErr result
+        (λ e. (is_memory e || some_emitted (stops (size_with (size_at sizes.now)) e) inside (tree_of expr.now)) ≡ true) }
     ensures complete { IfOk result (λ _. some_emitted (is_unsupported (size_with (size_at sizes.now))) inside (tree_of expr.now) ≡ false) }
     ensures calls { IfOk result (λ _. calls.new.items ≡ calls.old.items ++ emitted_calls inside (tree_of expr.now)) }
 {
@@ -98,8 +99,10 @@ fn check_body(
 
 /// Checks each of these parts.
 fn check_parts(alloc: Global, parts: &[EmittedPart<'_>], sizes: &[Size]) -> Result<(), CompileError>
-    ensures refused { IfErr result (λ e. (is_memory e || list_any (λ part. stops (size_with (size_at sizes.now)) e part.0 part.1) (map part_at parts.now)) ≡ true) }
-    ensures complete { IfOk result (λ _. list_any (λ part. is_unsupported (size_with (size_at sizes.now)) part.0 part.1) (map part_at parts.now) ≡ false) }
+    ensures refused { IfErr result
+        (λ e. (is_memory e || list_any (λ part. stops (size_with (size_at sizes.now)) e part.0 part.1) (map part_at parts.now)) ≡ true) }
+    ensures complete { IfOk result
+        (λ _. list_any (λ part. is_unsupported (size_with (size_at sizes.now)) part.0 part.1) (map part_at parts.now) ≡ false) }
 {
     for part in parts {
         check_node(alloc, part.expr, sizes, part.inside)?;

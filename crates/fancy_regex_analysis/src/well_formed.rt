@@ -18,7 +18,8 @@ use fancy_regex_tree::{AstNode, Expr, ExprTree};
 /// bound is above its upper bound, and the fields `backrefs`, `contains_subroutines` and `total_groups` agree with the
 /// nodes. Allocates nothing; recursion is as deep as the tree.
 pub fn is_well_formed(tree: &ExprTree) -> bool
-    ensures { IsTrue result ↔ IsWellFormed (tree_of tree.now.expr) tree.now.total_groups tree.now.contains_subroutines (contains nat_cmp tree.now.backrefs) }
+    ensures { IsTrue result
+        ↔ IsWellFormed (tree_of tree.now.expr) tree.now.total_groups tree.now.contains_subroutines (contains nat_cmp tree.now.backrefs) }
 {
     nodes_agree(tree) && groups_agree(tree) && calls_agree(tree) && references_agree(tree)
 }
@@ -45,7 +46,8 @@ fn calls_agree(tree: &ExprTree) -> bool
 }
 
 fn references_agree(tree: &ExprTree) -> bool
-    ensures { IsTrue result ↔ ((k : ℕ) → contains nat_cmp tree.now.backrefs k ≡ is_named_in tree.now.total_groups (tree_of tree.now.expr) k) }
+    ensures { IsTrue result
+        ↔ ((k : ℕ) → contains nat_cmp tree.now.backrefs k ≡ is_named_in tree.now.total_groups (tree_of tree.now.expr) k) }
 {
     !has_unlisted_reference(tree) && !has_unknown_reference(tree)
 }
@@ -120,7 +122,9 @@ fn back_group(node: &Expr) -> Option<usize>
 
 /// Whether a back reference or condition names a group within the total that is missing in the field `backrefs`.
 fn has_unlisted_reference(tree: &ExprTree) -> bool
-    ensures { result ≡ list_any (λ u. is_unlisted_reference tree.now.total_groups (contains nat_cmp tree.now.backrefs) (back_group u)) (nodes (tree_of tree.now.expr)) }
+    ensures { result ≡ list_any
+        (λ u. is_unlisted_reference tree.now.total_groups (contains nat_cmp tree.now.backrefs) (back_group u))
+        (nodes (tree_of tree.now.expr)) }
 {
     tree.expr.any_node(|node| is_unlisted_reference(tree, node))
 }

@@ -73,7 +73,8 @@ pub(crate) fn add_class_starts(
     unicode: bool,
     set: &mut ByteSet,
 ) -> Result<(), ClassError>
-    ensures members { IfOk result (λ _. has set.new ≡ either_bytes (class_starts (in_class unicode (chars class.now) casei)) (has set.old)) }
+    ensures members { IfOk result (λ _. has set.new
+        ≡ either_bytes (class_starts (in_class unicode (chars class.now) casei)) (has set.old)) }
     ensures refused { IfErr result (IsStartError unicode (delegate (chars class.now) casei)) }
 {
     let matcher = CharClassMatcher::new(alloc, class, casei, unicode)?;

@@ -84,11 +84,12 @@ struct StartWalk<'w> {
 }
 
 /// Adds the bytes that a match of the node may read first; a node that takes nothing reads none. False if they are not
-/// known; then some of them may have been added.
+/// known, as those of a node that is not named here; then some of them may have been added.
 #[tactic(auto, unfolding(crate::specs::StartBytes::start_set))]
 #[cycle(start)]
 fn add_start_set(walk: StartWalk<'_>, expr: &Expr, set: &mut ByteSet) -> Result<bool, ClassError>
-    ensures bytes { IfOk result (λ known. if_known known (has set.new) ≡ either_set (start_set_in walk.entry.unicode walk.entry.sizes.now (tree_of expr.now)) (Some (has set.old))) }
+    ensures bytes { IfOk result (λ known. if_known known (has set.new)
+        ≡ either_set (start_set_in walk.entry.unicode walk.entry.sizes.now (tree_of expr.now)) (Some (has set.old))) }
     ensures refused { IfErr result (IsStartError walk.entry.unicode (tree_of expr.now)) }
 {
     match expr {
@@ -114,9 +115,7 @@ fn add_start_set(walk: StartWalk<'_>, expr: &Expr, set: &mut ByteSet) -> Result<
         Expr::ContinueFromPreviousMatchEnd | Expr::BackrefExistsCondition { .. } => Ok(true),
         Expr::BacktrackingControlVerb(_) | Expr::DefineGroup { .. } => Ok(true),
         Expr::AstNode(node, _) => Ok(is_unresolved_and_empty(node)),
-        Expr::Any { .. } | Expr::LiteralBytes { .. } | Expr::Backref { .. } => Ok(false),
-        Expr::BackrefWithRelativeRecursionLevel { .. } | Expr::Conditional { .. } => Ok(false),
-        Expr::SubroutineCall(_) | Expr::Absent(_) => Ok(false),
+        _ => Ok(false),
     }
 }
 
@@ -140,7 +139,8 @@ fn add_start_set_of_row(
     parts: &[Expr],
     set: &mut ByteSet,
 ) -> Result<bool, ClassError>
-    ensures bytes { IfOk result (λ known. if_known known (has set.new) ≡ either_set (row_set_in walk.entry.unicode walk.entry.sizes.now (trees (map tree_of parts.now))) (Some (has set.old))) }
+    ensures bytes { IfOk result (λ known. if_known known (has set.new)
+        ≡ either_set (row_set_in walk.entry.unicode walk.entry.sizes.now (trees (map tree_of parts.now))) (Some (has set.old))) }
     ensures refused { IfErr result (AreStartErrors walk.entry.unicode (trees (map tree_of parts.now))) }
 {
     for part in parts {
@@ -161,7 +161,8 @@ fn add_start_set_of_branches(
     branches: &[Expr],
     set: &mut ByteSet,
 ) -> Result<bool, ClassError>
-    ensures bytes { IfOk result (λ known. if_known known (has set.new) ≡ either_set (branches_set_in walk.entry.unicode walk.entry.sizes.now (trees (map tree_of branches.now))) (Some (has set.old))) }
+    ensures bytes { IfOk result (λ known. if_known known (has set.new)
+        ≡ either_set (branches_set_in walk.entry.unicode walk.entry.sizes.now (trees (map tree_of branches.now))) (Some (has set.old))) }
     ensures refused { IfErr result (AreStartErrors walk.entry.unicode (trees (map tree_of branches.now))) }
 {
     for branch in branches {

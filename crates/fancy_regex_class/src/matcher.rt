@@ -42,7 +42,8 @@ ghost use Rattle.fancy_regex_class.specs.Matchers.{RefusesText, IsNoClass};
 /// The characters whose text, as a whole haystack, the pattern matches. The error is `Refused` where `regex` rejects the
 /// pattern, and `Memory` where memory runs out.
 pub(crate) fn members(alloc: Global, written: &str) -> Result<Class, Refusal>
-    ensures members { IfOk result (λ class. (c : ℕ) → IsScalar c → in_ranges class.ranges.items c ≡ text_matches_char (chars written.now) c) }
+    ensures members { IfOk result (λ class. (c : ℕ) → IsScalar c → in_ranges class.ranges.items c ≡ text_matches_char
+        (chars written.now) c) }
     ensures read { IfOk result (λ _. IsTrue (is_read (chars written.now))) }
     ensures refused { IfErr result (λ r. r ≡ Refusal.Refused → RefusesText (chars written.now)) }
 {
@@ -92,7 +93,8 @@ fn single_char(bytes: &[u8]) -> Option<char>
 /// The same characters, found by running a search on the text of every character. The error is `Refused` where `regex`
 /// does not build the pattern, and `Memory` where memory runs out.
 fn members_by_search(alloc: Global, written: &str) -> Result<Class, Refusal>
-    ensures members { IfOk result (λ class. (c : ℕ) → IsScalar c → in_ranges class.ranges.items c ≡ text_matches_char (chars written.now) c) }
+    ensures members { IfOk result (λ class. (c : ℕ) → IsScalar c → in_ranges class.ranges.items c ≡ text_matches_char
+        (chars written.now) c) }
     ensures read { IfOk result (λ _. IsTrue (is_read (chars written.now))) }
 {
     match Regex::new(alloc, written) {

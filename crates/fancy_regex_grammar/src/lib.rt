@@ -10,7 +10,8 @@ pub fn quantifiers_are_exact()
     ensures { QuantifiersAreExact }
 {}
 
-/// The branches of an alternation are parsed exactly as the grammar of atoms, pieces and branches says, or fail at the first part that fails.
+/// The branches of an alternation are parsed exactly as the grammar of atoms, pieces and branches says, or fail at the first part
+/// that fails.
 pub fn branches_are_exact()
     ensures { BranchesAreExact }
 {}
@@ -26,8 +27,8 @@ pub fn patterns_are_prefixes()
     ensures faults { PatternFaultsAreInside }
 {}
 
-/// The parser builds exactly the trees that the grammar gives for sequences of pieces, alternations, conditionals, absent operators, anchors
-/// and escapes.
+/// The parser builds exactly the trees that the grammar gives for sequences of pieces, alternations, conditionals, absent operators,
+/// anchors and escapes.
 pub fn shapes_are_exact()
     ensures { ShapesAreExact }
 {}

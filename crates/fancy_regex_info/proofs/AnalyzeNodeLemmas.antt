@@ -197,7 +197,7 @@ module _ (calls : List code.Size) (read : List Bool) where
         let parts = leaf_cases n t is in
         ap (λ f. known f t no_infos) (fact_leaf n t (size_with call t) (not h) refl parts.0 (ap not (sym easy)) parts.1) ∙ parts.2
 
-    -- round one part
+    -- around one part
     one_known : (n m : ℕ) (t u : Tree) (x : InfoTree) (f : NodeProperties) (wrap : NodeProperties → NodeProperties) → x ≡ D m t → f ≡ wrap (properties_in x) →
         wrap (F m t) ≡ F n u → known (F n u) u (more_infos (D m t) no_infos) ≡ D n u → known f u (more_infos x no_infos) ≡ D n u
     one_known n m t u x f wrap is same fact whole =
@@ -249,7 +249,7 @@ module _ (calls : List code.Size) (read : List Bool) where
         (omega arith)
         (not_both (is_easy R k t) (is_easy R (k + group_count t) u && all_easy R (k + group_count t + group_count u) ts)) refl refl
 
-  -- Each kind of node, round what is known of its parts.
+  -- Each kind of node, around what is known of its parts.
   pub arm_leaf : (n : ℕ) (root : Tree) (h : Bool) (f : NodeProperties) → is_leaf root ≡ true → h ≡ is_easy (mark_at read) n root →
       f ≡ leaf n (size_with call root) (not h) → IsAnalysisOf calls read n root (known f root no_infos)
   arm_leaf n root h f is easy same groups knows fits =

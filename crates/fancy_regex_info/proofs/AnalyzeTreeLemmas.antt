@@ -11,7 +11,7 @@ use Rattle.fancy_regex_info.specs.Analysis.{analysis}
 use Rattle.fancy_regex_info.specs.Infos.{info_of, expected_info}
 use Rattle.fancy_regex_info.specs.Reachability.{rows}
 use Rattle.fancy_regex_info.specs.References.{is_read}
-use Rattle.fancy_regex_info.specs.SizeFixpoint.{is_on_cycle, size_in_round}
+use Rattle.fancy_regex_info.specs.SizeFixpoint.{is_on_cycle, iterated_size}
 use Rattle.fancy_regex_info.specs.AnalysisRelations.{AreCallSizes, mark_at, IsAnalysisOf}
 use Rattle.fancy_regex_info.specs.Views.{size_at, body_tree, pattern_in}
 use Rattle.fancy_regex_info.specs.declared.info.Info.{Info}
@@ -35,19 +35,19 @@ numbers_fit false t = omega (arith, groups_are_counted t)
 pub sizes_known : (gs : List (Bor Expr)) (calls : List (Vec ℕ Global)) (recursive : List Bool) (sizes : List code.Size) →
     rows calls ≡ map calls_in (map body_tree gs) →
     ((k : ℕ) → k < length calls → get_or recursive k false ≡ is_on_cycle (rows calls) k) →
-    ((k : ℕ) → size_at sizes k ≡ size_in_round (map body_tree gs) recursive (length gs) k) → AreCallSizes (map body_tree gs) sizes
+    ((k : ℕ) → size_at sizes k ≡ iterated_size (map body_tree gs) recursive (length gs) k) → AreCallSizes (map body_tree gs) sizes
 sizes_known gs calls recursive sizes made flags settled =
     let ts : List Tree = map body_tree gs in
     let long : length ts ≡ length gs = length_trees gs in
     let lines : length calls ≡ length ts = sym (length_rows calls) ∙ ap length made ∙ length_calls_in ts in
     knows ts recursive
     (λ k lt. reads_at recursive k ∙ flags k (omega (arith, lines)) ∙ ap (λ edges. is_on_cycle edges k) made)
-    sizes (λ k. settled k ∙ ap (λ m. size_in_round ts recursive m k) (sym long))
+    sizes (λ k. settled k ∙ ap (λ m. iterated_size ts recursive m k) (sym long))
 
 pub sizes_known_of : (gs : List (Bor Expr)) (calls : List (Vec ℕ Global)) (recursive : List Bool) (r : Result (Vec code.Size Global) AllocError) →
     rows calls ≡ map calls_in (map body_tree gs) →
     ((k : ℕ) → k < length calls → get_or recursive k false ≡ is_on_cycle (rows calls) k) →
-    IfOk r (λ sizes. (k : ℕ) → size_at sizes.items k ≡ size_in_round (map body_tree gs) recursive (length gs) k) →
+    IfOk r (λ sizes. (k : ℕ) → size_at sizes.items k ≡ iterated_size (map body_tree gs) recursive (length gs) k) →
     IfOk r (λ sizes. AreCallSizes (map body_tree gs) sizes.items)
 sizes_known_of gs calls recursive (Err e) made flags settled = tt
 sizes_known_of gs calls recursive (Ok sizes) made flags settled = sizes_known gs calls recursive sizes.items made flags settled

@@ -6,7 +6,7 @@ use Rattle.std.proofs.Math.Path.{fun_ext}
 use Rattle.fancy_regex_tree.specs.Tree.{Tree}
 use Rattle.fancy_regex_meaning.specs.Sizes.{Size, any_size, unbounded, size, size_with, size_through, endless_size, target, calls_in, calls_through, is_recursive}
 use Rattle.fancy_regex_info.specs.Reachability.{has, following, through}
-use Rattle.fancy_regex_info.specs.SizeFixpoint.{is_on_cycle, size_when, size_of_target, size_in_round}
+use Rattle.fancy_regex_info.specs.SizeFixpoint.{is_on_cycle, size_when, size_of_target, iterated_size}
 use Rattle.fancy_regex_info.specs.AnalysisRelations.{AreCallSizes, mark_at}
 use Rattle.fancy_regex_info.specs.Views.{size_at}
 use Rattle.fancy_regex_info.specs.declared.size.Size as code
@@ -62,7 +62,7 @@ module _ (ts : List Tree) where
     when_is false s = refl
 
     abbrev S : ℕ → ℕ → Size
-    S = size_in_round ts recursive
+    S = iterated_size ts recursive
 
     first_is : (o : Option Tree) → (elim o as (λ x. Size) [ None ↦ any_size | Some body ↦ endless_size ]) ≡ size_of_target (λ body. endless_size) o
     first_is None = refl
@@ -78,11 +78,11 @@ module _ (ts : List Tree) where
         when_is (is_recursive ts k body) (size_through ts n body)
         ∙ ap₂ size_when (sym (flags k (inside ts k body is) ∙ again_is k body is)) (each body)
 
-    rounds_are : (n : ℕ) (t : Tree) → size_through ts n t ≡ size_with (S n) t
-    unfolding size_through size_in_round
-    rounds_are zero t = ap (λ c. size_with c t) (fun_ext (λ k. first_is (target ts k)))
-    rounds_are (suc n) t = ap (λ c. size_with c t) (fun_ext (λ k. next_is n (rounds_are n) k (target ts k) refl))
+    iterations_are : (n : ℕ) (t : Tree) → size_through ts n t ≡ size_with (S n) t
+    unfolding size_through iterated_size
+    iterations_are zero t = ap (λ c. size_with c t) (fun_ext (λ k. first_is (target ts k)))
+    iterations_are (suc n) t = ap (λ c. size_with c t) (fun_ext (λ k. next_is n (iterations_are n) k (target ts k) refl))
 
     pub knows : (sizes : List code.Size) → ((k : ℕ) → size_at sizes k ≡ S (length ts) k) → AreCallSizes ts sizes
     unfolding size
-    knows sizes are t = rounds_are (length ts) t ∙ ap (λ c. size_with c t) (sym (fun_ext are))
+    knows sizes are t = iterations_are (length ts) t ∙ ap (λ c. size_with c t) (sym (fun_ext are))

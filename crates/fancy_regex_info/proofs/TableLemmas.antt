@@ -1,4 +1,4 @@
--- Tables of what is known of each group, and how they are made in rounds.
+-- Tables of what is known of each group, and how they are made in iterations.
 use Rattle.std.proofs.Common.{◌≡◌, ℕ, zero, suc, ◌+◌, ◌-◌, ◌<◌, ◌≤◌, ⊎_elim, Bool, false, List, [], ◌∷◌, ◌++◌, Some, None}
 use Rattle.std.proofs.Common.{map, length, get_or, replicate, Vec, Global, Bor, refl, sym, ap, ap₂, ◌∙◌, arith}
 use Rattle.std.proofs.Math.Path.{fun_ext}
@@ -7,7 +7,7 @@ use Rattle.fancy_regex_tree.specs.Tree.{Tree}
 use Rattle.fancy_regex_tree.specs.declared.expr.Expr.{Expr}
 use Rattle.fancy_regex_meaning.specs.Sizes.{Size, any_size, endless_size, size_with, target}
 use Rattle.fancy_regex_info.specs.Reachability.{rows, has, through}
-use Rattle.fancy_regex_info.specs.SizeFixpoint.{is_on_cycle, size_when, size_of_target, next_size, size_in_round}
+use Rattle.fancy_regex_info.specs.SizeFixpoint.{is_on_cycle, size_when, size_of_target, next_size, iterated_size}
 use Rattle.fancy_regex_info.specs.AnalysisRelations.{mark_at}
 use Rattle.fancy_regex_info.specs.Views.{size_of, size_at, body_tree}
 use Rattle.fancy_regex_info.specs.declared.size.Size as code
@@ -112,43 +112,43 @@ sizes_all gs recursive call xs g long past within before k =
     ∙ sym (ap (size_of_target (λ body. size_when (mark_at recursive k) (size_with call body))) (no_body gs k (omega arith))))
     (cases_lt k g)
 
--- before the first round
-pub first_round : (gs : List (Bor Expr)) (recursive : List Bool) (e : code.Size) (n : ℕ) → n ≡ length gs → size_of e ≡ endless_size →
-    (k : ℕ) → size_at (replicate n e) k ≡ size_in_round (map body_tree gs) recursive 0 k
-unfolding size_in_round
-first_round [] recursive e zero same is k = refl
-first_round [] recursive e (suc n) same is k = absurd (omega arith)
-first_round (g ∷ gs) recursive e zero same is k = absurd (omega arith)
-first_round (g ∷ gs) recursive e (suc n) same is zero = is
-first_round (g ∷ gs) recursive e (suc n) same is (suc k) = first_round gs recursive e n (omega arith) is k
+-- before the first iteration
+pub first_iteration : (gs : List (Bor Expr)) (recursive : List Bool) (e : code.Size) (n : ℕ) → n ≡ length gs → size_of e ≡ endless_size →
+    (k : ℕ) → size_at (replicate n e) k ≡ iterated_size (map body_tree gs) recursive 0 k
+unfolding iterated_size
+first_iteration [] recursive e zero same is k = refl
+first_iteration [] recursive e (suc n) same is k = absurd (omega arith)
+first_iteration (g ∷ gs) recursive e zero same is k = absurd (omega arith)
+first_iteration (g ∷ gs) recursive e (suc n) same is zero = is
+first_iteration (g ∷ gs) recursive e (suc n) same is (suc k) = first_iteration gs recursive e n (omega arith) is k
 
 module _ (groups : List Tree) (recursive : List Bool) where
   abbrev S : ℕ → ℕ → Size
-  S = size_in_round groups recursive
+  S = iterated_size groups recursive
 
-  round_is : (n k : ℕ) → S (suc n) k ≡ next_size groups recursive (S n) k
-  unfolding size_in_round
-  round_is n k = refl
+  iteration_is : (n k : ℕ) → S (suc n) k ≡ next_size groups recursive (S n) k
+  unfolding iterated_size
+  iteration_is n k = refl
 
-  -- a round that is made from the sizes so far
+  -- an iteration that is made from the sizes so far
   pub goes_on : (xs ys : List code.Size) (n : ℕ) → ((k : ℕ) → size_at xs k ≡ S n k) →
       ((k : ℕ) → size_at ys k ≡ next_size groups recursive (size_at xs) k) → (k : ℕ) → size_at ys k ≡ S (n + 1) k
   goes_on xs ys n before made k =
       let one : suc n ≡ n + 1 = omega arith in
-      made k ∙ ap (λ c. next_size groups recursive c k) (fun_ext before) ∙ sym (round_is n k) ∙ ap (λ m. S m k) one
+      made k ∙ ap (λ c. next_size groups recursive c k) (fun_ext before) ∙ sym (iteration_is n k) ∙ ap (λ m. S m k) one
 
   stays : (n : ℕ) → ((k : ℕ) → S (suc n) k ≡ S n k) → (d k : ℕ) → S (d + n) k ≡ S n k
   stays n still zero k = ap (λ m. S m k) (let e : 0 + n ≡ n = omega arith in e)
   stays n still (suc d) k =
       ap (λ m. S m k) (let e : suc d + n ≡ suc (d + n) = omega arith in e)
-      ∙ round_is (d + n) k
+      ∙ iteration_is (d + n) k
       ∙ ap (λ c. next_size groups recursive c k) (fun_ext (stays n still d))
-      ∙ sym (round_is n k) ∙ still k
+      ∙ sym (iteration_is n k) ∙ still k
 
-  -- A round that changes nothing is the last.
+  -- An iteration that changes nothing is the last.
   pub is_last : (xs ys : List code.Size) (n m : ℕ) → n ≤ m → ((k : ℕ) → size_at xs k ≡ S n k) →
       ((k : ℕ) → size_at ys k ≡ next_size groups recursive (size_at xs) k) → ys ≡ xs → (k : ℕ) → size_at xs k ≡ S m k
   is_last xs ys n m le before made same k =
       let still : (j : ℕ) → S (suc n) j ≡ S n j =
-      λ j. round_is n j ∙ ap (λ c. next_size groups recursive c j) (sym (fun_ext before)) ∙ sym (made j) ∙ ap (λ zs. size_at zs j) same ∙ before j in
+      λ j. iteration_is n j ∙ ap (λ c. next_size groups recursive c j) (sym (fun_ext before)) ∙ sym (made j) ∙ ap (λ zs. size_at zs j) same ∙ before j in
       before k ∙ sym (stays n still (m - n) k) ∙ ap (λ j. S j k) (let e : m - n + n ≡ m = omega arith in e)

@@ -1,4 +1,4 @@
--- Sizes of calls by fixpoint iteration: each round follows calls one level deeper.
+-- Sizes of calls by fixpoint iteration: each iteration follows calls one level deeper.
 use Rattle.std.specs.Prelude.{ℕ, zero, suc, Bool, true, false, List, length, Option, Some, None}
 use Rattle.fancy_regex_tree.specs.Tree.{Tree}
 use Rattle.fancy_regex_meaning.specs.Sizes.{Size, unbounded, any_size, endless_size, size_with, target}
@@ -18,11 +18,11 @@ abbrev pub size_of_target : (Tree → Size) → Option Tree → Size
 size_of_target f None = any_size
 size_of_target f (Some body) = f body
 
--- one round
+-- one iteration
 abbrev pub next_size : List Tree → List Bool → (ℕ → Size) → ℕ → Size
 next_size groups recursive call k = size_of_target (λ body. size_when (mark_at recursive k) (size_with call body)) (target groups k)
 
--- the size of a call of group k after n rounds
-unfoldable pub size_in_round : List Tree → List Bool → ℕ → ℕ → Size
-size_in_round groups recursive zero k = size_of_target (λ body. endless_size) (target groups k)
-size_in_round groups recursive (suc n) k = next_size groups recursive (size_in_round groups recursive n) k
+-- the size of a call of group k after n iterations
+unfoldable pub iterated_size : List Tree → List Bool → ℕ → ℕ → Size
+iterated_size groups recursive zero k = size_of_target (λ body. endless_size) (target groups k)
+iterated_size groups recursive (suc n) k = next_size groups recursive (iterated_size groups recursive n) k

@@ -84,21 +84,7 @@ fn parts_of<'a>(
             wrapper_parts(alloc, always(0), child)
         }
         Expr::AstNode(node, _) => parts_of_unresolved(alloc, node, start, calls, read),
-        Expr::Empty | Expr::Any { .. } | Expr::Literal { .. } | Expr::Delegate { .. } => {
-            Ok(leaf_parts(alloc, expr, start, calls))
-        }
-        Expr::Assertion(_) | Expr::GeneralNewline { .. } | Expr::LiteralBytes { .. } => {
-            Ok(leaf_parts(alloc, expr, start, calls))
-        }
-        Expr::Backref { .. } | Expr::BackrefWithRelativeRecursionLevel { .. } => {
-            Ok(leaf_parts(alloc, expr, start, calls))
-        }
-        Expr::KeepOut | Expr::ContinueFromPreviousMatchEnd | Expr::SubroutineCall(_) => {
-            Ok(leaf_parts(alloc, expr, start, calls))
-        }
-        Expr::BackrefExistsCondition { .. } | Expr::BacktrackingControlVerb(_) => {
-            Ok(leaf_parts(alloc, expr, start, calls))
-        }
+        leaf => Ok(leaf_parts(alloc, leaf, start, calls)),
     }
 }
 
@@ -110,7 +96,8 @@ fn parts_of_concat<'a>(
     calls: &[Size],
     read: &[bool],
 ) -> Result<Parts<'a>, AllocError>
-    ensures { IfOk result (λ parts. IsAnalysisOf calls.now read.now start (concat (trees (map tree_of items.now))) (node_of parts (concat (trees (map tree_of items.now))))) }
+    ensures { IfOk result (λ parts. IsAnalysisOf calls.now read.now start (concat (trees (map tree_of items.now)))
+        (node_of parts (concat (trees (map tree_of items.now))))) }
 {
     let row = analyze_row(alloc, items, start, calls, read)?;
     Ok(Parts {
@@ -127,7 +114,8 @@ fn parts_of_alternation<'a>(
     calls: &[Size],
     read: &[bool],
 ) -> Result<Parts<'a>, AllocError>
-    ensures { IfOk result (λ parts. IsAnalysisOf calls.now read.now start (alt (trees (map tree_of branches.now))) (node_of parts (alt (trees (map tree_of branches.now))))) }
+    ensures { IfOk result (λ parts. IsAnalysisOf calls.now read.now start (alt (trees (map tree_of branches.now)))
+        (node_of parts (alt (trees (map tree_of branches.now))))) }
 {
     let row = analyze_row(alloc, branches, start, calls, read)?;
     Ok(Parts {
@@ -145,7 +133,8 @@ fn parts_of_group<'a>(
     calls: &[Size],
     read: &[bool],
 ) -> Result<Parts<'a>, AllocError>
-    ensures { IfOk result (λ parts. IsAnalysisOf calls.now read.now start (group (tree_of body.now)) (node_of parts (group (tree_of body.now)))) }
+    ensures { IfOk result
+        (λ parts. IsAnalysisOf calls.now read.now start (group (tree_of body.now)) (node_of parts (group (tree_of body.now)))) }
 {
     let child = analyze_node(alloc, body, start.saturating_add(1), calls, read)?;
     let properties = group_properties(start, is_marked(read, start), child.properties());
@@ -160,7 +149,8 @@ fn parts_of_absent<'a>(
     calls: &[Size],
     read: &[bool],
 ) -> Result<Parts<'a>, AllocError>
-    ensures { IfOk result (λ parts. IsAnalysisOf calls.now read.now start (absent_tree_of absent.now) (node_of parts (absent_tree_of absent.now))) }
+    ensures { IfOk result
+        (λ parts. IsAnalysisOf calls.now read.now start (absent_tree_of absent.now) (node_of parts (absent_tree_of absent.now))) }
 {
     match absent {
         Absent::Repeater(child) => {
@@ -219,7 +209,8 @@ fn analyze_row<'a>(
     calls: &[Size],
     read: &[bool],
 ) -> Result<Row<'a>, AllocError>
-    ensures { IfOk result (λ row. AreAnalysesOf calls.now read.now start (trees (map tree_of parts.now)) (infos (map info_of row.infos.items)) row.end) }
+    ensures { IfOk result
+        (λ row. AreAnalysesOf calls.now read.now start (trees (map tree_of parts.now)) (infos (map info_of row.infos.items)) row.end) }
 {
     let mut infos = Vec::new(alloc);
     let mut end = start;
@@ -242,7 +233,7 @@ fn leaf_parts<'a>(alloc: Global, expr: &Expr, start: usize, calls: &[Size]) -> P
     }
 }
 
-/// Whether this node without children is easy.
+/// Whether this node without children is easy; one that is not named here is hard.
 #[tactic(auto, unfolding(crate::specs::Easy::is_easy))]
 fn is_easy_leaf(expr: &Expr) -> bool
     ensures { (reads : ℕ → Bool) (n : ℕ) → IsTrue (is_leaf (tree_of expr.now)) → result ≡ is_easy reads n (tree_of expr.now) }
@@ -250,13 +241,7 @@ fn is_easy_leaf(expr: &Expr) -> bool
     match expr {
         Expr::Empty | Expr::Any { .. } | Expr::Literal { .. } | Expr::Delegate { .. } => true,
         Expr::Assertion(assertion) => is_easy_assertion(*assertion),
-        Expr::GeneralNewline { .. } | Expr::LiteralBytes { .. } | Expr::KeepOut => false,
-        Expr::Backref { .. } | Expr::BackrefWithRelativeRecursionLevel { .. } => false,
-        Expr::ContinueFromPreviousMatchEnd | Expr::BackrefExistsCondition { .. } => false,
-        Expr::SubroutineCall(_) | Expr::BacktrackingControlVerb(_) => false,
-        Expr::Concat(_) | Expr::Alt(_) | Expr::Group(_) | Expr::LookAround(_, _) => false,
-        Expr::Repeat { .. } | Expr::AtomicGroup(_) | Expr::Conditional { .. } => false,
-        Expr::DefineGroup { .. } | Expr::Absent(_) | Expr::AstNode(_, _) => false,
+        _ => false,
     }
 }
 
@@ -287,7 +272,8 @@ fn repeat_parts<'a>(
 /// The result for another node with one child, of this size.
 fn wrapper_parts<'a>(alloc: Global, size: Size, child: Info<'a>) -> Result<Parts<'a>, AllocError>
     ensures { IfOk result (λ parts. (t : Tree) → node_of parts t
-        ≡ known (combined.wrapper_properties (size_of size) (properties_in (info_of child.entry))) t (more_infos (info_of child.entry) no_infos)) }
+        ≡ known (combined.wrapper_properties (size_of size) (properties_in (info_of child.entry))) t
+        (more_infos (info_of child.entry) no_infos)) }
 {
     let properties = wrapper_properties(size, child.properties());
     one_part(alloc, properties, child)
@@ -299,7 +285,8 @@ fn one_part<'a>(
     properties: NodeProperties,
     child: Info<'a>,
 ) -> Result<Parts<'a>, AllocError>
-    ensures { IfOk result (λ parts. (t : Tree) → node_of parts t ≡ known (properties_of properties) t (more_infos (info_of child.entry) no_infos)) }
+    ensures { IfOk result (λ parts. (t : Tree) → node_of parts t
+        ≡ known (properties_of properties) t (more_infos (info_of child.entry) no_infos)) }
 {
     let mut children = Vec::new(alloc);
     children.push(child)?;
@@ -317,7 +304,9 @@ fn absent_expression_parts<'a>(
     second: Info<'a>,
 ) -> Result<Parts<'a>, AllocError>
     ensures { IfOk result (λ parts. (t : Tree) → node_of parts t
-        ≡ known (combined.absent_expression_properties (size_of size) (properties_in (info_of first.entry)) (properties_in (info_of second.entry))) t
+        ≡ known
+        (combined.absent_expression_properties (size_of size) (properties_in (info_of first.entry)) (properties_in (info_of second.entry)))
+        t
         (more_infos (info_of first.entry) (more_infos (info_of second.entry) no_infos))) }
 {
     let properties = absent_expression_properties(size, first.properties(), second.properties());
@@ -338,7 +327,10 @@ fn conditional_parts<'a>(
     no: Info<'a>,
 ) -> Result<Parts<'a>, AllocError>
     ensures { IfOk result (λ parts. (t : Tree) → node_of parts t
-        ≡ known (combined.conditional_properties (properties_in (info_of condition.entry)) (properties_in (info_of yes.entry)) (properties_in (info_of no.entry))) t
+        ≡ known
+        (combined.conditional_properties (properties_in (info_of condition.entry)) (properties_in (info_of yes.entry))
+        (properties_in (info_of no.entry)))
+        t
         (more_infos (info_of condition.entry) (more_infos (info_of yes.entry) (more_infos (info_of no.entry) no_infos)))) }
 {
     let properties = conditional_properties(

@@ -137,7 +137,8 @@ pub(crate) fn absent_expression_properties(
 
 /// A concatenation of these items; `start` and `end` are the next group numbers before and after it.
 pub(crate) fn concat_properties(start: usize, end: usize, parts: &[Info]) -> NodeProperties
-    ensures { meant result ≡ combined.concat_properties (combined.sum_properties start end (map (λ i. properties_in (info_of i)) parts.now)) }
+    ensures { meant result
+        ≡ combined.concat_properties (combined.sum_properties start end (map (λ i. properties_in (info_of i)) parts.now)) }
 {
     let mut row = NodeProperties {
         size: always(0),

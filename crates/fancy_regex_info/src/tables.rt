@@ -4,7 +4,7 @@
 ghost use Rattle.std.specs.Prelude.{◌≡◌, ℕ, ◌<◌, false, map, length, IfOk, IsTrue, slice_index_or};
 ghost use Rattle.fancy_regex_meaning.specs.Sizes.{calls_in};
 ghost use Rattle.fancy_regex_info.specs.Reachability.{rows};
-ghost use Rattle.fancy_regex_info.specs.SizeFixpoint.{is_on_cycle, size_when, next_size, size_in_round};
+ghost use Rattle.fancy_regex_info.specs.SizeFixpoint.{is_on_cycle, size_when, next_size, iterated_size};
 ghost use Rattle.fancy_regex_info.specs.AnalysisRelations.{mark_at};
 ghost use Rattle.fancy_regex_info.specs.Views.{size_of as meant, size_at, body_tree};
 
@@ -31,7 +31,8 @@ pub(crate) fn calls_by_group(alloc: Global, groups: &[&Expr]) -> Result<Vec<Vec<
 /// calls. Fails only if memory runs out.
 pub fn recursive_groups(alloc: Global, calls: &[Vec<usize>]) -> Result<Vec<bool>, AllocError>
     ensures length { IfOk result (λ all. length all.items ≡ length calls.now) }
-    ensures marks { IfOk result (λ all. (k : ℕ) → k < length calls.now → slice_index_or all.items k false ≡ is_on_cycle (rows calls.now) k) }
+    ensures marks { IfOk result (λ all. (k : ℕ) → k < length calls.now
+        → slice_index_or all.items k false ≡ is_on_cycle (rows calls.now) k) }
 {
     let mut all = Vec::new(alloc);
     for group in 0..calls.len() {
@@ -63,17 +64,18 @@ pub(crate) fn is_marked(marks: &[bool], group: usize) -> bool
     }
 }
 
-/// The size of a call of each group. Each round follows calls one level deeper; it stops as soon as a round changes
-/// nothing, after as many rounds as there are groups at most.
+/// The size of a call of each group. Each iteration follows calls one level deeper; it stops as soon as an iteration changes
+/// nothing, after as many iterations as there are groups at most.
 pub(crate) fn call_sizes(
     alloc: Global,
     groups: &[&Expr],
     recursive: &[bool],
 ) -> Result<Vec<Size>, AllocError>
-    ensures { IfOk result (λ sizes. (k : ℕ) → size_at sizes.items k ≡ size_in_round (map body_tree groups.now) recursive.now (length groups.now) k) }
+    ensures { IfOk result (λ sizes. (k : ℕ)
+        → size_at sizes.items k ≡ iterated_size (map body_tree groups.now) recursive.now (length groups.now) k) }
 {
     let mut sizes = vec![in alloc; endless(); groups.len()]?;
-    for _round in 0..groups.len() {
+    for _iteration in 0..groups.len() {
         let next = next_sizes(alloc, groups, recursive, &sizes)?;
         if are_same(&next, &sizes) {
             return Ok(sizes);
@@ -83,14 +85,15 @@ pub(crate) fn call_sizes(
     Ok(sizes)
 }
 
-/// One round: the sizes with calls followed one level deeper.
+/// One iteration: the sizes with calls followed one level deeper.
 fn next_sizes(
     alloc: Global,
     groups: &[&Expr],
     recursive: &[bool],
     sizes: &[Size],
 ) -> Result<Vec<Size>, AllocError>
-    ensures { IfOk result (λ next. (k : ℕ) → size_at next.items k ≡ next_size (map body_tree groups.now) recursive.now (size_at sizes.now) k) }
+    ensures { IfOk result (λ next. (k : ℕ)
+        → size_at next.items k ≡ next_size (map body_tree groups.now) recursive.now (size_at sizes.now) k) }
 {
     let mut next = Vec::new(alloc);
     for group in 0..groups.len() {

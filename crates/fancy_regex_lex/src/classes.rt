@@ -96,7 +96,8 @@ impl EscapedClass<'_> {
 /// Appends an escape of a class, a character or a class. Returns false, and appends nothing, for any other escape.
 #[tactic(auto, unfolding(crate::specs::Classes::escaped_text))]
 fn push_escape(out: &mut String, escape: Escape<'_>) -> Result<bool, AllocError>
-    ensures { IfOk result (λ added. IsAdded added (chars (string_bytes out.old)) (chars (string_bytes out.new)) (escaped_text (escape_of escape.entry))) }
+    ensures { IfOk result
+        (λ added. IsAdded added (chars (string_bytes out.old)) (chars (string_bytes out.new)) (escaped_text (escape_of escape.entry))) }
 {
     match escape {
         Escape::Character(c) => {
@@ -120,7 +121,8 @@ fn push_escape_at<'t>(
     text: &'t str,
     out: &mut String,
 ) -> Result<&'t str, ReadError>
-    ensures value { Gives (λ rest. (chars (string_bytes out.new), chars rest.now)) result (prepend (chars (string_bytes out.old)) (class_escape_at oniguruma (chars text.now))) }
+    ensures value { Gives (λ rest. (chars (string_bytes out.new), chars rest.now)) result
+        (prepend (chars (string_bytes out.old)) (class_escape_at oniguruma (chars text.now))) }
     ensures shorter { IfOk result (λ rest. length (chars rest.now) < length (chars text.now)) }
 {
     let (escape, rest) = escape(alloc, oniguruma, text)?;
@@ -139,7 +141,8 @@ fn push_part<'t>(
     text: &'t str,
     out: &mut String,
 ) -> Result<&'t str, ReadError>
-    ensures value { Gives (λ rest. (chars (string_bytes out.new), chars rest.now)) result (prepend (chars (string_bytes out.old)) (class_part oniguruma (chars text.now))) }
+    ensures value { Gives (λ rest. (chars (string_bytes out.new), chars rest.now)) result
+        (prepend (chars (string_bytes out.old)) (class_part oniguruma (chars text.now))) }
     ensures shorter { IfOk result (λ rest. length (chars rest.now) < length (chars text.now)) }
 {
     let Some((c, rest)) = split_first(text) else {
@@ -209,7 +212,8 @@ fn push_parts<'t>(
     text: &'t str,
     out: &mut String,
 ) -> Result<&'t str, ReadError>
-    ensures value { Gives (λ rest. (chars (string_bytes out.new), chars rest.now)) result (prepend (chars (string_bytes out.old)) (class_parts oniguruma (length (chars text.now) + 1) 0 (chars text.now))) }
+    ensures value { Gives (λ rest. (chars (string_bytes out.new), chars rest.now)) result
+        (prepend (chars (string_bytes out.old)) (class_parts oniguruma (length (chars text.now) + 1) 0 (chars text.now))) }
     ensures shorter { IfOk result (λ rest. length (chars rest.now) < length (chars text.now)) }
 {
     let size = text.len();

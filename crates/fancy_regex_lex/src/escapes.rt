@@ -344,7 +344,8 @@ pub fn delimited_reference<'t>(
     here: &str,
     text: &'t str,
 ) -> Result<(Reference<'t>, &'t str), ReadError>
-    ensures value { Gives (λ x. (referred_of x.0, chars x.1.now)) result (delimited_reference allow_level close (chars here.now) (chars text.now)) }
+    ensures value { Gives (λ x. (referred_of x.0, chars x.1.now)) result
+        (delimited_reference allow_level close (chars here.now) (chars text.now)) }
     ensures shorter { IfOk result (λ x. length (chars x.1.now) ≤ length (chars text.now)) }
     ensures fault_only { IfErr result IsFault }
 {
@@ -364,7 +365,8 @@ fn bracketed_reference<'t>(
     here: &str,
     text: &'t str,
 ) -> Result<(Reference<'t>, &'t str), ReadError>
-    ensures value { Gives (λ x. (referred_of x.0, chars x.1.now)) result (bracketed_reference allow_level (chars here.now) (chars text.now)) }
+    ensures value { Gives (λ x. (referred_of x.0, chars x.1.now)) result
+        (bracketed_reference allow_level (chars here.now) (chars text.now)) }
     ensures shorter { IfOk result (λ x. length (chars x.1.now) ≤ length (chars text.now)) }
 {
     let Some((bracket, rest)) = split_first(text) else {

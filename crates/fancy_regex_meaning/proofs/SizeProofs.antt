@@ -15,7 +15,7 @@ use Rattle.fancy_regex_meaning.proofs.EachLemmas.{Each-weaker}
 use Rattle.fancy_regex_meaning.proofs.CharacterLemmas.{between_fits}
 use Rattle.fancy_regex_meaning.proofs.WayProofs.{calls_onward}
 use Rattle.fancy_regex_meaning.proofs.ForwardProofs.{keeps_cuts}
-use Rattle.fancy_regex_meaning.proofs.SizedWays.{both_hold, Rounds, Bounds, Sized, sized_any, sized_weaker, sized}
+use Rattle.fancy_regex_meaning.proofs.SizedWays.{both_hold, Repetitions, Bounds, Sized, sized_any, sized_weaker, sized}
 use Rattle.fancy_regex_meaning.proofs.LeastLemmas.{called, call_size, through_is, calls_of, least_through, size_is_least}
 
 -- what every repeat is
@@ -48,9 +48,9 @@ mutual
 abbrev IsAtLeast : Size → ℕ → Type 0
 IsAtLeast z c = z.least ≤ c
 
-least_rounds : (a : Size) (n c : ℕ) → Rounds (IsAtLeast a) n c → n * a.least ≤ c
-least_rounds a zero c h = omega (arith, h)
-least_rounds a (suc n) c h = omega (arith, h.2, least_rounds a n h.1 h.3, h.4)
+least_repetitions : (a : Size) (n c : ℕ) → Repetitions (IsAtLeast a) n c → n * a.least ≤ c
+least_repetitions a zero c h = omega (arith, h)
+least_repetitions a (suc n) c h = omega (arith, h.2, least_repetitions a n h.1 h.3, h.4)
 
 least_bounds : Bounds IsAtLeast Anything
 least_bounds = record {
@@ -60,7 +60,7 @@ least_bounds = record {
   both = λ a b x y h k. omega (arith, h, k);
   left = λ a b x h. omega (arith, h);
   right = λ a b x h. omega (arith, h);
-  repeated = λ a lo hi n c good r low high. omega (arith, least_rounds a n c r, mul-le lo a.least n a.least low (omega arith));
+  repeated = λ a lo hi n c good r low high. omega (arith, least_repetitions a n c r, mul-le lo a.least n a.least low (omega arith));
 }
 
 -- The greatest number, where there is one.
@@ -70,18 +70,18 @@ IsAtMost z c = z.greatest < unbounded → c ≤ z.greatest
 abbrev InOrder : ℕ → ℕ → Type 0
 InOrder lo hi = lo ≤ hi
 
-greatest_rounds : (a : Size) (n c : ℕ) → a.greatest < unbounded → Rounds (IsAtMost a) n c → c ≤ n * a.greatest
-greatest_rounds a zero c lt h = omega (arith, h)
-greatest_rounds a (suc n) c lt h = omega (arith, h.2 lt, greatest_rounds a n h.1 lt h.3, h.4)
+greatest_repetitions : (a : Size) (n c : ℕ) → a.greatest < unbounded → Repetitions (IsAtMost a) n c → c ≤ n * a.greatest
+greatest_repetitions a zero c lt h = omega (arith, h)
+greatest_repetitions a (suc n) c lt h = omega (arith, h.2 lt, greatest_repetitions a n h.1 lt h.3, h.4)
 
-greatest_repeated : (a : Size) (lo hi n c : ℕ) → lo ≤ hi → Rounds (IsAtMost a) n c → (n ≤ max lo hi) ⊎ (hi ≡ unbounded) →
+greatest_repeated : (a : Size) (lo hi n c : ℕ) → lo ≤ hi → Repetitions (IsAtMost a) n c → (n ≤ max lo hi) ⊎ (hi ≡ unbounded) →
     times hi a.greatest < unbounded → c ≤ times hi a.greatest
 greatest_repeated a lo hi zero c good r high lt = omega (arith, r)
 greatest_repeated a lo zero (suc n) c good r high lt =
     ⊎_elim (λ (few : suc n ≤ max lo 0). absurd (omega arith)) (λ (wide : 0 ≡ unbounded). absurd (omega arith)) high
 greatest_repeated a lo (suc hi) (suc n) c good r high lt =
     let small : a.greatest < unbounded = omega (arith, mul-le 1 a.greatest (suc hi) a.greatest (omega arith) (omega arith)) in
-    let most = greatest_rounds a (suc n) c small r in
+    let most = greatest_repetitions a (suc n) c small r in
     ⊎_elim
     (λ (few : suc n ≤ max lo (suc hi)). omega (arith, most, mul-le (suc n) a.greatest (suc hi) a.greatest (omega arith) (omega arith)))
     (λ (wide : suc hi ≡ unbounded).

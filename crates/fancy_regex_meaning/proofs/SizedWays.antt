@@ -25,13 +25,13 @@ use Rattle.fancy_regex_meaning.proofs.WayProofs.{meaning_onward, byte_is}
 use Rattle.fancy_regex_meaning.proofs.ForwardProofs.{keeps_cuts}
 
 -- so many counts, each of which passes, one after another
-abbrev pub Rounds : (ℕ → Type 0) → ℕ → ℕ → Type 0
-Rounds P zero c = c ≡ 0
-Rounds P (suc n) c = (x : ℕ) × (y : ℕ) × P x × Rounds P n y × (c ≡ x + y)
+abbrev pub Repetitions : (ℕ → Type 0) → ℕ → ℕ → Type 0
+Repetitions P zero c = c ≡ 0
+Repetitions P (suc n) c = (x : ℕ) × (y : ℕ) × P x × Repetitions P n y × (c ≡ x + y)
 
 -- from lo to hi of them
-abbrev pub RoundsBetween : (ℕ → Type 0) → ℕ → ℕ → ℕ → Type 0
-RoundsBetween P lo hi c = (n : ℕ) × (lo ≤ n) × (n ≤ hi) × Rounds P n c
+abbrev pub RepetitionsBetween : (ℕ → Type 0) → ℕ → ℕ → ℕ → Type 0
+RepetitionsBetween P lo hi c = (n : ℕ) × (lo ≤ n) × (n ≤ hi) × Repetitions P n c
 
 -- What bounds a count by a size: the steps of which sizes are made. The bounds of a repeat are as they should be.
 pub record Bounds (Fits : Size → ℕ → Type 0) (Good : ℕ → ℕ → Type 0) : Type 0 where
@@ -41,7 +41,7 @@ pub record Bounds (Fits : Size → ℕ → Type 0) (Good : ℕ → ℕ → Type 
   pub both : (a b : Size) (x y : ℕ) → Fits a x → Fits b y → Fits (both_sizes a b) (x + y)
   pub left : (a b : Size) (x : ℕ) → Fits a x → Fits (either_size a b) x
   pub right : (a b : Size) (x : ℕ) → Fits b x → Fits (either_size a b) x
-  pub repeated : (a : Size) (lo hi n c : ℕ) → Good lo hi → Rounds (Fits a) n c → lo ≤ n → (n ≤ max lo hi) ⊎ (hi ≡ unbounded) →
+  pub repeated : (a : Size) (lo hi n c : ℕ) → Good lo hi → Repetitions (Fits a) n c → lo ≤ n → (n ≤ max lo hi) ⊎ (hi ≡ unbounded) →
       Fits (repeated_size a lo hi) c
 
 pub both_hold : {A : Type 0} (P Q : A → Type 0) (xs : List A) → Each P xs → Each Q xs → Each (λ x. P x × Q x) xs
@@ -102,46 +102,46 @@ module _ (s : Setting) (utf8 : IsUtf8 s.text) where
   sized_prefer P false w xs ys h k = Each-append _ ys xs k h
 
   module _ (P : ℕ → Type 0) where
-    one_more : (lo hi x y : ℕ) → P x → RoundsBetween P lo hi y → RoundsBetween P (suc lo) (suc hi) (x + y)
+    one_more : (lo hi x y : ℕ) → P x → RepetitionsBetween P lo hi y → RepetitionsBetween P (suc lo) (suc hi) (x + y)
     one_more lo hi x y p r = (suc r.0, omega (arith, r.1), omega (arith, r.2), (x, y, p, r.3, refl))
 
-    wider : (lo hi n m c : ℕ) → n ≤ lo → hi ≤ m → RoundsBetween P lo hi c → RoundsBetween P n m c
+    wider : (lo hi n m c : ℕ) → n ≤ lo → hi ≤ m → RepetitionsBetween P lo hi c → RepetitionsBetween P n m c
     wider lo hi n m c low high r = (r.0, omega (arith, r.1), omega (arith, r.2), r.3)
 
-    no_round : (hi : ℕ) → RoundsBetween P 0 hi 0
-    no_round hi = (0, omega arith, omega arith, refl)
+    no_repetition : (hi : ℕ) → RepetitionsBetween P 0 hi 0
+    no_repetition hi = (0, omega arith, omega arith, refl)
 
-    one_round : (hi x : ℕ) → P x → RoundsBetween P 0 (suc hi) x
-    one_round hi x p = (1, omega arith, omega arith, (x, 0, p, refl, omega arith))
+    one_repetition : (hi x : ℕ) → P x → RepetitionsBetween P 0 (suc hi) x
+    one_repetition hi x p = (1, omega arith, omega arith, (x, 0, p, refl, omega arith))
 
-    due_sized : (n top : ℕ) (body rest : Moves) → Sized P body → Sized (RoundsBetween P 0 top) rest →
-        Sized (RoundsBetween P n (n + top)) (due n body rest)
+    due_sized : (n top : ℕ) (body rest : Moves) → Sized P body → Sized (RepetitionsBetween P 0 top) rest →
+        Sized (RepetitionsBetween P n (n + top)) (due n body rest)
     due_sized zero top body rest p q = sized_weaker _ _ rest (λ c r. wider 0 top 0 (0 + top) c (omega arith) (omega arith) r) q
     due_sized (suc n) top body rest p q =
-        sized_then P (RoundsBetween P n (n + top)) (RoundsBetween P (suc n) (suc n + top))
+        sized_then P (RepetitionsBetween P n (n + top)) (RepetitionsBetween P (suc n) (suc n + top))
         (λ x y i r. wider (suc n) (suc (n + top)) (suc n) (suc n + top) (x + y) (omega arith) (omega arith) (one_more n (n + top) x y i r))
         body (due n body rest) p (due_sized n top body rest p q)
 
-    up_to_sized : (n : ℕ) (greedy : Bool) (body : Moves) → Sized P body → Sized (RoundsBetween P 0 n) (up_to n greedy body)
-    up_to_sized zero greedy body p w h = takes_stay (RoundsBetween P 0 0) (no_round 0) w h
+    up_to_sized : (n : ℕ) (greedy : Bool) (body : Moves) → Sized P body → Sized (RepetitionsBetween P 0 n) (up_to n greedy body)
+    up_to_sized zero greedy body p w h = takes_stay (RepetitionsBetween P 0 0) (no_repetition 0) w h
     up_to_sized (suc n) greedy body p w h =
-        sized_prefer (RoundsBetween P 0 (suc n)) greedy w _ _
-        (sized_then P (RoundsBetween P 0 n) (RoundsBetween P 0 (suc n))
+        sized_prefer (RepetitionsBetween P 0 (suc n)) greedy w _ _
+        (sized_then P (RepetitionsBetween P 0 n) (RepetitionsBetween P 0 (suc n))
         (λ x y i r. wider 1 (suc n) 0 (suc n) (x + y) (omega arith) (omega arith) (one_more 0 n x y i r))
         body (up_to n greedy body) p (up_to_sized n greedy body p) w h)
-        (takes_stay (RoundsBetween P 0 (suc n)) (no_round (suc n)) w h)
+        (takes_stay (RepetitionsBetween P 0 (suc n)) (no_repetition (suc n)) w h)
 
-    loop_sized : (n : ℕ) (greedy : Bool) (body : Moves) → Sized P body → Sized (RoundsBetween P 0 n) (loop n greedy body)
+    loop_sized : (n : ℕ) (greedy : Bool) (body : Moves) → Sized P body → Sized (RepetitionsBetween P 0 n) (loop n greedy body)
     loop_sized zero greedy body p w h = tt
     loop_sized (suc n) greedy body p w h =
-        sized_prefer (RoundsBetween P 0 (suc n)) greedy w _ _
-        (Each-flat_map (Takes P w) (Takes (RoundsBetween P 0 (suc n)) w) _
-        (λ v o. Each-cond _ (v.position == w.position) (v ∷ []) (loop n greedy body v) ((o.0, one_round n _ o.1), tt)
-        (follows P (RoundsBetween P 0 n) (RoundsBetween P 0 (suc n))
+        sized_prefer (RepetitionsBetween P 0 (suc n)) greedy w _ _
+        (Each-flat_map (Takes P w) (Takes (RepetitionsBetween P 0 (suc n)) w) _
+        (λ v o. Each-cond _ (v.position == w.position) (v ∷ []) (loop n greedy body v) ((o.0, one_repetition n _ o.1), tt)
+        (follows P (RepetitionsBetween P 0 n) (RepetitionsBetween P 0 (suc n))
         (λ x y i r. wider 1 (suc n) 0 (suc n) (x + y) (omega arith) (omega arith) (one_more 0 n x y i r))
         w v h o (loop n greedy body v) (loop_sized n greedy body p v o.0.1)))
         (body w) (p w h))
-        (takes_stay (RoundsBetween P 0 (suc n)) (no_round (suc n)) w h)
+        (takes_stay (RepetitionsBetween P 0 (suc n)) (no_repetition (suc n)) w h)
 
   -- where a node stays
   still_if : (b : Bool) (w : MatchState) → Each (λ v. v.position ≡ w.position) (match_empty_if b w)
@@ -219,10 +219,10 @@ module _ (s : Setting) (utf8 : IsUtf8 s.text) where
         Sized (Fits (repeated_size a lo hi)) (repeat s lo (bound_of hi) greedy body)
     sized_repeat a lo hi greedy body good p =
         cond_both (hi == unbounded) None (Some hi) (λ o. Sized (Fits (repeated_size a lo hi)) (repeat s lo o greedy body))
-        (λ e. sized_weaker (RoundsBetween (Fits a) lo (lo + (length s.text + 1))) (Fits (repeated_size a lo hi)) _
+        (λ e. sized_weaker (RepetitionsBetween (Fits a) lo (lo + (length s.text + 1))) (Fits (repeated_size a lo hi)) _
         (λ c r. bounds.repeated a lo hi r.0 c good r.3 r.1 (inr (eqb-true hi unbounded e)))
         (due_sized (Fits a) lo (length s.text + 1) body _ p (loop_sized (Fits a) _ greedy body p)))
-        (λ e. sized_weaker (RoundsBetween (Fits a) lo (lo + (hi - lo))) (Fits (repeated_size a lo hi)) _
+        (λ e. sized_weaker (RepetitionsBetween (Fits a) lo (lo + (hi - lo))) (Fits (repeated_size a lo hi)) _
         (λ c r. bounds.repeated a lo hi r.0 c good r.3 r.1 (inl (omega (arith, r.2))))
         (due_sized (Fits a) lo (hi - lo) body _ p (up_to_sized (Fits a) _ greedy body p)))
 

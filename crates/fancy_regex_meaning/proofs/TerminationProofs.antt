@@ -7,7 +7,7 @@ use Rattle.std.proofs.lemmas.Option.{slice_get_within}
 use Rattle.fancy_regex_tree.specs.Tree.{Tree, Trees, concat, alt, group, look_around, repeat, atomic_group, conditional, subroutine_call, absent_repeater, absent_expression, absent_stopper, define_group, ast_group, no_trees, more_trees}
 use Rattle.fancy_regex_meaning.specs.Sizes.{target}
 use Rattle.fancy_regex_meaning.specs.TerminationLaws.{TerminatingHasUnfolding, NonTerminatingHasNoUnfolding, TerminationDepthSuffices, FixpointIsReached}
-use Rattle.fancy_regex_meaning.specs.Termination.{can_end_with, all_can_end, some_can_end, has_parts, ends_through, can_end, Unfolding, of_leaf, of_row, of_branch, of_no_round, of_rounds, of_yes, of_no, of_target, of_no_target, of_group, of_look_around, of_atomic_group, of_absent_repeater, of_absent_expression, of_absent_stopper, of_define_group, of_ast_group, RowUnfolding, of_none, of_each, BranchUnfolding, of_this, of_later}
+use Rattle.fancy_regex_meaning.specs.Termination.{can_end_with, all_can_end, some_can_end, has_parts, ends_through, can_end, Unfolding, of_leaf, of_row, of_branch, of_no_repetition, of_repetitions, of_yes, of_no, of_target, of_no_target, of_group, of_look_around, of_atomic_group, of_absent_repeater, of_absent_expression, of_absent_stopper, of_define_group, of_ast_group, RowUnfolding, of_none, of_each, BranchUnfolding, of_this, of_later}
 
 and_both : (a b : Bool) → a ≡ true → b ≡ true → (a && b) ≡ true
 and_both true b h k = k
@@ -41,8 +41,8 @@ module _ (groups : List Tree) where
       ends x (of_leaf t h) = leaf_ends call t h
       ends x (of_row ts u) = all_end ts u
       ends x (of_branch ts u) = some_ends ts u
-      ends x (of_no_round t hi greedy) = refl
-      ends x (of_rounds t lo hi greedy u) = or_right (lo == 0) _ (ends t u)
+      ends x (of_no_repetition t hi greedy) = refl
+      ends x (of_repetitions t lo hi greedy u) = or_right (lo == 0) _ (ends t u)
       ends x (of_yes c a b u v) = and_both _ _ (ends c u) (or_left _ (can_end_with call b) (ends a v))
       ends x (of_no c a b u v) = and_both _ _ (ends c u) (or_right (can_end_with call a) _ (ends b v))
       ends x (of_target k body e u) = closed k body e (ends body u)
@@ -75,8 +75,8 @@ module _ (groups : List Tree) where
       unfolded (repeat t lo hi greedy) h =
           ⊎_elim
           (λ (none : (lo == 0) ≡ true).
-          subst (λ n. Unfolding groups (repeat t n hi greedy)) (sym (eqb-true lo 0 none)) (of_no_round t hi greedy))
-          (λ some. of_rounds t lo hi greedy (unfolded t some))
+          subst (λ n. Unfolding groups (repeat t n hi greedy)) (sym (eqb-true lo 0 none)) (of_no_repetition t hi greedy))
+          (λ some. of_repetitions t lo hi greedy (unfolded t some))
           (or_cases (lo == 0) (can_end_with call t) h)
       unfolded (conditional c a b) h =
           let parts = and_parts (can_end_with call c) (can_end_with call a || can_end_with call b) h in
@@ -106,7 +106,7 @@ module _ (groups : List Tree) where
           ⊎_elim (λ this. of_this t ts (unfolded t this)) (λ later. of_later t ts (unfolded_branch ts later))
           (or_cases (can_end_with call t) (some_can_end call ts) h)
 
--- A table of which calls can end, and one more round of it.
+-- A table of which calls can end, and one more iteration of it.
 abbrev known : (Tree → Bool) → Option Tree → Bool
 known f None = true
 known f (Some body) = f body

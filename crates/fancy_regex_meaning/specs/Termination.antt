@@ -63,8 +63,8 @@ mutual
     of_leaf : (t : Tree) → has_parts t ≡ false → Unfolding groups t
     of_row : (ts : Trees) → RowUnfolding groups ts → Unfolding groups (concat ts)
     of_branch : (ts : Trees) → BranchUnfolding groups ts → Unfolding groups (alt ts)
-    of_no_round : (t : Tree) (hi : ℕ) (greedy : Bool) → Unfolding groups (repeat t 0 hi greedy)
-    of_rounds : (t : Tree) (lo hi : ℕ) (greedy : Bool) → Unfolding groups t → Unfolding groups (repeat t lo hi greedy)
+    of_no_repetition : (t : Tree) (hi : ℕ) (greedy : Bool) → Unfolding groups (repeat t 0 hi greedy)
+    of_repetitions : (t : Tree) (lo hi : ℕ) (greedy : Bool) → Unfolding groups t → Unfolding groups (repeat t lo hi greedy)
     of_yes : (c a b : Tree) → Unfolding groups c → Unfolding groups a → Unfolding groups (conditional c a b)
     of_no : (c a b : Tree) → Unfolding groups c → Unfolding groups b → Unfolding groups (conditional c a b)
     of_target : (k : ℕ) (body : Tree) → target groups k ≡ Some body → Unfolding groups body → Unfolding groups (subroutine_call k)

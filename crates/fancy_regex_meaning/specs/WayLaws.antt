@@ -84,7 +84,7 @@ module _ (s : Setting) (groups : List Tree) where
   CallsAreUnbounded = (m : ℕ) → max_open_calls groups ≤ m → (n : ℕ) (t : Tree) (w : MatchState) → from (call_ways s groups m []) n t w ≡ ways s groups n t w
 
 module _ (s : Setting) where
-  -- The bound on the rounds of a loop is never what ends it: a loop without a bound is one more iteration, or the end.
+  -- The bound on the iterations of a loop is never what ends it: a loop without a bound is one more iteration, or the end.
   abbrev pub LoopsAreUnbounded : Type 0
   LoopsAreUnbounded = (greedy : Bool) (body : Moves) → MovesForward s.text body → (w : MatchState) → w.position ≤ length s.text →
       repeat s 0 None greedy body w

@@ -230,14 +230,14 @@ module _ (s : Setting) where
 
   -- over the bodies of all groups, by their numbers
   module _ (groups : List Tree) where
-    -- a node other than an alternation: after, it starts its least size before the position
+    -- a node other than an alternation: in a look-behind it starts its least size before the position
     abbrev pub node : Tree → Moves → Meaning
     node t moves = record {
       from = moves;
       behind = λ w. for_some (λ p. moves (with_position w p)) (position_before s.text (size groups t).least w.position);
     }
 
-    -- An alternation of fixed length is after like any other node; else each branch starts its own size before the position.
+    -- In a look-behind an alternation of fixed length is like any other node; else each branch starts its own size before the position.
     abbrev pub branches : Tree → List Meaning → Meaning
     branches t ms = record {
       from = (any_of ms).from;

@@ -394,7 +394,7 @@ module _ (size : ℕ) (unicode : Bool) where
       bare_whole all whole_at zero rest h = absurd (omega arith)
       bare_whole all whole_at (suc n) rest h = bare_read n (printed_branches all) rest (normal_form (alt all)) (whole_at n (0x29 ∷ rest) (omega arith) closing_paren)
 
-  -- a repeat without a group round it
+  -- a repeat without a group around it
   repeat_piece : (t : Tree) (lo hi : ℕ) (greedy : Bool) → Reads size unicode t → can_be_repeated (node_kind (normal_form t)) ≡ true → lo < unbounded → hi ≤ unbounded →
       (n : ℕ) (rest : Text) → printed_levels 3 t ≤ n → PlainStart rest →
       PieceRead size unicode n ((printed 3 t ++ quantifier_text lo hi greedy) ++ rest) (repeat (normal_form t) lo hi greedy) rest

@@ -68,7 +68,8 @@ pub fn append_expansion<G: GroupTexts>(
     groups: &G,
     out: &mut String,
 ) -> Result<(), AllocError>
-    ensures added { OnOk result (string_bytes out.new ≡ string_bytes out.old ++ encode_utf8_all (expansion syntax (G.texts groups.now) (chars template.now))) }
+    ensures added { OnOk result
+        (string_bytes out.new ≡ string_bytes out.old ++ encode_utf8_all (expansion syntax (G.texts groups.now) (chars template.now))) }
     ensures refused { OnErr result (string_bytes out.new ≡ string_bytes out.old) }
 {
     let before = out.as_str().len();

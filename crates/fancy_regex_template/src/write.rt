@@ -38,8 +38,10 @@ pub fn write_expansion<W: Write, G: GroupTexts>(
     template: &str,
     groups: &G,
 ) -> io::Result<()>
-    ensures ok { OnOk result (Appends (W.contents writer.old) (W.contents writer.new) (encode_utf8_all (expansion syntax (G.texts groups.now) (chars template.now)))) }
-    ensures err { OnErr result (AppendsBeginning (W.contents writer.old) (W.contents writer.new) (encode_utf8_all (expansion syntax (G.texts groups.now) (chars template.now)))) }
+    ensures ok { OnOk result (Appends (W.contents writer.old) (W.contents writer.new)
+        (encode_utf8_all (expansion syntax (G.texts groups.now) (chars template.now)))) }
+    ensures err { OnErr result (AppendsBeginning (W.contents writer.old) (W.contents writer.new)
+        (encode_utf8_all (expansion syntax (G.texts groups.now) (chars template.now)))) }
 {
     for part in template_parts(syntax, template) {
         write_text(writer, part_text(syntax, groups, part))?;
@@ -54,7 +56,8 @@ pub fn append_expansion_bytes<G: GroupTexts>(
     groups: &G,
     out: &mut Vec<u8>,
 ) -> Result<(), AllocError>
-    ensures added { OnOk result (out.new.items ≡ out.old.items ++ encode_utf8_all (expansion syntax (G.texts groups.now) (chars template.now))) }
+    ensures added { OnOk result
+        (out.new.items ≡ out.old.items ++ encode_utf8_all (expansion syntax (G.texts groups.now) (chars template.now))) }
     ensures refused { OnErr result (out.new.items ≡ out.old.items) }
 {
     let before = out.as_slice().len();

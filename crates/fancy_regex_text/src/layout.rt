@@ -78,7 +78,8 @@ fn state_after(verbose: bool, inside: LayoutState, c: char, text: &str) -> Optio
 /// layout, or the text is empty.
 #[tactic(auto, unfolding(crate::specs::Layout::layout_step))]
 fn layout_step(verbose: bool, inside: LayoutState, text: &str) -> Option<(LayoutState, &str)>
-    ensures value { option_map (λ x. (layout_state_of x.0, chars x.1.now)) result ≡ layout_step verbose (layout_state_of inside) (chars text.now) }
+    ensures value { option_map (λ x. (layout_state_of x.0, chars x.1.now)) result
+        ≡ layout_step verbose (layout_state_of inside) (chars text.now) }
     ensures shorter { IfSome result (λ x. length (chars x.1.now) < length (chars text.now)) }
 {
     let (c, rest) = split_first(text)?;

@@ -15,7 +15,7 @@ use Rattle.std.specs.Borrow.{Bor}
 use Rattle.fancy_regex_tree.specs.declared.expr.Expr.{Expr}
 use Rattle.fancy_regex_tree.specs.Traversal.{tree_at}
 use Rattle.fancy_regex_tree.specs.Tree.{Text, Tree}
-use Rattle.fancy_regex_tree.specs.Numbering.{Names, opening_of, kept, counted, numbers_of, same_text, name_view}
+use Rattle.fancy_regex_tree.specs.Numbering.{Names, opening_of, if_counted, counted, numbers_of, same_text, name_view}
 
 -- the elements up to the next one
 pub map_next : {X Y : Type 0} (f : X → Y) (xs : List X) (i : ℕ) (d x : X) → i < length xs → get_or xs i d ≡ x → map f (take (i + 1) xs) ≡ map f (take i xs) ++ f x ∷ []
@@ -26,13 +26,13 @@ map_next f xs i d x inside is =
     ∙ ap (λ y. map f (take i xs) ++ f y ∷ []) is
 
 one_counted : (ignored : Bool) (o : Option (Option Text)) (left right : Names) → left ≡ counted ignored right
-    → cons_option (kept ignored o) left ≡ counted ignored (cons_option o right)
+    → cons_option (if_counted ignored o) left ≡ counted ignored (cons_option o right)
 one_counted ignored None left right h = h
 one_counted ignored (Some (Some name)) left right h = ap (λ xs. Some name ∷ xs) h
 one_counted true (Some None) left right h = h
 one_counted false (Some None) left right h = ap (λ xs. None ∷ xs) h
 
-pub counted_is : (ignored : Bool) (ts : List Tree) → filter_map (λ t. kept ignored (opening_of t)) ts ≡ counted ignored (filter_map opening_of ts)
+pub counted_is : (ignored : Bool) (ts : List Tree) → filter_map (λ t. if_counted ignored (opening_of t)) ts ≡ counted ignored (filter_map opening_of ts)
 counted_is ignored [] = refl
 counted_is ignored (t ∷ ts) = one_counted ignored (opening_of t) _ _ (counted_is ignored ts)
 

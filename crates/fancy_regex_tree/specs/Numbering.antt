@@ -78,11 +78,11 @@ abbrev pub counted : Bool → Names → Names
 counted ignored names = filter (counts ignored) names
 
 -- the name of a group, if there is a group and it gets a number
-abbrev pub kept : Bool → Option (Option Text) → Option (Option Text)
-kept ignored None = None
-kept ignored (Some (Some name)) = Some (Some name)
-kept true (Some None) = None
-kept false (Some None) = Some None
+abbrev pub if_counted : Bool → Option (Option Text) → Option (Option Text)
+if_counted ignored None = None
+if_counted ignored (Some (Some name)) = Some (Some name)
+if_counted true (Some None) = None
+if_counted false (Some None) = Some None
 
 abbrev pub backref_of : Option ℤ → Bool → ℕ → Tree
 backref_of None casei g = backref g casei

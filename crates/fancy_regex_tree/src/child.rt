@@ -114,7 +114,8 @@ fn replace_in_conditional(
     i: usize,
     child: Expr,
 ) -> (Expr, Result<Expr, Expr>)
-    ensures { IsChildReplaced (conditional (tree_of condition.value) (tree_of true_branch.value) (tree_of false_branch.value)) (tree_of result.0) i child result.1 }
+    ensures { IsChildReplaced (conditional (tree_of condition.value) (tree_of true_branch.value) (tree_of false_branch.value))
+        (tree_of result.0) i child result.1 }
 {
     let replaced = match i {
         0 => Ok(mem::replace(&mut *condition, child)),

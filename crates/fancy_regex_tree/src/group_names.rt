@@ -5,7 +5,7 @@ ghost use Rattle.std.specs.List.{filter_map, list_any};
 ghost use Rattle.std.specs.Str.{IsUtf8, bytes_eq};
 ghost use Rattle.fancy_regex_tree.specs.Tree.{tree_of};
 ghost use Rattle.fancy_regex_tree.specs.Traversal.{tree_at};
-ghost use Rattle.fancy_regex_tree.specs.Numbering.{opening_of, name_view, kept, numbers_of, numbers_under};
+ghost use Rattle.fancy_regex_tree.specs.Numbering.{opening_of, name_view, if_counted, numbers_of, numbers_under};
 ghost use Rattle.fancy_regex_tree.specs.ParseResult.{carries, has_key};
 
 use crate::expr::{AstNode, Expr};
@@ -29,7 +29,7 @@ fn opening(node: &Expr) -> Option<Option<&str>>
 
 /// If the node is a capture group that gets a number, its name, if it has one. With `ignored` set, unnamed groups get none.
 fn counted_opening(node: &Expr, ignored: bool) -> Option<Option<&str>>
-    ensures { option_map name_view result ≡ kept ignored (opening_of (tree_of node.now)) }
+    ensures { option_map name_view result ≡ if_counted ignored (opening_of (tree_of node.now)) }
 {
     match opening(node) {
         Some(None) if ignored => None,
@@ -43,7 +43,8 @@ pub fn group_names<'t>(
     nodes: &[&'t Expr],
     ignored: bool,
 ) -> Result<Vec<Option<&'t str>>, AllocError>
-    ensures { IfOk result (λ names. map name_view names.items ≡ filter_map (λ t. kept ignored (opening_of t)) (map tree_at nodes.now)) }
+    ensures { IfOk result (λ names.
+        map name_view names.items ≡ filter_map (λ t. if_counted ignored (opening_of t)) (map tree_at nodes.now)) }
 {
     let mut names = Vec::new(alloc);
     for i in 0..nodes.len() {
@@ -62,7 +63,9 @@ fn add_number(
     group: usize,
 ) -> Result<(), AllocError>
     ensures text { IfOk result (λ _. IsUtf8 name.now) }
-    ensures value { IfOk result (λ _. (q : List ℕ) → numbers_under named.new q ≡ (if bytes_eq q name.now then numbers_under named.old q ++ group ∷ [] else numbers_under named.old q)) }
+    ensures value { IfOk result (λ _. (q : List ℕ)
+        → numbers_under named.new q
+        ≡ (if bytes_eq q name.now then numbers_under named.old q ++ group ∷ [] else numbers_under named.old q)) }
     ensures keys { IfOk result (λ _. (q : List ℕ) → has_key named.new q ≡ (has_key named.old q || bytes_eq q name.now)) }
 {
     named
@@ -74,8 +77,10 @@ fn add_number(
 
 /// For each name, the numbers of its groups in ascending order. The first item of `names` is group 1.
 pub fn named_groups(alloc: Global, names: &[Option<&str>]) -> Result<NamedGroups, AllocError>
-    ensures value { IfOk result (λ named. (q : List ℕ) → IsUtf8 q → numbers_under named q ≡ numbers_of (chars q) 0 (map name_view names.now)) }
-    ensures keys { IfOk result (λ named. (q : List ℕ) → IsUtf8 q → has_key named q ≡ list_any (carries (chars q)) (map name_view names.now)) }
+    ensures value { IfOk result (λ named. (q : List ℕ) → IsUtf8 q
+        → numbers_under named q ≡ numbers_of (chars q) 0 (map name_view names.now)) }
+    ensures keys { IfOk result (λ named. (q : List ℕ) → IsUtf8 q
+        → has_key named q ≡ list_any (carries (chars q)) (map name_view names.now)) }
 {
     let mut named = BTreeMap::new(alloc);
     for i in 0..names.len() {

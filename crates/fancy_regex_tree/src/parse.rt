@@ -27,7 +27,8 @@ use std::collections::BTreeSet;
 
 /// Parses a pattern into a tree with unresolved references. An error has its byte offset, at most the length of `re`.
 fn parse_unresolved(alloc: Global, re: &str, options: ParseOptions) -> Result<Expr>
-    ensures value { AgreesWith tree_of result (with_position (bytes (chars re.now)) (parse_pattern options.oniguruma options.unicode options.flags (chars re.now))) }
+    ensures value { AgreesWith tree_of result
+        (with_position (bytes (chars re.now)) (parse_pattern options.oniguruma options.unicode options.flags (chars re.now))) }
     ensures small { IfOk result (λ expr. nodes (tree_of expr) ≤ 2 * length re.now + 1) }
     ensures low { IfOk result (λ expr. depth (tree_of expr) ≤ 832) }
     ensures within { IfErr result (λ e. IsWithin (length re.now) e) }

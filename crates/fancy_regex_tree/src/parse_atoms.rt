@@ -116,7 +116,8 @@ pub fn back_reference(
     position: usize,
     reference: Reference<'_>,
 ) -> Result<Expr, AllocError>
-    ensures value { IfOk result (λ e. tree_of e ≡ ast_backref (target_named (named_of reference.entry.target)) flags.casei reference.entry.level position) }
+    ensures value { IfOk result (λ e.
+        tree_of e ≡ ast_backref (target_named (named_of reference.entry.target)) flags.casei reference.entry.level position) }
     ensures leaf { IfOk result (λ e. IsLeaf (tree_of e)) }
 {
     let node = AstNode::Backref {
@@ -142,7 +143,8 @@ pub fn condition(
     position: usize,
     reference: Reference<'_>,
 ) -> Result<Expr, AllocError>
-    ensures value { IfOk result (λ e. tree_of e ≡ ast_condition (target_named (named_of reference.entry.target)) reference.entry.level position) }
+    ensures value { IfOk result (λ e.
+        tree_of e ≡ ast_condition (target_named (named_of reference.entry.target)) reference.entry.level position) }
     ensures leaf { IfOk result (λ e. IsLeaf (tree_of e)) }
 {
     let node = AstNode::BackrefExistsCondition {

@@ -102,7 +102,8 @@ fn parse_branch(
     text: &str,
 ) -> Result<(Vec<Expr>, Flags, &str), ReadError>
     ensures value { Gives (λ x. (map tree_of x.0.items, x.1, chars x.2.now)) result
-        (parse_branch parser.config (inner_parser parser.config parser.levels) (length (chars text.now) + 1) parser.in_look flags (chars text.now)) }
+        (parse_branch parser.config (inner_parser parser.config parser.levels)
+        (length (chars text.now) + 1) parser.in_look flags (chars text.now)) }
     ensures shorter { IfOk result (λ x. length (chars x.2.now) ≤ length (chars text.now)) }
     ensures small { IfOk result (λ x. pieces_measure (map tree_of x.0.items) + 2 * length (chars x.2.now) ≤ 2 * length (chars text.now)) }
     ensures low { IfOk result (λ x. max_depth (map tree_of x.0.items) ≤ 13 * parser.levels + 11) }
@@ -130,9 +131,11 @@ fn parse_alternation(
     flags: Flags,
     text: &str,
 ) -> Result<(Vec<Vec<Expr>>, Flags, &str), ReadError>
-    ensures value { Gives (λ x. (map (λ b. map tree_of b.items) x.0.items, x.1, chars x.2.now)) result (parse_alternation parser.config parser.levels parser.in_look flags (chars text.now)) }
+    ensures value { Gives (λ x. (map (λ b. map tree_of b.items) x.0.items, x.1, chars x.2.now)) result
+        (parse_alternation parser.config parser.levels parser.in_look flags (chars text.now)) }
     ensures shorter { IfOk result (λ x. length (chars x.2.now) ≤ length (chars text.now)) }
-    ensures small { IfOk result (λ x. branches_measure (map (λ b. map tree_of b.items) x.0.items) + 2 * length (chars x.2.now) ≤ 2 * length (chars text.now) + 2) }
+    ensures small { IfOk result (λ x.
+        branches_measure (map (λ b. map tree_of b.items) x.0.items) + 2 * length (chars x.2.now) ≤ 2 * length (chars text.now) + 2) }
     ensures low { IfOk result (λ x. max_depth_of_all (map (λ b. map tree_of b.items) x.0.items) ≤ 13 * parser.levels + 11) }
 {
     let mut all = Vec::new(parser.alloc);
@@ -160,7 +163,8 @@ fn parse_group_body(
     ensures value { Gives (λ x. (map (λ b. map tree_of b.items) x.0.items, x.1, chars x.2.now)) result
         (parse_group_body parser.config (parse_alternation parser.config parser.levels) parser.in_look flags (chars text.now)) }
     ensures shorter { IfOk result (λ x. length (chars x.2.now) < length (chars text.now)) }
-    ensures small { IfOk result (λ x. branches_measure (map (λ b. map tree_of b.items) x.0.items) + 2 * length (chars x.2.now) ≤ 2 * length (chars text.now)) }
+    ensures small { IfOk result (λ x.
+        branches_measure (map (λ b. map tree_of b.items) x.0.items) + 2 * length (chars x.2.now) ≤ 2 * length (chars text.now)) }
     ensures low { IfOk result (λ x. max_depth_of_all (map (λ b. map tree_of b.items) x.0.items) ≤ 13 * parser.levels + 11) }
 {
     let (branches, changed, rest) = parse_alternation(parser, flags, text)?;
@@ -181,7 +185,8 @@ fn parse_group_expression(
     flags: Flags,
     text: &str,
 ) -> Result<(Expr, Flags, &str), ReadError>
-    ensures value { Gives (λ x. (tree_of x.0, x.1, chars x.2.now)) result (parse_group_expression parser.config (parse_alternation parser.config parser.levels) parser.in_look flags (chars text.now)) }
+    ensures value { Gives (λ x. (tree_of x.0, x.1, chars x.2.now)) result
+        (parse_group_expression parser.config (parse_alternation parser.config parser.levels) parser.in_look flags (chars text.now)) }
     ensures shorter { IfOk result (λ x. length (chars x.2.now) ≤ length (chars text.now)) }
     ensures small { IfOk result (λ x. nodes (tree_of x.0) + 1 + 2 * length (chars x.2.now) ≤ 2 * length (chars text.now)) }
     ensures low { IfOk result (λ x. depth (tree_of x.0) ≤ 13 * parser.levels + 13) }
@@ -201,19 +206,20 @@ fn parse_expression_conditional<'t>(
     text: &'t str,
 ) -> Result<(Expr, Flags, &'t str), ReadError>
     ensures value { Gives (λ x. (tree_of x.0, x.1, chars x.2.now)) result
-        (parse_expression_conditional parser.config (parse_alternation parser.config parser.levels) parser.in_look (chars here.now) flags (chars text.now)) }
+        (parse_expression_conditional parser.config (parse_alternation parser.config parser.levels)
+        parser.in_look (chars here.now) flags (chars text.now)) }
     ensures shorter { IfOk result (λ x. length (chars x.2.now) ≤ length (chars text.now)) }
     ensures small { IfOk result (λ x. nodes (tree_of x.0) + 2 * length (chars x.2.now) ≤ 2 * length (chars text.now)) }
     ensures low { IfOk result (λ x. depth (tree_of x.0) ≤ 13 * parser.levels + 14) }
 {
-    let (condition, between, body_text) = parse_group_expression(parser, flags, text)?;
-    let (body, following, rest) = parse_group_body(parser, between, body_text)?;
+    let (condition, flags_between, body_text) = parse_group_expression(parser, flags, text)?;
+    let (body, flags_after, rest) = parse_group_body(parser, flags_between, body_text)?;
     if is_empty_body(&body) {
         return general_error(parser.alloc, "condition without branches", here);
     }
     Ok((
         conditional_of_branches(parser.alloc, condition, body)?,
-        following,
+        flags_after,
         rest,
     ))
 }
@@ -230,19 +236,21 @@ fn parse_group<'t>(
     text: &'t str,
 ) -> Result<(Atom, Flags, &'t str), ReadError>
     ensures value { Gives (λ x. (atom_of x.0, x.1, chars x.2.now)) result
-        (parse_group parser.config (parse_alternation parser.config parser.levels) parser.in_look (chars here.now) flags (opening_of how.entry) (chars text.now)) }
+        (parse_group parser.config (parse_alternation parser.config parser.levels)
+        parser.in_look (chars here.now) flags (opening_of how.entry) (chars text.now)) }
     ensures shorter { IfOk result (λ x. length (chars x.2.now) ≤ length (chars text.now)) }
-    ensures small { IfOk result (λ x. nodes (tree_of x.0.tree) + 2 * length (chars x.2.now) ≤ 2 * length (chars text.now) + 1 + extra_nodes (opening_of how.entry)) }
+    ensures small { IfOk result (λ x. nodes (tree_of x.0.tree) + 2 * length (chars x.2.now)
+        ≤ 2 * length (chars text.now) + 1 + extra_nodes (opening_of how.entry)) }
     ensures low { IfOk result (λ x. depth (tree_of x.0.tree) ≤ 13 * parser.levels + 14) }
 {
     let alloc = parser.alloc;
     let position = place(parser.config, here);
     match how {
         Opening::Capturing(name) => {
-            let (body, following, rest) = parse_group_expression(parser, flags, text)?;
+            let (body, flags_after, rest) = parse_group_expression(parser, flags, text)?;
             Ok((
                 plain(capture(alloc, position, name, body)?),
-                following,
+                flags_after,
                 rest,
             ))
         }
@@ -252,41 +260,43 @@ fn parse_group<'t>(
         }
         Opening::SetFlags(changed) => Ok((plain(Expr::Empty), changed, text)),
         Opening::Atomic => {
-            let (body, following, rest) = parse_group_expression(parser, flags, text)?;
+            let (body, flags_after, rest) = parse_group_expression(parser, flags, text)?;
             let atomic = Expr::AtomicGroup(Box::new(alloc, body)?);
-            Ok((plain(atomic), following, rest))
+            Ok((plain(atomic), flags_after, rest))
         }
         Opening::LookAround(look) => {
-            let (body, following, rest) = parse_group_expression(parser.in_look(), flags, text)?;
+            let (body, flags_after, rest) = parse_group_expression(parser.in_look(), flags, text)?;
             let around = Expr::LookAround(Box::new(alloc, body)?, look_of(look));
-            Ok((plain(around), following, rest))
+            Ok((plain(around), flags_after, rest))
         }
         Opening::IfSet(reference) => {
-            let (body, following, rest) = parse_group_body(parser, flags, text)?;
+            let (body, flags_after, rest) = parse_group_body(parser, flags, text)?;
             let condition = condition(alloc, position, reference)?;
             Ok((
                 plain(make_conditional(alloc, condition, body)?),
-                following,
+                flags_after,
                 rest,
             ))
         }
         Opening::IfMatches => {
-            let (tree, following, rest) = parse_expression_conditional(parser, here, flags, text)?;
-            Ok((plain(tree), following, rest))
+            let (tree, flags_after, rest) = parse_expression_conditional(
+                parser, here, flags, text,
+            )?;
+            Ok((plain(tree), flags_after, rest))
         }
         Opening::Define => {
-            let (body, following, rest) = parse_group_expression(parser, flags, text)?;
+            let (body, flags_after, rest) = parse_group_expression(parser, flags, text)?;
             let definitions = Box::new(alloc, body)?;
-            Ok((plain(Expr::DefineGroup { definitions }), following, rest))
+            Ok((plain(Expr::DefineGroup { definitions }), flags_after, rest))
         }
         Opening::Absent => {
-            let (body, following, rest) = parse_group_expression(parser, flags, text)?;
+            let (body, flags_after, rest) = parse_group_expression(parser, flags, text)?;
             let repeater = Absent::Repeater(Box::new(alloc, body)?);
-            Ok((plain(Expr::Absent(repeater)), following, rest))
+            Ok((plain(Expr::Absent(repeater)), flags_after, rest))
         }
         Opening::AbsentBar => {
-            let (body, following, rest) = parse_group_body(parser, flags, text)?;
-            Ok((plain(absent_bar_of(alloc, body)?), following, rest))
+            let (body, flags_after, rest) = parse_group_body(parser, flags, text)?;
+            Ok((plain(absent_bar_of(alloc, body)?), flags_after, rest))
         }
         Opening::BackReference(reference) => {
             let tree = back_reference(alloc, flags, position, reference)?;
@@ -308,7 +318,8 @@ fn parse_parenthesized(
     flags: Flags,
     text: &str,
 ) -> Result<(Atom, Flags, &str), ReadError>
-    ensures value { Gives (λ x. (atom_of x.0, x.1, chars x.2.now)) result (parse_parenthesized parser.config (inner_parser parser.config parser.levels) parser.in_look flags (chars text.now)) }
+    ensures value { Gives (λ x. (atom_of x.0, x.1, chars x.2.now)) result
+        (parse_parenthesized parser.config (inner_parser parser.config parser.levels) parser.in_look flags (chars text.now)) }
     ensures shorter { IfOk result (λ x. length (chars x.2.now) ≤ length (chars text.now) - 1) }
     ensures small { IfOk result (λ x. nodes (tree_of x.0.tree) + 2 * length (chars x.2.now) ≤ 2 * (length (chars text.now) - 1) + 1) }
     ensures low { IfOk result (λ x. depth (tree_of x.0.tree) ≤ 13 * parser.levels + 1) }
@@ -325,7 +336,8 @@ fn parse_parenthesized(
 #[cycle(parser)]
 #[tactic(auto, unfolding(crate::specs::Parser::parse_atom))]
 fn parse_atom(parser: Parser, flags: Flags, text: &str) -> Result<(Atom, Flags, &str), ReadError>
-    ensures value { Gives (λ x. (atom_of x.0, x.1, chars x.2.now)) result (parse_atom parser.config (inner_parser parser.config parser.levels) parser.in_look flags (chars text.now)) }
+    ensures value { Gives (λ x. (atom_of x.0, x.1, chars x.2.now)) result
+        (parse_atom parser.config (inner_parser parser.config parser.levels) parser.in_look flags (chars text.now)) }
     ensures shorter { IfOk result (λ x. length (chars x.2.now) ≤ length (chars text.now) - 1) }
     ensures small { IfOk result (λ x. nodes (tree_of x.0.tree) + 2 * length (chars x.2.now) ≤ 2 * (length (chars text.now) - 1) + 1) }
     ensures low { IfOk result (λ x. depth (tree_of x.0.tree) ≤ 13 * parser.levels + 1) }
@@ -352,7 +364,8 @@ fn parse_atom(parser: Parser, flags: Flags, text: &str) -> Result<(Atom, Flags, 
 #[cycle(parser)]
 #[tactic(auto, unfolding(crate::specs::Parser::parse_piece))]
 fn parse_piece(parser: Parser, flags: Flags, text: &str) -> Result<(Expr, Flags, &str), ReadError>
-    ensures value { Gives (λ x. (tree_of x.0, x.1, chars x.2.now)) result (parse_piece parser.config (inner_parser parser.config parser.levels) parser.in_look flags (chars text.now)) }
+    ensures value { Gives (λ x. (tree_of x.0, x.1, chars x.2.now)) result
+        (parse_piece parser.config (inner_parser parser.config parser.levels) parser.in_look flags (chars text.now)) }
     ensures shorter { IfOk result (λ x. length (chars x.2.now) ≤ length (chars text.now) - 1) }
     ensures small { IfOk result (λ x. nodes (tree_of x.0) + 2 * length (chars x.2.now) ≤ 2 * (length (chars text.now) - 1) + 1) }
     ensures low { IfOk result (λ x. depth (tree_of x.0) ≤ 13 * parser.levels + 11) }

@@ -20,7 +20,8 @@ impl Expr {
     /// Fails only if an allocation fails; the buffer is then unchanged.
     pub fn to_str(&self, buf: &mut String, precedence: u8) -> Result<(), AllocError>
         requires { IsTrue (is_printable (tree_of self.now)) }
-        ensures printed { OnOk result (chars (string_bytes buf.new) ≡ chars (string_bytes buf.old) ++ printed precedence (tree_of self.now)) }
+        ensures printed { OnOk result
+            (chars (string_bytes buf.new) ≡ chars (string_bytes buf.old) ++ printed precedence (tree_of self.now)) }
         ensures refused { OnErr result (string_bytes buf.new ≡ string_bytes buf.old) }
     {
         let mut text = String::new(*buf.allocator());
@@ -151,7 +152,8 @@ fn print_pieces(pieces: &[Expr], out: &mut String) -> Result<(), AllocError>
 /// Appends the branches of an alternation, with `|` between them.
 #[cycle(print)]
 fn print_branches(branches: &[Expr], out: &mut String) -> Result<(), AllocError>
-    ensures { OnOk result (chars (string_bytes out.new) ≡ chars (string_bytes out.old) ++ printed_branches (trees (map tree_of branches.now))) }
+    ensures { OnOk result
+        (chars (string_bytes out.new) ≡ chars (string_bytes out.old) ++ printed_branches (trees (map tree_of branches.now))) }
 {
     for i in 0..branches.len() {
         print_bar(out, i > 0)?;

@@ -107,7 +107,8 @@ fn apply_quantifier<'t>(
     atom: Atom,
     text: &'t str,
 ) -> Result<(Expr, &'t str), ReadError>
-    ensures value { Gives (λ x. (tree_of x.0, chars x.1.now)) result (apply_quantifier config flags (chars here.now) count (atom_of atom) (chars text.now)) }
+    ensures value { Gives (λ x. (tree_of x.0, chars x.1.now)) result
+        (apply_quantifier config flags (chars here.now) count (atom_of atom) (chars text.now)) }
     ensures shorter { IfOk result (λ x. length (chars x.1.now) ≤ length (chars text.now)) }
     ensures small { IfOk result (λ x. IsWrapped (tree_of atom.tree) (tree_of x.0)) }
 {
@@ -147,7 +148,8 @@ pub fn parse_quantifiers(
 ) -> Result<(Expr, &str), ReadError>
     ensures value { Gives (λ x. (tree_of x.0, chars x.1.now)) result (parse_quantifiers config flags more (atom_of atom) (chars text.now)) }
     ensures shorter { IfOk result (λ x. length (chars x.1.now) ≤ length (chars text.now)) }
-    ensures small { IfOk result (λ x. nodes (tree_of x.0) + 2 * length (chars x.1.now) ≤ nodes (tree_of atom.tree) + 2 * length (chars text.now)) }
+    ensures small { IfOk result (λ x. nodes (tree_of x.0) + 2 * length (chars x.1.now)
+        ≤ nodes (tree_of atom.tree) + 2 * length (chars text.now)) }
     ensures low { IfOk result (λ x. depth (tree_of x.0) ≤ depth (tree_of atom.tree) + 2 * more) }
 {
     let here = skip(flags.verbose, text)?;

@@ -159,7 +159,8 @@ fn counted_backref(node: &Expr, total: usize) -> Option<usize>
 
 /// The group numbers, at most `total`, that back references and conditions among the nodes name.
 pub fn backrefs(alloc: Global, nodes: &[&Expr], total: usize) -> Result<BTreeSet<usize>, AllocError>
-    ensures { IfOk result (λ groups. (k : ℕ) → contains nat_cmp groups k ≡ (nat_le k total && list_any (refers_to k) (map tree_at nodes.now))) }
+    ensures { IfOk result (λ groups. (k : ℕ)
+        → contains nat_cmp groups k ≡ (nat_le k total && list_any (refers_to k) (map tree_at nodes.now))) }
 {
     let mut groups = BTreeSet::new(alloc);
     for i in 0..nodes.len() {

@@ -134,7 +134,8 @@ impl Resolver<'_> {
     /// end. Fails at the first reference without a group, with its byte offset, or if memory runs out; the tree is then empty.
     #[cycle(resolve)]
     pub fn resolve(&self, expr: &mut Expr, openings: usize) -> Result<usize>
-        ensures { AgreesWith (λ n. (tree_of expr.new, n)) result (resolved self.now.ignored (lookup_in self.now.named.now) openings (tree_of expr.old)) }
+        ensures { AgreesWith (λ n. (tree_of expr.new, n)) result
+            (resolved self.now.ignored (lookup_in self.now.named.now) openings (tree_of expr.old)) }
     {
         let node = mem::replace(expr, Expr::Empty);
         let (node, openings) = self.resolved(node, openings)?;
@@ -145,7 +146,8 @@ impl Resolver<'_> {
     /// Resolves a tree by value; answers the tree, and how many groups have opened before its end.
     #[cycle(resolve)]
     fn resolved(&self, expr: Expr, openings: usize) -> Result<(Expr, usize)>
-        ensures { AgreesWith (λ r. (tree_of r.0, r.1)) result (resolved self.now.ignored (lookup_in self.now.named.now) openings (tree_of expr)) }
+        ensures { AgreesWith (λ r. (tree_of r.0, r.1)) result
+            (resolved self.now.ignored (lookup_in self.now.named.now) openings (tree_of expr)) }
     {
         match expr {
             Expr::Concat(mut children) => {
@@ -208,7 +210,8 @@ impl Resolver<'_> {
     /// Resolves several trees in order; answers how many groups have opened before their end.
     #[cycle(resolve)]
     fn resolve_all(&self, children: &mut [Expr], openings: usize) -> Result<usize>
-        ensures { AgreesWith (λ n. (trees (map tree_of children.new), n)) result (all_resolved self.now.ignored (lookup_in self.now.named.now) openings (trees (map tree_of children.old))) }
+        ensures { AgreesWith (λ n. (trees (map tree_of children.new), n)) result
+            (all_resolved self.now.ignored (lookup_in self.now.named.now) openings (trees (map tree_of children.old))) }
     {
         let mut reached = openings;
         for i in 0..children.len() {
@@ -220,7 +223,8 @@ impl Resolver<'_> {
     /// Resolves an absent operator; answers it, and how many groups have opened before its end.
     #[cycle(resolve)]
     fn resolved_absent(&self, absent: Absent, openings: usize) -> Result<(Absent, usize)>
-        ensures { AgreesWith (λ r. (absent_tree_of r.0, r.1)) result (resolved self.now.ignored (lookup_in self.now.named.now) openings (absent_tree_of absent)) }
+        ensures { AgreesWith (λ r. (absent_tree_of r.0, r.1)) result
+            (resolved self.now.ignored (lookup_in self.now.named.now) openings (absent_tree_of absent)) }
     {
         match absent {
             Absent::Repeater(mut child) => {
@@ -252,7 +256,8 @@ impl Resolver<'_> {
         position: usize,
         openings: usize,
     ) -> Result<(Expr, usize)>
-        ensures { AgreesWith (λ r. (tree_of r.0, r.1)) result (resolved self.now.ignored (lookup_in self.now.named.now) openings (ast_tree_of node position)) }
+        ensures { AgreesWith (λ r. (tree_of r.0, r.1)) result
+            (resolved self.now.ignored (lookup_in self.now.named.now) openings (ast_tree_of node position)) }
     {
         match node {
             AstNode::AstGroup { name, mut inner } => {

@@ -154,13 +154,15 @@ static EDITS: [(Option<&str>, usize, usize, &str); 3] = [
         Some("(?(a)b|c)"),
         1,
         3,
-        "(true, (Conditional { condition: Literal { val: \"a\", casei: false }, true_branch: KeepOut, false_branch: Literal { val: \"c\", casei: false } }, Err(KeepOut)))",
+        "(true, (Conditional { condition: Literal { val: \"a\", casei: false }, true_branch: KeepOut, \
+        false_branch: Literal { val: \"c\", casei: false } }, Err(KeepOut)))",
     ),
     (
         Some("(?(a)b|c)"),
         3,
         2,
-        "(false, (Conditional { condition: Literal { val: \"a\", casei: false }, true_branch: Literal { val: \"b\", casei: false }, false_branch: KeepOut }, Ok(Literal { val: \"c\", casei: false })))",
+        "(false, (Conditional { condition: Literal { val: \"a\", casei: false }, true_branch: Literal { val: \"b\", casei: false }, \
+        false_branch: KeepOut }, Ok(Literal { val: \"c\", casei: false })))",
     ),
     (
         None,

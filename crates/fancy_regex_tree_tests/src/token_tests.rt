@@ -133,7 +133,8 @@ static READINGS: [(Reader, &str, &str); 28] = [
     (
         Reader::Opening,
         "(?im-m:a)",
-        "Ok((NonCapturing(Flags { casei: true, multi: false, dot_newline: false, verbose: false, swap_greed: false, crlf: false }), \"a)\"))",
+        "Ok((NonCapturing(Flags { casei: true, multi: false, dot_newline: false, verbose: false, swap_greed: false, \
+        crlf: false }), \"a)\"))",
     ),
     (
         Reader::Opening,

@@ -9,7 +9,7 @@ use Rattle.fancy_regex_analysis.specs.NodeErrors.{some_node, is_invalid_node}
 use Rattle.fancy_regex_analysis.specs.UnsupportedParts.{is_unsupported}
 use Rattle.fancy_regex_analysis.specs.EmittedParts.{some_emitted, IsWhole}
 use Rattle.fancy_regex_analysis.specs.declared.emitted.Inside.{Inside}
-use Rattle.fancy_regex_analysis.proofs.AnalysisErrorLemmas.{Told, node_told, root_told, start_told, part_told, none_passed, no_stopped_part}
+use Rattle.fancy_regex_analysis.proofs.AnalysisErrorLemmas.{IsMemoryOrHolds, node_error_holds, root_error_holds, start_error_holds, part_error_holds, none_passed, no_stopped_part}
 use Rattle.fancy_regex_analysis.proofs.PartErrorLemmas.{gives}
 use Rattle.fancy_regex_info.proofs.AnalyzeTreeLemmas.{length_trees}
 use Rattle.fancy_regex_analysis.proofs.analysis.analyze.Goals as goal
@@ -20,8 +20,8 @@ returns-in_err-check_nodes-clause-refused c =
     let t = tree_of c.args.tree.now.expr in
     let mark = c.args.tree.now.named_backref_only in
     let gs = c.in_ok-groups.groups in
-    gives c.from_residual-in_err-check_nodes.result e (Told c.args.context mark t) c.from_residual-in_err-check_nodes.ensures.1
-    (node_told c.args.context mark t c.len.result e
+    gives c.from_residual-in_err-check_nodes.result e (IsMemoryOrHolds c.args.context mark t) c.from_residual-in_err-check_nodes.ensures.1
+    (node_error_holds c.args.context mark t c.len.result e
     (omega (arith, c.len.ensures, gs.ok.0, length_trees gs.items, ap length c.in_ok-groups.ensures)) c.in_err-check_nodes.ensures.refused)
 
 pub returns-in_err-check_root-clause-refused : goal.returns-in_err-check_root-clause-refused
@@ -29,8 +29,8 @@ returns-in_err-check_root-clause-refused c =
     let e = c.in_err-check_root.field-0.0 in
     let t = tree_of c.args.tree.now.expr in
     let mark = c.args.tree.now.named_backref_only in
-    gives c.from_residual-in_err-check_root.result e (Told c.args.context mark t) c.from_residual-in_err-check_root.ensures.1
-    (root_told c.args.context mark t (info_of c.in_ok-info.info) e c.in_ok-info.ensures c.in_err-check_root.ensures.refused)
+    gives c.from_residual-in_err-check_root.result e (IsMemoryOrHolds c.args.context mark t) c.from_residual-in_err-check_root.ensures.1
+    (root_error_holds c.args.context mark t (info_of c.in_ok-info.info) e c.in_ok-info.ensures c.in_err-check_root.ensures.refused)
 
 pub returns-in_err-check_left_recursion-clause-refused : goal.returns-in_err-check_left_recursion-clause-refused
 returns-in_err-check_left_recursion-clause-refused c =
@@ -42,8 +42,8 @@ returns-in_err-check_left_recursion-clause-refused c =
     let known : AreCallSizes (map body_tree gs) sizes =
     subst (λ g. AreCallSizes (map body_tree g) sizes) (c.deref-2.ensures.value ∙ sym c.deref-5.ensures.value)
     (subst (λ s. AreCallSizes (map body_tree c.deref-2.result.now) s) (sym c.deref-6.ensures.value) c.in_ok-sizes.ensures) in
-    gives c.from_residual-in_err-check_left_recursion.result e (Told c.args.context mark t) c.from_residual-in_err-check_left_recursion.ensures.1
-    (start_told c.args.context mark t (map body_tree gs) sizes e (ap (map body_tree) c.deref-5.ensures.value ∙ c.in_ok-groups.ensures) known
+    gives c.from_residual-in_err-check_left_recursion.result e (IsMemoryOrHolds c.args.context mark t) c.from_residual-in_err-check_left_recursion.ensures.1
+    (start_error_holds c.args.context mark t (map body_tree gs) sizes e (ap (map body_tree) c.deref-5.ensures.value ∙ c.in_ok-groups.ensures) known
     c.in_err-check_left_recursion.ensures.refused)
 
 pub returns-in_err-check_emitted_parts-clause-refused : goal.returns-in_err-check_emitted_parts-clause-refused
@@ -56,8 +56,8 @@ returns-in_err-check_emitted_parts-clause-refused c =
     let known : AreCallSizes (map body_tree gs) sizes =
     subst (λ g. AreCallSizes (map body_tree g) sizes) (c.deref-2.ensures.value ∙ sym c.deref-7.ensures.value)
     (subst (λ s. AreCallSizes (map body_tree c.deref-2.result.now) s) (sym c.deref-8.ensures.value) c.in_ok-sizes.ensures) in
-    gives c.from_residual-in_err-check_emitted_parts.result e (Told c.args.context mark t) c.from_residual-in_err-check_emitted_parts.ensures.1
-    (part_told c.args.context mark t (map body_tree gs) sizes e (ap (map body_tree) c.deref-7.ensures.value ∙ c.in_ok-groups.ensures) known
+    gives c.from_residual-in_err-check_emitted_parts.result e (IsMemoryOrHolds c.args.context mark t) c.from_residual-in_err-check_emitted_parts.ensures.1
+    (part_error_holds c.args.context mark t (map body_tree gs) sizes e (ap (map body_tree) c.deref-7.ensures.value ∙ c.in_ok-groups.ensures) known
     c.in_err-check_emitted_parts.ensures.refused)
 
 pub returns-clause-complete : goal.returns-clause-complete
