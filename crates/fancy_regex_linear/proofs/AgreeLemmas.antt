@@ -3,7 +3,7 @@ use Rattle.std.proofs.Common.{◌||◌, ◌⊎◌, true≢false, ◌≡◌, ℕ,
 use Rattle.std.proofs.lemmas.Bool.{cases_lt, and_parts}
 use Rattle.fancy_regex_linear.specs.Meaning.{View, reads, is_unbounded}
 use Rattle.fancy_regex_linear.specs.Program.{never_empty}
-use Rattle.fancy_regex_linear.specs.Attempt.{AttemptResult, Continuation, guard, either, save, prefer, pick, rounds, times_try, upto_try, star_try, tail_try, attempt}
+use Rattle.fancy_regex_linear.specs.Attempt.{AttemptResult, Continuation, guard, either, save, prefer, pick, iterations, times_try, upto_try, star_try, tail_try, attempt}
 use Rattle.fancy_regex_states.specs.declared.atom.Leaf.{Leaf}
 use Rattle.fancy_regex_linear.specs.Re.{Re, nothing, read, test, cat, alt, group, repeat}
 
@@ -47,19 +47,19 @@ module _ (view : View) (stop : ℕ) where
   abbrev pub Looks : (Continuation → Continuation) → Type 0
   Looks body = (k k2 : Continuation) (i : ℕ) → i ≤ stop → SameFrom i k k2 → body k i ≡ body k2 i
 
-  rounds_agree : (g : Bool) (body : Continuation → Continuation) → Looks body → (n : ℕ) → Looks (λ k. rounds view.longest g body k n)
-  unfolding rounds
-  rounds_agree g body ok zero k k2 i p h =
+  iterations_agree : (g : Bool) (body : Continuation → Continuation) → Looks body → (n : ℕ) → Looks (λ k. iterations view.longest g body k n)
+  unfolding iterations
+  iterations_agree g body ok zero k k2 i p h =
       prefer_cong view.longest g _ _ _ _
       (ok _ _ i p (λ j a b. pick_agree i _ _ _ _ j (λ _. h j a b) (λ _. refl)))
       (h i (omega arith) p)
-  rounds_agree g body ok (suc n) k k2 i p h =
+  iterations_agree g body ok (suc n) k k2 i p h =
       prefer_cong view.longest g _ _ _ _
-      (ok _ _ i p (λ j a b. pick_agree i _ _ _ _ j (λ _. h j a b) (λ lt. rounds_agree g body ok n k k2 j b (λ l c d. h l (omega arith) d))))
+      (ok _ _ i p (λ j a b. pick_agree i _ _ _ _ j (λ _. h j a b) (λ lt. iterations_agree g body ok n k k2 j b (λ l c d. h l (omega arith) d))))
       (h i (omega arith) p)
 
   pub star_agree : (g : Bool) (body : Continuation → Continuation) → Looks body → Looks (star_try view.longest stop g body)
-  star_agree g body ok k k2 i p h = rounds_agree g body ok (stop - i) k k2 i p h
+  star_agree g body ok k k2 i p h = iterations_agree g body ok (stop - i) k k2 i p h
 
   pub times_agree : (body : Continuation → Continuation) → Looks body → (n : ℕ) → Looks (times_try body n)
   unfolding times_try
@@ -95,32 +95,32 @@ module _ (view : View) (stop : ℕ) where
       times_agree (attempt view stop a) (attempt_agree a) lo _ _ i p
       (λ j c d. tail_agree (is_unbounded hi) g (attempt view stop a) (attempt_agree a) (hi - lo) k k2 j d (λ l u v. h l (omega arith) v))
 
-  -- more rounds than there is text change nothing
-  rounds_fuel : (g : Bool) (body : Continuation → Continuation) → Looks body → (n m : ℕ) (k : Continuation) (i : ℕ) → i ≤ stop → stop - i ≤ n → stop - i ≤ m
-      → rounds view.longest g body k n i ≡ rounds view.longest g body k m i
-  unfolding rounds
-  rounds_fuel g body ok zero zero k i p a b = refl
-  rounds_fuel g body ok zero (suc m) k i p a b =
+  -- more iterations than there is text change nothing
+  iterations_fuel : (g : Bool) (body : Continuation → Continuation) → Looks body → (n m : ℕ) (k : Continuation) (i : ℕ) → i ≤ stop → stop - i ≤ n → stop - i ≤ m
+      → iterations view.longest g body k n i ≡ iterations view.longest g body k m i
+  unfolding iterations
+  iterations_fuel g body ok zero zero k i p a b = refl
+  iterations_fuel g body ok zero (suc m) k i p a b =
       prefer_cong view.longest g _ _ _ _ (ok _ _ i p (λ j c d. pick_agree i _ _ _ _ j (λ _. refl) (λ lt. absurd {0} (omega arith)))) refl
-  rounds_fuel g body ok (suc n) zero k i p a b =
+  iterations_fuel g body ok (suc n) zero k i p a b =
       prefer_cong view.longest g _ _ _ _ (ok _ _ i p (λ j c d. pick_agree i _ _ _ _ j (λ _. refl) (λ lt. absurd {0} (omega arith)))) refl
-  rounds_fuel g body ok (suc n) (suc m) k i p a b =
+  iterations_fuel g body ok (suc n) (suc m) k i p a b =
       prefer_cong view.longest g _ _ _ _ (ok _ _ i p (λ j c d. pick_agree i _ _ _ _ j (λ _. refl)
-      (λ lt. rounds_fuel g body ok n m k j d (omega arith) (omega arith)))) refl
+      (λ lt. iterations_fuel g body ok n m k j d (omega arith) (omega arith)))) refl
 
-  rounds_unfold : (g : Bool) (body : Continuation → Continuation) → Looks body → (n : ℕ) (k : Continuation) (i : ℕ) → i ≤ stop → stop - i ≤ n
-      → rounds view.longest g body k n i ≡ prefer view.longest g (body (pick i k (λ l. rounds view.longest g body k (stop - l) l)) i) (k i)
-  unfolding rounds
-  rounds_unfold g body ok zero k i p a =
+  iterations_unfold : (g : Bool) (body : Continuation → Continuation) → Looks body → (n : ℕ) (k : Continuation) (i : ℕ) → i ≤ stop → stop - i ≤ n
+      → iterations view.longest g body k n i ≡ prefer view.longest g (body (pick i k (λ l. iterations view.longest g body k (stop - l) l)) i) (k i)
+  unfolding iterations
+  iterations_unfold g body ok zero k i p a =
       prefer_cong view.longest g _ _ _ _ (ok _ _ i p (λ j c d. pick_agree i _ _ _ _ j (λ _. refl) (λ lt. absurd {0} (omega arith)))) refl
-  rounds_unfold g body ok (suc n) k i p a =
+  iterations_unfold g body ok (suc n) k i p a =
       prefer_cong view.longest g _ _ _ _ (ok _ _ i p (λ j c d. pick_agree i _ _ _ _ j (λ _. refl)
-      (λ lt. rounds_fuel g body ok n (stop - j) k j d (omega arith) (omega arith)))) refl
+      (λ lt. iterations_fuel g body ok n (stop - j) k j d (omega arith) (omega arith)))) refl
 
   -- a loop is its body, and then itself where that moved
   pub star_unfold : (g : Bool) (body : Continuation → Continuation) → Looks body → (k : Continuation) (i : ℕ) → i ≤ stop
       → star_try view.longest stop g body k i ≡ prefer view.longest g (body (pick i k (star_try view.longest stop g body k)) i) (k i)
-  star_unfold g body ok k i h = rounds_unfold g body ok (stop - i) k i h (omega arith)
+  star_unfold g body ok k i h = iterations_unfold g body ok (stop - i) k i h (omega arith)
 
   -- what comes after is asked only past the start
   abbrev pub Moves : (Continuation → Continuation) → Type 0

@@ -1,5 +1,5 @@
 -- What a search over the states of a plain pattern finds is the match of its tree.
-use Rattle.std.proofs.Common.{◌≡◌, ℕ, zero, suc, ◌+◌, ◌*◌, ◌<◌, ◌≤◌, ◌==◌, Bool, true, false, cond, not, ◌&&◌, List, [], ◌∷◌, length, map, replicate, Option, Some, None, if◌then◌else◌, nat_le, nat_lt, set, refl, sym, ap, ◌∙◌, subst, inr, ⊎_elim, arith, lt-ltb, le-ltb, slice_get}
+use Rattle.std.proofs.Common.{ap₂, ◌≡◌, ℕ, zero, suc, ◌+◌, ◌*◌, ◌<◌, ◌≤◌, ◌==◌, Bool, true, false, cond, not, ◌&&◌, List, [], ◌∷◌, length, map, replicate, Option, Some, None, if◌then◌else◌, nat_le, nat_lt, set, refl, sym, ap, ◌∙◌, subst, inr, ⊎_elim, arith, lt-ltb, le-ltb, slice_get}
 use Rattle.std.specs.Prelude.{option_map}
 use Rattle.std.specs.List.{filter}
 use Rattle.std.proofs.lemmas.Bool.{cond-true, cond-false}
@@ -16,16 +16,17 @@ use Rattle.fancy_regex_meaning.specs.WayLaws.{Each}
 use Rattle.fancy_regex_meaning.proofs.EachLemmas.{Each-filter, Each-weaker, boundaries_within}
 use Rattle.fancy_regex_meaning.proofs.MatchStartProofs.{chosen_holds}
 use Rattle.fancy_regex_linear.specs.Re.{Re}
-use Rattle.fancy_regex_linear.specs.Meaning.{Spot, View, kept}
+use Rattle.fancy_regex_linear.specs.Meaning.{Spot, View, ending_by}
 use Rattle.fancy_regex_linear.specs.Meaning as plain
-use Rattle.fancy_regex_linear.specs.Attempt.{Continuation, accept, attempt, better_spot, apply, land}
+use Rattle.fancy_regex_linear.specs.Attempt.{Continuation, accept, attempt, better_spot, apply, trace_end}
 use Rattle.fancy_regex_linear.specs.Program.{emitted, NamesBelow, AgreeBut}
 use Rattle.fancy_regex_linear.specs.Search.{Closed, AllAgree}
-use Rattle.fancy_regex_linear.specs.Find.{Hit, earliest, attempted, places}
+use Rattle.fancy_regex_linear.specs.EasyPatterns.{span_of_match}
+use Rattle.fancy_regex_linear.specs.Find.{found_of_span, span_of_found, FoundMatch, earliest, attempted, places}
 use Rattle.fancy_regex_linear.specs.Plain.{IsPlain, classes, re_of}
 use Rattle.fancy_regex_class.specs.RunInputs.{group_slots, match_slots, setting_for, search_for}
 use Rattle.fancy_regex_linear.specs.SettingView.{view_of}
-use Rattle.fancy_regex_linear.specs.Easy.{AreStatesOf, IsMade, hit_places}
+use Rattle.fancy_regex_linear.specs.Easy.{AreStatesOf, IsMade, found_slots}
 use Rattle.fancy_regex_class.specs.declared.input.RunInput.{RunInput}
 use Rattle.fancy_regex_states.specs.declared.state.State.{State}
 use Rattle.fancy_regex_states.specs.declared.state.State.TheVariants.{Split, Enter, Leave}
@@ -33,11 +34,11 @@ use Rattle.fancy_regex_states.specs.declared.state.State.TheVariants as S
 use Rattle.fancy_regex_linear.proofs.TreeLemmas.{emit_means}
 use Rattle.fancy_regex_linear.proofs.WeightLemmas.{emitted_weighs}
 use Rattle.fancy_regex_linear.proofs.WaysLemmas.{best_from, onward, attempt_lists}
-use Rattle.fancy_regex_linear.proofs.BoundLemmas.{ways_kept}
+use Rattle.fancy_regex_linear.proofs.BoundLemmas.{ways_ending_by}
 use Rattle.fancy_regex_linear.proofs.DfsLemmas.{first_is_best}
 use Rattle.fancy_regex_linear.proofs.PlainLemmas.{light}
 use Rattle.fancy_regex_linear.proofs.MeaningLemmas.{spot_of, tree_same}
-use Rattle.fancy_regex_linear.proofs.KeptLemmas.{keeps_start}
+use Rattle.fancy_regex_linear.proofs.SameStartLemmas.{keeps_start}
 
 NamesBelow-prop : (n : ℕ) (s : State) → IsProp (NamesBelow n s)
 NamesBelow-prop n (S.Read leaf next) = le_prop
@@ -89,7 +90,7 @@ longest_same w (Some v) = either_way (nat_lt w.position v.position) w v
 
 -- the wanted one of some ways
 chosen_same : (far : Bool) (ws : List MatchState) → option_map spot_of (chosen far ws) ≡ best_from far (onward accept) (map spot_of ws)
-unfolding best_from land apply
+unfolding best_from trace_end apply
 chosen_same true [] = refl
 chosen_same true (w ∷ ws) = longest_same w (first_longest ws) ∙ ap (better_spot true (Some (spot_of w))) (chosen_same true ws)
 chosen_same false [] = refl
@@ -102,8 +103,8 @@ admitted_here false w us rest e = e
 
 -- those that a range admits
 admitted_same : (longest : Bool) (input : RunInput) (ws : List MatchState)
-    → map spot_of (filter (is_admitted (search_for longest input)) ws) ≡ kept input.range.end (map spot_of ws)
-unfolding kept
+    → map spot_of (filter (is_admitted (search_for longest input)) ws) ≡ ending_by input.range.end (map spot_of ws)
+unfolding ending_by
 admitted_same longest input [] = refl
 admitted_same longest input (w ∷ ws) = admitted_here (nat_le w.position input.range.end) w _ _ (admitted_same longest input ws)
 
@@ -114,36 +115,47 @@ flat_none (suc n) =
     ap (λ xs. 18446744073709551615 ∷ 18446744073709551615 ∷ xs) (flat_none n) ∙ sym (ap (λ k. replicate k 18446744073709551615) two)
 
 -- two answers at a place say the same
-answer_here : (p : ℕ) (whole : Bool) (pattern : Pattern) (a : Option Match) (b : Option Spot) (r : Option Match) (q : Option Hit)
-    → option_map (match_slots pattern) a ≡ option_map (λ w. hit_places whole (record { start = p; way = w })) b
-    → option_map (match_slots pattern) r ≡ option_map (hit_places whole) q
-    → option_map (match_slots pattern) (elim a [ None ↦ r | Some y ↦ Some y ]) ≡ option_map (hit_places whole) (elim b [ None ↦ q | Some w ↦ Some (record { start = p; way = w }) ])
-answer_here p whole pattern None None r q e f = f
-answer_here p whole pattern (Some y) (Some w) r q e f = e
-answer_here p whole pattern None (Some w) r q e f = cc
-answer_here p whole pattern (Some y) None r q e f = cc
+module _ {X : Type 0} (from_match : Match → X) (from_found : FoundMatch → X) where
+  answer_here : (p : ℕ) (a : Option Match) (b : Option Spot) (r : Option Match) (q : Option FoundMatch)
+      → option_map from_match a ≡ option_map (λ w. from_found (record { start = p; way = w })) b
+      → option_map from_match r ≡ option_map from_found q
+      → option_map from_match (elim a [ None ↦ r | Some y ↦ Some y ]) ≡ option_map from_found (elim b [ None ↦ q | Some w ↦ Some (record { start = p; way = w }) ])
+  answer_here p None None r q e f = f
+  answer_here p (Some y) (Some w) r q e f = e
+  answer_here p None (Some w) r q e f = cc
+  answer_here p (Some y) None r q e f = cc
 
-tried_same_here : (p : ℕ) (whole : Bool) (pattern : Pattern) (a : Option Match) (b : Option Spot) (r q : ℕ)
-    → option_map (match_slots pattern) a ≡ option_map (λ w. hit_places whole (record { start = p; way = w })) b → r ≡ q
-    → 1 + elim a [ None ↦ r | Some y ↦ 0 ] ≡ 1 + elim b [ None ↦ q | Some w ↦ 0 ]
-tried_same_here p whole pattern None None r q e f = ap (λ n. 1 + n) f
-tried_same_here p whole pattern (Some y) (Some w) r q e f = refl
-tried_same_here p whole pattern None (Some w) r q e f = cc
-tried_same_here p whole pattern (Some y) None r q e f = cc
+  tried_same_here : (p : ℕ) (a : Option Match) (b : Option Spot) (r q : ℕ)
+      → option_map from_match a ≡ option_map (λ w. from_found (record { start = p; way = w })) b → r ≡ q
+      → 1 + elim a [ None ↦ r | Some y ↦ 0 ] ≡ 1 + elim b [ None ↦ q | Some w ↦ 0 ]
+  tried_same_here p None None r q e f = ap (λ n. 1 + n) f
+  tried_same_here p (Some y) (Some w) r q e f = refl
+  tried_same_here p None (Some w) r q e f = cc
+  tried_same_here p (Some y) None r q e f = cc
 
-module _ (whole : Bool) (pattern : Pattern) (g : ℕ → Option Match) (f : ℕ → Option Spot) where
-  abbrev Agree : ℕ → Type 0
-  Agree p = option_map (match_slots pattern) (g p) ≡ option_map (λ w. hit_places whole (record { start = p; way = w })) (f p)
+  module _ (g : ℕ → Option Match) (f : ℕ → Option Spot) where
+    abbrev Agree : ℕ → Type 0
+    Agree p = option_map from_match (g p) ≡ option_map (λ w. from_found (record { start = p; way = w })) (f p)
 
-  found_same : (ps : List ℕ) → Each Agree ps → option_map (match_slots pattern) (first_some g ps) ≡ option_map (hit_places whole) (earliest f ps)
-  unfolding earliest
-  found_same [] h = refl
-  found_same (p ∷ ps) h = answer_here p whole pattern (g p) (f p) (first_some g ps) (earliest f ps) h.0 (found_same ps h.1)
+    found_same : (ps : List ℕ) → Each Agree ps → option_map from_match (first_some g ps) ≡ option_map from_found (earliest f ps)
+    unfolding earliest
+    found_same [] h = refl
+    found_same (p ∷ ps) h = answer_here p (g p) (f p) (first_some g ps) (earliest f ps) h.0 (found_same ps h.1)
 
-  tried_same : (ps : List ℕ) → Each Agree ps → attempted g ps ≡ attempted f ps
-  unfolding attempted
-  tried_same [] h = refl
-  tried_same (p ∷ ps) h = tried_same_here p whole pattern (g p) (f p) (attempted g ps) (attempted f ps) h.0 (tried_same ps h.1)
+    tried_same : (ps : List ℕ) → Each Agree ps → attempted g ps ≡ attempted f ps
+    unfolding attempted
+    tried_same [] h = refl
+    tried_same (p ∷ ps) h = tried_same_here p (g p) (f p) (attempted g ps) (attempted f ps) h.0 (tried_same ps h.1)
+
+-- one after the other
+map_twice : {A B C : Type 0} (f : A → B) (g : B → C) (o : Option A) → option_map g (option_map f o) ≡ option_map (λ a. g (f a)) o
+map_twice f g None = refl
+map_twice f g (Some a) = refl
+
+-- the span that was found
+pub span_back : (o : Option (ℕ × ℕ)) (slots : List ℕ) → option_map span_of_found (found_of_span o slots) ≡ o
+span_back None slots = refl
+span_back (Some s) slots = refl
 
 -- the places of a way
 places_here : (b : Bool) (xs : List ℕ) (p k e : ℕ) → k ≡ p
@@ -171,6 +183,13 @@ module _ (unicode longest : Bool) (text : List ℕ) (input : RunInput) (states :
   abbrev whole : Bool
   whole = not (pattern.first_group == 0)
 
+  -- the span and the slots of a match
+  abbrev of_match : Match → (ℕ × ℕ) × List ℕ
+  of_match m = (span_of_match m, match_slots pattern m)
+
+  abbrev of_found : FoundMatch → (ℕ × ℕ) × List ℕ
+  of_found h = (span_of_found h, found_slots whole h)
+
   abbrev unset : List ℕ
   unset = replicate (2 * length pattern.groups) 18446744073709551615
 
@@ -183,56 +202,71 @@ module _ (unicode longest : Bool) (text : List ℕ) (input : RunInput) (states :
 
   module _ (d : Does view stop states entry re) where
     abbrev from_place : ℕ → Option Spot
-    from_place i = land unset (d.go entry i).answer
+    from_place i = trace_end unset (d.go entry i).answer
 
     -- the wanted way from a place
     wanted : (p : ℕ) → p ≤ stop → option_map spot_of (chosen longest (filter (is_admitted find) (ways_at s pattern find p))) ≡ from_place p
     wanted p h =
         chosen_same longest _
-        ∙ ap (best_from longest (onward accept)) (admitted_same longest input _ ∙ ap (kept stop) (all_ways p (omega arith)) ∙ ways_kept (length text) stop fits view re (record { at = p; slots = unset }) h)
+        ∙ ap (best_from longest (onward accept)) (admitted_same longest input _ ∙ ap (ending_by stop) (all_ways p (omega arith)) ∙ ways_ending_by (length text) stop fits view re (record { at = p; slots = unset }) h)
         ∙ sym (attempt_lists view stop re accept (record { at = p; slots = unset }))
-        ∙ ap (λ r. land unset r.answer) (sym (d.means p h))
+        ∙ ap (λ r. trace_end unset r.answer) (sym (d.means p h))
 
-    start_kept : (p : ℕ) → Each (λ v. v.kept ≡ p) (filter (is_admitted find) (ways_at s pattern find p))
+    start_same : (p : ℕ) → Each (λ v. v.kept ≡ p) (filter (is_admitted find) (ways_at s pattern find p))
     unfolding ways
-    start_kept p = Each-filter (λ v. v.kept ≡ p) (is_admitted find) _ (keeps_start s pattern.groups (call_ways s pattern.groups (max_open_calls pattern.groups) []) pattern.first_group pattern.tree is_plain (start_way pattern p))
+    start_same p = Each-filter (λ v. v.kept ≡ p) (is_admitted find) _ (keeps_start s pattern.groups (call_ways s pattern.groups (max_open_calls pattern.groups) []) pattern.first_group pattern.tree is_plain (start_way pattern p))
 
     same_here : (p : ℕ) (o : Option MatchState) (b : Option Spot) → option_map spot_of o ≡ b → ((v : MatchState) → o ≡ Some v → v.kept ≡ p)
-        → option_map (match_slots pattern) (option_map match_of o) ≡ option_map (λ w. hit_places whole (record { start = p; way = w })) b
-    same_here p None b e h = ap (option_map (λ w. hit_places whole (record { start = p; way = w }))) e
+        → option_map of_match (option_map match_of o) ≡ option_map (λ w. of_found (record { start = p; way = w })) b
+    same_here p None b e h = ap (option_map (λ w. of_found (record { start = p; way = w }))) e
     same_here p (Some v) b e h =
-        ap Some (places_here (pattern.first_group == 0) (group_slots v.pairs) p v.kept v.position (h v refl))
-        ∙ ap (option_map (λ w. hit_places whole (record { start = p; way = w }))) e
+        ap₂ (λ (start : ℕ) (slots : List ℕ). Some ((start, v.position), slots)) (h v refl)
+        (places_here (pattern.first_group == 0) (group_slots v.pairs) p v.kept v.position (h v refl))
+        ∙ ap (option_map (λ w. of_found (record { start = p; way = w }))) e
 
-    agree_at : (p : ℕ) → p ≤ stop → option_map (match_slots pattern) (match_at s pattern find p) ≡ option_map (λ w. hit_places whole (record { start = p; way = w })) (from_place p)
+    agree_at : (p : ℕ) → p ≤ stop → option_map of_match (match_at s pattern find p) ≡ option_map (λ w. of_found (record { start = p; way = w })) (from_place p)
     unfolding match_at
     agree_at p h =
         same_here p (chosen longest (filter (is_admitted find) (ways_at s pattern find p))) (from_place p) (wanted p h)
-        (λ v e. chosen_holds (λ v. v.kept ≡ p) longest _ (start_kept p) v e)
+        (λ v e. chosen_holds (λ v. v.kept ≡ p) longest _ (start_same p) v e)
 
-    agree_all : (anchored : Bool) → input.first ≤ stop → Each (Agree whole pattern (match_at s pattern find) from_place) (places text anchored input.first stop)
+    agree_all : (anchored : Bool) → input.first ≤ stop → Each (Agree of_match of_found (match_at s pattern find) from_place) (places text anchored input.first stop)
     agree_all true h = (agree_at input.first h, tt)
     agree_all false h =
-        Each-weaker (λ b. (input.first ≤ b) × (b ≤ stop)) (Agree whole pattern (match_at s pattern find) from_place) (λ p q. agree_at p q.1) (boundaries text input.first stop)
+        Each-weaker (λ b. (input.first ≤ b) × (b ≤ stop)) (Agree of_match of_found (match_at s pattern find) from_place) (λ p q. agree_at p q.1) (boundaries text input.first stop)
         (boundaries_within text input.first stop)
 
     starts_are : input.first ≤ stop → starts s pattern find ≡ places text input.anchored input.first stop
     starts_are h = cond-false (nat_lt stop input.first) _ _ (le-ltb stop input.first h)
 
     -- what a search finds is the match
-    pub found_is_match : input.first ≤ stop
-        → option_map (match_slots pattern) (first_match s pattern find) ≡ option_map (hit_places whole) (earliest from_place (places text input.anchored input.first stop))
+    both_are_match : input.first ≤ stop
+        → option_map of_match (first_match s pattern find) ≡ option_map of_found (earliest from_place (places text input.anchored input.first stop))
     unfolding first_match
-    found_is_match h =
-        ap (λ ps. option_map (match_slots pattern) (first_some (match_at s pattern find) ps)) (starts_are h)
-        ∙ found_same whole pattern (match_at s pattern find) from_place (places text input.anchored input.first stop) (agree_all input.anchored h)
+    both_are_match h =
+        ap (λ ps. option_map of_match (first_some (match_at s pattern find) ps)) (starts_are h)
+        ∙ found_same of_match of_found (match_at s pattern find) from_place (places text input.anchored input.first stop) (agree_all input.anchored h)
+
+    pub slots_are_match : input.first ≤ stop
+        → option_map (match_slots pattern) (first_match s pattern find) ≡ option_map (found_slots whole) (earliest from_place (places text input.anchored input.first stop))
+    slots_are_match h =
+        sym (map_twice of_match (λ both. both.1) (first_match s pattern find))
+        ∙ ap (option_map (λ both. both.1)) (both_are_match h)
+        ∙ map_twice of_found (λ both. both.1) (earliest from_place (places text input.anchored input.first stop))
+
+    pub span_is_match : input.first ≤ stop
+        → option_map span_of_match (first_match s pattern find) ≡ option_map span_of_found (earliest from_place (places text input.anchored input.first stop))
+    span_is_match h =
+        sym (map_twice of_match (λ both. both.0) (first_match s pattern find))
+        ∙ ap (option_map (λ both. both.0)) (both_are_match h)
+        ∙ map_twice of_found (λ both. both.0) (earliest from_place (places text input.anchored input.first stop))
 
     -- and tries as many places
     pub tried_is_same : input.first ≤ stop
         → attempted (match_at s pattern find) (starts s pattern find) ≡ attempted from_place (places text input.anchored input.first stop)
     tried_is_same h =
         ap (attempted (match_at s pattern find)) (starts_are h)
-        ∙ tried_same whole pattern (match_at s pattern find) from_place (places text input.anchored input.first stop) (agree_all input.anchored h)
+        ∙ tried_same of_match of_found (match_at s pattern find) from_place (places text input.anchored input.first stop) (agree_all input.anchored h)
 
   no_starts : stop < input.first → starts s pattern find ≡ []
   no_starts h = cond-true (nat_lt stop input.first) [] (cond input.anchored (input.first ∷ []) (boundaries text input.first stop)) (lt-ltb stop input.first h)

@@ -1,7 +1,7 @@
 -- Where ways end: the equation of a loop, and what a range admits.
 use Rattle.std.proofs.Common.{◌≡◌, ℕ, zero, suc, ◌*◌, ◌-◌, ◌<◌, ◌≤◌, Bool, true, false, ◌&&◌, List, [], ◌∷◌, ◌++◌, map, if◌then◌else◌, nat_lt, nat_le, set, refl, sym, ap, ap₂, ◌∙◌, ⊎_elim, arith, lt-ltb, le-ltb, le-leb, leb-true, ltb-true}
 use Rattle.std.proofs.lemmas.Bool.{cases_lt, lt-leb, and_parts}
-use Rattle.fancy_regex_linear.specs.Meaning.{Spot, View, each, in_order, after_round, loop_ways, times_ways, upto_ways, tail_ways, is_unbounded, reads, ways, kept}
+use Rattle.fancy_regex_linear.specs.Meaning.{Spot, View, each, in_order, after_iteration, loop_ways, times_ways, upto_ways, tail_ways, is_unbounded, reads, ways, ending_by}
 use Rattle.fancy_regex_linear.specs.Re.{Re, nothing, read, test, cat, alt, group, repeat}
 use Rattle.fancy_regex_states.specs.declared.atom.Leaf.{Leaf}
 
@@ -36,23 +36,23 @@ each_cong P f g (w ∷ ws) h k = ap₂ ◌++◌ (k w h.0) (each_cong P f g ws h.
 abbrev pub Ends : ℕ → (Spot → List Spot) → Type 0
 Ends stop list = (s : Spot) → s.at ≤ stop → AllOf (Between s.at stop) (list s)
 
-after_moved : (again : Spot → List Spot) (s w : Spot) → s.at < w.at → after_round again s w ≡ again w
-unfolding after_round
+after_moved : (again : Spot → List Spot) (s w : Spot) → s.at < w.at → after_iteration again s w ≡ again w
+unfolding after_iteration
 after_moved again s w h = rw (lt-ltb s.at w.at h)
 
-after_same : (again : Spot → List Spot) (s w : Spot) → w.at ≤ s.at → after_round again s w ≡ w ∷ []
-unfolding after_round
+after_same : (again : Spot → List Spot) (s w : Spot) → w.at ≤ s.at → after_iteration again s w ≡ w ∷ []
+unfolding after_iteration
 after_same again s w h = rw (le-ltb s.at w.at h)
 
 weaker : (ws : List Spot) (a b stop : ℕ) → b ≤ a → AllOf (Between a stop) ws → AllOf (Between b stop) ws
 weaker [] a b stop h k = tt
 weaker (w ∷ ws) a b stop h k = ((omega (arith, k.0.0), k.0.1), weaker ws a b stop h k.1)
 
-round_ends : (stop : ℕ) (g : Bool) (list again : Spot → List Spot) (s : Spot) → s.at ≤ stop → Ends stop list → Ends stop again
-    → AllOf (Between s.at stop) (in_order g (each (after_round again s) (list s)) (s ∷ []))
-round_ends stop g list again s p ends next =
+iteration_ends : (stop : ℕ) (g : Bool) (list again : Spot → List Spot) (s : Spot) → s.at ≤ stop → Ends stop list → Ends stop again
+    → AllOf (Between s.at stop) (in_order g (each (after_iteration again s) (list s)) (s ∷ []))
+iteration_ends stop g list again s p ends next =
     all_order (Between s.at stop) g _ _
-    (all_each (Between s.at stop) (Between s.at stop) (after_round again s) (list s) (ends s p)
+    (all_each (Between s.at stop) (Between s.at stop) (after_iteration again s) (list s) (ends s p)
     (λ w b.
     ⊎_elim
     (λ (lt : s.at < w.at). rw (after_moved again s w lt) (weaker (again w) w.at s.at stop (omega arith) (next w b.1)))
@@ -62,8 +62,8 @@ round_ends stop g list again s p ends next =
 
 pub loop_ends : (stop : ℕ) (g : Bool) (list : Spot → List Spot) → Ends stop list → (n : ℕ) → Ends stop (loop_ways g list n)
 unfolding loop_ways
-loop_ends stop g list ends zero s p = round_ends stop g list (λ _. []) s p ends (λ w q. tt)
-loop_ends stop g list ends (suc n) s p = round_ends stop g list (loop_ways g list n) s p ends (loop_ends stop g list ends n)
+loop_ends stop g list ends zero s p = iteration_ends stop g list (λ _. []) s p ends (λ w q. tt)
+loop_ends stop g list ends (suc n) s p = iteration_ends stop g list (loop_ways g list n) s p ends (loop_ends stop g list ends n)
 
 seq_ends : (stop : ℕ) (one two : Spot → List Spot) → Ends stop one → Ends stop two → Ends stop (λ s. each two (one s))
 seq_ends stop one two a b s p =
@@ -115,10 +115,10 @@ module _ (view : View) (stop : ℕ) where
       (tail_ends (is_unbounded hi) stop g (ways view stop a) (ways_end a) (hi - lo)) lo s p
 
 -- more room than there is text adds no ways
-round_same : (stop : ℕ) (g : Bool) (list again more : Spot → List Spot) (s : Spot) → s.at ≤ stop → Ends stop list
+iteration_same : (stop : ℕ) (g : Bool) (list again more : Spot → List Spot) (s : Spot) → s.at ≤ stop → Ends stop list
     → ((w : Spot) → s.at < w.at → w.at ≤ stop → again w ≡ more w)
-    → in_order g (each (after_round again s) (list s)) (s ∷ []) ≡ in_order g (each (after_round more s) (list s)) (s ∷ [])
-round_same stop g list again more s p ends same =
+    → in_order g (each (after_iteration again s) (list s)) (s ∷ []) ≡ in_order g (each (after_iteration more s) (list s)) (s ∷ [])
+iteration_same stop g list again more s p ends same =
     ap (λ ws. in_order g ws (s ∷ []))
     (each_cong (Between s.at stop) _ _ (list s) (ends s p)
     (λ w b.
@@ -131,88 +131,88 @@ loop_fuel : (stop : ℕ) (g : Bool) (list : Spot → List Spot) → Ends stop li
     → loop_ways g list n s ≡ loop_ways g list m s
 unfolding loop_ways
 loop_fuel stop g list ends zero zero s p a b = refl
-loop_fuel stop g list ends zero (suc m) s p a b = round_same stop g list _ _ s p ends (λ w lt q. absurd {0} (omega arith))
-loop_fuel stop g list ends (suc n) zero s p a b = round_same stop g list _ _ s p ends (λ w lt q. absurd {0} (omega arith))
+loop_fuel stop g list ends zero (suc m) s p a b = iteration_same stop g list _ _ s p ends (λ w lt q. absurd {0} (omega arith))
+loop_fuel stop g list ends (suc n) zero s p a b = iteration_same stop g list _ _ s p ends (λ w lt q. absurd {0} (omega arith))
 loop_fuel stop g list ends (suc n) (suc m) s p a b =
-    round_same stop g list _ _ s p ends (λ w lt q. loop_fuel stop g list ends n m w q (omega arith) (omega arith))
+    iteration_same stop g list _ _ s p ends (λ w lt q. loop_fuel stop g list ends n m w q (omega arith) (omega arith))
 
 loop_open : (stop : ℕ) (g : Bool) (list : Spot → List Spot) → Ends stop list → (n : ℕ) (s : Spot) → s.at ≤ stop → stop - s.at ≤ n
-    → loop_ways g list n s ≡ in_order g (each (after_round (λ w. loop_ways g list (stop - w.at) w) s) (list s)) (s ∷ [])
+    → loop_ways g list n s ≡ in_order g (each (after_iteration (λ w. loop_ways g list (stop - w.at) w) s) (list s)) (s ∷ [])
 unfolding loop_ways
-loop_open stop g list ends zero s p a = round_same stop g list _ _ s p ends (λ w lt q. absurd {0} (omega arith))
+loop_open stop g list ends zero s p a = iteration_same stop g list _ _ s p ends (λ w lt q. absurd {0} (omega arith))
 loop_open stop g list ends (suc n) s p a =
-    round_same stop g list _ _ s p ends (λ w lt q. loop_fuel stop g list ends n (stop - w.at) w q (omega arith) (omega arith))
+    iteration_same stop g list _ _ s p ends (λ w lt q. loop_fuel stop g list ends n (stop - w.at) w q (omega arith) (omega arith))
 
--- A loop with all the room of the text: another round, after which the loop goes on where it moved and ends where it did not, and leaving.
+-- A loop with all the room of the text: another iteration, after which the loop goes on where it moved and ends where it did not, and leaving.
 pub loop_equation : (stop : ℕ) (g : Bool) (list : Spot → List Spot) → Ends stop list → (s : Spot) → s.at ≤ stop
-    → loop_ways g list (stop - s.at) s ≡ in_order g (each (after_round (λ w. loop_ways g list (stop - w.at) w) s) (list s)) (s ∷ [])
+    → loop_ways g list (stop - s.at) s ≡ in_order g (each (after_iteration (λ w. loop_ways g list (stop - w.at) w) s) (list s)) (s ∷ [])
 loop_equation stop g list ends s p = loop_open stop g list ends (stop - s.at) s p (omega arith)
 
--- What ends by `stop` is kept.
-kept_in : (stop : ℕ) (w : Spot) (ws : List Spot) → w.at ≤ stop → kept stop (w ∷ ws) ≡ w ∷ kept stop ws
-unfolding kept
-kept_in stop w ws h = rw (le-leb w.at stop h)
+-- What ends by `stop` is ending_by.
+ending_by_in : (stop : ℕ) (w : Spot) (ws : List Spot) → w.at ≤ stop → ending_by stop (w ∷ ws) ≡ w ∷ ending_by stop ws
+unfolding ending_by
+ending_by_in stop w ws h = rw (le-leb w.at stop h)
 
-kept_out : (stop : ℕ) (w : Spot) (ws : List Spot) → stop < w.at → kept stop (w ∷ ws) ≡ kept stop ws
-unfolding kept
-kept_out stop w ws h = rw (lt-leb w.at stop h)
+ending_by_out : (stop : ℕ) (w : Spot) (ws : List Spot) → stop < w.at → ending_by stop (w ∷ ws) ≡ ending_by stop ws
+unfolding ending_by
+ending_by_out stop w ws h = rw (lt-leb w.at stop h)
 
-kept_none : (stop : ℕ) → kept stop [] ≡ []
-unfolding kept
-kept_none stop = refl
+ending_by_none : (stop : ℕ) → ending_by stop [] ≡ []
+unfolding ending_by
+ending_by_none stop = refl
 
-kept_one : (stop : ℕ) (w : Spot) → w.at ≤ stop → kept stop (w ∷ []) ≡ w ∷ []
-kept_one stop w h = kept_in stop w [] h ∙ ap (λ ws. w ∷ ws) (kept_none stop)
+ending_by_one : (stop : ℕ) (w : Spot) → w.at ≤ stop → ending_by stop (w ∷ []) ≡ w ∷ []
+ending_by_one stop w h = ending_by_in stop w [] h ∙ ap (λ ws. w ∷ ws) (ending_by_none stop)
 
-kept_append : (stop : ℕ) (us ws : List Spot) → kept stop (us ++ ws) ≡ kept stop us ++ kept stop ws
-unfolding kept
-kept_append stop [] ws = refl
-kept_append stop (u ∷ us) ws =
+ending_by_append : (stop : ℕ) (us ws : List Spot) → ending_by stop (us ++ ws) ≡ ending_by stop us ++ ending_by stop ws
+unfolding ending_by
+ending_by_append stop [] ws = refl
+ending_by_append stop (u ∷ us) ws =
     ⊎_elim
-    (λ (out : stop < u.at). kept_out stop u (us ++ ws) out ∙ kept_append stop us ws ∙ ap (λ vs. vs ++ kept stop ws) (sym (kept_out stop u us out)))
+    (λ (out : stop < u.at). ending_by_out stop u (us ++ ws) out ∙ ending_by_append stop us ws ∙ ap (λ vs. vs ++ ending_by stop ws) (sym (ending_by_out stop u us out)))
     (λ (inside : u.at ≤ stop).
-    kept_in stop u (us ++ ws) inside ∙ ap (λ vs. u ∷ vs) (kept_append stop us ws) ∙ ap (λ vs. vs ++ kept stop ws) (sym (kept_in stop u us inside)))
+    ending_by_in stop u (us ++ ws) inside ∙ ap (λ vs. u ∷ vs) (ending_by_append stop us ws) ∙ ap (λ vs. vs ++ ending_by stop ws) (sym (ending_by_in stop u us inside)))
     (cases_lt stop u.at)
 
-kept_order : (stop : ℕ) (g : Bool) (us ws : List Spot) → kept stop (in_order g us ws) ≡ in_order g (kept stop us) (kept stop ws)
-kept_order stop true us ws = kept_append stop us ws
-kept_order stop false us ws = kept_append stop ws us
+ending_by_order : (stop : ℕ) (g : Bool) (us ws : List Spot) → ending_by stop (in_order g us ws) ≡ in_order g (ending_by stop us) (ending_by stop ws)
+ending_by_order stop true us ws = ending_by_append stop us ws
+ending_by_order stop false us ws = ending_by_append stop ws us
 
--- nothing is kept of what ends past `stop`
-kept_past : (stop low len : ℕ) (ws : List Spot) → stop < low → AllOf (Between low len) ws → kept stop ws ≡ []
-kept_past stop low len [] h k = kept_none stop
-kept_past stop low len (w ∷ ws) h k = kept_out stop w ws (omega (arith, k.0.0)) ∙ kept_past stop low len ws h k.1
+-- nothing is ending_by of what ends past `stop`
+ending_by_past : (stop low len : ℕ) (ws : List Spot) → stop < low → AllOf (Between low len) ws → ending_by stop ws ≡ []
+ending_by_past stop low len [] h k = ending_by_none stop
+ending_by_past stop low len (w ∷ ws) h k = ending_by_out stop w ws (omega (arith, k.0.0)) ∙ ending_by_past stop low len ws h k.1
 
-kept_map : (stop : ℕ) (f : Spot → Spot) → ((w : Spot) → (f w).at ≡ w.at) → (ws : List Spot) → kept stop (map f ws) ≡ map f (kept stop ws)
-kept_map stop f same [] = kept_none stop ∙ ap (map f) (sym (kept_none stop))
-kept_map stop f same (w ∷ ws) =
+ending_by_map : (stop : ℕ) (f : Spot → Spot) → ((w : Spot) → (f w).at ≡ w.at) → (ws : List Spot) → ending_by stop (map f ws) ≡ map f (ending_by stop ws)
+ending_by_map stop f same [] = ending_by_none stop ∙ ap (map f) (sym (ending_by_none stop))
+ending_by_map stop f same (w ∷ ws) =
     let at = same w in
     ⊎_elim
-    (λ (out : stop < w.at). kept_out stop (f w) (map f ws) (omega arith) ∙ kept_map stop f same ws ∙ ap (map f) (sym (kept_out stop w ws out)))
+    (λ (out : stop < w.at). ending_by_out stop (f w) (map f ws) (omega arith) ∙ ending_by_map stop f same ws ∙ ap (map f) (sym (ending_by_out stop w ws out)))
     (λ (inside : w.at ≤ stop).
-    kept_in stop (f w) (map f ws) (omega arith) ∙ ap (λ vs. f w ∷ vs) (kept_map stop f same ws) ∙ ap (map f) (sym (kept_in stop w ws inside)))
+    ending_by_in stop (f w) (map f ws) (omega arith) ∙ ap (λ vs. f w ∷ vs) (ending_by_map stop f same ws) ∙ ap (map f) (sym (ending_by_in stop w ws inside)))
     (cases_lt stop w.at)
 
-kept_each : (stop : ℕ) (P : Spot → Type 0) (f g : Spot → List Spot) (ws : List Spot) → AllOf P ws
-    → ((w : Spot) → P w → w.at ≤ stop → kept stop (f w) ≡ g w) → ((w : Spot) → P w → stop < w.at → kept stop (f w) ≡ [])
-    → kept stop (each f ws) ≡ each g (kept stop ws)
-kept_each stop P f g [] all a b = kept_none stop ∙ ap (each g) (sym (kept_none stop))
-kept_each stop P f g (w ∷ ws) all a b =
-    kept_append stop (f w) (each f ws)
+ending_by_each : (stop : ℕ) (P : Spot → Type 0) (f g : Spot → List Spot) (ws : List Spot) → AllOf P ws
+    → ((w : Spot) → P w → w.at ≤ stop → ending_by stop (f w) ≡ g w) → ((w : Spot) → P w → stop < w.at → ending_by stop (f w) ≡ [])
+    → ending_by stop (each f ws) ≡ each g (ending_by stop ws)
+ending_by_each stop P f g [] all a b = ending_by_none stop ∙ ap (each g) (sym (ending_by_none stop))
+ending_by_each stop P f g (w ∷ ws) all a b =
+    ending_by_append stop (f w) (each f ws)
     ∙ (⊎_elim
     (λ (out : stop < w.at).
-    ap₂ ◌++◌ (b w all.0 out) (kept_each stop P f g ws all.1 a b) ∙ ap (each g) (sym (kept_out stop w ws out)))
+    ap₂ ◌++◌ (b w all.0 out) (ending_by_each stop P f g ws all.1 a b) ∙ ap (each g) (sym (ending_by_out stop w ws out)))
     (λ (inside : w.at ≤ stop).
-    ap₂ ◌++◌ (a w all.0 inside) (kept_each stop P f g ws all.1 a b) ∙ ap (each g) (sym (kept_in stop w ws inside)))
+    ap₂ ◌++◌ (a w all.0 inside) (ending_by_each stop P f g ws all.1 a b) ∙ ap (each g) (sym (ending_by_in stop w ws inside)))
     (cases_lt stop w.at))
 
-if_kept : (stop : ℕ) (b : Bool) (w : Spot) → w.at ≤ stop → kept stop (if b then w ∷ [] else []) ≡ (if b then w ∷ [] else [])
-if_kept stop true w h = kept_one stop w h
-if_kept stop false w h = kept_none stop
+if_kept : (stop : ℕ) (b : Bool) (w : Spot) → w.at ≤ stop → ending_by stop (if b then w ∷ [] else []) ≡ (if b then w ∷ [] else [])
+if_kept stop true w h = ending_by_one stop w h
+if_kept stop false w h = ending_by_none stop
 
-if_past : (stop : ℕ) (b : Bool) (w : Spot) → stop < w.at → kept stop (if b then w ∷ [] else []) ≡ []
-if_past stop true w h = kept_out stop w [] h ∙ kept_none stop
-if_past stop false w h = kept_none stop
+if_past : (stop : ℕ) (b : Bool) (w : Spot) → stop < w.at → ending_by stop (if b then w ∷ [] else []) ≡ []
+if_past stop true w h = ending_by_out stop w [] h ∙ ending_by_none stop
+if_past stop false w h = ending_by_none stop
 
 never : (a b : Bool) (w : Spot) → (if a && (b && false) then w ∷ [] else []) ≡ []
 never true true w = refl
@@ -222,15 +222,15 @@ never false b w = refl
 -- a list over the whole text, and the same in a range
 module _ (len stop : ℕ) (fits : stop ≤ len) where
   abbrev Keeps : (Spot → List Spot) → (Spot → List Spot) → Type 0
-  Keeps whole translated = (s : Spot) → s.at ≤ stop → kept stop (whole s) ≡ translated s
+  Keeps whole translated = (s : Spot) → s.at ≤ stop → ending_by stop (whole s) ≡ translated s
 
-  past : (list : Spot → List Spot) → Ends len list → (w : Spot) → w.at ≤ len → stop < w.at → kept stop (list w) ≡ []
-  past list ends w inside out = kept_past stop w.at len (list w) out (ends w inside)
+  past : (list : Spot → List Spot) → Ends len list → (w : Spot) → w.at ≤ len → stop < w.at → ending_by stop (list w) ≡ []
+  past list ends w inside out = ending_by_past stop w.at len (list w) out (ends w inside)
 
   seq_keeps : (one two one2 two2 : Spot → List Spot) → Ends len one → Ends len two → Keeps one one2 → Keeps two two2
       → Keeps (λ s. each two (one s)) (λ s. each two2 (one2 s))
   seq_keeps one two one2 two2 e f a b s p =
-      kept_each stop (Between s.at len) two two2 (one s) (e s (omega arith)) (λ w q h. b w h) (λ w q h. past two f w q.1 h)
+      ending_by_each stop (Between s.at len) two two2 (one s) (e s (omega arith)) (λ w q h. b w h) (λ w q h. past two f w q.1 h)
       ∙ ap (each two2) (a s p)
 
   times_keeps : (list rest list2 rest2 : Spot → List Spot) → Ends len list → Ends len rest → Keeps list list2 → Keeps rest rest2 → (n : ℕ)
@@ -242,38 +242,38 @@ module _ (len stop : ℕ) (fits : stop ≤ len) where
 
   upto_keeps : (g : Bool) (list list2 : Spot → List Spot) → Ends len list → Keeps list list2 → (n : ℕ) → Keeps (upto_ways g list n) (upto_ways g list2 n)
   unfolding upto_ways
-  upto_keeps g list list2 e a zero s p = kept_one stop s p
+  upto_keeps g list list2 e a zero s p = ending_by_one stop s p
   upto_keeps g list list2 e a (suc n) s p =
-      kept_order stop g _ _
-      ∙ ap₂ (in_order g) (seq_keeps list (upto_ways g list n) list2 (upto_ways g list2 n) e (upto_ends len g list e n) a (upto_keeps g list list2 e a n) s p) (kept_one stop s p)
+      ending_by_order stop g _ _
+      ∙ ap₂ (in_order g) (seq_keeps list (upto_ways g list n) list2 (upto_ways g list2 n) e (upto_ends len g list e n) a (upto_keeps g list list2 e a n) s p) (ending_by_one stop s p)
 
-  round_keeps : (g : Bool) (list again list2 again2 : Spot → List Spot) → Ends len list → Keeps list list2 → (s : Spot) → s.at ≤ stop
-      → ((w : Spot) → s.at < w.at → w.at ≤ stop → kept stop (again w) ≡ again2 w) → ((w : Spot) → stop < w.at → w.at ≤ len → kept stop (again w) ≡ [])
-      → kept stop (in_order g (each (after_round again s) (list s)) (s ∷ [])) ≡ in_order g (each (after_round again2 s) (list2 s)) (s ∷ [])
-  round_keeps g list again list2 again2 e a s p inner outer =
-      kept_order stop g _ _
+  iteration_keeps : (g : Bool) (list again list2 again2 : Spot → List Spot) → Ends len list → Keeps list list2 → (s : Spot) → s.at ≤ stop
+      → ((w : Spot) → s.at < w.at → w.at ≤ stop → ending_by stop (again w) ≡ again2 w) → ((w : Spot) → stop < w.at → w.at ≤ len → ending_by stop (again w) ≡ [])
+      → ending_by stop (in_order g (each (after_iteration again s) (list s)) (s ∷ [])) ≡ in_order g (each (after_iteration again2 s) (list2 s)) (s ∷ [])
+  iteration_keeps g list again list2 again2 e a s p inner outer =
+      ending_by_order stop g _ _
       ∙ ap₂ (in_order g)
-      (kept_each stop (Between s.at len) (after_round again s) (after_round again2 s) (list s) (e s (omega arith))
+      (ending_by_each stop (Between s.at len) (after_iteration again s) (after_iteration again2 s) (list s) (e s (omega arith))
       (λ w q h.
       ⊎_elim
-      (λ (lt : s.at < w.at). ap (kept stop) (after_moved again s w lt) ∙ inner w lt h ∙ sym (after_moved again2 s w lt))
-      (λ (ge : w.at ≤ s.at). ap (kept stop) (after_same again s w ge) ∙ kept_one stop w h ∙ sym (after_same again2 s w ge))
+      (λ (lt : s.at < w.at). ap (ending_by stop) (after_moved again s w lt) ∙ inner w lt h ∙ sym (after_moved again2 s w lt))
+      (λ (ge : w.at ≤ s.at). ap (ending_by stop) (after_same again s w ge) ∙ ending_by_one stop w h ∙ sym (after_same again2 s w ge))
       (cases_lt s.at w.at))
-      (λ w q h. ap (kept stop) (after_moved again s w (omega arith)) ∙ outer w h q.1)
-      ∙ ap (each (after_round again2 s)) (a s p))
-      (kept_one stop s p)
+      (λ w q h. ap (ending_by stop) (after_moved again s w (omega arith)) ∙ outer w h q.1)
+      ∙ ap (each (after_iteration again2 s)) (a s p))
+      (ending_by_one stop s p)
 
   loop_keeps : (g : Bool) (list list2 : Spot → List Spot) → Ends len list → Keeps list list2 → (n m : ℕ) (s : Spot) → s.at ≤ stop → len - s.at ≤ n → stop - s.at ≤ m
-      → kept stop (loop_ways g list n s) ≡ loop_ways g list2 m s
+      → ending_by stop (loop_ways g list n s) ≡ loop_ways g list2 m s
   unfolding loop_ways
   loop_keeps g list list2 e a zero zero s p x y =
-      round_keeps g list _ list2 _ e a s p (λ w lt q. kept_none stop) (λ w lt q. kept_none stop)
+      iteration_keeps g list _ list2 _ e a s p (λ w lt q. ending_by_none stop) (λ w lt q. ending_by_none stop)
   loop_keeps g list list2 e a zero (suc m) s p x y =
-      round_keeps g list _ list2 _ e a s p (λ w lt q. absurd {0} (omega arith)) (λ w lt q. kept_none stop)
+      iteration_keeps g list _ list2 _ e a s p (λ w lt q. absurd {0} (omega arith)) (λ w lt q. ending_by_none stop)
   loop_keeps g list list2 e a (suc n) zero s p x y =
-      round_keeps g list _ list2 _ e a s p (λ w lt q. absurd {0} (omega arith)) (λ w lt q. past (loop_ways g list n) (loop_ends len g list e n) w q lt)
+      iteration_keeps g list _ list2 _ e a s p (λ w lt q. absurd {0} (omega arith)) (λ w lt q. past (loop_ways g list n) (loop_ends len g list e n) w q lt)
   loop_keeps g list list2 e a (suc n) (suc m) s p x y =
-      round_keeps g list _ list2 _ e a s p (λ w lt q. loop_keeps g list list2 e a n m w q (omega arith) (omega arith))
+      iteration_keeps g list _ list2 _ e a s p (λ w lt q. loop_keeps g list list2 e a n m w q (omega arith) (omega arith))
       (λ w lt q. past (loop_ways g list n) (loop_ends len g list e n) w q lt)
 
   tail_keeps : (u g : Bool) (list list2 : Spot → List Spot) → Ends len list → Keeps list list2 → (n : ℕ) → Keeps (tail_ways u len g list n) (tail_ways u stop g list2 n)
@@ -283,7 +283,7 @@ module _ (len stop : ℕ) (fits : stop ≤ len) where
 
   module _ (view : View) where
     read_keeps : (leaf : Leaf) (s : Spot) → s.at ≤ stop
-        → kept stop (if reads view len leaf s.at then record { at = view.next s.at; slots = s.slots } ∷ [] else [])
+        → ending_by stop (if reads view len leaf s.at then record { at = view.next s.at; slots = s.slots } ∷ [] else [])
         ≡ (if reads view stop leaf s.at then record { at = view.next s.at; slots = s.slots } ∷ [] else [])
     unfolding reads
     read_keeps leaf s p =
@@ -299,17 +299,17 @@ module _ (len stop : ℕ) (fits : stop ≤ len) where
         (cases_lt stop (view.next s.at))
 
     -- the ways of a range are the ways over the whole text that end in it
-    pub ways_kept : (t : Re) → Keeps (ways view len t) (ways view stop t)
+    pub ways_ending_by : (t : Re) → Keeps (ways view len t) (ways view stop t)
     unfolding ways
-    ways_kept nothing s p = kept_one stop s p
-    ways_kept (read leaf) s p = read_keeps leaf s p
-    ways_kept (test check) s p = if_kept stop (view.holds check s.at) s p
-    ways_kept (cat a b) s p =
-        seq_keeps (ways view len a) (ways view len b) (ways view stop a) (ways view stop b) (ways_end view len a) (ways_end view len b) (ways_kept a) (ways_kept b) s p
-    ways_kept (alt a b) s p = kept_append stop _ _ ∙ ap₂ ◌++◌ (ways_kept a s p) (ways_kept b s p)
-    ways_kept (group k a) s p =
-        kept_map stop _ (λ w. refl) _ ∙ ap (map _) (ways_kept a (record { at = s.at; slots = set s.slots (2 * k) s.at }) p)
-    ways_kept (repeat lo hi g strict a) s p =
+    ways_ending_by nothing s p = ending_by_one stop s p
+    ways_ending_by (read leaf) s p = read_keeps leaf s p
+    ways_ending_by (test check) s p = if_kept stop (view.holds check s.at) s p
+    ways_ending_by (cat a b) s p =
+        seq_keeps (ways view len a) (ways view len b) (ways view stop a) (ways view stop b) (ways_end view len a) (ways_end view len b) (ways_ending_by a) (ways_ending_by b) s p
+    ways_ending_by (alt a b) s p = ending_by_append stop _ _ ∙ ap₂ ◌++◌ (ways_ending_by a s p) (ways_ending_by b s p)
+    ways_ending_by (group k a) s p =
+        ending_by_map stop _ (λ w. refl) _ ∙ ap (map _) (ways_ending_by a (record { at = s.at; slots = set s.slots (2 * k) s.at }) p)
+    ways_ending_by (repeat lo hi g strict a) s p =
         times_keeps (ways view len a) (tail_ways (is_unbounded hi) len g (ways view len a) (hi - lo)) (ways view stop a) (tail_ways (is_unbounded hi) stop g (ways view stop a) (hi - lo))
-        (ways_end view len a) (tail_ends (is_unbounded hi) len g (ways view len a) (ways_end view len a) (hi - lo)) (ways_kept a)
-        (tail_keeps (is_unbounded hi) g (ways view len a) (ways view stop a) (ways_end view len a) (ways_kept a) (hi - lo)) lo s p
+        (ways_end view len a) (tail_ends (is_unbounded hi) len g (ways view len a) (ways_end view len a) (hi - lo)) (ways_ending_by a)
+        (tail_keeps (is_unbounded hi) g (ways view len a) (ways view stop a) (ways_end view len a) (ways_ending_by a) (hi - lo)) lo s p

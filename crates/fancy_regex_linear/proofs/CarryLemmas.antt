@@ -2,7 +2,7 @@
 use Rattle.std.proofs.Common.{◌≡◌, ℕ, zero, suc, ◌+◌, ◌*◌, ◌-◌, Bool, true, false, List, [], ◌∷◌, ◌++◌, map, if◌then◌else◌, nat_lt, set, refl, sym, ap, ap₂, ◌∙◌, arith}
 use Rattle.std.proofs.lemmas.List.{set_comm}
 use Rattle.fancy_regex_linear.specs.Re.{Re, nothing, read, test, cat, alt, group, repeat}
-use Rattle.fancy_regex_linear.specs.Meaning.{Spot, View, each, in_order, after_round, loop_ways, times_ways, upto_ways, tail_ways, is_unbounded, reads, ways}
+use Rattle.fancy_regex_linear.specs.Meaning.{Spot, View, each, in_order, after_iteration, loop_ways, times_ways, upto_ways, tail_ways, is_unbounded, reads, ways}
 
 -- the group k is not in the pattern
 abbrev pub Lacks : ℕ → Re → Type 0
@@ -61,21 +61,21 @@ module _ (j v : ℕ) where
   if_carries true us ws w h = h
   if_carries false us ws w h = refl
 
-  round_carries : (again : Spot → List Spot) (s : Spot) → Carries again → (w : Spot) → after_round again (put s) (put w) ≡ map put (after_round again s w)
-  unfolding after_round
-  round_carries again s h w = if_carries (nat_lt s.at w.at) (again (put w)) (again w) w (h w)
+  iteration_carries : (again : Spot → List Spot) (s : Spot) → Carries again → (w : Spot) → after_iteration again (put s) (put w) ≡ map put (after_iteration again s w)
+  unfolding after_iteration
+  iteration_carries again s h w = if_carries (nat_lt s.at w.at) (again (put w)) (again w) w (h w)
 
-  rounds_carry : (again : Spot → List Spot) (s : Spot) → Carries again → (ws : List Spot)
-      → each (after_round again (put s)) (map put ws) ≡ map put (each (after_round again s) ws)
-  rounds_carry again s h [] = refl
-  rounds_carry again s h (w ∷ ws) =
-      ap₂ ◌++◌ (round_carries again s h w) (rounds_carry again s h ws) ∙ sym (map_both put (after_round again s w) (each (after_round again s) ws))
+  iterations_carry : (again : Spot → List Spot) (s : Spot) → Carries again → (ws : List Spot)
+      → each (after_iteration again (put s)) (map put ws) ≡ map put (each (after_iteration again s) ws)
+  iterations_carry again s h [] = refl
+  iterations_carry again s h (w ∷ ws) =
+      ap₂ ◌++◌ (iteration_carries again s h w) (iterations_carry again s h ws) ∙ sym (map_both put (after_iteration again s w) (each (after_iteration again s) ws))
 
   order_carries : (g : Bool) (list again : Spot → List Spot) (s : Spot) → Carries list → Carries again
-      → in_order g (each (after_round again (put s)) (list (put s))) (put s ∷ []) ≡ map put (in_order g (each (after_round again s) (list s)) (s ∷ []))
+      → in_order g (each (after_iteration again (put s)) (list (put s))) (put s ∷ []) ≡ map put (in_order g (each (after_iteration again s) (list s)) (s ∷ []))
   order_carries g list again s a b =
-      ap (λ ws. in_order g ws (put s ∷ [])) (ap (each (after_round again (put s))) (a s) ∙ rounds_carry again s b (list s))
-      ∙ sym (map_order put g (each (after_round again s) (list s)) (s ∷ []))
+      ap (λ ws. in_order g ws (put s ∷ [])) (ap (each (after_iteration again (put s))) (a s) ∙ iterations_carry again s b (list s))
+      ∙ sym (map_order put g (each (after_iteration again s) (list s)) (s ∷ []))
 
   loop_carries : (g : Bool) (list : Spot → List Spot) → Carries list → (n : ℕ) → Carries (loop_ways g list n)
   unfolding loop_ways

@@ -3,17 +3,17 @@ use Rattle.std.proofs.Common.{◌≡◌, ℕ, ◌+◌, ◌<◌, ◌≤◌, ◌�
 use Rattle.std.proofs.lemmas.List.{set-get_or}
 use Rattle.std.proofs.lemmas.Bool.{cases_lt}
 use Rattle.fancy_regex_linear.specs.Meaning.{Spot}
-use Rattle.std.specs.Prelude.{is_some, IfNone}
-use Rattle.fancy_regex_linear.specs.Attempt.{Trace, Continuation, AttemptResult, write, save, either, guard, failed, accept, score, better_trace, better_spot, apply, land}
+use Rattle.std.specs.Prelude.{is_some}
+use Rattle.fancy_regex_linear.specs.Attempt.{Trace, Continuation, AttemptResult, write, save, either, guard, failed, accept, score, better_trace, better_spot, apply, trace_end}
 use Rattle.fancy_regex_linear.specs.Visited.{Adds}
 use Rattle.fancy_regex_linear.specs.Search.{slots_at_bottom, pending, Reaches, IsAsGood, ReachesBelow, Covers, Dfs, resume_result}
 use Rattle.fancy_regex_linear.specs.declared.frame.Frame.{Frame}
 use Rattle.fancy_regex_linear.specs.declared.frame.Frame.TheVariants.{Explore, Restore}
-use Rattle.fancy_regex_linear.proofs.WaysLemmas.{better-None, better_assoc, better_stays, better_goes, land_better, land_write}
+use Rattle.fancy_regex_linear.proofs.WaysLemmas.{better-None, better_assoc, better_stays, better_goes, trace_end_better, trace_end_write}
 
-pub land_none : (slots : List ℕ) → land slots None ≡ None
-unfolding land
-land_none slots = refl
+pub trace_end_none : (slots : List ℕ) → trace_end slots None ≡ None
+unfolding trace_end
+trace_end_none slots = refl
 
 module _ (longest : Bool) where
   reaches_none : (r : ℕ) (a : Option Trace) → a ≡ None → Reaches longest r a → ⊥
@@ -56,17 +56,17 @@ module _ (longest : Bool) where
 
   -- what is not better than the best so far adds nothing
   no_better : (best : Option Spot) (slots : List ℕ) (t : Trace) → IsAsGood longest (score longest t.end) best
-      → better_spot longest best (land slots (Some t)) ≡ best
-  unfolding land
+      → better_spot longest best (trace_end slots (Some t)) ≡ best
+  unfolding trace_end
   no_better None slots t h = absurd h
   no_better (Some b) slots t h = better_stays (λ (s : Spot). score longest s.at) b (record { at = t.end; slots = apply t.writes slots }) h
 
   nothing_new : (best : Option Spot) (slots : List ℕ) (a : Option Trace) (p : Option Spot) → ((r : ℕ) → Reaches longest r a → IsAsGood longest r best)
-      → better_spot longest best (better_spot longest (land slots a) p) ≡ better_spot longest best p
-  unfolding land
+      → better_spot longest best (better_spot longest (trace_end slots a) p) ≡ better_spot longest best p
+  unfolding trace_end
   nothing_new best slots None p h = refl
   nothing_new best slots (Some t) p h =
-      sym (better_assoc (λ (s : Spot). score longest s.at) best (land slots (Some t)) p)
+      sym (better_assoc (λ (s : Spot). score longest s.at) best (trace_end slots (Some t)) p)
       ∙ ap (λ o. better_spot longest o p) (no_better best slots t (h (score longest t.end) (let g : score longest t.end ≤ score longest t.end = omega arith in g)))
 
   module _ (go : ℕ → Continuation) (Seen After : ℕ → ℕ → Type 0) (best : Option Spot) (q i : ℕ) (rest next : List Frame) where
@@ -145,7 +145,7 @@ module _ (longest : Bool) where
       pub Dfs-dead : (go q i).answer ≡ None → Dfs longest go goal best bottom After rest slots
       unfolding pending slots_at_bottom
       Dfs-dead e = record {
-        value = ap (λ o. better_spot longest best (better_spot longest o (pending longest go rest slots))) (sym (ap (land slots) e ∙ land_none slots)) ∙ d.value;
+        value = ap (λ o. better_spot longest best (better_spot longest o (pending longest go rest slots))) (sym (ap (trace_end slots) e ∙ trace_end_none slots)) ∙ d.value;
         covers =
             covers_next go Seen After best q i rest rest adds d.covers
             (λ w r lt ok. absurd (reaches_none r _ e ok)) (λ w r lt h. h);
@@ -154,7 +154,7 @@ module _ (longest : Bool) where
 
       -- the top is the end of a way
       pub Dfs-matched : go q i ≡ accept i → Dfs longest go goal (better_spot longest best (Some (record { at = i; slots = slots }))) bottom After rest slots
-      unfolding pending slots_at_bottom land apply
+      unfolding pending slots_at_bottom trace_end apply
       Dfs-matched e =
           let here : Spot = record { at = i; slots = slots } in
           let ends : (r : ℕ) → Reaches longest r (go q i).answer → IsAsGood longest r (better_spot longest best (Some here)) =
@@ -162,7 +162,7 @@ module _ (longest : Bool) where
           record {
             value =
                 better_assoc (λ (s : Spot). score longest s.at) best (Some here) (pending longest go rest slots)
-                ∙ ap (λ (v : AttemptResult). better_spot longest best (better_spot longest (land slots v.answer) (pending longest go rest slots))) (sym e)
+                ∙ ap (λ (v : AttemptResult). better_spot longest best (better_spot longest (trace_end slots v.answer) (pending longest go rest slots))) (sym e)
                 ∙ d.value;
             covers = λ p j r new ok.
                 elim (adds p j new) [
@@ -181,7 +181,7 @@ module _ (longest : Bool) where
           → Dfs longest go goal best bottom After (Explore p j ∷ rest) slots
       unfolding pending slots_at_bottom
       Dfs-moved p j e lower = record {
-        value = ap (λ o. better_spot longest best (better_spot longest (land slots o) (pending longest go rest slots))) (sym e) ∙ d.value;
+        value = ap (λ o. better_spot longest best (better_spot longest (trace_end slots o) (pending longest go rest slots))) (sym e) ∙ d.value;
         covers =
             covers_next go Seen After best q i rest (Explore p j ∷ rest) adds d.covers
             (λ w r lt ok. (omega arith, inl (subst (Reaches longest r) e ok))) (λ w r lt h. (omega arith, inr h));
@@ -198,8 +198,8 @@ module _ (longest : Bool) where
           record {
             value =
                 ap (better_spot longest best)
-                (sym (better_assoc (λ (s : Spot). score longest s.at) (land slots (go a i).answer) (land slots (go b i).answer) (pending longest go rest slots))
-                ∙ ap (λ o. better_spot longest o (pending longest go rest slots)) (sym (ap (land slots) found ∙ land_better longest slots (go a i).answer (go b i).answer)))
+                (sym (better_assoc (λ (s : Spot). score longest s.at) (trace_end slots (go a i).answer) (trace_end slots (go b i).answer) (pending longest go rest slots))
+                ∙ ap (λ o. better_spot longest o (pending longest go rest slots)) (sym (ap (trace_end slots) found ∙ trace_end_better longest slots (go a i).answer (go b i).answer)))
                 ∙ d.value;
             covers =
                 covers_next go Seen After best q i rest (Explore a i ∷ Explore b i ∷ rest) adds d.covers
@@ -220,7 +220,7 @@ module _ (longest : Bool) where
             record {
               value =
                   ap (λ o. better_spot longest best (better_spot longest o (pending longest go rest slots)))
-                  (sym (ap (land slots) found ∙ land_write slots slot i (go p i).answer ∙ ap (λ s. land s (go p i).answer) same))
+                  (sym (ap (trace_end slots) found ∙ trace_end_write slots slot i (go p i).answer ∙ ap (λ s. trace_end s (go p i).answer) same))
                   ∙ d.value;
               covers =
                   covers_next go Seen After best q i rest (Explore p i ∷ rest) adds d.covers
@@ -239,8 +239,8 @@ module _ (longest : Bool) where
             record {
               value =
                   ap (better_spot longest best)
-                  (ap (λ s. better_spot longest (land (set slots slot i) (go p i).answer) (pending longest go rest s)) undone
-                  ∙ ap (λ o. better_spot longest o (pending longest go rest slots)) (sym (ap (land slots) found ∙ land_write slots slot i (go p i).answer)))
+                  (ap (λ s. better_spot longest (trace_end (set slots slot i) (go p i).answer) (pending longest go rest s)) undone
+                  ∙ ap (λ o. better_spot longest o (pending longest go rest slots)) (sym (ap (trace_end slots) found ∙ trace_end_write slots slot i (go p i).answer)))
                   ∙ d.value;
               covers =
                   covers_next go Seen After best q i rest (Explore p i ∷ Restore slot (get_or slots slot 0) ∷ rest) adds d.covers
@@ -265,7 +265,7 @@ guard_no r x b e h = ap (λ v. v.answer) (e ∙ ap (λ v. guard v x) h)
 
 -- an attempt begins with one pair
 pub Dfs-root : {longest : Bool} {go : ℕ → Continuation} {Seen : ℕ → ℕ → Type 0} (q i : ℕ) (slots : List ℕ) → Covers longest go Seen None []
-    → Dfs longest go (land slots (go q i).answer) None slots Seen (Explore q i ∷ []) slots
+    → Dfs longest go (trace_end slots (go q i).answer) None slots Seen (Explore q i ∷ []) slots
 unfolding pending slots_at_bottom
 Dfs-root {longest} q i slots failed = record {
   value = better-None (λ (s : Spot). score longest s.at) _;
@@ -290,7 +290,3 @@ Dfs-best {longest} {go} {goal} {bottom = bottom} {Seen = Seen} {stack = stack} {
 pub none_from : {A : Type 0} (o : Option A) → is_some o ≡ false → o ≡ None
 none_from None e = refl
 none_from (Some x) e = absurd (true≢false e)
-
-pub if_none : {A P : Type 0} (o : Option A) → (o ≡ None → P) → IfNone o P
-if_none None h = h refl
-if_none (Some x) h = tt

@@ -51,10 +51,10 @@ module _ (view : View) (stop : ℕ) where
   visit_same go go2 n (Leave g next) x h i = ap (λ f. save (2 * g + 1) i (f i)) (h next x)
   visit_same go go2 n Match x h i = refl
 
-  pub visit_loop_head : (go : ℕ → Continuation) (g : Bool) (round leave i : ℕ)
-      → visit view stop go (loop_head g round leave) i ≡ prefer view.longest g (go round i) (go leave i)
-  visit_loop_head go true round leave i = refl
-  visit_loop_head go false round leave i = refl
+  pub visit_loop_head : (go : ℕ → Continuation) (g : Bool) (iteration exit i : ℕ)
+      → visit view stop go (loop_head g iteration exit) i ≡ prefer view.longest g (go iteration i) (go exit i)
+  visit_loop_head go true iteration exit i = refl
+  visit_loop_head go false iteration exit i = refl
 
   agrees_more : (go go2 : ℕ → Continuation) (n m q : ℕ) (s : State) → q < n → n ≤ m → ((r : ℕ) → r < n → go2 r ≡ go r)
       → Agrees view stop go n q s → Agrees view stop go2 m q s
@@ -66,7 +66,7 @@ module _ (view : View) (stop : ℕ) where
   -- what a push leaves
   pub record Pushed (Open : ℕ → Type 0) (states : List State) (go : ℕ → Continuation) (s : State) (g : Continuation) : Type 0 where
     pub next_go : ℕ → Continuation
-    pub kept : (q : ℕ) → q < length states → next_go q ≡ go q
+    pub unchanged : (q : ℕ) → q < length states → next_go q ≡ go q
     pub here : next_go (length states) ≡ g
     pub agree : AgreeBut view stop Open (push states s) next_go
 
@@ -78,17 +78,17 @@ module _ (view : View) (stop : ℕ) where
       let n : ℕ = length states in
       let go2 : ℕ → Continuation = override go n g in
       let len : length (push states s) ≡ n + 1 = length-push states s in
-      let kept : (q : ℕ) → q < n → go2 q ≡ go q = λ q h. override_other go n g q h in
+      let unchanged : (q : ℕ) → q < n → go2 q ≡ go q = λ q h. override_other go n g q h in
       let here : go2 n ≡ g = override_same go n g in
       record {
         next_go = go2;
-        kept = kept;
+        unchanged = unchanged;
         here = here;
         agree = λ q h.
             ⊎_elim
             (λ (old : q < n).
             ⊎_elim (λ o. inl o)
-            (λ a. inr (rw (at_before states s q old) (agrees_more go go2 n _ q _ old (omega arith) kept a)))
+            (λ a. inr (rw (at_before states s q old) (agrees_more go go2 n _ q _ old (omega arith) unchanged a)))
             (before q old))
             (λ (top : n ≤ q).
             let at : q ≡ n = omega arith in
@@ -96,7 +96,7 @@ module _ (view : View) (stop : ℕ) where
             (⊎_elim (λ o. inl o)
             (λ a. inr (rw (at_pushed states s) (record {
               names = names_more n _ s (omega arith) a.0;
-              does = λ i p. ap (λ f. f i) here ∙ a.1 i p ∙ sym (visit_same go go2 n s a.0 kept i);
+              does = λ i p. ap (λ f. f i) here ∙ a.1 i p ∙ sym (visit_same go go2 n s a.0 unchanged i);
             })))
             new))
             (cases_lt q n);
@@ -105,7 +105,7 @@ module _ (view : View) (stop : ℕ) where
   -- what emitting a tree leaves that means `meaning`
   pub record Done (Open : ℕ → Type 0) (states : List State) (go : ℕ → Continuation) (made : List State × ℕ) (meaning : Continuation) : Type 0 where
     pub next_go : ℕ → Continuation
-    pub kept : (q : ℕ) → q < length states → next_go q ≡ go q
+    pub unchanged : (q : ℕ) → q < length states → next_go q ≡ go q
     pub longer : length states ≤ length made.0
     pub agree : AgreeBut view stop Open made.0 next_go
     pub entry : made.1 < length made.0
@@ -114,7 +114,7 @@ module _ (view : View) (stop : ℕ) where
   -- the same of two entries
   pub record DoneBoth (Open : ℕ → Type 0) (states : List State) (go : ℕ → Continuation) (made : List State × ℕ × ℕ) (same moved : Continuation) : Type 0 where
     pub next_go : ℕ → Continuation
-    pub kept : (q : ℕ) → q < length states → next_go q ≡ go q
+    pub unchanged : (q : ℕ) → q < length states → next_go q ≡ go q
     pub longer : length states ≤ length made.0
     pub agree : AgreeBut view stop Open made.0 next_go
     pub same_in : made.1 < length made.0

@@ -1,13 +1,13 @@
 -- Frames that give way to what their pairs lead to.
 use Rattle.std.proofs.Common.{◌≡◌, ℕ, ◌<◌, ◌≤◌, Bool, true, false, if◌then◌else◌, List, ◌∷◌, Option, refl, sym, ap, ◌∙◌, subst, inl, inr, arith}
 use Rattle.fancy_regex_linear.specs.Meaning.{Spot}
-use Rattle.fancy_regex_linear.specs.Attempt.{Continuation, save, write, better_spot, land}
-use Rattle.fancy_regex_linear.specs.Search.{slots_at_bottom, pending, Reaches, ReachesBelow, Dfs, After, LeadsTo, IsPair, with_next, NextWithin, AllWithin, Grows}
-use Rattle.fancy_regex_linear.specs.declared.frame.Next.{Next}
-use Rattle.fancy_regex_linear.specs.declared.frame.Next.TheVariants.{Pair, Back, Matched}
+use Rattle.fancy_regex_linear.specs.Attempt.{Continuation, save, write, better_spot, trace_end}
+use Rattle.fancy_regex_linear.specs.Search.{slots_at_bottom, pending, Reaches, ReachesBelow, Dfs, After, LeadsTo, IsPair, with_step, IsStepWithin, AllWithin, Grows}
+use Rattle.fancy_regex_linear.specs.declared.frame.SearchStep.{SearchStep}
+use Rattle.fancy_regex_linear.specs.declared.frame.SearchStep.TheVariants.{Pair, Backtrack, Matched}
 use Rattle.fancy_regex_linear.specs.declared.frame.Frame.{Frame}
 use Rattle.fancy_regex_linear.specs.declared.frame.Frame.TheVariants.{Explore}
-use Rattle.fancy_regex_linear.proofs.DfsLemmas.{land_none}
+use Rattle.fancy_regex_linear.proofs.DfsLemmas.{trace_end_none}
 
 module _ (longest : Bool) (go : ℕ → Continuation) where
   -- the frames come to the same as others, which are no deeper
@@ -17,18 +17,18 @@ module _ (longest : Bool) (go : ℕ → Continuation) where
     pub reaches : (d r : ℕ) → ReachesBelow longest go d r old → ReachesBelow longest go d r new
 
   -- a pair gives way to where it leads
-  pub led : (q i : ℕ) (next : Next) (rest : List Frame) → LeadsTo go q i next → ComesTo (Explore q i ∷ rest) (with_next next rest)
+  pub led : (q i : ℕ) (next : SearchStep) (rest : List Frame) → LeadsTo go q i next → ComesTo (Explore q i ∷ rest) (with_step next rest)
   unfolding pending slots_at_bottom
   led q i (Pair p j) rest h = record {
-    value = λ slots. ap (λ o. better_spot longest (land slots o) (pending longest go rest slots)) (sym h.0);
+    value = λ slots. ap (λ o. better_spot longest (trace_end slots o) (pending longest go rest slots)) (sym h.0);
     bottom = λ slots. refl;
     reaches = λ d r b.
         let lower : (go q i).depth < d = b.0 in
         let no_deeper : (go p j).depth ≤ (go q i).depth = h.1 in
         (omega arith, elim b.1 [ inl here ↦ inl (subst (Reaches longest r) (sym h.0) here) | inr under ↦ inr under ]);
   }
-  led q i Back rest h = record {
-    value = λ slots. ap (λ o. better_spot longest o (pending longest go rest slots)) (ap (land slots) h ∙ land_none slots);
+  led q i Backtrack rest h = record {
+    value = λ slots. ap (λ o. better_spot longest o (pending longest go rest slots)) (ap (trace_end slots) h ∙ trace_end_none slots);
     bottom = λ slots. refl;
     reaches = λ d r b. elim b.1 [ inl here ↦ absurd (subst (Reaches longest r) h here) | inr under ↦ under ];
   }
@@ -38,7 +38,7 @@ module _ (longest : Bool) (go : ℕ → Continuation) where
   pub under : (q i : ℕ) (old new : List Frame) → ComesTo old new → ComesTo (Explore q i ∷ old) (Explore q i ∷ new)
   unfolding pending slots_at_bottom
   under q i old new c = record {
-    value = λ slots. ap (better_spot longest (land slots (go q i).answer)) (c.value slots);
+    value = λ slots. ap (better_spot longest (trace_end slots (go q i).answer)) (c.value slots);
     bottom = c.bottom;
     reaches = λ d r b. (b.0, elim b.1 [ inl here ↦ inl here | inr h ↦ inr (c.reaches d r h) ]);
   }
@@ -52,31 +52,31 @@ module _ (longest : Bool) (go : ℕ → Continuation) where
     }
 
     -- the search goes on where the pair leads
-    pub after_led : (q i at : ℕ) (next : Next) (rest : List Frame) → LeadsTo go q i next → Dfs longest go goal best bottom Seen (with_next next rest) slots
+    pub after_led : (q i at : ℕ) (next : SearchStep) (rest : List Frame) → LeadsTo go q i next → Dfs longest go goal best bottom Seen (with_step next rest) slots
         → After longest go next at goal best bottom Seen rest slots
     after_led q i at (Pair p j) rest h d = d
-    after_led q i at Back rest h d = d
+    after_led q i at Backtrack rest h d = d
     after_led q i at Matched rest h d = absurd h
 
 -- a state that writes to a slot fails where the next one does
-pub saved_fails : (go : ℕ → Continuation) (q p slot i : ℕ) → go q i ≡ save slot i (go p i) → LeadsTo go p i Back → LeadsTo go q i Back
+pub saved_fails : (go : ℕ → Continuation) (q p slot i : ℕ) → go q i ≡ save slot i (go p i) → LeadsTo go p i Backtrack → LeadsTo go q i Backtrack
 saved_fails go q p slot i e h = ap (λ r. r.answer) e ∙ ap (write slot i) h
 
-pub within_next : (text : List ℕ) (count stop base : ℕ) (next : Next) (rest : List Frame) → NextWithin text count stop base next
-    → AllWithin text count stop base rest → AllWithin text count stop base (with_next next rest)
-within_next text count stop base (Pair q i) rest h k = (h, k)
-within_next text count stop base Back rest h k = k
-within_next text count stop base Matched rest h k = k
+pub within_step : (text : List ℕ) (count stop base : ℕ) (next : SearchStep) (rest : List Frame) → IsStepWithin text count stop base next
+    → AllWithin text count stop base rest → AllWithin text count stop base (with_step next rest)
+within_step text count stop base (Pair q i) rest h k = (h, k)
+within_step text count stop base Backtrack rest h k = k
+within_step text count stop base Matched rest h k = k
 
-pub grows_none : (next : Next) (n : ℕ) → Grows next n n
+pub grows_none : (next : SearchStep) (n : ℕ) → Grows next n n
 grows_none (Pair q i) n = omega arith
-grows_none Back n = refl
+grows_none Backtrack n = refl
 grows_none Matched n = refl
 
-pub unless_leads : (go : ℕ → Continuation) (q i : ℕ) (refused : Bool) → (refused ≡ true → LeadsTo go q i Back) → LeadsTo go q i (if refused then Back else Pair q i)
+pub unless_leads : (go : ℕ → Continuation) (q i : ℕ) (refused : Bool) → (refused ≡ true → LeadsTo go q i Backtrack) → LeadsTo go q i (if refused then Backtrack else Pair q i)
 unless_leads go q i true h = h refl
 unless_leads go q i false h = (refl, omega arith)
 
-pub unless_within : (text : List ℕ) (count stop base q i : ℕ) (refused : Bool) → IsPair text count stop base q i → NextWithin text count stop base (if refused then Back else Pair q i)
+pub unless_within : (text : List ℕ) (count stop base q i : ℕ) (refused : Bool) → IsPair text count stop base q i → IsStepWithin text count stop base (if refused then Backtrack else Pair q i)
 unless_within text count stop base q i true h = tt
 unless_within text count stop base q i false h = h

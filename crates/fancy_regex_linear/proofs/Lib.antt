@@ -17,7 +17,7 @@ pub mod RefusalLemmas
 pub mod CarryLemmas
 pub mod PlainLemmas
 pub mod MeaningLemmas
-pub mod KeptLemmas
+pub mod SameStartLemmas
 pub mod CharTestLemmas
 pub mod AnswerLemmas
 pub mod ShapeLemmas
@@ -25,3 +25,4 @@ pub mod BuildLemmas
 pub mod TranslationLemmas
 pub mod ServedLemmas
 pub mod AheadLemmas
+pub mod LayerLemmas

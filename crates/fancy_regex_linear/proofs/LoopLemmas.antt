@@ -14,12 +14,12 @@ use Rattle.fancy_regex_states.specs.declared.state.State.TheVariants.{Read}
 use Rattle.fancy_regex_states.specs.declared.state.State.TheVariants.{Match as End}
 use Rattle.fancy_regex_linear.specs.CharTests.{read_next}
 use Rattle.fancy_regex_linear.specs.Meaning.{Spot, View, reads}
-use Rattle.fancy_regex_linear.specs.Attempt.{Trace, Continuation, score, either, save, accept, better_trace, better_spot, apply, land}
+use Rattle.fancy_regex_linear.specs.Attempt.{Trace, Continuation, score, either, save, accept, better_trace, better_spot, apply, trace_end}
 use Rattle.fancy_regex_linear.specs.Program.{visit}
 use Rattle.fancy_regex_linear.specs.Visited.{Adds, AddsRun}
-use Rattle.fancy_regex_linear.specs.Search.{IsLoop, IsReader, IsExit, IsStretch, HasOver, GoesOn, LeadsTo, Explains, Dfs, After, Progresses, Reaches, pending, slots_at_bottom, with_next}
-use Rattle.fancy_regex_linear.specs.declared.frame.Next.{Next}
-use Rattle.fancy_regex_linear.specs.declared.frame.Next.TheVariants.{Pair, Back, Matched}
+use Rattle.fancy_regex_linear.specs.Search.{IsLoop, IsReader, IsExit, IsStretch, HasInStretch, GoesOn, LeadsTo, Explains, Dfs, After, Progresses, Reaches, pending, slots_at_bottom, with_step}
+use Rattle.fancy_regex_linear.specs.declared.frame.SearchStep.{SearchStep}
+use Rattle.fancy_regex_linear.specs.declared.frame.SearchStep.TheVariants.{Pair, Backtrack, Matched}
 use Rattle.fancy_regex_linear.specs.declared.frame.Frame.{Frame}
 use Rattle.fancy_regex_linear.specs.declared.frame.Frame.TheVariants.{Explore}
 use Rattle.fancy_regex_linear.specs.declared.search.SearchContext.{SearchContext}
@@ -33,9 +33,9 @@ use Rattle.fancy_regex_linear.proofs.WaysLemmas.{better-None}
 use Rattle.fancy_regex_linear.proofs.StepLemmas.{next_if, read_leads}
 
 -- it leads on to this state, after `at`, if it leads on
-abbrev pub LeadsOn : ℕ → ℕ → ℕ → Next → Type 0
+abbrev pub LeadsOn : ℕ → ℕ → ℕ → SearchStep → Type 0
 LeadsOn state at stop (Pair q j) = (q ≡ state) × (at < j) × (j ≤ stop)
-LeadsOn state at stop Back = Unit {0}
+LeadsOn state at stop Backtrack = Unit {0}
 LeadsOn state at stop Matched = Unit {0}
 
 -- what reads a character leads on after it
@@ -51,15 +51,15 @@ read_leads_on unicode matchers stop leaf next at (Some c) p =
     (λ no. tt)
 
 -- whether it is the end of a match
-abbrev is_matched : Next → Bool
+abbrev is_matched : SearchStep → Bool
 is_matched (Pair q j) = false
-is_matched Back = false
+is_matched Backtrack = false
 is_matched Matched = true
 
 not_pair : (q j : ℕ) → Pair q j ≡ Matched → ⊥
 not_pair q j e = true≢false (sym (ap is_matched e))
 
-not_back : Back ≡ Matched → ⊥
+not_back : Backtrack ≡ Matched → ⊥
 not_back e = true≢false (sym (ap is_matched e))
 
 -- a state that reads is not the end of a match
@@ -77,10 +77,10 @@ none_above r (Some t) h = h
 -- what succeeds is all that counts of what is under it, where the first match is wanted
 pub under_success : (go : ℕ → Continuation) (q i p j : ℕ) (t : Trace) (rest : List Frame) → (go q i).answer ≡ Some t
     → ComesTo false go (Explore q i ∷ Explore p j ∷ rest) (Explore q i ∷ rest)
-unfolding pending slots_at_bottom land
+unfolding pending slots_at_bottom trace_end
 under_success go q i p j t rest found = record {
   value = λ slots.
-      let one : land slots (go q i).answer ≡ Some (record { at = t.end; slots = apply t.writes slots }) = ap (land slots) found in
+      let one : trace_end slots (go q i).answer ≡ Some (record { at = t.end; slots = apply t.writes slots }) = ap (trace_end slots) found in
       let old : Option Spot = pending false go (Explore p j ∷ rest) slots in
       let new : Option Spot = pending false go rest slots in
       ap (λ o. better_spot false o old) one
@@ -126,9 +126,9 @@ first_trace t None = refl
 first_trace t (Some s) = refl
 
 -- what a visit of a loop leaves, once it marked a pair
-pub progresses : (next : Next) (marked now_marked len now_len : ℕ) → marked < now_marked → now_len + marked ≤ len + now_marked → Progresses next marked now_marked len now_len
+pub progresses : (next : SearchStep) (marked now_marked len now_len : ℕ) → marked < now_marked → now_len + marked ≤ len + now_marked → Progresses next marked now_marked len now_len
 progresses (Pair q j) marked now_marked len now_len more grown = (more, grown)
-progresses Back marked now_marked len now_len more grown = (omega arith, grown)
+progresses Backtrack marked now_marked len now_len more grown = (omega arith, grown)
 progresses Matched marked now_marked len now_len more grown = (omega arith, grown)
 
 module _ (context : SearchContext) (text : List ℕ) (view : View) (go : ℕ → Continuation) (explains : Explains context text view go) (id at : ℕ) (found : ClassLoop)
@@ -148,26 +148,26 @@ module _ (context : SearchContext) (text : List ℕ) (view : View) (go : ℕ →
       → Dfs view.longest go goal best bottom Marked (Explore found.body at ∷ Explore found.exit at ∷ rest) slots
   splits rest adds d = Dfs-split view.longest d adds found.body found.exit head_does
 
-  module _ {goal best : Option Spot} {bottom slots : List ℕ} {Seen : ℕ → ℕ → Type 0} (rest : List Frame) (exit : Next) (leads : LeadsTo go found.exit at exit)
+  module _ {goal best : Option Spot} {bottom slots : List ℕ} {Seen : ℕ → ℕ → Type 0} (rest : List Frame) (exit : SearchStep) (leads : LeadsTo go found.exit at exit)
       (d : Dfs view.longest go goal best bottom Seen (Explore found.body at ∷ Explore found.exit at ∷ rest) slots) where
     -- the loop reads on, and the exit is left for later
-    pub goes_round : (q following : ℕ) → read_next context.rules.unicode context.matchers.now context.stop found.leaf id at (char_at text at) ≡ Pair q following
-        → Dfs view.longest go goal best bottom Seen (Explore q following ∷ with_next exit rest) slots
-    goes_round q following reads =
-        let one : LeadsTo go found.body at (Pair q following) = subst (LeadsTo go found.body at) reads body_leads in
-        Dfs-comes view.longest go (led view.longest go found.body at (Pair q following) (with_next exit rest) one)
+    pub iterates : (q next_at : ℕ) → read_next context.rules.unicode context.matchers.now context.stop found.leaf id at (char_at text at) ≡ Pair q next_at
+        → Dfs view.longest go goal best bottom Seen (Explore q next_at ∷ with_step exit rest) slots
+    iterates q next_at reads =
+        let one : LeadsTo go found.body at (Pair q next_at) = subst (LeadsTo go found.body at) reads body_leads in
+        Dfs-comes view.longest go (led view.longest go found.body at (Pair q next_at) (with_step exit rest) one)
         (Dfs-comes view.longest go (under view.longest go found.body at _ _ (led view.longest go found.exit at exit rest leads)) d)
 
     -- the loop cannot read on, and is left
-    pub leaves_loop : (from : ℕ) → (read_next context.rules.unicode context.matchers.now context.stop found.leaf id at (char_at text at) ≡ Back)
+    pub leaves_loop : (from : ℕ) → (read_next context.rules.unicode context.matchers.now context.stop found.leaf id at (char_at text at) ≡ Backtrack)
         ⊎ (read_next context.rules.unicode context.matchers.now context.stop found.leaf id at (char_at text at) ≡ Matched)
         → After view.longest go exit from goal best bottom Seen rest slots
     leaves_loop from (inr matched) = absurd (subst (LeadsTo go found.body at) matched body_leads)
     leaves_loop from (inl reads) =
-        let one : LeadsTo go found.body at Back = subst (LeadsTo go found.body at) reads body_leads in
+        let one : LeadsTo go found.body at Backtrack = subst (LeadsTo go found.body at) reads body_leads in
         after_led view.longest go found.exit at from exit rest leads
         (Dfs-comes view.longest go (led view.longest go found.exit at exit rest leads)
-        (Dfs-comes view.longest go (led view.longest go found.body at Back (Explore found.exit at ∷ rest) one) d))
+        (Dfs-comes view.longest go (led view.longest go found.body at Backtrack (Explore found.exit at ∷ rest) one) d))
 
   reads_one : (c : ℕ) → char_at text at ≡ Some c → at < context.stop → c < 128 → leaf_matches_char context.rules.unicode context.matchers.now found.leaf c ≡ true
       → read_next context.rules.unicode context.matchers.now context.stop found.leaf id at (char_at text at) ≡ Pair id (at + 1)
@@ -181,14 +181,14 @@ module _ (context : SearchContext) (text : List ℕ) (view : View) (go : ℕ →
   -- where the first match is wanted, the loop matches as it does after the character that it reads
   pub reads_first : view.longest ≡ false → (next : ℕ) (t : Trace) → read_next context.rules.unicode context.matchers.now context.stop found.leaf id at (char_at text at) ≡ Pair id next
       → (go id next).answer ≡ Some t → (go id at).answer ≡ Some t
-  reads_first first next t reads following =
+  reads_first first next t reads ends =
       let one : LeadsTo go found.body at (Pair id next) = subst (LeadsTo go found.body at) reads body_leads in
       ap (λ r. r.answer) head_does
-      ∙ ap₂ (λ (l : Bool) (x : Option Trace). better_trace l x (go found.exit at).answer) first (sym one.0 ∙ following)
+      ∙ ap₂ (λ (l : Bool) (x : Option Trace). better_trace l x (go found.exit at).answer) first (sym one.0 ∙ ends)
       ∙ first_trace t (go found.exit at).answer
 
   -- a loop before the end of the match that cannot read on ends there
-  pub ends_here : state_at context.states.now found.exit ≡ End → read_next context.rules.unicode context.matchers.now context.stop found.leaf id at (char_at text at) ≡ Back
+  pub ends_here : state_at context.states.now found.exit ≡ End → read_next context.rules.unicode context.matchers.now context.stop found.leaf id at (char_at text at) ≡ Backtrack
       → (go id at).answer ≡ Some (record { end = at; writes = [] })
   ends_here kind reads =
       let none : (go found.body at).answer ≡ None = subst (LeadsTo go found.body at) reads body_leads in
@@ -198,11 +198,11 @@ module _ (context : SearchContext) (text : List ℕ) (view : View) (go : ℕ →
   -- the loop reads on, and the exit is of no use
   pub passes_on : {goal best : Option Spot} {bottom slots : List ℕ} {Seen : ℕ → ℕ → Type 0} (rest : List Frame)
       → Dfs view.longest go goal best bottom Seen (Explore found.body at ∷ Explore found.exit at ∷ rest) slots
-      → (c : ℕ) (following : Exit) → IsExit context found.exit following → char_at text at ≡ Some c → at < context.stop → GoesOn context found.leaf following (Some c)
+      → (c : ℕ) (after_loop : Exit) → IsExit context found.exit after_loop → char_at text at ≡ Some c → at < context.stop → GoesOn context found.leaf after_loop (Some c)
       → Dfs view.longest go goal best bottom Seen (Explore id (at + 1) ∷ rest) slots
   passes_on rest d c Match kind here inside on =
       let leads : LeadsTo go found.exit at (Pair found.exit at) = (refl, omega arith) in
-      let two = goes_round rest (Pair found.exit at) leads d id (at + 1) (reads_one c here inside on.0 on.1) in
+      let two = iterates rest (Pair found.exit at) leads d id (at + 1) (reads_one c here inside on.0 on.1) in
       let high_next : at + 1 ≤ context.stop = omega arith in
       let does : go id (at + 1) ≡ either view.longest (go found.body (at + 1)) (go found.exit (at + 1)) =
       (explains.agree id state).does (at + 1) high_next ∙ ap (λ s. visit view context.stop go s (at + 1)) is.head in
@@ -219,9 +219,9 @@ module _ (context : SearchContext) (text : List ℕ) (view : View) (go : ℕ →
       (under_success go id (at + 1) found.exit at some.0 rest succeeds))
       two
   passes_on rest d c (Reads leaf) kind here inside on =
-      let none : LeadsTo go found.exit at Back =
+      let none : LeadsTo go found.exit at Backtrack =
       kind text view go explains at high boundary (ap (λ o. is_some_and o (leaf_matches_char context.rules.unicode context.matchers.now leaf)) here ∙ on.2) in
-      goes_round rest Back none d id (at + 1) (reads_one c here inside on.0 on.1)
+      iterates rest Backtrack none d id (at + 1) (reads_one c here inside on.0 on.1)
   passes_on rest d c Other kind here inside on = absurd on.2
 
   -- where the exit refuses the character that the loop reads, the loop comes to the same after it
@@ -237,17 +237,17 @@ module _ (context : SearchContext) (text : List ℕ) (view : View) (go : ℕ →
       ∙ sym one.0
 
   -- the loop fails where it cannot read on, and its exit fails
-  pub both_fail : (go found.exit at).answer ≡ None → read_next context.rules.unicode context.matchers.now context.stop found.leaf id at (char_at text at) ≡ Back → (go id at).answer ≡ None
+  pub both_fail : (go found.exit at).answer ≡ None → read_next context.rules.unicode context.matchers.now context.stop found.leaf id at (char_at text at) ≡ Backtrack → (go id at).answer ≡ None
   both_fail none reads =
       let body : (go found.body at).answer ≡ None = subst (LeadsTo go found.body at) reads body_leads in
       ap (λ r. r.answer) head_does ∙ ap₂ (λ (a b : Option Trace). better_trace view.longest a b) body none
 
   pub passes_after : {goal best : Option Spot} {bottom slots : List ℕ} {Seen : ℕ → ℕ → Type 0} (rest : List Frame)
       → Dfs view.longest go goal best bottom Seen (Explore found.body at ∷ Explore found.exit at ∷ rest) slots
-      → (after : Option ℕ) (following : Exit) → IsExit context found.exit following → char_at text at ≡ after → at < context.stop → GoesOn context found.leaf following after
+      → (after : Option ℕ) (after_loop : Exit) → IsExit context found.exit after_loop → char_at text at ≡ after → at < context.stop → GoesOn context found.leaf after_loop after
       → Dfs view.longest go goal best bottom Seen (Explore id (at + 1) ∷ rest) slots
-  passes_after rest d None following kind here inside on = absurd on
-  passes_after rest d (Some c) following kind here inside on = passes_on rest d c following kind here inside on
+  passes_after rest d None after_loop kind here inside on = absurd on
+  passes_after rest d (Some c) after_loop kind here inside on = passes_on rest d c after_loop kind here inside on
 
 -- what is marked once the head was visited at these places
 abbrev pub WithRun : (ℕ → ℕ → Type 0) → ℕ → ℕ → ℕ → ℕ → ℕ → Type 0
@@ -266,9 +266,9 @@ run_ends Seen Marked q low high adds p j h =
 
 -- a loop reads on over what its stretch has
 module _ (context : SearchContext) (text : List ℕ) (view : View) (go : ℕ → Continuation) (explains : Explains context text view go) (id : ℕ) (found : ClassLoop)
-    (is : IsLoop context.states.now id found) (state : id < length context.states.now) (following : Exit) (kind : IsExit context found.exit following)
-    (stretch : Stretch) (over : IsStretch context found.leaf following stretch) {goal best : Option Spot} {bottom slots : List ℕ} (rest : List Frame) where
-  pub passes_stretch : (n at : ℕ) (Seen : ℕ → ℕ → Type 0) → at + n ≤ context.stop → ((i : ℕ) → at ≤ i → i < at + n → HasOver text stretch i)
+    (is : IsLoop context.states.now id found) (state : id < length context.states.now) (after_loop : Exit) (kind : IsExit context found.exit after_loop)
+    (stretch : Stretch) (over : IsStretch context found.leaf after_loop stretch) {goal best : Option Spot} {bottom slots : List ℕ} (rest : List Frame) where
+  pub passes_stretch : (n at : ℕ) (Seen : ℕ → ℕ → Type 0) → at + n ≤ context.stop → ((i : ℕ) → at ≤ i → i < at + n → HasInStretch text stretch i)
       → Dfs view.longest go goal best bottom Seen (Explore id at ∷ rest) slots
       → Dfs view.longest go goal best bottom (WithRun Seen id at (at + n)) (Explore id (at + n) ∷ rest) slots
   passes_stretch zero at Seen high has d =
@@ -282,7 +282,7 @@ module _ (context : SearchContext) (text : List ℕ) (view : View) (go : ℕ →
       let marks : Adds Seen one id at =
       λ p j h. elim h [ inl old ↦ inl old | inr new ↦ let low : at ≤ j = new.1 in let less : j < at + 1 = new.2 in inr (new.0, omega (arith, low, less)) ] in
       let first = passes_on context text view go explains id at found is state (omega (arith, inside)) here.boundary rest
-      (splits context text view go explains id at found is state (omega (arith, inside)) here.boundary rest marks d) here.c following kind here.here inside (over here.c here.small here.over) in
+      (splits context text view go explains id at found is state (omega (arith, inside)) here.boundary rest marks d) here.c after_loop kind here.here inside (over here.c here.small here.over) in
       let last : at + 1 + n ≡ at + suc n = omega arith in
       let next = passes_stretch n (at + 1) one (omega (arith, high)) (λ i low less. has i (omega (arith, low)) (omega (arith, less))) first in
       Dfs-fewer view.longest
@@ -299,7 +299,7 @@ module _ (context : SearchContext) (text : List ℕ) (view : View) (go : ℕ →
 module _ (context : SearchContext) (text : List ℕ) (view : View) (go : ℕ → Continuation) (explains : Explains context text view go) (id : ℕ) (found : ClassLoop)
     (is : IsLoop context.states.now id found) (state : id < length context.states.now) (kind : IsExit context found.exit Match)
     (stretch : Stretch) (over : IsStretch context found.leaf Match stretch) (t : Trace) where
-  pub reads_stretch : (n at : ℕ) → at + n ≤ context.stop → ((i : ℕ) → at ≤ i → i < at + n → HasOver text stretch i)
+  pub reads_stretch : (n at : ℕ) → at + n ≤ context.stop → ((i : ℕ) → at ≤ i → i < at + n → HasInStretch text stretch i)
       → (go id (at + n)).answer ≡ Some t → (go id at).answer ≡ Some t
   reads_stretch zero at high has h = let same : at + 0 ≡ at = omega arith in subst (λ (k : ℕ). (go id k).answer ≡ Some t) same h
   reads_stretch (suc n) at high has h =
@@ -313,9 +313,9 @@ module _ (context : SearchContext) (text : List ℕ) (view : View) (go : ℕ →
       reads_first context text view go explains id at found is state (omega (arith, inside)) here.boundary (explains.longest ∙ kind.1) (at + 1) t reads next
 
 -- the place after what a loop reads on over
-pub following_is : (context : SearchContext) (text : List ℕ) (leaf : Leaf) (exit : Exit) (at : ℕ) (after : Option ℕ) → GoesOn context leaf exit after
+pub ascii_boundary : (context : SearchContext) (text : List ℕ) (leaf : Leaf) (exit : Exit) (at : ℕ) (after : Option ℕ) → GoesOn context leaf exit after
     → IfSome after (λ c. IsCharBoundary text (at + len_utf8 c)) → IsCharBoundary text (at + 1)
-following_is context text leaf exit at None on b = absurd on
-following_is context text leaf exit at (Some c) on b =
+ascii_boundary context text leaf exit at None on b = absurd on
+ascii_boundary context text leaf exit at (Some c) on b =
     let long : len_utf8 c ≡ 1 = cond-true _ _ _ (lt-ltb c 0x80 on.0) in
     subst (λ (n : ℕ). IsCharBoundary text (at + n)) long b

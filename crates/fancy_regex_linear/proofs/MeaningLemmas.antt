@@ -17,7 +17,7 @@ use Rattle.fancy_regex_meaning.specs.Ways as ways
 use Rattle.fancy_regex_class.specs.Classes.{folded}
 use Rattle.fancy_regex_linear.specs.Re.{Re, nothing, read, test, cat}
 use Rattle.fancy_regex_linear.specs.Re as re
-use Rattle.fancy_regex_linear.specs.Meaning.{Spot, View, each, in_order, after_round, loop_ways, times_ways, upto_ways, tail_ways, is_unbounded, reads}
+use Rattle.fancy_regex_linear.specs.Meaning.{Spot, View, each, in_order, after_iteration, loop_ways, times_ways, upto_ways, tail_ways, is_unbounded, reads}
 use Rattle.fancy_regex_linear.specs.Meaning as plain
 use Rattle.fancy_regex_linear.specs.Plain.{IsPlain, ArePlain, IsServed, test_of, served, has_no_iteration, unless, classes, row_classes, re_of, row_of, branches_of}
 use Rattle.fancy_regex_class.specs.RunInputs.{group_slots}
@@ -64,11 +64,11 @@ upto_same len (suc n) g f lf ef a w p =
     map_prefer g (flat_map (up_to n g f) (f w)) (w ∷ [])
     ∙ ap (λ ws. in_order g ws (spot_of w ∷ [])) (seq_same len f (up_to n g f) lf (upto_ways g lf n) ef a (upto_same len n g f lf ef a) w p)
 
--- a round, and what follows it
-round_same : (w v : MatchState) (again : List MatchState) (next : Spot → List Spot) → w.position ≤ v.position → (w.position < v.position → map spot_of again ≡ next (spot_of v))
-    → map spot_of (if v.position == w.position then v ∷ [] else again) ≡ after_round next (spot_of w) (spot_of v)
-unfolding after_round
-round_same w v again next le same =
+-- a iteration, and what follows it
+iteration_same : (w v : MatchState) (again : List MatchState) (next : Spot → List Spot) → w.position ≤ v.position → (w.position < v.position → map spot_of again ≡ next (spot_of v))
+    → map spot_of (if v.position == w.position then v ∷ [] else again) ≡ after_iteration next (spot_of w) (spot_of v)
+unfolding after_iteration
+iteration_same w v again next le same =
     elim (cases_lt w.position v.position) [
       | inl lt ↦ rw (ne_eqb v.position w.position (omega arith), lt-ltb w.position v.position lt) (same lt)
       | inr ge ↦ rw (eq-eqb v.position w.position (omega arith), le-ltb w.position v.position ge) refl
@@ -81,15 +81,15 @@ loop_same len zero m g f lf ef a w p x y = absurd (omega arith)
 loop_same len (suc n) zero g f lf ef a w p x y =
     map_prefer g _ (w ∷ [])
     ∙ ap (λ ws. in_order g ws (spot_of w ∷ []))
-    (map_flat (Between w.position len) _ (after_round (λ _. []) (spot_of w)) (f w) (subst (AllOf (Between w.position len)) (sym (a w p)) (ef (spot_of w) p))
-    (λ v q. round_same w v (loop n g f v) (λ _. []) q.0 (λ lt. absurd {0} (omega (arith, q.0, q.1))))
-    ∙ ap (each (after_round (λ _. []) (spot_of w))) (a w p))
+    (map_flat (Between w.position len) _ (after_iteration (λ _. []) (spot_of w)) (f w) (subst (AllOf (Between w.position len)) (sym (a w p)) (ef (spot_of w) p))
+    (λ v q. iteration_same w v (loop n g f v) (λ _. []) q.0 (λ lt. absurd {0} (omega (arith, q.0, q.1))))
+    ∙ ap (each (after_iteration (λ _. []) (spot_of w))) (a w p))
 loop_same len (suc n) (suc m) g f lf ef a w p x y =
     map_prefer g _ (w ∷ [])
     ∙ ap (λ ws. in_order g ws (spot_of w ∷ []))
-    (map_flat (Between w.position len) _ (after_round (loop_ways g lf m) (spot_of w)) (f w) (subst (AllOf (Between w.position len)) (sym (a w p)) (ef (spot_of w) p))
-    (λ v q. round_same w v (loop n g f v) (loop_ways g lf m) q.0 (λ lt. loop_same len n m g f lf ef a v q.1 (omega (arith, q.1)) (omega (arith, q.1))))
-    ∙ ap (each (after_round (loop_ways g lf m) (spot_of w))) (a w p))
+    (map_flat (Between w.position len) _ (after_iteration (loop_ways g lf m) (spot_of w)) (f w) (subst (AllOf (Between w.position len)) (sym (a w p)) (ef (spot_of w) p))
+    (λ v q. iteration_same w v (loop n g f v) (loop_ways g lf m) q.0 (λ lt. loop_same len n m g f lf ef a v q.1 (omega (arith, q.1)) (omega (arith, q.1))))
+    ∙ ap (each (after_iteration (loop_ways g lf m) (spot_of w))) (a w p))
 
 -- a repeat, whether it has a bound or none
 repeat_same : (s : Setting) (lo hi : ℕ) (g u : Bool) (f : Moves) (lf : Spot → List Spot) → is_unbounded hi ≡ u → Ends (length s.text) lf → Same (length s.text) f lf
@@ -103,8 +103,8 @@ repeat_same s lo hi g false f lf e ef a w p =
     (λ v q. upto_same (length s.text) (hi - lo) g f lf ef a v q) w p
 
 -- a repeat that may be left out
-no_rounds : (lo hi : ℕ) → has_no_iteration lo hi ≡ true → (lo ≡ 0) × (hi ≡ 0)
-no_rounds lo hi e = let both = and_parts _ _ e in (eqb-true lo 0 both.0, eqb-true hi 0 both.1)
+no_iterations : (lo hi : ℕ) → has_no_iteration lo hi ≡ true → (lo ≡ 0) × (hi ≡ 0)
+no_iterations lo hi e = let both = and_parts _ _ e in (eqb-true lo 0 both.0, eqb-true hi 0 both.1)
 
 out_by : (s : Setting) (lo hi : ℕ) (g : Bool) (f : Moves) (view : View) (a : Re) (b : Bool) → (b ≡ true → (lo ≡ 0) × (hi ≡ 0))
     → (b ≡ false → Same (length s.text) (ways.repeat s lo (bound_of hi) g f) (plain.ways view (length s.text) a))
@@ -241,7 +241,7 @@ module _ (s : Setting) (groups : List Tree) (unicode : Bool) (call : ℕ → Mov
         group_same view len n (meaning s groups call (n + 1) t).from (re_of unicode groups (n + 1) k t) (lacks unicode groups n (n + 1) k t (omega arith))
         (tree_same (n + 1) k t p h) w q
     tree_same n k (repeat t lo hi greedy) p h w q =
-        out_by s lo hi greedy (meaning s groups call n t).from view _ (has_no_iteration lo hi) (no_rounds lo hi)
+        out_by s lo hi greedy (meaning s groups call n t).from view _ (has_no_iteration lo hi) (no_iterations lo hi)
         (λ made. repeat_same s lo hi greedy (is_unbounded hi) (meaning s groups call n t).from (plain.ways view len (re_of unicode groups n k t)) refl
         (ways_end view len (re_of unicode groups n k t)) (tree_same n k t p (all_stand k lo hi t made h))) w q
     tree_same n k _ p h w q = absurd p

@@ -45,7 +45,7 @@ unfolding weight
 out_light true x n h = omega arith
 out_light false x n h = h
 
--- a repeat without rounds is never sure to move
+-- a repeat without iterations is never sure to move
 out_moves : (lo hi : ℕ) (greedy strict : Bool) (x : Re) → never_empty (unless (has_no_iteration lo hi) (re.repeat lo hi greedy strict x)) ≡ (nat_lt 0 lo && never_empty x)
 unfolding never_empty
 out_moves zero zero greedy strict x = refl

@@ -58,10 +58,10 @@ none_better : (longest : Bool) (a b : Option Trace) → a ≡ None → b ≡ Non
 none_better longest a b e f = ap₂ (better_trace longest) e f
 
 module _ (view : View) (stop : ℕ) (states : List State) (go : ℕ → Continuation) (matchers : List CharClassMatcher) (rules : Rules) (entry at : ℕ) (before after : Option ℕ)
-    (following : is_none before ≡ false) (shows : Shows matchers rules view at before after) where
+    (not_first : is_none before ≡ false) (shows : Shows matchers rules view at before after) where
   -- an assertion that cannot hold after a character does not hold
   holds_not : (check : Test) → (view.holds check at ≡ false) ⊎ MayHold check
-  holds_not StartText = inl (shows.holds StartText ∙ and_left _ _ following)
+  holds_not StartText = inl (shows.holds StartText ∙ and_left _ _ not_first)
   holds_not check = inr tt
 
   -- what a state that reads comes to, or one that is final
@@ -131,22 +131,22 @@ module _ (view : View) (stop : ℕ) (states : List State) (go : ℕ → Continua
 
 -- a state that reads fails where no way goes on after what it reads
 followed_reader : (view : View) (stop : ℕ) (states : List State) (go : ℕ → Continuation) (matchers : List CharClassMatcher) (rules : Rules) (entry at : ℕ) (before after : Option ℕ)
-    (following : is_none before ≡ false) (shows : Shows matchers rules view at before after) (two second : Option ℕ) (last : is_none two ≡ false)
+    (not_first : is_none before ≡ false) (shows : Shows matchers rules view at before after) (two second : Option ℕ) (last : is_none two ≡ false)
     (further : Shows matchers rules view (view.next at) two second) → AllAgree view stop states go → view.next at ≤ stop → (q : ℕ) (state : State)
     → NamesBelow (length states) state → go q at ≡ visit view stop go state at → CannotGoOn rules.unicode matchers states second state
-    → ReadFails view stop states go matchers rules entry at before after following shows q state
-followed_reader view stop states go matchers rules entry at before after following shows two second last further agree inside q (S.Read leaf next) names e cannot =
+    → ReadFails view stop states go matchers rules entry at before after not_first shows q state
+followed_reader view stop states go matchers rules entry at before after not_first shows two second last further agree inside q (S.Read leaf next) names e cannot =
     elim (true_or_false (reads view stop leaf at)) [
       | inl passes ↦
           (guard_yes (go q at) (go next (view.next at)) (reads view stop leaf at) e passes).0
           ∙ refused_fails view stop states go matchers rules next (view.next at) two second last further agree inside names cannot
       | inr never ↦ guard_no (go q at) (go next (view.next at)) (reads view stop leaf at) e never
     ]
-followed_reader view stop states go matchers rules entry at before after following shows two second last further agree inside q (S.Look check next) names e cannot = tt
-followed_reader view stop states go matchers rules entry at before after following shows two second last further agree inside q (Split one other) names e cannot = tt
-followed_reader view stop states go matchers rules entry at before after following shows two second last further agree inside q (Enter g next) names e cannot = tt
-followed_reader view stop states go matchers rules entry at before after following shows two second last further agree inside q (Leave g next) names e cannot = tt
-followed_reader view stop states go matchers rules entry at before after following shows two second last further agree inside q Match names e cannot = cannot
+followed_reader view stop states go matchers rules entry at before after not_first shows two second last further agree inside q (S.Look check next) names e cannot = tt
+followed_reader view stop states go matchers rules entry at before after not_first shows two second last further agree inside q (Split one other) names e cannot = tt
+followed_reader view stop states go matchers rules entry at before after not_first shows two second last further agree inside q (Enter g next) names e cannot = tt
+followed_reader view stop states go matchers rules entry at before after not_first shows two second last further agree inside q (Leave g next) names e cannot = tt
+followed_reader view stop states go matchers rules entry at before after not_first shows two second last further agree inside q Match names e cannot = cannot
 
 CannotBegin-prop : (unicode : Bool) (matchers : List CharClassMatcher) (states : List State) (entry : ℕ) (after : Option ℕ) → IsProp (CannotBegin unicode matchers states entry after)
 CannotBegin-prop unicode matchers states entry after = Π_prop λ q. Π_prop λ _. CannotRead-prop unicode matchers after (state_at states q)
@@ -188,13 +188,13 @@ pub pair_fails : (context : SearchContext) (text : List ℕ) (view : View) (go :
 pair_fails context text view go explains u at b some low pair =
     let c : ℕ = pair.first.0 in
     let long : len_utf8 c ≡ 1 = cond-true _ _ _ (lt-ltb c 0x80 pair.first.1) in
-    let following : view.next at ≡ at + 1 = (explains.shows at b).next ∙ ap (λ o. at + unwrap_or (option_map len_utf8 o) 1) pair.first.2 ∙ ap (λ n. at + n) long in
+    let next_is : view.next at ≡ at + 1 = (explains.shows at b).next ∙ ap (λ o. at + unwrap_or (option_map len_utf8 o) 1) pair.first.2 ∙ ap (λ n. at + n) long in
     let bound : IsCharBoundary text (at + 1) = boundary_past_ascii text at c u b pair.first.1 pair.first.2 in
     let before = before_some text at u b some in
     let two = before_some text (at + 1) u bound (omega arith) in
     let high : at ≤ context.stop = omega (arith, pair.inside) in
     let further : Shows context.matchers.now context.rules view (view.next at) (char_before text (at + 1)) (char_at text (at + 1)) =
-    subst (λ (j : ℕ). Shows context.matchers.now context.rules view j (char_before text (at + 1)) (char_at text (at + 1))) (sym following) (explains.shows (at + 1) bound) in
+    subst (λ (j : ℕ). Shows context.matchers.now context.rules view j (char_before text (at + 1)) (char_at text (at + 1))) (sym next_is) (explains.shows (at + 1) bound) in
     let cannot : CannotFollow context.rules.unicode context.matchers.now context.states.now context.entry (char_at text (at + 1)) =
     subst (CannotFollow context.rules.unicode context.matchers.now context.states.now context.entry) (sym pair.second.2) pair.second.3 in
     readers_fail view context.stop context.states.now go context.matchers.now context.rules context.entry at (char_before text at) (char_at text at)
@@ -202,7 +202,7 @@ pair_fails context text view go explains u at b some low pair =
     (λ q lt from.
     followed_reader view context.stop context.states.now go context.matchers.now context.rules context.entry at (char_before text at) (char_at text at)
     (ap is_none before.1) (explains.shows at b) (char_before text (at + 1)) (char_at text (at + 1)) (ap is_none two.1) further explains.agree
-    (subst (λ (j : ℕ). j ≤ context.stop) (sym following) (omega (arith, pair.inside))) q (state_at context.states.now q) (explains.agree q lt).names
+    (subst (λ (j : ℕ). j ≤ context.stop) (sym next_is) (omega (arith, pair.inside))) q (state_at context.states.now q) (explains.agree q lt).names
     ((explains.agree q lt).does at high) (cannot q from))
 
 none_attained : (longest : Bool) (a : Option Trace) → ((r : ℕ) → Attains longest r a → ⊥) → a ≡ None
@@ -222,13 +222,13 @@ read_into context q leaf next low below is = record {
   past = omega arith;
   fails = λ text view go explains i high b c small here none.
       let long : len_utf8 c ≡ 1 = cond-true _ _ _ (lt-ltb c 0x80 small) in
-      let following : view.next i ≡ i + 1 = (explains.shows i b).next ∙ ap (λ o. i + unwrap_or (option_map len_utf8 o) 1) here ∙ ap (λ n. i + n) long in
+      let next_is : view.next i ≡ i + 1 = (explains.shows i b).next ∙ ap (λ o. i + unwrap_or (option_map len_utf8 o) 1) here ∙ ap (λ n. i + n) long in
       let does : go q i ≡ visit view context.stop go (S.Read leaf next) i =
       (explains.agree q low).does i high ∙ ap (λ s. visit view context.stop go s i) is in
       elim (true_or_false (reads view context.stop leaf i)) [
         | inl passes ↦
             (guard_yes (go q i) (go next (view.next i)) (reads view context.stop leaf i) does passes).0
-            ∙ ap (λ j. (go next j).answer) following
+            ∙ ap (λ j. (go next j).answer) next_is
             ∙ none
         | inr never ↦ guard_no (go q i) (go next (view.next i)) (reads view context.stop leaf i) does never
       ];
@@ -258,5 +258,5 @@ pub visited_fails : (context : SearchContext) (text : List ℕ) (view : View) (g
     → (visited : Visited) → AllFail view.longest go (Has visited) → (at : ℕ) → IsCharBoundary text at → at ≤ context.stop
     → LeadsToVisited context text visited at → (go context.entry at).answer ≡ None
 visited_fails context text view go explains visited failed at b high to =
-    to.into.fails text view go explains at high b to.following.0 to.following.1 to.following.2
-    (all_failed view.longest go (Has visited) to.pair.state (at + to.pair.past) failed to.following.3)
+    to.into.fails text view go explains at high b to.is_visited.0 to.is_visited.1 to.is_visited.2
+    (all_failed view.longest go (Has visited) to.pair.state (at + to.pair.past) failed to.is_visited.3)

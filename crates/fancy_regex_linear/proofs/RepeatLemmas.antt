@@ -13,9 +13,9 @@ use Rattle.fancy_regex_linear.proofs.EmitLemmas.{length-push, push_done, Pushed,
 pub at_set_other : (states : List State) (k q : ℕ) (s : State) → (q ≡ k → ⊥) → state_at (set states k s) q ≡ state_at states q
 at_set_other states k q s h = get_or-set_other states k q s Match h
 
-pub head_names : (greedy : Bool) (n round leave : ℕ) → round < n → leave < n → NamesBelow n (loop_head greedy round leave)
-head_names true n round leave a b = (a, b)
-head_names false n round leave a b = (b, a)
+pub head_names : (greedy : Bool) (n iteration exit : ℕ) → iteration < n → exit < n → NamesBelow n (loop_head greedy iteration exit)
+head_names true n iteration exit a b = (a, b)
+head_names false n iteration exit a b = (b, a)
 
 module _ (view : View) (stop : ℕ) where
   -- what is emitted tries T
@@ -48,7 +48,7 @@ module _ (view : View) (stop : ℕ) where
       let e = a Open made.0 d.next_go made.1 d.agree d.entry in
       record {
         next_go = e.next_go;
-        kept = λ q h. e.kept q (omega (arith, d.longer)) ∙ d.kept q h;
+        unchanged = λ q h. e.unchanged q (omega (arith, d.longer)) ∙ d.unchanged q h;
         longer = omega (arith, d.longer, e.longer);
         agree = e.agree;
         entry = e.entry;
@@ -72,7 +72,7 @@ module _ (view : View) (stop : ℕ) where
       let e = a Open made.0 d.next_go made.1 made.2 d.agree d.same_in d.moved_in in
       record {
         next_go = e.next_go;
-        kept = λ q h. e.kept q (omega (arith, d.longer)) ∙ d.kept q h;
+        unchanged = λ q h. e.unchanged q (omega (arith, d.longer)) ∙ d.unchanged q h;
         longer = omega (arith, d.longer, e.longer);
         agree = e.agree;
         same_in = e.same_in;
@@ -85,7 +85,7 @@ module _ (view : View) (stop : ℕ) where
   unfolding emitted_times times_try
   times_done one T ok ih zero Open states go next before inside = record {
     next_go = go;
-    kept = λ q h. refl;
+    unchanged = λ q h. refl;
     longer = omega arith;
     agree = before;
     entry = inside;
@@ -98,7 +98,7 @@ module _ (view : View) (stop : ℕ) where
   unfolding emitted_both_times times_try
   times_two_done both T ok ih zero Open states go same moved before a_in b_in = record {
     next_go = go;
-    kept = λ q h. refl;
+    unchanged = λ q h. refl;
     longer = omega arith;
     agree = before;
     same_in = a_in;
@@ -113,7 +113,7 @@ module _ (view : View) (stop : ℕ) where
   unfolding emitted_upto upto_try
   upto_done one T ok ih greedy zero Open states go next before inside = record {
     next_go = go;
-    kept = λ q h. refl;
+    unchanged = λ q h. refl;
     longer = omega arith;
     agree = before;
     entry = inside;
@@ -131,13 +131,13 @@ module _ (view : View) (stop : ℕ) where
         λ i h.
             prefer_cong view.longest greedy _ _ _ _
             (ok _ _ i h (λ j _ c. sym (d.means j c)) ∙ sym (e.means i h))
-            (ap (λ f. f i) (sym (e.kept next (omega (arith, d.longer)) ∙ d.kept next inside)))
+            (ap (λ f. f i) (sym (e.unchanged next (omega (arith, d.longer)) ∙ d.unchanged next inside)))
             ∙ sym (visit_loop_head view stop e.next_go greedy body.1 next i),
       )) in
       let len = length-push body.0 state in
       record {
         next_go = p.next_go;
-        kept = λ q h. p.kept q (omega (arith, d.longer, e.longer)) ∙ e.kept q (omega (arith, d.longer)) ∙ d.kept q h;
+        unchanged = λ q h. p.unchanged q (omega (arith, d.longer, e.longer)) ∙ e.unchanged q (omega (arith, d.longer)) ∙ d.unchanged q h;
         longer = omega (arith, d.longer, e.longer);
         agree = p.agree;
         entry = omega arith;
@@ -148,7 +148,7 @@ module _ (view : View) (stop : ℕ) where
   unfolding emitted_both_upto upto_try
   upto_two_done both T ok ih greedy zero Open states go same moved before a_in b_in = record {
     next_go = go;
-    kept = λ q h. refl;
+    unchanged = λ q h. refl;
     longer = omega arith;
     agree = before;
     same_in = a_in;
@@ -171,7 +171,7 @@ module _ (view : View) (stop : ℕ) where
             prefer_cong view.longest greedy _ _ _ _
             (ok _ _ i h (λ j c k. sym (picks_rest U (upto_agree view stop greedy T ok n) i j (go same) (go moved) _ _ c k (d.same_means j k) (d.moved_means j k)))
             ∙ sym (e.same_means i h))
-            (pick_same i (go same) (go moved) i (omega arith) ∙ ap (λ f. f i) (sym (e.kept same (omega (arith, d.longer)) ∙ d.kept same a_in)))
+            (pick_same i (go same) (go moved) i (omega arith) ∙ ap (λ f. f i) (sym (e.unchanged same (omega (arith, d.longer)) ∙ d.unchanged same a_in)))
             ∙ sym (visit_loop_head view stop e.next_go greedy body.1 same i),
       )) in
       let len = length-push body.0 one in
@@ -180,19 +180,19 @@ module _ (view : View) (stop : ℕ) where
         head_names greedy (length (push body.0 one)) body.2 moved (omega (arith, e.moved_in)) (omega (arith, d.longer, e.longer)),
         λ i h.
             prefer_cong view.longest greedy _ _ _ _
-            (ok _ _ i h (λ j _ c. sym (d.moved_means j c)) ∙ sym (e.moved_means i h) ∙ ap (λ f. f i) (sym (p.kept body.2 e.moved_in)))
-            (ap (λ f. f i) (sym (p.kept moved (omega (arith, d.longer, e.longer)) ∙ e.kept moved (omega (arith, d.longer)) ∙ d.kept moved b_in)))
+            (ok _ _ i h (λ j _ c. sym (d.moved_means j c)) ∙ sym (e.moved_means i h) ∙ ap (λ f. f i) (sym (p.unchanged body.2 e.moved_in)))
+            (ap (λ f. f i) (sym (p.unchanged moved (omega (arith, d.longer, e.longer)) ∙ e.unchanged moved (omega (arith, d.longer)) ∙ d.unchanged moved b_in)))
             ∙ sym (visit_loop_head view stop p.next_go greedy body.2 moved i),
       )) in
       let len2 = length-push (push body.0 one) two in
       record {
         next_go = q.next_go;
-        kept = λ r h. q.kept r (omega (arith, d.longer, e.longer)) ∙ p.kept r (omega (arith, d.longer, e.longer)) ∙ e.kept r (omega (arith, d.longer)) ∙ d.kept r h;
+        unchanged = λ r h. q.unchanged r (omega (arith, d.longer, e.longer)) ∙ p.unchanged r (omega (arith, d.longer, e.longer)) ∙ e.unchanged r (omega (arith, d.longer)) ∙ d.unchanged r h;
         longer = omega (arith, d.longer, e.longer);
         agree = q.agree;
         same_in = omega arith;
         moved_in = omega arith;
-        same_means = λ i h. ap (λ f. f i) (q.kept (length body.0) (omega arith) ∙ p.here);
+        same_means = λ i h. ap (λ f. f i) (q.unchanged (length body.0) (omega arith) ∙ p.here);
         moved_means = λ i h. ap (λ f. f i) q.here;
       }
 
@@ -226,11 +226,11 @@ module _ (view : View) (stop : ℕ) where
       let made = both (push states Match) next head in
       let state : State = loop_head greedy made.1 next in
       let size = length-set made.0 head state in
-      let at_next : body.next_go next ≡ go next = body.kept next (omega arith) ∙ hole.kept next inside in
-      let at_head : body.next_go head ≡ g = body.kept head (omega arith) ∙ hole.here in
+      let at_next : body.next_go next ≡ go next = body.unchanged next (omega arith) ∙ hole.unchanged next inside in
+      let at_head : body.next_go head ≡ g = body.unchanged head (omega arith) ∙ hole.here in
       record {
         next_go = body.next_go;
-        kept = λ q h. body.kept q (omega arith) ∙ hole.kept q h;
+        unchanged = λ q h. body.unchanged q (omega arith) ∙ hole.unchanged q h;
         longer = omega (arith, body.longer);
         agree =
             filled Open made.0 body.next_go head state body.agree (omega (arith, body.longer))
@@ -238,7 +238,7 @@ module _ (view : View) (stop : ℕ) where
             (λ i b.
             ap (λ f. f i) at_head ∙ star_unfold view stop greedy T ok (go next) i b
             ∙ prefer_cong view.longest greedy _ _ _ _
-            (ok _ _ i b (λ j c d. pick_agree i _ _ _ _ j (λ _. ap (λ f. f j) (sym (hole.kept next inside))) (λ _. ap (λ f. f j) (sym hole.here)))
+            (ok _ _ i b (λ j c d. pick_agree i _ _ _ _ j (λ _. ap (λ f. f j) (sym (hole.unchanged next inside))) (λ _. ap (λ f. f j) (sym hole.here)))
             ∙ sym (body.same_means i b))
             (ap (λ f. f i) (sym at_next))
             ∙ sym (visit_loop_head view stop body.next_go greedy made.1 next i));
@@ -246,7 +246,7 @@ module _ (view : View) (stop : ℕ) where
         means = λ i b. ap (λ f. f i) at_head;
       }
 
-  -- the first round of a loop, where nothing was moved yet
+  -- the first iteration of a loop, where nothing was moved yet
   fresh_star : (greedy : Bool) (T : Continuation → Continuation) → Looks view stop T → (ks km : Continuation) (i : ℕ) → i ≤ stop
       → star_try view.longest stop greedy T (pick i ks km) i ≡ prefer view.longest greedy (T (pick i ks (star_try view.longest stop greedy T km)) i) (ks i)
   fresh_star greedy T ok ks km i h =
@@ -273,21 +273,21 @@ module _ (view : View) (stop : ℕ) where
         λ i h.
             fresh_star greedy T ok ks km i h
             ∙ prefer_cong view.longest greedy _ _ _ _
-            (ok _ _ i h (λ j c k. pick_agree i _ _ _ _ j (λ _. ap (λ f. f j) (sym (d.kept same a_in))) (λ _. sym (d.means j k)))
+            (ok _ _ i h (λ j c k. pick_agree i _ _ _ _ j (λ _. ap (λ f. f j) (sym (d.unchanged same a_in))) (λ _. sym (d.means j k)))
             ∙ sym (e.same_means i h))
-            (ap (λ f. f i) (sym (e.kept same (omega (arith, d.longer)) ∙ d.kept same a_in)))
+            (ap (λ f. f i) (sym (e.unchanged same (omega (arith, d.longer)) ∙ d.unchanged same a_in)))
             ∙ sym (visit_loop_head view stop e.next_go greedy first.1 same i),
       )) in
       let len = length-push first.0 state in
       record {
         next_go = p.next_go;
-        kept = λ r h. p.kept r (omega (arith, d.longer, e.longer)) ∙ e.kept r (omega (arith, d.longer)) ∙ d.kept r h;
+        unchanged = λ r h. p.unchanged r (omega (arith, d.longer, e.longer)) ∙ e.unchanged r (omega (arith, d.longer)) ∙ d.unchanged r h;
         longer = omega (arith, d.longer, e.longer);
         agree = p.agree;
         same_in = omega arith;
         moved_in = omega (arith, d.longer, e.longer, d.entry);
         same_means = λ i h. ap (λ f. f i) p.here;
-        moved_means = λ i h. ap (λ f. f i) (p.kept loop.1 (omega (arith, d.entry, e.longer)) ∙ e.kept loop.1 d.entry) ∙ d.means i h;
+        moved_means = λ i h. ap (λ f. f i) (p.unchanged loop.1 (omega (arith, d.entry, e.longer)) ∙ e.unchanged loop.1 d.entry) ∙ d.means i h;
       }
 
   -- of a loop over what always moves: its head, and the entry of its body
@@ -304,27 +304,27 @@ module _ (view : View) (stop : ℕ) where
       let made = one (push states Match) head in
       let state : State = loop_head greedy made.1 next in
       let size = length-set made.0 head state in
-      let at_next : body.next_go next ≡ go next = body.kept next (omega arith) ∙ hole.kept next inside in
-      let at_head : body.next_go head ≡ g = body.kept head (omega arith) ∙ hole.here in
-      let round : (i : ℕ) → i ≤ stop → body.next_go made.1 i ≡ T g i = λ i b. body.means i b ∙ ap (λ k. T k i) hole.here in
+      let at_next : body.next_go next ≡ go next = body.unchanged next (omega arith) ∙ hole.unchanged next inside in
+      let at_head : body.next_go head ≡ g = body.unchanged head (omega arith) ∙ hole.here in
+      let iteration : (i : ℕ) → i ≤ stop → body.next_go made.1 i ≡ T g i = λ i b. body.means i b ∙ ap (λ k. T k i) hole.here in
       record {
         next_go = body.next_go;
-        kept = λ q h. body.kept q (omega arith) ∙ hole.kept q h;
+        unchanged = λ q h. body.unchanged q (omega arith) ∙ hole.unchanged q h;
         longer = omega (arith, body.longer);
         agree =
             filled Open made.0 body.next_go head state body.agree (omega (arith, body.longer))
             (head_names greedy (length made.0) made.1 next body.entry (omega (arith, body.longer)))
             (λ i b.
             ap (λ f. f i) at_head ∙ plus_unfold view stop greedy T ok moves (go next) i b
-            ∙ prefer_cong view.longest greedy _ _ _ _ (sym (round i b)) (ap (λ f. f i) (sym at_next))
+            ∙ prefer_cong view.longest greedy _ _ _ _ (sym (iteration i b)) (ap (λ f. f i) (sym at_next))
             ∙ sym (visit_loop_head view stop body.next_go greedy made.1 next i));
         same_in = omega (arith, body.longer);
         moved_in = omega (arith, body.entry);
         same_means = λ i b. ap (λ f. f i) at_head;
-        moved_means = round;
+        moved_means = iteration;
       }
 
-  -- one round more in front of n is one round more after them
+  -- one iteration more in front of n is one iteration more after them
   times_turn : (T : Continuation → Continuation) (n : ℕ) (k : Continuation) → times_try T n (T k) ≡ times_try T (suc n) k
   unfolding times_try
   times_turn T zero k = refl
@@ -335,7 +335,7 @@ module _ (view : View) (stop : ℕ) where
   unfolding emitted_many times_try
   many_done one T ok moves ih greedy zero Open states go next before inside =
       let d = plus_done one T ok moves ih greedy Open states go next before inside in
-      record { next_go = d.next_go; kept = d.kept; longer = d.longer; agree = d.agree; entry = d.same_in; means = d.same_means }
+      record { next_go = d.next_go; unchanged = d.unchanged; longer = d.longer; agree = d.agree; entry = d.same_in; means = d.same_means }
   many_done one T ok moves ih greedy (suc n) Open states go next before inside =
       let d = plus_done one T ok moves ih greedy Open states go next before inside in
       let loop = emitted_plus greedy one states next in
@@ -343,7 +343,7 @@ module _ (view : View) (stop : ℕ) where
       let g : Continuation = star_try view.longest stop greedy T (go next) in
       record {
         next_go = e.next_go;
-        kept = λ q h. e.kept q (omega (arith, d.longer)) ∙ d.kept q h;
+        unchanged = λ q h. e.unchanged q (omega (arith, d.longer)) ∙ d.unchanged q h;
         longer = omega (arith, d.longer, e.longer);
         agree = e.agree;
         entry = e.entry;
@@ -353,7 +353,7 @@ module _ (view : View) (stop : ℕ) where
   -- of a loop over what always moves, at two places: its head, and the entries of its body
   record DonePlus (Open : ℕ → Type 0) (states : List State) (go : ℕ → Continuation) (made : List State × ℕ × ℕ × ℕ) (head same moved : Continuation) : Type 0 where
     pub next_go : ℕ → Continuation
-    pub kept : (q : ℕ) → q < length states → next_go q ≡ go q
+    pub unchanged : (q : ℕ) → q < length states → next_go q ≡ go q
     pub longer : length states ≤ length made.0
     pub agree : AgreeBut view stop Open made.0 next_go
     pub head_in : made.1 < length made.0
@@ -378,26 +378,26 @@ module _ (view : View) (stop : ℕ) where
       let made = both (push states Match) same head in
       let state : State = loop_head greedy made.2 moved in
       let size = length-set made.0 head state in
-      let at_moved : body.next_go moved ≡ go moved = body.kept moved (omega arith) ∙ hole.kept moved b_in in
-      let at_head : body.next_go head ≡ g = body.kept head (omega arith) ∙ hole.here in
-      let round : (i : ℕ) → i ≤ stop → body.next_go made.2 i ≡ T g i = λ i b. body.moved_means i b ∙ ap (λ k. T k i) hole.here in
+      let at_moved : body.next_go moved ≡ go moved = body.unchanged moved (omega arith) ∙ hole.unchanged moved b_in in
+      let at_head : body.next_go head ≡ g = body.unchanged head (omega arith) ∙ hole.here in
+      let iteration : (i : ℕ) → i ≤ stop → body.next_go made.2 i ≡ T g i = λ i b. body.moved_means i b ∙ ap (λ k. T k i) hole.here in
       record {
         next_go = body.next_go;
-        kept = λ q h. body.kept q (omega arith) ∙ hole.kept q h;
+        unchanged = λ q h. body.unchanged q (omega arith) ∙ hole.unchanged q h;
         longer = omega (arith, body.longer);
         agree =
             filled Open made.0 body.next_go head state body.agree (omega (arith, body.longer))
             (head_names greedy (length made.0) made.2 moved body.moved_in (omega (arith, body.longer)))
             (λ i b.
             ap (λ f. f i) at_head ∙ plus_unfold view stop greedy T ok moves (go moved) i b
-            ∙ prefer_cong view.longest greedy _ _ _ _ (sym (round i b)) (ap (λ f. f i) (sym at_moved))
+            ∙ prefer_cong view.longest greedy _ _ _ _ (sym (iteration i b)) (ap (λ f. f i) (sym at_moved))
             ∙ sym (visit_loop_head view stop body.next_go greedy made.2 moved i));
         head_in = omega (arith, body.longer);
         same_in = omega (arith, body.same_in);
         moved_in = omega (arith, body.moved_in);
         head_means = λ i b. ap (λ f. f i) at_head;
-        same_means = λ i h. body.same_means i h ∙ ok _ _ i h (λ j c k. pick_agree i _ _ _ _ j (λ _. ap (λ f. f j) (hole.kept same a_in)) (λ _. ap (λ f. f j) hole.here));
-        moved_means = round;
+        same_means = λ i h. body.same_means i h ∙ ok _ _ i h (λ j c k. pick_agree i _ _ _ _ j (λ _. ap (λ f. f j) (hole.unchanged same a_in)) (λ _. ap (λ f. f j) hole.here));
+        moved_means = iteration;
       }
 
   pub many_two_done : (both : BothEmitter) (T : Continuation → Continuation) → Looks view stop T → Moves view stop T → EmitsTwo both T → (greedy : Bool) (lo : ℕ)
@@ -414,19 +414,19 @@ module _ (view : View) (stop : ℕ) where
         head_names greedy (length loop.0) loop.2 same d.same_in (omega (arith, d.longer)),
         λ i h.
             fresh_star greedy T ok ks km i h
-            ∙ prefer_cong view.longest greedy _ _ _ _ (sym (d.same_means i h)) (ap (λ f. f i) (sym (d.kept same a_in)))
+            ∙ prefer_cong view.longest greedy _ _ _ _ (sym (d.same_means i h)) (ap (λ f. f i) (sym (d.unchanged same a_in)))
             ∙ sym (visit_loop_head view stop d.next_go greedy loop.2 same i),
       )) in
       let len = length-push loop.0 state in
       record {
         next_go = p.next_go;
-        kept = λ r h. p.kept r (omega (arith, d.longer)) ∙ d.kept r h;
+        unchanged = λ r h. p.unchanged r (omega (arith, d.longer)) ∙ d.unchanged r h;
         longer = omega (arith, d.longer);
         agree = p.agree;
         same_in = omega arith;
         moved_in = omega (arith, d.head_in);
         same_means = λ i h. ap (λ f. f i) p.here;
-        moved_means = λ i h. ap (λ f. f i) (p.kept loop.1 d.head_in) ∙ d.head_means i h;
+        moved_means = λ i h. ap (λ f. f i) (p.unchanged loop.1 d.head_in) ∙ d.head_means i h;
       }
   many_two_done both T ok moves ih greedy (suc n) Open states go same moved before a_in b_in =
       let d = plus_two_done both T ok moves ih greedy Open states go same moved before a_in b_in in
@@ -438,7 +438,7 @@ module _ (view : View) (stop : ℕ) where
       let sok = star_agree view stop greedy T ok in
       record {
         next_go = e.next_go;
-        kept = λ q h. e.kept q (omega (arith, d.longer)) ∙ d.kept q h;
+        unchanged = λ q h. e.unchanged q (omega (arith, d.longer)) ∙ d.unchanged q h;
         longer = omega (arith, d.longer, e.longer);
         agree = e.agree;
         same_in = e.same_in;

@@ -1,5 +1,5 @@
 -- What each kind of node and of expression is in mathematics.
-use Rattle.std.proofs.Common.{◌≡◌, ℕ, Bool, Vec, Box, Global, sym, ap, ◌∙◌}
+use Rattle.std.proofs.Common.{◌≡◌, ℕ, Vec, Box, Global, sym, ap, ◌∙◌}
 use Rattle.fancy_regex_tree.specs.Tree.{Tree, absent_tree, ast_tree, node_tree, tree_of, concat, alt}
 use Rattle.fancy_regex_tree.specs.declared.expr.Expr.{Expr}
 use Rattle.fancy_regex_tree.specs.declared.expr.Expr.TheVariants as expr
@@ -9,6 +9,7 @@ use Rattle.fancy_regex_linear.specs.Re.{Re, repeat, cats, alts, node_shape, shap
 use Rattle.fancy_regex_linear.specs.Translation.{all_trees}
 use Rattle.fancy_regex_linear.specs.declared.node.Node.{Node, Node-F, fold-roll-Node}
 use Rattle.fancy_regex_linear.specs.declared.node.Node.TheVariants as node
+use Rattle.fancy_regex_linear.specs.declared.node.Quantifier.{Quantifier}
 
 pub tree_concat : (children : Vec Expr Global) → tree_of (expr.Concat children) ≡ concat (all_trees children.items)
 tree_concat children =
@@ -24,7 +25,5 @@ shape_concat parts = ap shape (sym (node.rolls-Concat parts)) ∙ fold-roll-Node
 pub shape_alt : (parts : Vec Node Global) → shape (node.Alt parts) ≡ alts (shapes parts.items)
 shape_alt parts = ap shape (sym (node.rolls-Alt parts)) ∙ fold-roll-Node Re node_shape (Node-F.Alt parts)
 
-pub shape_repeat : (body : Box Node Global) (lo hi : ℕ) (greedy moves : Bool)
-    → shape (node.Repeat body lo hi greedy moves) ≡ repeat lo hi greedy moves (shape body.value)
-shape_repeat body lo hi greedy moves =
-    ap shape (sym (node.rolls-Repeat body lo hi greedy moves)) ∙ fold-roll-Node Re node_shape (Node-F.Repeat body lo hi greedy moves)
+pub shape_repeat : (body : Box Node Global) (q : Quantifier) → shape (node.Repeat body q) ≡ repeat q.lo q.hi q.greedy q.moves (shape body.value)
+shape_repeat body q = ap shape (sym (node.rolls-Repeat body q)) ∙ fold-roll-Node Re node_shape (Node-F.Repeat body q)

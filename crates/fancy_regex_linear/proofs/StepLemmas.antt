@@ -11,17 +11,17 @@ use Rattle.fancy_regex_linear.specs.Attempt.{Continuation, save, guard}
 use Rattle.fancy_regex_linear.specs.Visited.{Adds}
 use Rattle.fancy_regex_linear.specs.CharTests.{Shows, read_next}
 use Rattle.fancy_regex_states.specs.CharTests.{leaf_matches_char}
-use Rattle.fancy_regex_linear.specs.Search.{Dfs, After, NextWithin, LeadsTo}
+use Rattle.fancy_regex_linear.specs.Search.{Dfs, After, IsStepWithin, LeadsTo}
 use Rattle.fancy_regex_states.specs.declared.atom.Leaf.{Leaf}
 use Rattle.fancy_regex_class.specs.declared.class.CharClassMatcher.{CharClassMatcher}
 use Rattle.fancy_regex_states.specs.declared.rules.Rules.{Rules}
-use Rattle.fancy_regex_linear.specs.declared.frame.Next.{Next}
-use Rattle.fancy_regex_linear.specs.declared.frame.Next.TheVariants.{Pair, Back}
+use Rattle.fancy_regex_linear.specs.declared.frame.SearchStep.{SearchStep}
+use Rattle.fancy_regex_linear.specs.declared.frame.SearchStep.TheVariants.{Pair, Backtrack}
 use Rattle.fancy_regex_linear.specs.declared.frame.Frame.{Frame}
 use Rattle.fancy_regex_linear.specs.declared.frame.Frame.TheVariants.{Explore, Restore}
 use Rattle.fancy_regex_linear.proofs.DfsLemmas.{Dfs-dead, Dfs-moved, Dfs-saved, Dfs-unsaved, guard_yes, guard_no}
 
-pub next_if : (X : Next → Type 0) (b : Bool) (x : Next) → (b ≡ true → X x) → (b ≡ false → X Back) → X (if b then x else Back)
+pub next_if : (X : SearchStep → Type 0) (b : Bool) (x : SearchStep) → (b ≡ true → X x) → (b ≡ false → X Backtrack) → X (if b then x else Backtrack)
 next_if X true x h k = h refl
 next_if X false x h k = k refl
 
@@ -50,7 +50,7 @@ read_tracked view matchers rules stop leaf next at id before None go goal best b
 read_tracked view matchers rules stop leaf next at id before (Some c) go goal best bottom Seen Marked frames slots p shows e adds d =
     let width : ℕ = len_utf8 c in
     let some : 1 ≤ width = (len_utf8_bounds c).0 in
-    let following : view.next at ≡ at + width = shows.next in
+    let next_is : view.next at ≡ at + width = shows.next in
     let lower : at < view.next at = omega arith in
     next_if (λ n. After view.longest go n at goal best bottom Marked frames slots) (leaf_matches_char rules.unicode matchers leaf c && nat_le width (stop - at)) (Pair next (at + width))
     (λ yes.
@@ -59,11 +59,11 @@ read_tracked view matchers rules stop leaf next at id before (Some c) go goal be
     let inside : view.next at ≤ stop = omega arith in
     let on = guard_yes _ _ _ e (and_from _ _ (shows.has leaf ∙ both.0) (and_from _ _ (lt-ltb at (view.next at) lower) (le-leb (view.next at) stop inside))) in
     Dfs-moved view.longest d adds next (at + width)
-    (on.0 ∙ ap (λ j. (go next j).answer) following)
-    (subst (λ (j : ℕ). (go next j).depth < (go id at).depth) following on.1))
+    (on.0 ∙ ap (λ j. (go next j).answer) next_is)
+    (subst (λ (j : ℕ). (go next j).depth < (go id at).depth) next_is on.1))
     (λ no.
     Dfs-dead view.longest d adds (guard_no _ _ _ e (and_none (view.has leaf at) _ (nat_le width (stop - at)) (ap (λ b. b && nat_le width (stop - at)) (shows.has leaf) ∙ no)
-    (λ yes far. and_right _ _ (let past : stop < view.next at = past_stop width at stop (view.next at) p following far in lt-leb (view.next at) stop past)))))
+    (λ yes far. and_right _ _ (let past : stop < view.next at = past_stop width at stop (view.next at) p next_is far in lt-leb (view.next at) stop past)))))
 
 -- where a state leads that reads
 pub read_leads : (view : View) (matchers : List CharClassMatcher) (rules : Rules) (stop : ℕ) (leaf : Leaf) (next at id : ℕ) (before after : Option ℕ)
@@ -75,7 +75,7 @@ read_leads view matchers rules stop leaf next at id before None go p shows e = g
 read_leads view matchers rules stop leaf next at id before (Some c) go p shows e =
     let width : ℕ = len_utf8 c in
     let some : 1 ≤ width = (len_utf8_bounds c).0 in
-    let following : view.next at ≡ at + width = shows.next in
+    let next_is : view.next at ≡ at + width = shows.next in
     let lower : at < view.next at = omega arith in
     next_if (LeadsTo go id at) (leaf_matches_char rules.unicode matchers leaf c && nat_le width (stop - at)) (Pair next (at + width))
     (λ yes.
@@ -83,17 +83,17 @@ read_leads view matchers rules stop leaf next at id before (Some c) go p shows e
     let fits : width ≤ stop - at = leb-true width (stop - at) both.1 in
     let inside : view.next at ≤ stop = omega arith in
     let on = guard_yes _ _ _ e (and_from _ _ (shows.has leaf ∙ both.0) (and_from _ _ (lt-ltb at (view.next at) lower) (le-leb (view.next at) stop inside))) in
-    let deep : (go next (at + width)).depth < (go id at).depth = subst (λ (j : ℕ). (go next j).depth < (go id at).depth) following on.1 in
-    (sym (on.0 ∙ ap (λ j. (go next j).answer) following), omega arith))
+    let deep : (go next (at + width)).depth < (go id at).depth = subst (λ (j : ℕ). (go next j).depth < (go id at).depth) next_is on.1 in
+    (sym (on.0 ∙ ap (λ j. (go next j).answer) next_is), omega arith))
     (λ no.
     guard_no _ _ _ e (and_none (view.has leaf at) _ (nat_le width (stop - at)) (ap (λ b. b && nat_le width (stop - at)) (shows.has leaf) ∙ no)
-    (λ yes far. and_right _ _ (let past : stop < view.next at = past_stop width at stop (view.next at) p following far in lt-leb (view.next at) stop past))))
+    (λ yes far. and_right _ _ (let past : stop < view.next at = past_stop width at stop (view.next at) p next_is far in lt-leb (view.next at) stop past))))
 
 pub write_tracked : (longest : Bool) (go : ℕ → Continuation) (goal best : Option Spot) (bottom : List ℕ) (Seen Marked : ℕ → ℕ → Type 0)
-    (q i next slot real : ℕ) (frames new_frames : List Frame) (slots new_slots : List ℕ) (kept : Bool)
+    (q i next slot real : ℕ) (frames new_frames : List Frame) (slots new_slots : List ℕ) (written : Bool)
     → slot ≡ min real (2 ^ 64 - 1) → length slots ≤ 2 ^ 64 - 1
-    → MatchBool kept (slot < length slots) (length slots ≤ slot)
-    → MatchBool kept (new_frames ≡ Restore slot (get_or slots slot 0) ∷ frames) (new_frames ≡ frames)
+    → MatchBool written (slot < length slots) (length slots ≤ slot)
+    → MatchBool written (new_frames ≡ Restore slot (get_or slots slot 0) ∷ frames) (new_frames ≡ frames)
     → new_slots ≡ set slots slot i → go q i ≡ save real i (go next i) → Adds Seen Marked q i
     → Dfs longest go goal best bottom Seen (Explore q i ∷ frames) slots
     → Dfs longest go goal best bottom Marked (Explore next i ∷ new_frames) new_slots
@@ -105,10 +105,10 @@ write_tracked longest go goal best bottom Seen Marked q i next slot real frames 
     rw (pushed, written, set_past slots slot i inside) (Dfs-unsaved longest d adds real next e (set_past slots real i past))
 
 pub read_within : (unicode : Bool) (text : List ℕ) (count stop base next at : ℕ) (matchers : List CharClassMatcher) (leaf : Leaf) (after : Option ℕ) → next < count → base ≤ at → at ≤ stop
-    → IfSome after (λ c. IsCharBoundary text (at + len_utf8 c)) → NextWithin text count stop base (read_next unicode matchers stop leaf next at after)
+    → IfSome after (λ c. IsCharBoundary text (at + len_utf8 c)) → IsStepWithin text count stop base (read_next unicode matchers stop leaf next at after)
 read_within unicode text count stop base next at matchers leaf None n low p h = tt
 read_within unicode text count stop base next at matchers leaf (Some c) n low p h =
-    next_if (NextWithin text count stop base) (leaf_matches_char unicode matchers leaf c && nat_le (len_utf8 c) (stop - at)) (Pair next (at + len_utf8 c))
+    next_if (IsStepWithin text count stop base) (leaf_matches_char unicode matchers leaf c && nat_le (len_utf8 c) (stop - at)) (Pair next (at + len_utf8 c))
     (λ yes.
     let fits : len_utf8 c ≤ stop - at = leb-true (len_utf8 c) (stop - at) (and_parts (leaf_matches_char unicode matchers leaf c) (nat_le (len_utf8 c) (stop - at)) yes).1 in
     let low_end : base ≤ at + len_utf8 c = omega arith in

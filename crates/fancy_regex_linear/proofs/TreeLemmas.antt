@@ -24,7 +24,7 @@ module _ (view : View) (stop : ℕ) where
   unfolding emitted attempt
   emit_done both nothing sound Open states go next before inside = record {
     next_go = go;
-    kept = λ q h. refl;
+    unchanged = λ q h. refl;
     longer = omega arith;
     agree = before;
     entry = inside;
@@ -33,11 +33,11 @@ module _ (view : View) (stop : ℕ) where
   emit_done both (read leaf) sound Open states go next before inside =
       let p = push_done view stop Open states go (S.Read leaf next) (attempt view stop (read leaf) (go next)) before (inr (inside, λ i b. refl)) in
       let len = length-push states (S.Read leaf next) in
-      record { next_go = p.next_go; kept = p.kept; longer = omega arith; agree = p.agree; entry = omega arith; means = λ i b. ap (λ f. f i) p.here }
+      record { next_go = p.next_go; unchanged = p.unchanged; longer = omega arith; agree = p.agree; entry = omega arith; means = λ i b. ap (λ f. f i) p.here }
   emit_done both (test check) sound Open states go next before inside =
       let p = push_done view stop Open states go (S.Look check next) (attempt view stop (test check) (go next)) before (inr (inside, λ i b. refl)) in
       let len = length-push states (S.Look check next) in
-      record { next_go = p.next_go; kept = p.kept; longer = omega arith; agree = p.agree; entry = omega arith; means = λ i b. ap (λ f. f i) p.here }
+      record { next_go = p.next_go; unchanged = p.unchanged; longer = omega arith; agree = p.agree; entry = omega arith; means = λ i b. ap (λ f. f i) p.here }
   emit_done both (cat a b) sound Open states go next before inside =
       seq_done view stop (emitted a) (emitted b) (attempt view stop a) (attempt view stop b) (attempt_agree view stop a) (emit_done both a sound.0) (emit_done both b sound.1)
       Open states go next before inside
@@ -52,13 +52,13 @@ module _ (view : View) (stop : ℕ) where
         (e.entry, omega (arith, d.entry, e.longer)),
         λ i h.
             ap₂ (either view.longest)
-            (ap (λ k. attempt view stop a k i) (sym (d.kept next inside)) ∙ sym (e.means i h))
-            (sym (d.means i h) ∙ ap (λ f. f i) (sym (e.kept second.1 d.entry))),
+            (ap (λ k. attempt view stop a k i) (sym (d.unchanged next inside)) ∙ sym (e.means i h))
+            (sym (d.means i h) ∙ ap (λ f. f i) (sym (e.unchanged second.1 d.entry))),
       )) in
       let len = length-push first.0 state in
       record {
         next_go = p.next_go;
-        kept = λ q h. p.kept q (omega (arith, d.longer, e.longer)) ∙ e.kept q (omega (arith, d.longer)) ∙ d.kept q h;
+        unchanged = λ q h. p.unchanged q (omega (arith, d.longer, e.longer)) ∙ e.unchanged q (omega (arith, d.longer)) ∙ d.unchanged q h;
         longer = omega (arith, d.longer, e.longer);
         agree = p.agree;
         entry = omega arith;
@@ -76,7 +76,7 @@ module _ (view : View) (stop : ℕ) where
       let len = length-push body.0 open_state in
       record {
         next_go = p.next_go;
-        kept = λ q h. p.kept q (omega (arith, d.longer)) ∙ d.kept q (omega arith) ∙ c.kept q h;
+        unchanged = λ q h. p.unchanged q (omega (arith, d.longer)) ∙ d.unchanged q (omega arith) ∙ c.unchanged q h;
         longer = omega (arith, d.longer);
         agree = p.agree;
         entry = omega arith;
@@ -99,7 +99,7 @@ module _ (view : View) (stop : ℕ) where
   unfolding emitted_both emitted_both_group attempt
   emit_both_done nothing sound Open states go same moved before a_in b_in = record {
     next_go = go;
-    kept = λ q h. refl;
+    unchanged = λ q h. refl;
     longer = omega arith;
     agree = before;
     same_in = a_in;
@@ -112,7 +112,7 @@ module _ (view : View) (stop : ℕ) where
       let len = length-push states (S.Read leaf moved) in
       record {
         next_go = p.next_go;
-        kept = p.kept;
+        unchanged = p.unchanged;
         longer = omega arith;
         agree = p.agree;
         same_in = omega arith;
@@ -126,16 +126,16 @@ module _ (view : View) (stop : ℕ) where
       let p = push_done view stop Open states go one (attempt view stop (test check) (go same)) before (inr (a_in, λ i b. refl)) in
       let len = length-push states one in
       let q = push_done view stop Open (push states one) p.next_go two (attempt view stop (test check) (go moved)) p.agree
-      (inr (omega arith, λ i b. ap (λ f. guard (view.holds check i) (f i)) (sym (p.kept moved b_in)))) in
+      (inr (omega arith, λ i b. ap (λ f. guard (view.holds check i) (f i)) (sym (p.unchanged moved b_in)))) in
       let len2 = length-push (push states one) two in
       record {
         next_go = q.next_go;
-        kept = λ r h. q.kept r (omega arith) ∙ p.kept r h;
+        unchanged = λ r h. q.unchanged r (omega arith) ∙ p.unchanged r h;
         longer = omega arith;
         agree = q.agree;
         same_in = omega arith;
         moved_in = omega arith;
-        same_means = λ i h. ap (λ f. f i) (q.kept (length states) (omega arith) ∙ p.here)
+        same_means = λ i h. ap (λ f. f i) (q.unchanged (length states) (omega arith) ∙ p.here)
             ∙ ap (guard (view.holds check i)) (sym (pick_same i (go same) (go moved) i (omega arith)));
         moved_means = λ i h. ap (λ f. f i) q.here;
       }
@@ -154,8 +154,8 @@ module _ (view : View) (stop : ℕ) where
         (e.same_in, omega (arith, d.same_in, e.longer)),
         λ i h.
             ap₂ (either view.longest)
-            (ap₂ (λ k l. fresh a k l i) (sym (d.kept same a_in)) (sym (d.kept moved b_in)) ∙ sym (e.same_means i h))
-            (sym (d.same_means i h) ∙ ap (λ f. f i) (sym (e.kept second.1 d.same_in))),
+            (ap₂ (λ k l. fresh a k l i) (sym (d.unchanged same a_in)) (sym (d.unchanged moved b_in)) ∙ sym (e.same_means i h))
+            (sym (d.same_means i h) ∙ ap (λ f. f i) (sym (e.unchanged second.1 d.same_in))),
       )) in
       let len = length-push first.0 one in
       let q = push_done view stop Open (push first.0 one) p.next_go two (attempt view stop (alt a b) (go moved)) p.agree
@@ -163,18 +163,18 @@ module _ (view : View) (stop : ℕ) where
         (omega (arith, e.moved_in), omega (arith, d.moved_in, e.longer)),
         λ i h.
             ap₂ (either view.longest)
-            (ap (λ k. attempt view stop a k i) (sym (d.kept moved b_in)) ∙ sym (e.moved_means i h) ∙ ap (λ f. f i) (sym (p.kept first.2 e.moved_in)))
-            (sym (d.moved_means i h) ∙ ap (λ f. f i) (sym (p.kept second.2 (omega (arith, d.moved_in, e.longer)) ∙ e.kept second.2 d.moved_in))),
+            (ap (λ k. attempt view stop a k i) (sym (d.unchanged moved b_in)) ∙ sym (e.moved_means i h) ∙ ap (λ f. f i) (sym (p.unchanged first.2 e.moved_in)))
+            (sym (d.moved_means i h) ∙ ap (λ f. f i) (sym (p.unchanged second.2 (omega (arith, d.moved_in, e.longer)) ∙ e.unchanged second.2 d.moved_in))),
       )) in
       let len2 = length-push (push first.0 one) two in
       record {
         next_go = q.next_go;
-        kept = λ r h. q.kept r (omega (arith, d.longer, e.longer)) ∙ p.kept r (omega (arith, d.longer, e.longer)) ∙ e.kept r (omega (arith, d.longer)) ∙ d.kept r h;
+        unchanged = λ r h. q.unchanged r (omega (arith, d.longer, e.longer)) ∙ p.unchanged r (omega (arith, d.longer, e.longer)) ∙ e.unchanged r (omega (arith, d.longer)) ∙ d.unchanged r h;
         longer = omega (arith, d.longer, e.longer);
         agree = q.agree;
         same_in = omega arith;
         moved_in = omega arith;
-        same_means = λ i h. ap (λ f. f i) (q.kept (length first.0) (omega arith) ∙ p.here);
+        same_means = λ i h. ap (λ f. f i) (q.unchanged (length first.0) (omega arith) ∙ p.here);
         moved_means = λ i h. ap (λ f. f i) q.here;
       }
   emit_both_done (group g a) sound Open states go same moved before a_in b_in =
@@ -184,12 +184,12 @@ module _ (view : View) (stop : ℕ) where
       let l1 = length-push states s1 in
       let one = push states s1 in
       let c2 = push_done view stop Open one c1.next_go s2 (λ j. save (2 * g + 1) j (go moved j)) c1.agree
-      (inr (omega arith, λ i b. ap (λ f. save (2 * g + 1) i (f i)) (sym (c1.kept moved b_in)))) in
+      (inr (omega arith, λ i b. ap (λ f. save (2 * g + 1) i (f i)) (sym (c1.unchanged moved b_in)))) in
       let l2 = length-push one s2 in
       let two = push one s2 in
       let d = emit_both_done a sound Open two c2.next_go (length states) (length one) c2.agree (omega arith) (omega arith) in
       let body = emitted_both a two (length states) (length one) in
-      let at_same : c2.next_go (length states) ≡ (λ j. save (2 * g + 1) j (go same j)) = c2.kept (length states) (omega arith) ∙ c1.here in
+      let at_same : c2.next_go (length states) ≡ (λ j. save (2 * g + 1) j (go same j)) = c2.unchanged (length states) (omega arith) ∙ c1.here in
       let s3 : State = Enter g body.1 in
       let s4 : State = Enter g body.2 in
       let p = push_done view stop Open body.0 d.next_go s3 (fresh (group g a) (go same) (go moved)) d.agree
@@ -206,17 +206,17 @@ module _ (view : View) (stop : ℕ) where
       (inr (
         omega (arith, d.moved_in),
         λ i h. ap (save (2 * g) i)
-            (ap (λ k. attempt view stop a k i) (sym c2.here) ∙ sym (d.moved_means i h) ∙ ap (λ f. f i) (sym (p.kept body.2 d.moved_in))),
+            (ap (λ k. attempt view stop a k i) (sym c2.here) ∙ sym (d.moved_means i h) ∙ ap (λ f. f i) (sym (p.unchanged body.2 d.moved_in))),
       )) in
       let l4 = length-push three s4 in
       record {
         next_go = q.next_go;
-        kept = λ r h. q.kept r (omega (arith, d.longer)) ∙ p.kept r (omega (arith, d.longer)) ∙ d.kept r (omega arith) ∙ c2.kept r (omega arith) ∙ c1.kept r h;
+        unchanged = λ r h. q.unchanged r (omega (arith, d.longer)) ∙ p.unchanged r (omega (arith, d.longer)) ∙ d.unchanged r (omega arith) ∙ c2.unchanged r (omega arith) ∙ c1.unchanged r h;
         longer = omega (arith, d.longer);
         agree = q.agree;
         same_in = omega arith;
         moved_in = omega arith;
-        same_means = λ i h. ap (λ f. f i) (q.kept (length body.0) (omega arith) ∙ p.here);
+        same_means = λ i h. ap (λ f. f i) (q.unchanged (length body.0) (omega arith) ∙ p.here);
         moved_means = λ i h. ap (λ f. f i) q.here;
       }
   emit_both_done (repeat lo hi greedy strict a) sound Open states go same moved before a_in b_in =

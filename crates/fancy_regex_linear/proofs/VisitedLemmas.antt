@@ -15,7 +15,7 @@ use Rattle.std.specs.List.{range_with_len}
 use Rattle.std.proofs.Math.Nat.{mul-le-mul_left}
 use Rattle.std.proofs.Math.Seq.{set-append_seam}
 use Rattle.std.specs.Int.Bits.{or_zero_l}
-use Rattle.fancy_regex_linear.specs.Visited.{flag_at, flags, flags_of, Has, members, spent, Adds, AddsRun, IsSame, spare}
+use Rattle.fancy_regex_linear.specs.Visited.{flag_at, flags, flags_of, Has, pair_count, visited_bound, Adds, AddsRun, IsSame, spare}
 use Rattle.fancy_regex_linear.specs.declared.visited.Visited.{Visited}
 
 -- what holds anyway holds on an error
@@ -219,22 +219,22 @@ past_grown xs n k h =
 
 -- empty rows change nothing
 pub same_grown : (old new : Visited) (n : ℕ) → new.count ≡ old.count → new.base ≡ old.base → flags_of new ≡ flags_of old ++ replicate n false → IsSame old new
-unfolding Has members
+unfolding Has pair_count
 same_grown old new n c b e = record {
   pairs = λ p j h. (
     rw c at h.0,
     rw b at h.1,
     past_grown (flags_of old) n _ (ap (λ xs. get_or xs ((j - old.base) * old.count + p) false) (sym e) ∙ (rw (← c, ← b) h.2)),
   );
-  members = ap (count_by (λ b. b)) e ∙ sum_by-append (λ b. cond b 1 0) (flags_of old) (replicate n false)
+  pair_count = ap (count_by (λ b. b)) e ∙ sum_by-append (λ b. cond b 1 0) (flags_of old) (replicate n false)
       ∙ (let none : ◌≡◌ {A = ℕ} (count_by (λ b. b) (replicate n false)) 0 = sum_by-replicate (λ b. cond b 1 0) n false ∙ omega arith in rw none (omega arith));
 }
 
 pub same_flags : (old new : Visited) → new.count ≡ old.count → new.base ≡ old.base → flags_of new ≡ flags_of old → IsSame old new
-unfolding Has members
+unfolding Has pair_count
 same_flags old new c b e = record {
   pairs = λ p j h. (rw c at h.0, rw b at h.1, ap (λ xs. get_or xs ((j - old.base) * old.count + p) false) (sym e) ∙ (rw (← c, ← b) h.2));
-  members = ap (count_by (λ b. b)) e;
+  pair_count = ap (count_by (λ b. b)) e;
 }
 
 -- a member after an insert is the new one or an old one
@@ -293,8 +293,8 @@ count_appended old rows count q len q_in =
     omega (arith, sum, none, empty, both)
 
 pub counted_appended : (old new : Visited) (q : ℕ) → q < old.count
-    → flags_of new ≡ set (flags_of old ++ replicate old.count false) (old.rows * old.count + q) true → members new ≡ members old + 1
-unfolding members
+    → flags_of new ≡ set (flags_of old ++ replicate old.count false) (old.rows * old.count + q) true → pair_count new ≡ pair_count old + 1
+unfolding pair_count
 counted_appended old new q q_in e =
     ap (count_by (λ b. b)) e
     ∙ count_appended (flags_of old) old.rows old.count q (length-flags old.count old.width old.rows old.words.items) q_in
@@ -330,7 +330,7 @@ module _ (count width column : ℕ) (wide : width ≡ count / 64 + 1) (one : wid
               | inl old ↦ inl (past_grown (flags count width rows words) count k old)
               | inr place ↦ inr (rows, omega arith, omega arith, place)
             ]
-        | inr following ↦ inr (following.0, omega (arith, following.1), omega (arith, following.2), following.3)
+        | inr fresh ↦ inr (fresh.0, omega (arith, fresh.1), omega (arith, fresh.2), fresh.3)
       ]
 
   -- each is one more
@@ -377,15 +377,15 @@ adds_run old new q at n narrow q_in low next c b e p j h =
     ap (λ xs. get_or xs ((j - old.base) * old.count + p) false) (sym e) ∙ (rw (← c, ← b) h.2) in
     elim (run_flag old.count old.width q old.wide narrow q_in n old.rows old.words.items _ old.filled flag) [
       | inl there ↦ inl (p_in, j_low, there)
-      | inr following ↦
-          let same = same_from_place (j - old.base) p following.0 q old.count p_in q_in following.3 in
-          inr (same.1, omega (arith, same.0, following.1), omega (arith, same.0, following.2))
+      | inr fresh ↦
+          let same = same_from_place (j - old.base) p fresh.0 q old.count p_in q_in fresh.3 in
+          inr (same.1, omega (arith, same.0, fresh.1), omega (arith, same.0, fresh.2))
     ]
 
 pub counted_run : (old new : Visited) (q n : ℕ) → old.width ≡ 1 → q < old.count
     → flags_of new ≡ flags old.count old.width (old.rows + n) (old.words.items ++ replicate n (1 * 2 ^ (q % 64) % 2 ^ 64))
-    → members new ≡ members old + n
-unfolding members
+    → pair_count new ≡ pair_count old + n
+unfolding pair_count
 counted_run old new q n narrow q_in e =
     ap (count_by (λ b. b)) e ∙ run_count old.count old.width q old.wide narrow q_in n old.rows old.words.items old.filled
 
@@ -399,8 +399,8 @@ pub counted_set : (old new : Visited) (q i : ℕ) (fresh : Bool) → q < old.cou
     → (i - old.base) * old.count + q < length (flags_of old)
     → flags_of new ≡ set (flags_of old) ((i - old.base) * old.count + q) true
     → fresh ≡ not (get_or (flags_of old) ((i - old.base) * old.count + q) false)
-    → MatchBool fresh (members new ≡ members old + 1) (Has old q i × IsSame old new)
-unfolding Has members
+    → MatchBool fresh (pair_count new ≡ pair_count old + 1) (Has old q i × IsSame old new)
+unfolding Has pair_count
 counted_set old new q i true q_in low c b within e f =
     let one : Bool → ℕ = λ b. cond b 1 0 in
     let k : ℕ = (i - old.base) * old.count + q in
@@ -413,13 +413,13 @@ counted_set old new q i false q_in low c b within e f =
     ((q_in, low, there), same_flags old new c b (e ∙ ap (set (flags_of old) k) (sym there) ∙ set-get_or (flags_of old) k false))
 
 -- no more pairs than there are flags
-pub members_most : (v : Visited) → members v ≤ v.rows * v.count
-unfolding members
-members_most v = omega (arith, length-flags v.count v.width v.rows v.words.items, count_by-le-length (λ b. b) (flags_of v))
+pub pair_count_most : (v : Visited) → pair_count v ≤ v.rows * v.count
+unfolding pair_count
+pair_count_most v = omega (arith, length-flags v.count v.width v.rows v.words.items, count_by-le-length (λ b. b) (flags_of v))
 
-pub members_cap : (v : Visited) (rows count : ℕ) → v.rows ≤ rows → v.count ≡ count → members v ≤ rows * count
-members_cap v rows count h e =
-    let most : members v ≤ v.rows * count = subst (λ (n : ℕ). members v ≤ v.rows * n) e (members_most v) in
+pub pair_count_cap : (v : Visited) (rows count : ℕ) → v.rows ≤ rows → v.count ≡ count → pair_count v ≤ rows * count
+pair_count_cap v rows count h e =
+    let most : pair_count v ≤ v.rows * count = subst (λ (n : ℕ). pair_count v ≤ v.rows * n) e (pair_count_most v) in
     omega (arith, most, mul-le-mul_left count h)
 
 -- where no row was made, no pair is in the set
@@ -429,33 +429,33 @@ none_has v q i e h =
     let len : length (flags_of v) ≡ 0 * v.count = length-flags v.count v.width v.rows v.words.items ∙ ap (λ n. n * v.count) e in
     true≢false (sym h.2 ∙ get_or_past (flags_of v) _ false (omega arith))
 
--- what is spent is within the rows up to the stop
-pub spent_most : (v : Visited) (stop : ℕ) → v.base ≤ stop → v.rows ≤ stop - v.base + 1 → spent v ≤ (stop + 1) * v.count
-spent_most v stop low rows =
+-- what is visited_bound is within the rows up to the stop
+pub visited_bound_most : (v : Visited) (stop : ℕ) → v.base ≤ stop → v.rows ≤ stop - v.base + 1 → visited_bound v ≤ (stop + 1) * v.count
+visited_bound_most v stop low rows =
     let all : (v.base + v.rows) * v.count ≤ (stop + 1) * v.count = mul-le (v.base + v.rows) v.count (stop + 1) v.count (omega (arith, rows, low)) (omega arith) in
-    omega (arith, all, members_most v)
+    omega (arith, all, pair_count_most v)
 
 -- dropping the rows spends no less
-pub spent_dropped : (v : Visited) (from : ℕ) → v.base ≤ from → v.rows ≤ from - v.base → spent v ≤ from * v.count
-spent_dropped v from low rows =
+pub visited_bound_dropped : (v : Visited) (from : ℕ) → v.base ≤ from → v.rows ≤ from - v.base → visited_bound v ≤ from * v.count
+visited_bound_dropped v from low rows =
     let all : (v.base + v.rows) * v.count ≤ from * v.count = mul-le (v.base + v.rows) v.count from v.count (omega (arith, rows, low)) (omega arith) in
-    omega (arith, all, members_most v)
+    omega (arith, all, pair_count_most v)
 
-looks_in : (looks old spent start m count extra : ℕ) → looks + start * count ≤ old + spent + extra → spent ≤ (start + m) * count → extra ≤ m → looks ≤ old + m * count + m
-looks_in looks old spent start m count extra a b c = omega (arith, a, b, c)
+looks_in : (looks old visited_bound start m count extra : ℕ) → looks + start * count ≤ old + visited_bound + extra → visited_bound ≤ (start + m) * count → extra ≤ m → looks ≤ old + m * count + m
+looks_in looks old visited_bound start m count extra a b c = omega (arith, a, b, c)
 
--- the bound on looks, by what was spent
-pub looks_within : (looks old spent start stop count extra : ℕ) → start ≤ stop → looks + start * count ≤ old + spent + extra
-    → spent ≤ (stop + 1) * count → extra ≤ stop - start + 1 → looks ≤ old + (stop - start + 1) * count + (stop - start + 1)
-looks_within looks old spent start stop count extra low a b c =
+-- the bound on looks, by what was visited_bound
+pub looks_within : (looks old visited_bound start stop count extra : ℕ) → start ≤ stop → looks + start * count ≤ old + visited_bound + extra
+    → visited_bound ≤ (stop + 1) * count → extra ≤ stop - start + 1 → looks ≤ old + (stop - start + 1) * count + (stop - start + 1)
+looks_within looks old visited_bound start stop count extra low a b c =
     let split : stop + 1 ≡ start + (stop - start + 1) = omega arith in
-    looks_in looks old spent start (stop - start + 1) count extra a (subst (λ (k : ℕ). spent ≤ k * count) split b) c
+    looks_in looks old visited_bound start (stop - start + 1) count extra a (subst (λ (k : ℕ). visited_bound ≤ k * count) split b) c
 
 -- dropping the rows before a later place spends as many more as there are places
-pub spent_ahead : (old new : Visited) (from n : ℕ) → old.base ≤ from → old.rows ≤ from - old.base → new.base ≡ from + n → new.count ≡ old.count → 0 < old.count
-    → spent old + n ≤ spent new
-spent_ahead old new from n low rows base count some =
-    let most = spent_dropped old from low rows in
+pub visited_bound_ahead : (old new : Visited) (from n : ℕ) → old.base ≤ from → old.rows ≤ from - old.base → new.base ≡ from + n → new.count ≡ old.count → 0 < old.count
+    → visited_bound old + n ≤ visited_bound new
+visited_bound_ahead old new from n low rows base count some =
+    let most = visited_bound_dropped old from low rows in
     let one : n * 1 ≤ n * old.count = mul-le n 1 n old.count (omega arith) (omega (arith, some)) in
     let all : new.base * new.count ≡ (from + n) * old.count = ap₂ (λ (a b : ℕ). a * b) base count in
     omega (arith, most, one, all)

@@ -1,9 +1,9 @@
 -- Trying a tree finds the first of its ways from which the rest goes on.
 use Rattle.std.proofs.Common.{◌≡◌, ℕ, zero, suc, ◌+◌, ◌*◌, ◌-◌, ◌<◌, ◌≤◌, Bool, true, false, List, [], ◌∷◌, ◌++◌, map, Option, Some, None, if◌then◌else◌, nat_lt, arith, set, refl, sym, ap, ap₂, ◌∙◌, ⊎_elim, lt-ltb, le-ltb}
 use Rattle.std.proofs.lemmas.Bool.{cases_lt}
-use Rattle.fancy_regex_linear.specs.Meaning.{Spot, View, each, in_order, after_round, loop_ways, times_ways, upto_ways, tail_ways, is_unbounded, reads, ways}
-use Rattle.fancy_regex_linear.specs.Attempt.{apply, land}
-use Rattle.fancy_regex_linear.specs.Attempt.{Trace, AttemptResult, Continuation, score, better, better_trace, better_spot, failed, guard, write, save, prefer, pick, rounds, times_try, upto_try, tail_try, attempt}
+use Rattle.fancy_regex_linear.specs.Meaning.{Spot, View, each, in_order, after_iteration, loop_ways, times_ways, upto_ways, tail_ways, is_unbounded, reads, ways}
+use Rattle.fancy_regex_linear.specs.Attempt.{apply, trace_end}
+use Rattle.fancy_regex_linear.specs.Attempt.{Trace, AttemptResult, Continuation, score, better, better_trace, better_spot, failed, guard, write, save, prefer, pick, iterations, times_try, upto_try, tail_try, attempt}
 use Rattle.fancy_regex_linear.specs.Re.{Re, nothing, read, test, cat, alt, group, repeat}
 use Rattle.fancy_regex_linear.proofs.AgreeLemmas.{pick_same, pick_moved}
 
@@ -46,25 +46,25 @@ better_assoc rank (Some x) None c = refl
 better_assoc rank (Some x) (Some y) None = better-None rank (better rank (Some x) (Some y))
 better_assoc rank (Some x) (Some y) (Some z) = some_assoc rank x y z
 
-if_land : (slots : List ℕ) (test : Bool) (s t : Trace) → land slots (if test then Some s else Some t) ≡ (if test then land slots (Some s) else land slots (Some t))
+if_land : (slots : List ℕ) (test : Bool) (s t : Trace) → trace_end slots (if test then Some s else Some t) ≡ (if test then trace_end slots (Some s) else trace_end slots (Some t))
 if_land slots true s t = refl
 if_land slots false s t = refl
 
-pub land_better : (longest : Bool) (slots : List ℕ) (a b : Option Trace)
-    → land slots (better_trace longest a b) ≡ better_spot longest (land slots a) (land slots b)
-unfolding land
-land_better longest slots None b = refl
-land_better longest slots (Some s) None = refl
-land_better longest slots (Some s) (Some t) = if_land slots (nat_lt (score longest s.end) (score longest t.end)) t s
+pub trace_end_better : (longest : Bool) (slots : List ℕ) (a b : Option Trace)
+    → trace_end slots (better_trace longest a b) ≡ better_spot longest (trace_end slots a) (trace_end slots b)
+unfolding trace_end
+trace_end_better longest slots None b = refl
+trace_end_better longest slots (Some s) None = refl
+trace_end_better longest slots (Some s) (Some t) = if_land slots (nat_lt (score longest s.end) (score longest t.end)) t s
 
-pub land_write : (slots : List ℕ) (slot i : ℕ) (o : Option Trace) → land slots (write slot i o) ≡ land (set slots slot i) o
-unfolding land apply
-land_write slots slot i None = refl
-land_write slots slot i (Some t) = refl
+pub trace_end_write : (slots : List ℕ) (slot i : ℕ) (o : Option Trace) → trace_end slots (write slot i o) ≡ trace_end (set slots slot i) o
+unfolding trace_end apply
+trace_end_write slots slot i None = refl
+trace_end_write slots slot i (Some t) = refl
 
 -- where the rest goes from a way
 abbrev pub onward : Continuation → Spot → Option Spot
-onward k w = land w.slots (k w.at).answer
+onward k w = trace_end w.slots (k w.at).answer
 
 module _ (longest : Bool) where
   -- what is best of where f leads from these
@@ -96,46 +96,46 @@ module _ (longest : Bool) where
   unfolding best_from
   first_one f w = better-None (λ s. score longest s.at) (f w)
 
-  first_guard : (f : Spot → Option Spot) (b : Bool) (w : Spot) (slots : List ℕ) (r : AttemptResult) → f w ≡ land slots r.answer
-      → land slots (guard b r).answer ≡ best_from f (if b then w ∷ [] else [])
-  unfolding best_from land
+  first_guard : (f : Spot → Option Spot) (b : Bool) (w : Spot) (slots : List ℕ) (r : AttemptResult) → f w ≡ trace_end slots r.answer
+      → trace_end slots (guard b r).answer ≡ best_from f (if b then w ∷ [] else [])
+  unfolding best_from trace_end
   first_guard f true w slots r h = sym (better-None (λ s. score longest s.at) (f w) ∙ h)
   first_guard f false w slots r h = refl
 
   -- a try finds the first of these ways from which the rest goes on
   abbrev pub Lists : (Continuation → Continuation) → (Spot → List Spot) → Type 0
-  Lists body list = (k : Continuation) (s : Spot) → land s.slots (body k s.at).answer ≡ best_from (onward k) (list s)
+  Lists body list = (k : Continuation) (s : Spot) → trace_end s.slots (body k s.at).answer ≡ best_from (onward k) (list s)
 
-  one_round : (again : Continuation) (list : Spot → List Spot) (k : Continuation) (s : Spot) → ((w : Spot) → land w.slots (again w.at).answer ≡ best_from (onward k) (list w))
-      → (w : Spot) → onward (pick s.at k again) w ≡ best_from (onward k) (after_round list s w)
-  unfolding after_round
-  one_round again list k s ih w =
+  one_iteration : (again : Continuation) (list : Spot → List Spot) (k : Continuation) (s : Spot) → ((w : Spot) → trace_end w.slots (again w.at).answer ≡ best_from (onward k) (list w))
+      → (w : Spot) → onward (pick s.at k again) w ≡ best_from (onward k) (after_iteration list s w)
+  unfolding after_iteration
+  one_iteration again list k s ih w =
       ⊎_elim
       (λ (lt : s.at < w.at).
-      ap (λ r. land w.slots r.answer) (pick_moved s.at k again w.at lt) ∙ ih w ∙ (rw (lt-ltb s.at w.at lt)))
+      ap (λ r. trace_end w.slots r.answer) (pick_moved s.at k again w.at lt) ∙ ih w ∙ (rw (lt-ltb s.at w.at lt)))
       (λ (ge : w.at ≤ s.at).
-      ap (λ r. land w.slots r.answer) (pick_same s.at k again w.at ge) ∙ (rw (le-ltb s.at w.at ge) (sym (first_one (onward k) w))))
+      ap (λ r. trace_end w.slots r.answer) (pick_same s.at k again w.at ge) ∙ (rw (le-ltb s.at w.at ge) (sym (first_one (onward k) w))))
       (cases_lt s.at w.at)
 
-  rounds_order : (g : Bool) (x y : AttemptResult) (slots : List ℕ) (f : Spot → Option Spot) (us ws : List Spot)
-      → land slots x.answer ≡ best_from f us → land slots y.answer ≡ best_from f ws
-      → land slots (prefer longest g x y).answer ≡ best_from f (in_order g us ws)
-  rounds_order true x y slots f us ws a b = land_better longest slots x.answer y.answer ∙ ap₂ (better_spot longest) a b ∙ sym (first_append f us ws)
-  rounds_order false x y slots f us ws a b = land_better longest slots y.answer x.answer ∙ ap₂ (better_spot longest) b a ∙ sym (first_append f ws us)
+  iterations_order : (g : Bool) (x y : AttemptResult) (slots : List ℕ) (f : Spot → Option Spot) (us ws : List Spot)
+      → trace_end slots x.answer ≡ best_from f us → trace_end slots y.answer ≡ best_from f ws
+      → trace_end slots (prefer longest g x y).answer ≡ best_from f (in_order g us ws)
+  iterations_order true x y slots f us ws a b = trace_end_better longest slots x.answer y.answer ∙ ap₂ (better_spot longest) a b ∙ sym (first_append f us ws)
+  iterations_order false x y slots f us ws a b = trace_end_better longest slots y.answer x.answer ∙ ap₂ (better_spot longest) b a ∙ sym (first_append f ws us)
 
-  rounds_list : (g : Bool) (body : Continuation → Continuation) (list : Spot → List Spot) → Lists body list → (n : ℕ) → Lists (λ k. rounds longest g body k n) (loop_ways g list n)
-  unfolding rounds loop_ways best_from land
-  rounds_list g body list ih zero k s =
-      rounds_order g _ _ s.slots (onward k) _ _
+  iterations_list : (g : Bool) (body : Continuation → Continuation) (list : Spot → List Spot) → Lists body list → (n : ℕ) → Lists (λ k. iterations longest g body k n) (loop_ways g list n)
+  unfolding iterations loop_ways best_from trace_end
+  iterations_list g body list ih zero k s =
+      iterations_order g _ _ s.slots (onward k) _ _
       (ih (pick s.at k (λ _. failed)) s
-      ∙ first_cong _ _ (list s) (one_round (λ _. failed) (λ _. []) k s (λ w. refl))
-      ∙ sym (first_each (onward k) (after_round (λ _. []) s) (list s)))
+      ∙ first_cong _ _ (list s) (one_iteration (λ _. failed) (λ _. []) k s (λ w. refl))
+      ∙ sym (first_each (onward k) (after_iteration (λ _. []) s) (list s)))
       (sym (first_one (onward k) s))
-  rounds_list g body list ih (suc n) k s =
-      rounds_order g _ _ s.slots (onward k) _ _
-      (ih (pick s.at k (rounds longest g body k n)) s
-      ∙ first_cong _ _ (list s) (one_round (rounds longest g body k n) (loop_ways g list n) k s (λ w. rounds_list g body list ih n k w))
-      ∙ sym (first_each (onward k) (after_round (loop_ways g list n) s) (list s)))
+  iterations_list g body list ih (suc n) k s =
+      iterations_order g _ _ s.slots (onward k) _ _
+      (ih (pick s.at k (iterations longest g body k n)) s
+      ∙ first_cong _ _ (list s) (one_iteration (iterations longest g body k n) (loop_ways g list n) k s (λ w. iterations_list g body list ih n k w))
+      ∙ sym (first_each (onward k) (after_iteration (loop_ways g list n) s) (list s)))
       (sym (first_one (onward k) s))
 
   times_list : (body : Continuation → Continuation) (list : Spot → List Spot) → Lists body list → (last : Continuation → Continuation) (rest : Spot → List Spot) → Lists last rest
@@ -151,7 +151,7 @@ module _ (longest : Bool) where
   unfolding upto_try upto_ways
   upto_list g body list ih zero k s = sym (first_one (onward k) s)
   upto_list g body list ih (suc n) k s =
-      rounds_order g _ _ s.slots (onward k) _ _
+      iterations_order g _ _ s.slots (onward k) _ _
       (ih (upto_try longest g body n k) s
       ∙ first_cong _ _ (list s) (λ w. upto_list g body list ih n k w)
       ∙ sym (first_each (onward k) (upto_ways g list n) (list s)))
@@ -160,7 +160,7 @@ module _ (longest : Bool) where
   tail_list : (u : Bool) (stop : ℕ) (g : Bool) (body : Continuation → Continuation) (list : Spot → List Spot) → Lists body list → (n : ℕ)
       → Lists (tail_try longest u stop g body n) (tail_ways u stop g list n)
   unfolding tail_try tail_ways
-  tail_list true stop g body list ih n k s = rounds_list g body list ih (stop - s.at) k s
+  tail_list true stop g body list ih n k s = iterations_list g body list ih (stop - s.at) k s
   tail_list false stop g body list ih n k s = upto_list g body list ih n k s
 
 module _ (view : View) (stop : ℕ) where
@@ -174,12 +174,12 @@ module _ (view : View) (stop : ℕ) where
       ∙ first_cong view.longest _ _ (ways view stop a s) (λ w. attempt_lists b k w)
       ∙ sym (first_each view.longest (onward k) (ways view stop b) (ways view stop a s))
   attempt_lists (alt a b) k s =
-      land_better view.longest s.slots _ _ ∙ ap₂ (better_spot view.longest) (attempt_lists a k s) (attempt_lists b k s)
+      trace_end_better view.longest s.slots _ _ ∙ ap₂ (better_spot view.longest) (attempt_lists a k s) (attempt_lists b k s)
       ∙ sym (first_append view.longest (onward k) (ways view stop a s) (ways view stop b s))
   attempt_lists (group g a) k s =
-      land_write s.slots (2 * g) s.at _
+      trace_end_write s.slots (2 * g) s.at _
       ∙ attempt_lists a (λ j. save (2 * g + 1) j (k j)) (record { at = s.at; slots = set s.slots (2 * g) s.at })
-      ∙ first_cong view.longest _ _ _ (λ w. land_write w.slots (2 * g + 1) w.at _)
+      ∙ first_cong view.longest _ _ _ (λ w. trace_end_write w.slots (2 * g + 1) w.at _)
       ∙ sym (first_map view.longest (onward k) _ _)
   attempt_lists (repeat lo hi g strict a) k s =
       times_list view.longest (attempt view stop a) (ways view stop a) (attempt_lists a)

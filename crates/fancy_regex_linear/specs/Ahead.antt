@@ -18,13 +18,13 @@ Begins states entry None first = entry ≡ first
 Begins states entry (Some slot) first = (g : ℕ) × (state_at states entry ≡ Enter g first) × (slot ≡ 2 * g)
 
 -- the pattern begins with one character, and after it a loop over one class, and after that one reads
-pub record IsBeginning (context : SearchContext) (plan : Beginning) : Type 0 where
-  pub entry : Begins context.states.now context.entry plan.slot plan.first
-  pub first : state_at context.states.now plan.first ≡ Read plan.leaf plan.head
-  pub below : (plan.first < length context.states.now) × (plan.head < length context.states.now)
-  pub is_loop : IsLoop context.states.now plan.head plan.found
-  pub exit : IsExit context plan.found.exit (Reads plan.following)
-  pub stretch : IsStretch context plan.found.leaf (Reads plan.following) plan.stretch
+pub record IsBeginning (context : SearchContext) (beginning : Beginning) : Type 0 where
+  pub entry : Begins context.states.now context.entry beginning.slot beginning.first
+  pub first : state_at context.states.now beginning.first ≡ Read beginning.leaf beginning.head
+  pub below : (beginning.first < length context.states.now) × (beginning.head < length context.states.now)
+  pub is_loop : IsLoop context.states.now beginning.head beginning.found
+  pub exit : IsExit context beginning.found.exit (Reads beginning.after_loop)
+  pub stretch : IsStretch context beginning.found.leaf (Reads beginning.after_loop) beginning.stretch
 
 -- the trace with the start written to the slot, if there is one
 abbrev pub written : Option ℕ → ℕ → Option Trace → Option Trace

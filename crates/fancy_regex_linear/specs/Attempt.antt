@@ -60,30 +60,30 @@ module _ (longest : Bool) where
   abbrev pub either : AttemptResult → AttemptResult → AttemptResult
   either a b = record { answer = better_trace longest a.answer b.answer; depth = a.depth + b.depth + 1 }
 
-  -- a greedy loop prefers another round, a lazy one prefers to leave
+  -- a greedy loop prefers another iteration, a lazy one prefers the exit
   abbrev pub prefer : Bool → AttemptResult → AttemptResult → AttemptResult
-  prefer greedy round leave = if greedy then either round leave else either leave round
+  prefer greedy iteration exit = if greedy then either iteration exit else either exit iteration
 
-  -- A loop of at most n rounds that move.
-  unfoldable pub rounds : Bool → (Continuation → Continuation) → Continuation → ℕ → Continuation
-  rounds greedy body k zero i = prefer greedy (body (pick i k (λ _. failed)) i) (k i)
-  rounds greedy body k (suc n) i = prefer greedy (body (pick i k (rounds greedy body k n)) i) (k i)
+  -- A loop of at most n iterations that move.
+  unfoldable pub iterations : Bool → (Continuation → Continuation) → Continuation → ℕ → Continuation
+  iterations greedy body k zero i = prefer greedy (body (pick i k (λ _. failed)) i) (k i)
+  iterations greedy body k (suc n) i = prefer greedy (body (pick i k (iterations greedy body k n)) i) (k i)
 
   unfoldable pub upto_try : Bool → (Continuation → Continuation) → ℕ → Continuation → Continuation
   upto_try greedy body zero k i = k i
   upto_try greedy body (suc n) k i = prefer greedy (body (upto_try greedy body n k) i) (k i)
 
-  -- a loop, with room for the rounds that move
+  -- a loop, with room for the iterations that move
   abbrev pub star_try : ℕ → Bool → (Continuation → Continuation) → Continuation → Continuation
-  star_try stop greedy body k i = rounds greedy body k (stop - i) i
+  star_try stop greedy body k i = iterations greedy body k (stop - i) i
 
-  -- the rounds at or past the least count: without a bound, or at most n of them
+  -- the iterations at or past the least count: without a bound, or at most n of them
   unfoldable pub tail_try : Bool → ℕ → Bool → (Continuation → Continuation) → ℕ → Continuation → Continuation
   tail_try true stop greedy body n k i = star_try stop greedy body k i
   tail_try false stop greedy body n k i = upto_try greedy body n k i
 
 module _ (view : View) (stop : ℕ) where
-  -- `attempt pattern k i`: match the pattern from i, and then k from where that ended
+  -- `attempt pattern k i`: match the pattern from i, and then k from where that end_spot
   unfoldable pub attempt : Re → Continuation → Continuation
   attempt nothing k i = k i
   attempt (read leaf) k i = guard (reads view stop leaf i) (k (view.next i))
@@ -100,6 +100,6 @@ apply [] slots = slots
 apply (w ∷ ws) slots = apply ws (slice_set slots w.0 w.1)
 
 -- where a try ends that has these slots so far
-unfoldable pub land : List ℕ → Option Trace → Option Spot
-land slots None = None
-land slots (Some t) = Some (record { at = t.end; slots = apply t.writes slots })
+unfoldable pub trace_end : List ℕ → Option Trace → Option Spot
+trace_end slots None = None
+trace_end slots (Some t) = Some (record { at = t.end; slots = apply t.writes slots })

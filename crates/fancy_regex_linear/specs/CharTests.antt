@@ -9,8 +9,8 @@ use Rattle.fancy_regex_states.specs.declared.atom.Leaf.{Leaf}
 use Rattle.fancy_regex_states.specs.declared.atom.Test.{Test}
 use Rattle.fancy_regex_class.specs.declared.class.CharClassMatcher.{CharClassMatcher}
 use Rattle.fancy_regex_states.specs.declared.rules.Rules.{Rules}
-use Rattle.fancy_regex_linear.specs.declared.frame.Next.{Next}
-use Rattle.fancy_regex_linear.specs.declared.frame.Next.TheVariants.{Pair, Back}
+use Rattle.fancy_regex_linear.specs.declared.frame.SearchStep.{SearchStep}
+use Rattle.fancy_regex_linear.specs.declared.frame.SearchStep.TheVariants.{Pair, Backtrack}
 
 -- the view agrees with the characters before and after this offset
 pub record Shows (matchers : List CharClassMatcher) (rules : Rules) (view : View) (at : ℕ) (before after : Option ℕ) : Type 0 where
@@ -24,7 +24,7 @@ ShowsAll matchers rules text view =
     (at : ℕ) → IsCharBoundary text at → Shows matchers rules view at (char_before text at) (char_at text at)
 
 -- continues after the character, if the leaf matches it and it ends by `stop`
-abbrev pub read_next : Bool → List CharClassMatcher → ℕ → Leaf → ℕ → ℕ → Option ℕ → Next
-read_next unicode matchers stop leaf next at None = Back
+abbrev pub read_next : Bool → List CharClassMatcher → ℕ → Leaf → ℕ → ℕ → Option ℕ → SearchStep
+read_next unicode matchers stop leaf next at None = Backtrack
 read_next unicode matchers stop leaf next at (Some c) =
-    if leaf_matches_char unicode matchers leaf c && nat_le (len_utf8 c) (stop - at) then Pair next (at + len_utf8 c) else Back
+    if leaf_matches_char unicode matchers leaf c && nat_le (len_utf8 c) (stop - at) then Pair next (at + len_utf8 c) else Backtrack

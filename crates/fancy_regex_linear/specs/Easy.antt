@@ -7,7 +7,7 @@ use Rattle.fancy_regex_class.specs.declared.class.CharClassMatcher.{CharClassMat
 use Rattle.fancy_regex_linear.specs.Re.{Re}
 use Rattle.fancy_regex_linear.specs.Program.{emitted, IsSound}
 use Rattle.fancy_regex_linear.specs.Plain.{IsPlain, classes, re_of}
-use Rattle.fancy_regex_linear.specs.Find.{Hit}
+use Rattle.fancy_regex_linear.specs.Find.{FoundMatch}
 use Rattle.fancy_regex_states.specs.declared.state.State.{State}
 use Rattle.fancy_regex_states.specs.declared.state.State.TheVariants.{Match as End}
 use Rattle.fancy_regex_states.specs.declared.rules.Rules.{Rules}
@@ -44,9 +44,9 @@ rules_for unicode longest input = record {
 }
 
 -- the byte offsets of the groups of a match
-abbrev pub hit_places : Bool → Hit → List ℕ
-hit_places whole h = if whole then slice_set (slice_set h.way.slots 0 h.start) 1 h.way.at else h.way.slots
+abbrev pub found_slots : Bool → FoundMatch → List ℕ
+found_slots whole h = if whole then slice_set (slice_set h.way.slots 0 h.start) 1 h.way.at else h.way.slots
 
 -- the match from `start` to `end`, with these slots
-abbrev pub hit_at : ℕ → ℕ → List ℕ → Hit
-hit_at start end slots = record { start = start; way = record { at = end; slots = slots } }
+abbrev pub found_at : ℕ → ℕ → List ℕ → FoundMatch
+found_at start end slots = record { start = start; way = record { at = end; slots = slots } }

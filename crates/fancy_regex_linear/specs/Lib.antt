@@ -11,7 +11,8 @@ pub mod Plain
 pub mod SettingView
 pub mod PlainFact
 pub mod Easy
-pub mod Runner
+pub mod EasyPatterns
 pub mod Refusals
 pub mod Translation
 pub mod Ahead
+pub mod Layers

@@ -25,16 +25,16 @@ each f (x ∷ xs) = f x ++ each f xs
 
 -- a greedy loop prefers another iteration, a lazy one the exit
 abbrev pub in_order : Bool → List Spot → List Spot → List Spot
-in_order greedy round leave = if greedy then round ++ leave else leave ++ round
+in_order greedy iteration exit = if greedy then iteration ++ exit else exit ++ iteration
 
 -- After an iteration from s to w: one that matched the empty string ends the loop, with its slots.
-unfoldable pub after_round : (Spot → List Spot) → Spot → Spot → List Spot
-after_round again s w = if nat_lt s.at w.at then again w else w ∷ []
+unfoldable pub after_iteration : (Spot → List Spot) → Spot → Spot → List Spot
+after_iteration again s w = if nat_lt s.at w.at then again w else w ∷ []
 
 -- The ways of a loop with room for n nonempty iterations, where `body` lists the ways of one iteration.
 unfoldable pub loop_ways : Bool → (Spot → List Spot) → ℕ → Spot → List Spot
-loop_ways greedy body zero s = in_order greedy (each (after_round (λ _. []) s) (body s)) (s ∷ [])
-loop_ways greedy body (suc n) s = in_order greedy (each (after_round (loop_ways greedy body n) s) (body s)) (s ∷ [])
+loop_ways greedy body zero s = in_order greedy (each (after_iteration (λ _. []) s) (body s)) (s ∷ [])
+loop_ways greedy body (suc n) s = in_order greedy (each (after_iteration (loop_ways greedy body n) s) (body s)) (s ∷ [])
 
 -- n mandatory iterations, and then the rest
 unfoldable pub times_ways : (Spot → List Spot) → ℕ → (Spot → List Spot) → Spot → List Spot
@@ -74,6 +74,6 @@ module _ (view : View) (stop : ℕ) where
       times_ways (ways a) lo (tail_ways (is_unbounded hi) stop greedy (ways a) (hi - lo)) s
 
 -- the ways that end by `stop`
-unfoldable pub kept : ℕ → List Spot → List Spot
-kept stop [] = []
-kept stop (w ∷ ws) = if nat_le w.at stop then w ∷ kept stop ws else kept stop ws
+unfoldable pub ending_by : ℕ → List Spot → List Spot
+ending_by stop [] = []
+ending_by stop (w ∷ ws) = if nat_le w.at stop then w ∷ ending_by stop ws else ending_by stop ws

@@ -12,7 +12,7 @@ use Rattle.fancy_regex_states.specs.declared.atom.Leaf.TheVariants.{Any, Char, F
 use Rattle.fancy_regex_states.specs.declared.atom.Test.{Test}
 use Rattle.fancy_regex_states.specs.declared.atom.Test.TheVariants.{StartText, EndText, StartLine, EndLine, WordBoundary, NotWordBoundary, LeftWordBoundary, RightWordBoundary}
 
--- the test of an assertion that the runner serves
+-- the test of an assertion that the linear engine supports
 abbrev pub test_of : Assertion → Option Test
 test_of A.StartText = Some StartText
 test_of A.EndText = Some EndText
@@ -31,7 +31,7 @@ abbrev pub IsServed : Option Test → Type 0
 IsServed None = ⊥
 IsServed (Some test) = Unit {0}
 
--- the trees that the runner serves
+-- the trees that the linear engine supports
 abbrev mutual
   pub IsPlain : Tree → Type 0
   IsPlain empty = Unit {0}
@@ -49,7 +49,7 @@ abbrev mutual
   ArePlain no_trees = Unit {0}
   ArePlain (more_trees t ts) = IsPlain t × ArePlain ts
 
--- a repeat that has no round at all: nothing is made of its body
+-- a repeat that has no iteration at all: nothing is made of its body
 abbrev pub has_no_iteration : ℕ → ℕ → Bool
 has_no_iteration lo hi = (lo == 0) && (hi == 0)
 

@@ -8,9 +8,9 @@ use Rattle.fancy_regex_states.specs.declared.state.State.{State}
 use Rattle.fancy_regex_states.specs.declared.state.State.TheVariants.{Split, Enter, Leave, Match}
 use Rattle.fancy_regex_states.specs.declared.state.State.TheVariants as S
 
--- the loop at its head: another round, or out
+-- the loop at its head: another iteration, or out
 abbrev pub loop_head : Bool → ℕ → ℕ → State
-loop_head greedy round leave = if greedy then Split round leave else Split leave round
+loop_head greedy iteration exit = if greedy then Split iteration exit else Split exit iteration
 
 abbrev pub push : List State → State → List State
 push states state = states ++ state ∷ []
@@ -71,7 +71,7 @@ emitted_both_upto greedy both (suc n) states same moved =
     let head = push body.0 (loop_head greedy body.1 same) in
     (push head (loop_head greedy body.2 moved), length body.0, length head)
 
--- a loop over what may be empty: in one copy of the body nothing was moved yet in this round, in the other something was
+-- a loop over what may be empty: in one copy of the body nothing was moved yet in this iteration, in the other something was
 unfoldable pub emitted_star : Bool → BothEmitter → List State → ℕ → List State × ℕ
 emitted_star greedy both states next =
     let body = both (push states Match) next (length states) in

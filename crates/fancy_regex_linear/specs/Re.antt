@@ -34,7 +34,7 @@ node_shape (Node-F.Look check) = test check
 node_shape (Node-F.Concat parts) = cats parts.items
 node_shape (Node-F.Alt parts) = alts parts.items
 node_shape (Node-F.Group number body) = group number body.value
-node_shape (Node-F.Repeat body lo hi greedy moves) = repeat lo hi greedy moves body.value
+node_shape (Node-F.Repeat body q) = repeat q.lo q.hi q.greedy q.moves body.value
 
 abbrev pub shape : Node → Re
 shape = fold-Node Re node_shape

@@ -1,7 +1,7 @@
 -- A depth-first search over pairs of a state and a position, which looks at each pair once.
 use Rattle.std.specs.Prelude.{◌≡◌, ℕ, ◌+◌, ◌<◌, ◌≤◌, ◌⊎◌, Bool, true, false, List, [], ◌∷◌, ◌++◌, length, Option, Some, None, slice_set, slice_index_or, IsCharBoundary, IfSome}
 use Rattle.fancy_regex_linear.specs.Meaning.{Spot, View}
-use Rattle.fancy_regex_linear.specs.Attempt.{Trace, Continuation, score, better_spot, land}
+use Rattle.fancy_regex_linear.specs.Attempt.{Trace, Continuation, score, better_spot, trace_end}
 use Rattle.fancy_regex_states.specs.First.{state_at, CannotBegin, IsTableOf}
 use Rattle.fancy_regex_class.specs.declared.class.CharClassMatcher.{CharClassMatcher}
 use Rattle.fancy_regex_linear.specs.Program.{NamesBelow, Agrees}
@@ -22,8 +22,8 @@ use Rattle.fancy_regex_linear.specs.declared.class_loop.Stretch.{Stretch}
 use Rattle.fancy_regex_linear.specs.declared.search.SearchContext.{SearchContext}
 use Rattle.fancy_regex_linear.specs.declared.frame.Frame.{Frame}
 use Rattle.fancy_regex_linear.specs.declared.frame.Frame.TheVariants.{Explore, Restore}
-use Rattle.fancy_regex_linear.specs.declared.frame.Next.{Next}
-use Rattle.fancy_regex_linear.specs.declared.frame.Next.TheVariants.{Pair, Back, Matched}
+use Rattle.fancy_regex_linear.specs.declared.frame.SearchStep.{SearchStep}
+use Rattle.fancy_regex_linear.specs.declared.frame.SearchStep.TheVariants.{Pair, Backtrack, Matched}
 
 -- the frames with the last one first
 unfoldable pub top_first : List Frame → List Frame
@@ -42,6 +42,7 @@ Closed states = (q : ℕ) → q < length states → NamesBelow (length states) (
 
 -- the state q is the head of a greedy loop over one class
 pub record IsLoop (states : List State) (q : ℕ) (found : ClassLoop) : Type 0 where
+  pub is : found.head ≡ q
   pub head : state_at states q ≡ Split found.body found.exit
   pub body : state_at states found.body ≡ Read found.leaf q
   pub below : (found.body < length states) × (found.exit < length states)
@@ -100,12 +101,12 @@ GoesOn context leaf exit None = ⊥
 GoesOn context leaf exit (Some c) = (c < 128) × (leaf_matches_char context.rules.unicode context.matchers.now leaf c ≡ true) × IsUseless context exit c
 
 -- the stretch has this ASCII character
-abbrev pub IsOver : Stretch → ℕ → Type 0
-IsOver stretch c = (slice_index_or stretch.members.now c false ≡ true) × IfSome stretch.wanted (λ w. w ≡ c → ⊥)
+abbrev pub IsInStretch : Stretch → ℕ → Type 0
+IsInStretch stretch c = (slice_index_or stretch.ascii.now c false ≡ true) × IfSome stretch.exit_char (λ w. w ≡ c → ⊥)
 
 -- a loop over this leaf reads on over what the stretch has, and the exit is of no use there
 abbrev pub IsStretch : SearchContext → Leaf → Exit → Stretch → Type 0
-IsStretch context leaf exit stretch = (c : ℕ) → c < 128 → IsOver stretch c → GoesOn context leaf exit (Some c)
+IsStretch context leaf exit stretch = (c : ℕ) → c < 128 → IsInStretch stretch c → GoesOn context leaf exit (Some c)
 
 -- the pattern is one character, and after it a greedy loop over one class, and the first match is wanted
 pub record IsScan (context : SearchContext) (scan : Scan) : Type 0 where
@@ -116,12 +117,12 @@ pub record IsScan (context : SearchContext) (scan : Scan) : Type 0 where
   pub stretch : IsStretch context scan.found.leaf Match scan.stretch
 
 -- an ASCII character stands at i that the stretch has
-pub record HasOver (text : List ℕ) (stretch : Stretch) (i : ℕ) : Type 0 where
+pub record HasInStretch (text : List ℕ) (stretch : Stretch) (i : ℕ) : Type 0 where
   pub boundary : IsCharBoundary text i
   pub c : ℕ
   pub small : c < 128
   pub here : char_at text i ≡ Some c
-  pub over : IsOver stretch c
+  pub over : IsInStretch stretch c
 
 -- the table of first characters, if there is one, is that of the states
 abbrev pub HasTable : SearchContext → Type 0
@@ -149,7 +150,7 @@ module _ (longest : Bool) (go : ℕ → Continuation) where
   -- the best success on the stack
   unfoldable pub pending : List Frame → List ℕ → Option Spot
   pending [] slots = None
-  pending (Explore q i ∷ rest) slots = better_spot longest (land slots (go q i).answer) (pending rest slots)
+  pending (Explore q i ∷ rest) slots = better_spot longest (trace_end slots (go q i).answer) (pending rest slots)
   pending (Restore slot old ∷ rest) slots = pending rest (slice_set slots slot old)
 
   -- some pair on the stack reaches r, and it and those above it are less than d deep
@@ -170,9 +171,9 @@ module _ (longest : Bool) (go : ℕ → Continuation) where
     pub unwinds : slots_at_bottom stack slots ≡ bottom
 
   -- the same after a pair at position i was looked at
-  abbrev pub After : Next → ℕ → Option Spot → Option Spot → List ℕ → (ℕ → ℕ → Type 0) → List Frame → List ℕ → Type 0
+  abbrev pub After : SearchStep → ℕ → Option Spot → Option Spot → List ℕ → (ℕ → ℕ → Type 0) → List Frame → List ℕ → Type 0
   After (Pair q j) i goal best bottom Seen stack slots = Dfs goal best bottom Seen (Explore q j ∷ stack) slots
-  After Back i goal best bottom Seen stack slots = Dfs goal best bottom Seen stack slots
+  After Backtrack i goal best bottom Seen stack slots = Dfs goal best bottom Seen stack slots
   After Matched i goal best bottom Seen stack slots =
       Dfs goal (better_spot longest best (Some (record { at = i; slots = slots }))) bottom Seen stack slots
 
@@ -186,21 +187,21 @@ module _ (longest : Bool) (go : ℕ → Continuation) where
   abbrev pub AllFail : (ℕ → ℕ → Type 0) → Type 0
   AllFail Seen = Covers Seen None []
 
-abbrev pub NextWithin : List ℕ → ℕ → ℕ → ℕ → Next → Type 0
-NextWithin text count stop base (Pair q j) = IsPair text count stop base q j
-NextWithin text count stop base Back = Unit {0}
-NextWithin text count stop base Matched = Unit {0}
+abbrev pub IsStepWithin : List ℕ → ℕ → ℕ → ℕ → SearchStep → Type 0
+IsStepWithin text count stop base (Pair q j) = IsPair text count stop base q j
+IsStepWithin text count stop base Backtrack = Unit {0}
+IsStepWithin text count stop base Matched = Unit {0}
 
 -- how many frames a visit may leave: no more than it marks pairs, and where it leads on, it marks some
-abbrev pub Progresses : Next → ℕ → ℕ → ℕ → ℕ → Type 0
+abbrev pub Progresses : SearchStep → ℕ → ℕ → ℕ → ℕ → Type 0
 Progresses (Pair q j) marked now_marked len now_len = (marked < now_marked) × (now_len + marked ≤ len + now_marked)
-Progresses Back marked now_marked len now_len = (marked ≤ now_marked) × (now_len + marked ≤ len + now_marked)
+Progresses Backtrack marked now_marked len now_len = (marked ≤ now_marked) × (now_len + marked ≤ len + now_marked)
 Progresses Matched marked now_marked len now_len = (marked ≤ now_marked) × (now_len + marked ≤ len + now_marked)
 
 -- how many frames a step over one state may leave
-abbrev pub Grows : Next → ℕ → ℕ → Type 0
+abbrev pub Grows : SearchStep → ℕ → ℕ → Type 0
 Grows (Pair q j) len now_len = now_len ≤ len + 1
-Grows Back len now_len = now_len ≡ len
+Grows Backtrack len now_len = now_len ≡ len
 Grows Matched len now_len = now_len ≡ len
 
 -- the stack before its top was taken off; empty if it had none
@@ -214,19 +215,19 @@ resume_result [] slots = ([], slots)
 resume_result (Explore state at ∷ rest) slots = (Explore state at ∷ rest, slots)
 resume_result (Restore slot old ∷ rest) slots = resume_result rest (slice_set slots slot old)
 
--- where a way ended, with the slots then
-abbrev pub ended : Option ℕ → List ℕ → Option Spot
-ended None slots = None
-ended (Some end) slots = Some (record { at = end; slots = slots })
+-- where a way end_spot, with the slots then
+abbrev pub end_spot : Option ℕ → List ℕ → Option Spot
+end_spot None slots = None
+end_spot (Some end) slots = Some (record { at = end; slots = slots })
 
 -- The pair comes to the same as where it leads by the character there, which is no deeper.
-abbrev pub LeadsTo : (ℕ → Continuation) → ℕ → ℕ → Next → Type 0
+abbrev pub LeadsTo : (ℕ → Continuation) → ℕ → ℕ → SearchStep → Type 0
 LeadsTo go q i (Pair p j) = ((go p j).answer ≡ (go q i).answer) × ((go p j).depth ≤ (go q i).depth)
-LeadsTo go q i Back = (go q i).answer ≡ None
+LeadsTo go q i Backtrack = (go q i).answer ≡ None
 LeadsTo go q i Matched = ⊥
 
 -- the frames, and the next pair on top if there is one
-abbrev pub with_next : Next → List Frame → List Frame
-with_next (Pair q i) rest = Explore q i ∷ rest
-with_next Back rest = rest
-with_next Matched rest = rest
+abbrev pub with_step : SearchStep → List Frame → List Frame
+with_step (Pair q i) rest = Explore q i ∷ rest
+with_step Backtrack rest = rest
+with_step Matched rest = rest

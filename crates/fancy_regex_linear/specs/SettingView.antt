@@ -1,4 +1,4 @@
--- The text of a setting, as the runner reads it.
+-- The text of a setting, as the linear engine reads it.
 use Rattle.std.specs.Prelude.{ℕ, Bool, List, ◌==◌, slice_get}
 use Rattle.regex_hir.specs.Text.{is_some_and, char_at}
 use Rattle.fancy_regex_tree.specs.Tree.{Text}

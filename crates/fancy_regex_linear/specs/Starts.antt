@@ -5,7 +5,7 @@ use Rattle.regex_hir.specs.Text.{char_at}
 use Rattle.fancy_regex_class.specs.Looks.{HasMarkedAscii}
 use Rattle.fancy_regex_states.specs.First.{CannotFollow}
 use Rattle.fancy_regex_linear.specs.Meaning.{Spot, View}
-use Rattle.fancy_regex_linear.specs.Attempt.{Continuation, land}
+use Rattle.fancy_regex_linear.specs.Attempt.{Continuation, trace_end}
 use Rattle.fancy_regex_linear.specs.Find.{places_from}
 use Rattle.fancy_regex_linear.specs.Search.{Explains}
 use Rattle.fancy_regex_linear.specs.Visited.{Has}
@@ -16,7 +16,7 @@ use Rattle.fancy_regex_linear.specs.declared.visited.Visited.{Visited}
 
 -- where an attempt at this offset ends that has these slots so far
 abbrev pub spot_from : (ℕ → Continuation) → ℕ → List ℕ → ℕ → Option Spot
-spot_from go entry slots at = land slots (go entry at).answer
+spot_from go entry slots at = trace_end slots (go entry at).answer
 
 -- this start, and those after it
 abbrev pub places_left : List ℕ → Bool → ℕ → Option Start → List ℕ
@@ -34,7 +34,7 @@ pub record IsStart (text : List ℕ) (stop from : ℕ) (start : Start) : Type 0 
   pub boundary : IsCharBoundary text start.at
   pub after : start.after ≡ char_at text start.at
   pub past : IfSome start.after (λ c. IsCharBoundary text (start.at + len_utf8 c))
-  pub following : IfSome start.next (IsAfter text stop start.at)
+  pub next : IfSome start.next (IsAfter text stop start.at)
 
 -- the match from the state q at i ends here, and no slots are written
 abbrev pub EndsAt : (ℕ → Continuation) → ℕ → ℕ → ℕ → Type 0
@@ -61,7 +61,7 @@ pub record LeadsInto (context : SearchContext) (q : ℕ) (pair : PairAhead) : Ty
 pub record LeadsToVisited (context : SearchContext) (text : List ℕ) (visited : Visited) (i : ℕ) : Type 0 where
   pub pair : PairAhead
   pub into : LeadsInto context context.entry pair
-  pub following : HasVisitedFrom text visited pair i
+  pub is_visited : HasVisitedFrom text visited pair i
 
 -- an ASCII character stands at i, and after it one that is second in no match
 pub record HasRefusedPair (context : SearchContext) (text : List ℕ) (i : ℕ) : Type 0 where
@@ -77,5 +77,5 @@ IsRefusedAt context text i = HasMarkedAscii text context.refused.now i ⊎ HasRe
 -- the start at i is passed over for an ASCII character: one that is refused, or any where it leads to a pair that was visited
 pub record IsPassed (context : SearchContext) (text : List ℕ) (anchored : Bool) (visited : Visited) (i : ℕ) : Type 0 where
   pub many : anchored ≡ false
-  pub following : 0 < i
+  pub not_first : 0 < i
   pub ascii : IsRefusedAt context text i ⊎ LeadsToVisited context text visited i

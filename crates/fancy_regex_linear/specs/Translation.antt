@@ -21,6 +21,10 @@ pub record Extends (unicode : Bool) (before after : List CharClassMatcher) (cs :
   pub serve : (ds : List (Text × Bool)) → HaveMatchers unicode before ds → HaveMatchers unicode after (ds ++ cs)
   pub read : All (IsRead unicode) cs
 
+-- the translator appended matchers of these classes
+abbrev pub AddsMatchers : Translator → Translator → List (Text × Bool) → Type 0
+AddsMatchers before after = Extends before.unicode before.matchers.items after.matchers.items
+
 -- the patterns of a row, with the numbers of the group that opens first in it and of its first class
 unfoldable pub row_list : Bool → List Tree → ℕ → ℕ → List Tree → List Re
 row_list unicode groups n k [] = []

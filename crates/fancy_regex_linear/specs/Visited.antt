@@ -20,12 +20,12 @@ unfoldable pub Has : Visited → ℕ → ℕ → Type 0
 Has v q i = (q < v.count) × (v.base ≤ i) × (slice_index_or (flags_of v) ((i - v.base) * v.count + q) false ≡ true)
 
 -- how many pairs are in the set
-unfoldable pub members : Visited → ℕ
-members v = count_by (λ b. b) (flags_of v)
+unfoldable pub pair_count : Visited → ℕ
+pair_count v = count_by (λ b. b) (flags_of v)
 
--- the pairs of all offsets before the first row, and those in the set: no fewer than were ever added
-abbrev pub spent : Visited → ℕ
-spent v = v.base * v.count + members v
+-- the pairs of all offsets before the first row, and those in the set: a bound on how many were ever added
+abbrev pub visited_bound : Visited → ℕ
+visited_bound v = v.base * v.count + pair_count v
 
 -- `after` holds what `before` does, and perhaps (q, i)
 abbrev pub Adds : (ℕ → ℕ → Type 0) → (ℕ → ℕ → Type 0) → ℕ → ℕ → Type 0
@@ -42,4 +42,4 @@ spare v at = if (v.width == 1) && (at - v.base == v.rows) then vec_capacity v.wo
 -- the set is as it was
 pub record IsSame (old new : Visited) : Type 0 where
   pub pairs : (p j : ℕ) → Has new p j → Has old p j
-  pub members : members new ≡ members old
+  pub pair_count : pair_count new ≡ pair_count old

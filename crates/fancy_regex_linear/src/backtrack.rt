@@ -2,11 +2,11 @@
 
 ghost use Rattle.std.specs.Prelude.{◌≡◌, ℕ, List, ◌∷◌, ◌<◌, ◌≤◌, ◌+◌, ◌-◌, ◌*◌, ◌^◌, replicate, vec_len, IfSome, IfNone, IfOk, OnOk, slice_set, slice_index, length};
 ghost use Rattle.std.specs.Bool.{MatchBool};
-ghost use Rattle.fancy_regex_linear.specs.Search.{top_first, with_next, put_back, resume_result};
+ghost use Rattle.fancy_regex_linear.specs.Search.{top_first, with_step, put_back, resume_result};
 ghost use Rattle.fancy_regex_linear.specs.Ahead.{slots_with};
 ghost use Rattle.fancy_regex_linear.specs.declared.frame.Frame.TheVariants.{Explore, Restore};
 
-use crate::frame::{Frame, Next};
+use crate::frame::{Frame, SearchStep};
 use std::alloc::{AllocError, Global};
 
 /// The backtrack stack, and two slots for each capture group: the start of group k in slot 2k, its end in slot 2k + 1.
@@ -61,7 +61,7 @@ impl BacktrackState {
 
     /// Pushes a pair to explore later. The error is want of memory.
     #[inline(always)]
-    pub fn leave(&mut self, state: usize, at: usize) -> Result<(), AllocError>
+    pub fn push_explore(&mut self, state: usize, at: usize) -> Result<(), AllocError>
         ensures pushed { OnOk result (top_first self.new.stack.items ≡ Explore state at ∷ top_first self.old.stack.items) }
         ensures len { OnOk result (vec_len self.new.stack ≡ vec_len self.old.stack + 1) }
         ensures slots { self.new.slots ≡ self.old.slots }
@@ -72,14 +72,14 @@ impl BacktrackState {
 
     /// Pushes the pair to explore later, if this is one. The error is want of memory.
     #[inline(always)]
-    pub fn leave_next(&mut self, next: Next) -> Result<(), AllocError>
-        ensures pushed { OnOk result (top_first self.new.stack.items ≡ with_next next (top_first self.old.stack.items)) }
+    pub fn push_step(&mut self, next: SearchStep) -> Result<(), AllocError>
+        ensures pushed { OnOk result (top_first self.new.stack.items ≡ with_step next (top_first self.old.stack.items)) }
         ensures len { OnOk result (vec_len self.new.stack ≤ vec_len self.old.stack + 1) }
         ensures slots { self.new.slots ≡ self.old.slots }
     {
         match next {
-            Next::Pair(state, at) => self.leave(state, at),
-            Next::Back | Next::Matched => Ok(()),
+            SearchStep::Pair(state, at) => self.push_explore(state, at),
+            SearchStep::Backtrack | SearchStep::Matched => Ok(()),
         }
     }
 
@@ -105,11 +105,12 @@ impl BacktrackState {
     /// Writes to a slot and pushes its old value; returns whether the slot exists. The error is want of memory.
     #[inline(always)]
     pub fn write(&mut self, slot: usize, at: usize) -> Result<bool, AllocError>
-        ensures pushed { IfOk result (λ kept. MatchBool kept
+        ensures pushed { IfOk result (λ written. MatchBool written
             (top_first self.new.stack.items ≡ Restore slot (slice_index self.old.slots.items slot) ∷ top_first self.old.stack.items)
             (top_first self.new.stack.items ≡ top_first self.old.stack.items)) }
         ensures written { OnOk result (self.new.slots.items ≡ slice_set self.old.slots.items slot at) }
-        ensures small { IfOk result (λ kept. MatchBool kept (slot < length self.old.slots.items) (length self.old.slots.items ≤ slot)) }
+        ensures small { IfOk result (λ written.
+            MatchBool written (slot < length self.old.slots.items) (length self.old.slots.items ≤ slot)) }
         ensures len { OnOk result (vec_len self.new.stack ≤ vec_len self.old.stack + 1) }
         ensures slots { vec_len self.new.slots ≡ vec_len self.old.slots }
     {

@@ -10,12 +10,12 @@ ghost use Rattle.fancy_regex_states.specs.declared.atom.Leaf.TheVariants as leaf
 ghost use Rattle.fancy_regex_meaning.specs.Sizes.{may_be_empty};
 ghost use Rattle.fancy_regex_linear.specs.Program.{IsSound, never_empty};
 ghost use Rattle.fancy_regex_linear.specs.Plain.{test_of as test_of_assertion, IsPlain, ArePlain, has_no_iteration, unless, classes, row_classes, re_of, row_of, branches_of};
-ghost use Rattle.fancy_regex_linear.specs.Translation.{all_trees, Extends};
+ghost use Rattle.fancy_regex_linear.specs.Translation.{all_trees, AddsMatchers};
 ghost use Rattle.fancy_regex_linear.specs.Refusals.{IsRead, IsClassCause};
 ghost use Rattle.fancy_regex_info.specs.declared.error.CompileError.TheVariants as errors;
 ghost use Rattle.fancy_regex_class.specs.Matchers.{IsMatcherOf};
 
-use crate::node::Node;
+use crate::node::{Node, Quantifier};
 use fancy_regex_class::{CharClassMatcher, ClassError, fold};
 use fancy_regex_info::CompileError;
 use fancy_regex_states::{Leaf, Test};
@@ -60,7 +60,7 @@ impl Translated {
     }
 }
 
-/// The test of an assertion, or `None` if the runner does not support it.
+/// The test of an assertion, or `None` if the linear engine does not support it.
 fn test_of(assertion: Assertion) -> Option<Test>
     ensures { result ≡ test_of_assertion assertion }
 {
@@ -134,8 +134,9 @@ impl Translator {
     #[tactic(auto, unfolding(crate::specs::Plain::re_of, crate::specs::Plain::classes, fancy_regex_meaning::specs::Groups::group_count, crate::specs::Program::never_empty))]
     pub fn translated(&mut self, expr: &Expr) -> Result<Translated, CompileError>
         ensures unicode { self.new.unicode ≡ self.old.unicode }
-        ensures groups { IfOk result (λ _. IsPlain (tree_of expr.now) → self.new.next_group ≡ self.old.next_group + group_count (tree_of expr.now)) }
-        ensures matchers { IfOk result (λ _. Extends self.old.unicode self.old.matchers.items self.new.matchers.items (classes (tree_of expr.now))) }
+        ensures groups { IfOk result (λ _. IsPlain (tree_of expr.now)
+            → self.new.next_group ≡ self.old.next_group + group_count (tree_of expr.now)) }
+        ensures matchers { IfOk result (λ _. AddsMatchers self.old self.new (classes (tree_of expr.now))) }
         ensures moves { IfOk result (λ translated. translated.moves ≡ never_empty (shape translated.node)) }
         ensures sound { IfOk result (λ translated. IsSound (shape translated.node)) }
         ensures refused { IfErr result (IsClassCause self.old.unicode (classes (tree_of expr.now))) }
@@ -188,7 +189,7 @@ impl Translator {
     fn class(&mut self, class: &str, casei: bool) -> Result<Translated, CompileError>
         ensures unicode { self.new.unicode ≡ self.old.unicode }
         ensures groups { self.new.next_group ≡ self.old.next_group }
-        ensures matchers { IfOk result (λ _. Extends self.old.unicode self.old.matchers.items self.new.matchers.items ((chars class.now, casei) ∷ [])) }
+        ensures matchers { IfOk result (λ _. AddsMatchers self.old self.new ((chars class.now, casei) ∷ [])) }
         ensures moves { IfOk result (λ translated. translated.moves ≡ true) }
         ensures refused { IfErr result (IsClassCause self.old.unicode ((chars class.now, casei) ∷ [])) }
         ensures node { IfOk result (λ translated. shape translated.node ≡ re.read (leaf.Class (length self.old.matchers.items))) }
@@ -203,8 +204,9 @@ impl Translator {
     #[cycle(build)]
     fn row(&mut self, children: &[Expr]) -> Result<Translated, CompileError>
         ensures unicode { self.new.unicode ≡ self.old.unicode }
-        ensures groups { IfOk result (λ _. ArePlain (all_trees children.now) → self.new.next_group ≡ self.old.next_group + row_group_count (all_trees children.now)) }
-        ensures matchers { IfOk result (λ _. Extends self.old.unicode self.old.matchers.items self.new.matchers.items (row_classes (all_trees children.now))) }
+        ensures groups { IfOk result (λ _. ArePlain (all_trees children.now)
+            → self.new.next_group ≡ self.old.next_group + row_group_count (all_trees children.now)) }
+        ensures matchers { IfOk result (λ _. AddsMatchers self.old self.new (row_classes (all_trees children.now))) }
         ensures moves { IfOk result (λ translated. translated.moves ≡ never_empty (shape translated.node)) }
         ensures sound { IfOk result (λ translated. IsSound (shape translated.node)) }
         ensures refused { IfErr result (IsClassCause self.old.unicode (row_classes (all_trees children.now))) }
@@ -228,8 +230,9 @@ impl Translator {
     #[cycle(build)]
     fn branches(&mut self, children: &[Expr]) -> Result<Translated, CompileError>
         ensures unicode { self.new.unicode ≡ self.old.unicode }
-        ensures groups { IfOk result (λ _. ArePlain (all_trees children.now) → self.new.next_group ≡ self.old.next_group + row_group_count (all_trees children.now)) }
-        ensures matchers { IfOk result (λ _. Extends self.old.unicode self.old.matchers.items self.new.matchers.items (row_classes (all_trees children.now))) }
+        ensures groups { IfOk result (λ _. ArePlain (all_trees children.now)
+            → self.new.next_group ≡ self.old.next_group + row_group_count (all_trees children.now)) }
+        ensures matchers { IfOk result (λ _. AddsMatchers self.old self.new (row_classes (all_trees children.now))) }
         ensures moves { IfOk result (λ translated. translated.moves ≡ never_empty (shape translated.node)) }
         ensures sound { IfOk result (λ translated. IsSound (shape translated.node)) }
         ensures refused { IfErr result (IsClassCause self.old.unicode (row_classes (all_trees children.now))) }
@@ -255,13 +258,15 @@ impl Translator {
     #[tactic(auto, unfolding(crate::specs::Program::never_empty))]
     fn group(&mut self, child: &Expr) -> Result<Translated, CompileError>
         ensures unicode { self.new.unicode ≡ self.old.unicode }
-        ensures groups { IfOk result (λ _. IsPlain (tree_of child.now) → self.new.next_group ≡ self.old.next_group + (group_count (tree_of child.now) + 1)) }
-        ensures matchers { IfOk result (λ _. Extends self.old.unicode self.old.matchers.items self.new.matchers.items (classes (tree_of child.now))) }
+        ensures groups { IfOk result (λ _. IsPlain (tree_of child.now)
+            → self.new.next_group ≡ self.old.next_group + (group_count (tree_of child.now) + 1)) }
+        ensures matchers { IfOk result (λ _. AddsMatchers self.old self.new (classes (tree_of child.now))) }
         ensures moves { IfOk result (λ translated. translated.moves ≡ never_empty (shape translated.node)) }
         ensures sound { IfOk result (λ translated. IsSound (shape translated.node)) }
         ensures refused { IfErr result (IsClassCause self.old.unicode (classes (tree_of child.now))) }
         ensures shape { IfOk result (λ translated. IsPlain (tree_of child.now) → (groups : List Tree) → shape translated.node
-            ≡ re.group self.old.next_group (re_of self.old.unicode groups (self.old.next_group + 1) (length self.old.matchers.items) (tree_of child.now))) }
+            ≡ re.group self.old.next_group
+            (re_of self.old.unicode groups (self.old.next_group + 1) (length self.old.matchers.items) (tree_of child.now))) }
     {
         let number = self.next_group;
         self.next_group = number.checked_add(1).ok_or(CompileError::Memory)?;
@@ -286,13 +291,17 @@ impl Translator {
         greedy: bool,
     ) -> Result<Translated, CompileError>
         ensures unicode { self.new.unicode ≡ self.old.unicode }
-        ensures groups { IfOk result (λ _. IsPlain (tree_of child.now) → self.new.next_group ≡ self.old.next_group + group_count (tree_of child.now)) }
-        ensures matchers { IfOk result (λ _. Extends self.old.unicode self.old.matchers.items self.new.matchers.items (if has_no_iteration lo hi then [] else classes (tree_of child.now))) }
+        ensures groups { IfOk result (λ _. IsPlain (tree_of child.now)
+            → self.new.next_group ≡ self.old.next_group + group_count (tree_of child.now)) }
+        ensures matchers { IfOk result (λ _. AddsMatchers self.old self.new
+            (if has_no_iteration lo hi then [] else classes (tree_of child.now))) }
         ensures sound { IfOk result (λ translated. IsSound (shape translated.node)) }
         ensures moves { IfOk result (λ translated. translated.moves ≡ never_empty (shape translated.node)) }
-        ensures refused { IfErr result (IsClassCause self.old.unicode (if has_no_iteration lo hi then [] else classes (tree_of child.now))) }
+        ensures refused { IfErr result (IsClassCause self.old.unicode
+            (if has_no_iteration lo hi then [] else classes (tree_of child.now))) }
         ensures shape { IfOk result (λ translated. IsPlain (tree_of child.now) → (groups : List Tree) → shape translated.node
-            ≡ unless (has_no_iteration lo hi) (re.repeat lo hi greedy (not (may_be_empty groups (tree_of child.now))) (re_of self.old.unicode groups self.old.next_group (length self.old.matchers.items) (tree_of child.now)))) }
+            ≡ unless (has_no_iteration lo hi) (re.repeat lo hi greedy (not (may_be_empty groups (tree_of child.now)))
+            (re_of self.old.unicode groups self.old.next_group (length self.old.matchers.items) (tree_of child.now)))) }
     {
         if is_never_repeated(lo, hi) {
             self.skip_groups(child)?;
@@ -302,10 +311,12 @@ impl Translator {
         Ok(Translated {
             node: Node::Repeat {
                 body: boxed(self.alloc, translated.node)?,
-                lo,
-                hi,
-                greedy,
-                moves: translated.moves,
+                quantifier: Quantifier {
+                    lo,
+                    hi,
+                    greedy,
+                    moves: translated.moves,
+                },
             },
             moves: lo > 0 && translated.moves,
         })
@@ -315,7 +326,8 @@ impl Translator {
     fn skip_groups(&mut self, child: &Expr) -> Result<(), CompileError>
         ensures unicode { self.new.unicode ≡ self.old.unicode }
         ensures matchers { self.new.matchers ≡ self.old.matchers }
-        ensures groups { IfOk result (λ _. IsPlain (tree_of child.now) → self.new.next_group ≡ self.old.next_group + group_count (tree_of child.now)) }
+        ensures groups { IfOk result (λ _. IsPlain (tree_of child.now)
+            → self.new.next_group ≡ self.old.next_group + group_count (tree_of child.now)) }
         ensures refused { IfErr result (λ error. error ≡ errors.Memory) }
     {
         let skipped = groups_in(child).ok_or(CompileError::Memory)?;

@@ -1,12 +1,8 @@
 //! Compiled easy patterns, and their searches.
 
-ghost use Rattle.std.specs.Prelude.{◌≡◌, Bool, false, IfErr, ◌+◌, ◌-◌, ◌*◌, ◌^◌, ◌≤◌, min, length, vec_len, IfOk, option_map, IsCharBoundary, replicate, slice_set, ◌<◌, IfSome};
-ghost use Rattle.fancy_regex_meaning.specs.Groups.{Pattern};
-ghost use Rattle.fancy_regex_meaning.specs.Sizes.{tree_weight};
-ghost use Rattle.fancy_regex_meaning.specs.Searches.{first_match, match_at, starts};
-ghost use Rattle.fancy_regex_linear.specs.Easy.{IsMade, rules_for, hit_places, hit_at};
-ghost use Rattle.fancy_regex_class.specs.RunInputs.{setting_for, search_for, match_slots};
-ghost use Rattle.fancy_regex_linear.specs.Find.{attempted, hit_of_span};
+ghost use Rattle.std.specs.Prelude.{◌≡◌, Bool, false, IfErr, ◌≤◌, length, IfOk, option_map, IsCharBoundary, slice_set, IfSome};
+ghost use Rattle.fancy_regex_linear.specs.Easy.{IsMade, rules_for, found_slots, found_at};
+ghost use Rattle.fancy_regex_linear.specs.Find.{found_of_span};
 ghost use Rattle.fancy_regex_tree.specs.Tree.{Tree};
 ghost use Rattle.fancy_regex_states.specs.First.{IsTableOf};
 ghost use Rattle.fancy_regex_linear.specs.Search.{RefusesAscii};
@@ -14,7 +10,7 @@ ghost use Rattle.fancy_regex_linear.specs.Search.{RefusesAscii};
 use crate::build::Translator;
 use crate::emit::emit;
 use crate::memory::SearchMemory;
-use crate::search::{SearchContext, earliest_way};
+use crate::search::{SearchContext, earliest_match};
 use crate::starts::refused_ascii;
 use crate::state::add;
 use fancy_regex_class::{CharClassMatcher, Counted, RunInput, Steps};
@@ -47,7 +43,7 @@ pub struct Easy {
 }
 
 impl Easy {
-    ghost use Rattle.fancy_regex_linear.specs.Runner.{IsEasyOf};
+    ghost use Rattle.fancy_regex_linear.specs.EasyPatterns.{IsEasyOf, IsMatchSlots, IsMatchSpan, LooksAtMost, LooksAtLeast};
     ghost use Rattle.fancy_regex_linear.specs.Refusals.{IsTaken, IsCause};
     ghost use Rattle.fancy_regex_info.specs.Analysis.{analysis};
     ghost use Rattle.fancy_regex_info.specs.Infos.{info_of};
@@ -111,29 +107,20 @@ impl Easy {
     ) -> Result<Option<Vec<usize>>, AllocError>
         requires first { IsCharBoundary text.now input.now.first }
         requires range { input.now.range.end ≤ length text.now }
-        ensures answer { IfOk result (λ found. (pattern : Pattern) → IsEasyOf self.now pattern
-            → option_map (λ v. v.items) found ≡ option_map (match_slots pattern)
-            (first_match (setting_for self.now.unicode text.now input.now) pattern (search_for self.now.longest input.now))) }
-        ensures at_most { (pattern : Pattern) → IsEasyOf self.now pattern
-            → steps.new ≤ steps.old + tree_weight pattern.groups pattern.tree * (input.now.range.end - input.now.first + 1) }
-        ensures at_least { IfOk result (λ _. (pattern : Pattern) → IsEasyOf self.now pattern
-            → min (steps.old + attempted (match_at (setting_for self.now.unicode text.now input.now) pattern (search_for self.now.longest input.now))
-            (starts (setting_for self.now.unicode text.now input.now) pattern (search_for self.now.longest input.now))) (2 ^ 64 - 1) ≤ steps.new) }
+        ensures answer { IfOk result (λ found. IsMatchSlots self.now text.now input.now (option_map (λ v. v.items) found)) }
+        ensures at_most { LooksAtMost self.now input.now steps.old steps.new }
+        ensures at_least { IfOk result (λ _. LooksAtLeast self.now text.now input.now steps.old steps.new) }
         ensures counts { steps.old ≤ steps.new }
     {
         let mut memory = SearchMemory::new(alloc);
-        match self.span_in(text, input, steps, &mut memory)? {
-            Some((start, end)) => {
-                let SearchMemory { backtrack, .. } = memory;
-                Ok(Some(self.places(backtrack.slots, start, end)))
-            }
-            None => Ok(None),
-        }
+        let found = self.search_in(alloc, text, input, steps, &mut memory)?;
+        Ok(found)
     }
 
     /// Searches the text as `search` does, in memory that other searches may have used before: of this pattern or another,
     /// also one that ran out of memory. The answer is the same for every memory. Where the memory has the room, only the answer
-    /// is allocated, and not even that if an earlier one was given back, so nothing is where nothing is found. After an error the memory may be used again.
+    /// is allocated, and not even that if an earlier one was given back, so nothing is where nothing is found. After an error the
+    /// memory may be used again.
     pub fn search_in(
         &self,
         alloc: Global,
@@ -144,17 +131,12 @@ impl Easy {
     ) -> Result<Option<Vec<usize>>, AllocError>
         requires first { IsCharBoundary text.now input.now.first }
         requires range { input.now.range.end ≤ length text.now }
-        ensures answer { IfOk result (λ found. (pattern : Pattern) → IsEasyOf self.now pattern
-            → option_map (λ v. v.items) found ≡ option_map (match_slots pattern)
-            (first_match (setting_for self.now.unicode text.now input.now) pattern (search_for self.now.longest input.now))) }
-        ensures at_most { (pattern : Pattern) → IsEasyOf self.now pattern
-            → steps.new ≤ steps.old + tree_weight pattern.groups pattern.tree * (input.now.range.end - input.now.first + 1) }
-        ensures at_least { IfOk result (λ _. (pattern : Pattern) → IsEasyOf self.now pattern
-            → min (steps.old + attempted (match_at (setting_for self.now.unicode text.now input.now) pattern (search_for self.now.longest input.now))
-            (starts (setting_for self.now.unicode text.now input.now) pattern (search_for self.now.longest input.now))) (2 ^ 64 - 1) ≤ steps.new) }
+        ensures answer { IfOk result (λ found. IsMatchSlots self.now text.now input.now (option_map (λ v. v.items) found)) }
+        ensures at_most { LooksAtMost self.now input.now steps.old steps.new }
+        ensures at_least { IfOk result (λ _. LooksAtLeast self.now text.now input.now steps.old steps.new) }
         ensures counts { steps.old ≤ steps.new }
     {
-        match self.span_in(text, input, steps, memory)? {
+        match self.find_span_in(text, input, steps, memory)? {
             Some((start, end)) => {
                 let slots = memory.take_answer(alloc)?;
                 Ok(Some(self.places(slots, start, end)))
@@ -163,8 +145,9 @@ impl Easy {
         }
     }
 
-    /// The start and the end of the match, as byte offsets, with its slots in the memory. The error is want of memory.
-    fn span_in(
+    /// Searches the text as `search_in` does, and answers only where the match starts and ends, as byte offsets: nothing is
+    /// allocated where the memory has the room. The error is want of memory; the memory may be used again.
+    pub fn find_span_in(
         &self,
         text: &str,
         input: &RunInput,
@@ -173,15 +156,11 @@ impl Easy {
     ) -> Result<Option<(usize, usize)>, AllocError>
         requires first { IsCharBoundary text.now input.now.first }
         requires range { input.now.range.end ≤ length text.now }
-        ensures answer { IfOk result (λ found. (pattern : Pattern) → IsEasyOf self.now pattern
-            → option_map (hit_places self.now.whole) (hit_of_span found memory.new.backtrack.slots.items)
-            ≡ option_map (match_slots pattern)
-            (first_match (setting_for self.now.unicode text.now input.now) pattern (search_for self.now.longest input.now))) }
-        ensures at_most { (pattern : Pattern) → IsEasyOf self.now pattern
-            → steps.new ≤ steps.old + tree_weight pattern.groups pattern.tree * (input.now.range.end - input.now.first + 1) }
-        ensures at_least { IfOk result (λ _. (pattern : Pattern) → IsEasyOf self.now pattern
-            → min (steps.old + attempted (match_at (setting_for self.now.unicode text.now input.now) pattern (search_for self.now.longest input.now))
-            (starts (setting_for self.now.unicode text.now input.now) pattern (search_for self.now.longest input.now))) (2 ^ 64 - 1) ≤ steps.new) }
+        ensures answer { IfOk result (IsMatchSpan self.now text.now input.now) }
+        ensures slots { IfOk result (λ found. IsMatchSlots self.now text.now input.now
+            (option_map (found_slots self.now.whole) (found_of_span found memory.new.backtrack.slots.items))) }
+        ensures at_most { LooksAtMost self.now input.now steps.old steps.new }
+        ensures at_least { IfOk result (λ _. LooksAtLeast self.now text.now input.now steps.old steps.new) }
         ensures counts { steps.old ≤ steps.new }
     {
         // Read so that the proof knows that the counter is a `u64`, which no look lowers.
@@ -201,15 +180,7 @@ impl Easy {
             refused: &self.refused,
         };
         let mut counted = Counted::new(text, steps);
-        let span = earliest_way(
-            &context,
-            &mut counted,
-            input.first,
-            input.anchored,
-            &mut memory.visited,
-            &mut memory.backtrack,
-            &mut memory.farthest,
-        )?;
+        let span = earliest_match(&context, &mut counted, input.first, input.anchored, memory)?;
         Ok(span)
     }
 
@@ -227,7 +198,7 @@ impl Easy {
 
     /// The byte offsets of the groups of a match with these slots.
     fn places(&self, mut slots: Vec<usize>, start: usize, end: usize) -> Vec<usize>
-        ensures { result.items ≡ hit_places self.now.whole (hit_at start end slots.items) }
+        ensures { result.items ≡ found_slots self.now.whole (found_at start end slots.items) }
     {
         if self.whole {
             put(&mut slots, 0, start);

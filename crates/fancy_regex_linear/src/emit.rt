@@ -6,7 +6,7 @@ ghost use Rattle.fancy_regex_linear.specs.Program.{emitted, emitted_both, emitte
 ghost use Rattle.fancy_regex_linear.specs.Meaning.{is_unbounded};
 
 use crate::emit_both::emit_both;
-use crate::node::Node;
+use crate::node::{Node, Quantifier};
 use crate::state::{add, make_head};
 use fancy_regex_states::State;
 use std::alloc::AllocError;
@@ -41,13 +41,7 @@ pub fn emit(node: &Node, states: &mut Vec<State>, next: usize) -> Result<usize, 
                 },
             )
         }
-        Node::Repeat {
-            body,
-            lo,
-            hi,
-            greedy,
-            moves,
-        } => emit_repeat(body, *lo, *hi, *greedy, *moves, states, next),
+        Node::Repeat { body, quantifier } => emit_repeat(body, *quantifier, states, next),
     }
 }
 
@@ -96,17 +90,21 @@ fn emit_branches(parts: &[Node], states: &mut Vec<State>, next: usize) -> Result
 #[tactic(auto, unfolding(crate::specs::Program::emitted_repeat))]
 fn emit_repeat(
     node: &Node,
-    lo: usize,
-    hi: usize,
-    greedy: bool,
-    moves: bool,
+    quantifier: Quantifier,
     states: &mut Vec<State>,
     next: usize,
 ) -> Result<usize, AllocError>
     ensures longer { IfOk result (λ _. vec_len states.old ≤ vec_len states.new) }
-    ensures made { IfOk result (λ n. emitted_repeat (is_unbounded hi) moves lo hi greedy
+    ensures made { IfOk result (λ n.
+        emitted_repeat (is_unbounded quantifier.hi) quantifier.moves quantifier.lo quantifier.hi quantifier.greedy
         (emitted (shape node.now)) (emitted_both (shape node.now)) states.old.items next ≡ (states.new.items, n)) }
 {
+    let Quantifier {
+        lo,
+        hi,
+        greedy,
+        moves,
+    } = quantifier;
     if hi < usize::MAX {
         let rest = emit_upto(node, hi.saturating_sub(lo), greedy, states, next)?;
         emit_times(node, lo, states, rest)
@@ -173,8 +171,8 @@ fn emit_star(
         ≡ (states.new.items, n)) }
 {
     let head = add(states, State::Match)?;
-    let (round, _) = emit_both(node, states, next, head)?;
-    states[head] = make_head(greedy, round, next);
+    let (iteration, _) = emit_both(node, states, next, head)?;
+    states[head] = make_head(greedy, iteration, next);
     Ok(head)
 }
 

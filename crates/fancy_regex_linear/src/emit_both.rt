@@ -6,7 +6,7 @@ ghost use Rattle.fancy_regex_linear.specs.Re.{shape, shapes, cats, alts};
 ghost use Rattle.fancy_regex_linear.specs.Program.{emitted_both, emitted_both_repeat, emitted_both_times, emitted_both_upto, emitted_both_star, emitted_both_many, emitted_both_group};
 ghost use Rattle.fancy_regex_linear.specs.Meaning.{is_unbounded};
 
-use crate::node::Node;
+use crate::node::{Node, Quantifier};
 use crate::state::{add, add_both, make_head};
 use fancy_regex_states::State;
 use std::alloc::AllocError;
@@ -50,13 +50,13 @@ pub fn emit_both(
         Node::Concat(parts) => emit_row_both(parts, states, same, moved),
         Node::Alt(parts) => emit_branches_both(parts, states, same, moved),
         Node::Group { number, body } => emit_group_both(*number, body, states, same, moved),
-        Node::Repeat {
+        Node::Repeat { body, quantifier } => emit_repeat_both(
             body,
-            lo,
-            hi,
-            greedy,
-            moves,
-        } => emit_repeat_both(body, *lo, *hi, *greedy, *moves, states, same, moved),
+            *quantifier,
+            states,
+            same,
+            moved,
+        ),
     }
 }
 
@@ -165,18 +165,22 @@ fn emit_branches_both(
 #[tactic(auto, unfolding(crate::specs::Program::emitted_both_repeat))]
 fn emit_repeat_both(
     node: &Node,
-    lo: usize,
-    hi: usize,
-    greedy: bool,
-    moves: bool,
+    quantifier: Quantifier,
     states: &mut Vec<State>,
     same: usize,
     moved: usize,
 ) -> Result<(usize, usize), AllocError>
     ensures longer { IfOk result (λ _. vec_len states.old ≤ vec_len states.new) }
-    ensures made { IfOk result (λ n. emitted_both_repeat (is_unbounded hi) moves lo hi greedy
+    ensures made { IfOk result (λ n.
+        emitted_both_repeat (is_unbounded quantifier.hi) quantifier.moves quantifier.lo quantifier.hi quantifier.greedy
         (emitted_both (shape node.now)) states.old.items same moved ≡ (states.new.items, n.0, n.1)) }
 {
+    let Quantifier {
+        lo,
+        hi,
+        greedy,
+        moves,
+    } = quantifier;
     if hi < usize::MAX {
         let rest = emit_upto_both(node, hi.saturating_sub(lo), greedy, states, same, moved)?;
         emit_times_both(node, lo, states, rest.0, rest.1)
@@ -257,8 +261,8 @@ fn emit_star_both(
         ≡ (states.new.items, n.0, n.1)) }
 {
     let head = add(states, State::Match)?;
-    let (round, _) = emit_both(node, states, moved, head)?;
-    states[head] = make_head(greedy, round, moved);
+    let (iteration, _) = emit_both(node, states, moved, head)?;
+    states[head] = make_head(greedy, iteration, moved);
     let (first, _) = emit_both(node, states, same, head)?;
     let one = add(states, make_head(greedy, first, same))?;
     Ok((one, head))

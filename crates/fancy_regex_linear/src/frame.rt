@@ -11,11 +11,11 @@ pub enum Frame {
 
 /// The outcome of a visit.
 #[derive(Clone, Copy)]
-pub enum Next {
+pub enum SearchStep {
     /// Continue with this state at this byte offset.
     Pair(usize, usize),
     /// Backtrack: pop the next frame.
-    Back,
+    Backtrack,
     /// The final state was reached.
     Matched,
 }

@@ -1,6 +1,8 @@
 //! The memory that searches share.
 
-ghost use Rattle.std.specs.Prelude.{◌≡◌, ◌-◌, ◌*◌, ◌^◌, vec_len, replicate, IfOk, OnOk};
+ghost use Rattle.std.specs.Prelude.{◌≡◌, ◌-◌, ◌*◌, ◌^◌, true, Some, vec_len, replicate, IfOk, OnOk};
+ghost use Rattle.fancy_regex_linear.specs.Attempt.{better_spot};
+ghost use Rattle.fancy_regex_linear.specs.Search.{end_spot};
 
 use crate::backtrack::{BacktrackState, unset};
 use crate::visited::Visited;
@@ -71,5 +73,36 @@ impl SearchMemory {
             unset(&mut self.farthest, groups)?;
         }
         Ok(())
+    }
+
+    /// Stores the slots of the way that is tried, which ends at `at`, as the farthest if it is longer than the best so far;
+    /// returns the best end.
+    pub(crate) fn store_farther(&mut self, best: Option<usize>, at: usize) -> Option<usize>
+        requires { vec_len self.old.farthest ≡ vec_len self.old.backtrack.slots }
+        ensures best { end_spot result self.new.farthest.items
+            ≡ better_spot true (end_spot best self.old.farthest.items) (end_spot (Some at) self.old.backtrack.slots.items) }
+        ensures len { vec_len self.new.farthest ≡ vec_len self.old.farthest }
+        ensures visited { self.new.visited ≡ self.old.visited }
+        ensures backtrack { self.new.backtrack ≡ self.old.backtrack }
+    {
+        match best {
+            Some(end) if at <= end => best,
+            _ => {
+                self.farthest.copy_from_slice(&self.backtrack.slots);
+                Some(at)
+            }
+        }
+    }
+
+    /// Takes the slots of the farthest way.
+    pub(crate) fn load_farthest(&mut self)
+        requires { vec_len self.old.farthest ≡ vec_len self.old.backtrack.slots }
+        ensures slots { self.new.backtrack.slots.items ≡ self.old.farthest.items }
+        ensures len { vec_len self.new.backtrack.slots ≡ vec_len self.old.backtrack.slots }
+        ensures stack { self.new.backtrack.stack ≡ self.old.backtrack.stack }
+        ensures farthest { self.new.farthest ≡ self.old.farthest }
+        ensures visited { self.new.visited ≡ self.old.visited }
+    {
+        self.backtrack.slots.copy_from_slice(&self.farthest);
     }
 }

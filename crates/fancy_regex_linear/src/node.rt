@@ -2,6 +2,19 @@
 
 use fancy_regex_states::{Leaf, Test};
 
+/// How often a body is repeated.
+#[derive(Clone, Copy)]
+pub struct Quantifier {
+    /// The least count of iterations.
+    pub lo: usize,
+    /// The greatest count of iterations; `usize::MAX` for no bound.
+    pub hi: usize,
+    /// Whether another iteration is preferred to the exit.
+    pub greedy: bool,
+    /// Whether each match of the body consumes a character.
+    pub moves: bool,
+}
+
 /// A node of the simplified tree. Character classes are numbers into a table of matchers.
 #[derive(Drop)]
 pub enum Node {
@@ -21,16 +34,9 @@ pub enum Node {
         number: usize,
         body: Box<Node>,
     },
-    /// A quantifier.
+    /// A repeated body.
     Repeat {
         body: Box<Node>,
-        /// The least count of iterations.
-        lo: usize,
-        /// The greatest count of iterations; `usize::MAX` for no bound.
-        hi: usize,
-        /// Whether another iteration is preferred to the exit.
-        greedy: bool,
-        /// Whether each match of the body consumes a character.
-        moves: bool,
+        quantifier: Quantifier,
     },
 }

@@ -6,13 +6,14 @@ ghost use Rattle.regex_hir.specs.Text.{char_at};
 ghost use Rattle.fancy_regex_class.specs.Looks.{looked_text, look_count, SameCounter};
 ghost use Rattle.fancy_regex_linear.specs.Meaning.{View};
 ghost use Rattle.fancy_regex_linear.specs.Attempt.{Continuation};
-ghost use Rattle.fancy_regex_linear.specs.Visited.{Has, spent};
-ghost use Rattle.fancy_regex_linear.specs.Search.{Closed, Explains, IsLoop};
+ghost use Rattle.fancy_regex_linear.specs.Visited.{Has, visited_bound};
+ghost use Rattle.fancy_regex_linear.specs.Search.{Explains, IsLoop};
+ghost use Rattle.fancy_regex_linear.specs.Layers.{IsSearchContext};
 ghost use Rattle.fancy_regex_linear.specs.Ahead.{IsBeginning, IsAhead};
 ghost use Rattle.fancy_regex_linear.specs.Starts.{IsStart};
 
 use crate::class_loop::{ClassLoop, Exit, Stretch, class_loop, exit_of, pass_stretch, stretch_of};
-use crate::frame::Next;
+use crate::frame::SearchStep;
 use crate::search::{SearchContext, ahead, read};
 use crate::starts::Start;
 use crate::visited::Visited;
@@ -36,7 +37,7 @@ struct Beginning<'p> {
     /// What the loop does at its head.
     found: ClassLoop,
     /// What stands after the loop.
-    following: Leaf,
+    after_loop: Leaf,
     /// The ASCII characters over which the loop reads on.
     stretch: Stretch<'p>,
 }
@@ -57,8 +58,7 @@ pub struct RunAhead {
 /// How the pattern begins, if it begins so.
 #[inline(always)]
 fn beginning_of<'p>(context: &SearchContext<'p>) -> Option<Beginning<'p>>
-    requires entry { context.now.entry < length context.now.states.now }
-    requires closed { Closed context.now.states.now }
+    requires { IsSearchContext context.now }
     ensures { IfSome result (IsBeginning context.now) }
 {
     let entry = context.states[context.entry];
@@ -70,17 +70,17 @@ fn beginning_of<'p>(context: &SearchContext<'p>) -> Option<Beginning<'p>>
         return None;
     };
     let found = class_loop(context, next)?;
-    let Exit::Reads(following) = exit_of(context, found.exit) else {
+    let Exit::Reads(after_loop) = exit_of(context, found.exit) else {
         return None;
     };
-    let stretch = stretch_of(context, found.leaf, Exit::Reads(following))?;
+    let stretch = stretch_of(context, found.leaf, Exit::Reads(after_loop))?;
     Some(Beginning {
         slot,
         first,
         leaf,
         head: next,
         found,
-        following,
+        after_loop,
         stretch,
     })
 }
@@ -95,25 +95,25 @@ fn may_match(
     at: usize,
     after: Option<char>,
 ) -> bool
+    requires context { IsSearchContext context.now }
     requires is_loop { IsLoop context.now.states.now head found }
     requires head { head < length context.now.states.now }
-    requires closed { Closed context.now.states.now }
     requires high { at ≤ context.now.stop }
     ensures { result ≡ false → (text : List ℕ) (view : View) (go : ℕ → Continuation) → Explains context.now text view go
         → IsCharBoundary text at → after ≡ char_at text at → (go head at).answer ≡ None }
 {
     match ahead(context, found.exit, at, after) {
-        Next::Back => match read(context, found.leaf, head, at, after) {
-            Next::Back => false,
-            Next::Pair(_, _) | Next::Matched => true,
+        SearchStep::Backtrack => match read(context, found.leaf, head, at, after) {
+            SearchStep::Backtrack => false,
+            SearchStep::Pair(_, _) | SearchStep::Matched => true,
         },
-        Next::Pair(_, _) | Next::Matched => true,
+        SearchStep::Pair(_, _) | SearchStep::Matched => true,
     }
 }
 
 /// Leads this start to the end of the loop's stretch, if the pattern begins with such a loop, the search has more starts, an
-/// ASCII character stands at this one, and nothing was visited from there on. Drops the rows before that end. Each place after the start costs one look-up
-/// in the text. `None` says nothing, costs none and drops nothing.
+/// ASCII character stands at this one, and nothing was visited from there on. Drops the rows before that end. Each place after
+/// the start costs one look-up in the text. `None` says nothing, costs none and drops nothing.
 #[inline(always)]
 pub fn run_ahead(
     context: &SearchContext,
@@ -122,16 +122,15 @@ pub fn run_ahead(
     anchored: bool,
     visited: &mut Visited,
 ) -> Option<RunAhead>
-    requires entry { context.now.entry < length context.now.states.now }
+    requires context { IsSearchContext context.now }
     requires count { visited.old.count ≡ length context.now.states.now }
-    requires closed { Closed context.now.states.now }
     requires start { (from : ℕ) × IsStart (looked_text text.old) context.now.stop from start }
     requires base { visited.old.base ≤ start.at }
     ensures ahead { IfSome result (IsAhead context.now (looked_text text.old) start.at) }
     ensures many { IfSome result (λ _. anchored ≡ false) }
     ensures looked { IfSome result (λ run. look_count text.new ≡ min (look_count text.old + (run.end - start.at)) (2 ^ 64 - 1)) }
     ensures counted { IfSome result (λ run. (visited.new.base ≡ run.end) × (visited.new.rows ≡ 0)
-        × (spent visited.old + (run.end - start.at) ≤ spent visited.new)) }
+        × (visited_bound visited.old + (run.end - start.at) ≤ visited_bound visited.new)) }
     ensures same { result ≡ None → (look_count text.new ≡ look_count text.old) × (visited.new ≡ visited.old) }
     ensures count { visited.new.count ≡ visited.old.count }
     ensures pairs { (q i : ℕ) → Has visited.new q i → Has visited.old q i }
@@ -141,20 +140,26 @@ pub fn run_ahead(
     if anchored {
         return None;
     }
-    let plan = beginning_of(context)?;
+    let beginning = beginning_of(context)?;
     let c = start.after?;
-    if c as u32 >= 128 || !visited.is_after(start.at) {
+    if c as u32 >= 128 || !visited.ends_before(start.at) {
         return None;
     }
-    let Next::Pair(_, from) = read(context, plan.leaf, plan.head, start.at, start.after) else {
+    let SearchStep::Pair(_, from) = read(
+        context,
+        beginning.leaf,
+        beginning.head,
+        start.at,
+        start.after,
+    ) else {
         return None;
     };
-    let (end, after) = pass_stretch(text, from, context.stop, plan.stretch);
-    visited.drop_after(end);
+    let (end, after) = pass_stretch(text, from, context.stop, beginning.stretch);
+    visited.drop_before(end);
     Some(RunAhead {
-        head: plan.head,
-        slot: plan.slot,
+        head: beginning.head,
+        slot: beginning.slot,
         end,
-        is_live: may_match(context, plan.found, plan.head, end, after),
+        is_live: may_match(context, beginning.found, beginning.head, end, after),
     })
 }

@@ -4,14 +4,15 @@
 ghost use Rattle.std.specs.Prelude.{◌≡◌, ◌+◌, ◌-◌, ◌^◌, ◌<◌, ◌≤◌, ℕ, List, Option, Some, None, length, min, IfSome, IsCharBoundary};
 ghost use Rattle.std.specs.Char.{len_utf8};
 ghost use Rattle.regex_hir.specs.Text.{char_at};
-ghost use Rattle.fancy_regex_class.specs.Looks.{looked_text, look_count, SameCounter};
+ghost use Rattle.fancy_regex_class.specs.Looks.{looked_text, look_count};
 ghost use Rattle.fancy_regex_linear.specs.Meaning.{View};
-ghost use Rattle.fancy_regex_linear.specs.Attempt.{Continuation, land};
-ghost use Rattle.fancy_regex_linear.specs.Search.{Closed, Explains, IsScan, ended};
+ghost use Rattle.fancy_regex_linear.specs.Attempt.{Continuation, trace_end};
+ghost use Rattle.fancy_regex_linear.specs.Search.{Explains, IsScan, end_spot};
+ghost use Rattle.fancy_regex_linear.specs.Layers.{IsSearchContext, IsOnlyLookedAt};
 ghost use Rattle.fancy_regex_linear.specs.Starts.{IsStart, EndsAt};
 
 use crate::class_loop::{ClassLoop, Exit, Stretch, class_loop, exit_of, pass_stretch, stretch_of};
-use crate::frame::Next;
+use crate::frame::SearchStep;
 use crate::search::{SearchContext, read};
 use crate::starts::Start;
 use fancy_regex_class::Counted;
@@ -33,8 +34,7 @@ struct Scan<'p> {
 /// The pattern as a scan, if it is one, and the first match is wanted.
 #[inline(always)]
 fn scan_of<'p>(context: &SearchContext<'p>) -> Option<Scan<'p>>
-    requires entry { context.now.entry < length context.now.states.now }
-    requires closed { Closed context.now.states.now }
+    requires { IsSearchContext context.now }
     ensures { IfSome result (IsScan context.now) }
 {
     let State::Read { leaf, next } = context.states[context.entry] else {
@@ -59,18 +59,17 @@ fn scan_from(context: &SearchContext, text: &mut Counted, scan: Scan, from: usiz
     requires is { IsScan context.now scan }
     requires range { from ≤ context.now.stop }
     requires boundary { IsCharBoundary (looked_text text.old) from }
-    ensures ends { (view : View) (go : ℕ → Continuation) → Explains context.now (looked_text text.old) view go → EndsAt go scan.entry.head from result }
+    ensures ends { (view : View) (go : ℕ → Continuation) → Explains context.now (looked_text text.old) view go
+        → EndsAt go scan.entry.head from result }
     ensures at_most { look_count text.new ≤ look_count text.old + (context.now.stop - from + 1) }
-    ensures more { min (look_count text.old) (2 ^ 64 - 1) ≤ look_count text.new }
-    ensures text { looked_text text.new ≡ looked_text text.old }
-    ensures same_counter { SameCounter text.old text.new }
+    ensures looks { IsOnlyLookedAt text.old text.new }
 {
     let mut at = from;
     'places: loop {
         let (end, after) = pass_stretch(text, at, context.stop, scan.stretch);
         match read(context, scan.found.leaf, scan.head, end, after) {
-            Next::Pair(_, next) => at = next,
-            Next::Back | Next::Matched => return end,
+            SearchStep::Pair(_, next) => at = next,
+            SearchStep::Backtrack | SearchStep::Matched => return end,
         }
     }
 }
@@ -79,20 +78,17 @@ fn scan_from(context: &SearchContext, text: &mut Counted, scan: Scan, from: usiz
 /// look-up in the text. `None` says nothing, and costs none.
 #[inline(always)]
 pub fn scanned(context: &SearchContext, text: &mut Counted, start: Start) -> Option<usize>
-    requires entry { context.now.entry < length context.now.states.now }
-    requires closed { Closed context.now.states.now }
+    requires context { IsSearchContext context.now }
     requires start { (from : ℕ) × IsStart (looked_text text.old) context.now.stop from start }
     ensures value { IfSome result (λ end. (view : View) (go : ℕ → Continuation) → Explains context.now (looked_text text.old) view go
-        → (slots : List ℕ) → ended (Some end) slots ≡ land slots (go context.now.entry start.at).answer) }
+        → (slots : List ℕ) → end_spot (Some end) slots ≡ trace_end slots (go context.now.entry start.at).answer) }
     ensures at_most { look_count text.new ≤ look_count text.old + (context.now.stop - start.at) }
     ensures same { result ≡ None → look_count text.new ≡ look_count text.old }
-    ensures more { min (look_count text.old) (2 ^ 64 - 1) ≤ look_count text.new }
-    ensures text { looked_text text.new ≡ looked_text text.old }
-    ensures same_counter { SameCounter text.old text.new }
+    ensures looks { IsOnlyLookedAt text.old text.new }
 {
     let scan = scan_of(context)?;
     match read(context, scan.leaf, scan.head, start.at, start.after) {
-        Next::Pair(_, from) => Some(scan_from(context, text, scan, from)),
-        Next::Back | Next::Matched => None,
+        SearchStep::Pair(_, from) => Some(scan_from(context, text, scan, from)),
+        SearchStep::Backtrack | SearchStep::Matched => None,
     }
 }

@@ -7,18 +7,18 @@ use fancy_regex_states::State;
 use std::alloc::AllocError;
 
 /// The head of a loop: another iteration, or the exit, in the order of preference.
-pub fn make_head(greedy: bool, round: usize, leave: usize) -> State
-    ensures { result ≡ loop_head greedy round leave }
+pub fn make_head(greedy: bool, iteration: usize, exit: usize) -> State
+    ensures { result ≡ loop_head greedy iteration exit }
 {
     if greedy {
         State::Split {
-            first: round,
-            second: leave,
+            first: iteration,
+            second: exit,
         }
     } else {
         State::Split {
-            first: leave,
-            second: round,
+            first: exit,
+            second: iteration,
         }
     }
 }

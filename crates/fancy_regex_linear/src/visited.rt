@@ -23,7 +23,7 @@ pub struct Visited {
 }
 
 impl Visited {
-    ghost use Rattle.fancy_regex_linear.specs.Visited.{Has, members, spent, Adds, AddsRun, IsSame, spare};
+    ghost use Rattle.fancy_regex_linear.specs.Visited.{Has, pair_count, visited_bound, Adds, AddsRun, IsSame, spare};
 
     /// The empty set, for no states. It allocates nothing.
     pub fn new(alloc: Global) -> Visited {
@@ -73,7 +73,7 @@ impl Visited {
         ensures same { (self.new.count ≡ self.old.count) × (self.new.base ≡ self.old.base) }
         ensures rows { OnOk result (self.new.rows ≡ self.old.rows + 1) }
         ensures adds { OnOk result (Adds (Has self.old) (Has self.new) state (self.old.base + self.old.rows)) }
-        ensures counted { OnOk result (members self.new ≡ members self.old + 1) }
+        ensures counted { OnOk result (pair_count self.new ≡ pair_count self.old + 1) }
         ensures err { OnErr result ((self.new.rows ≡ self.old.rows) × IsSame self.old self.new) }
     {
         self.words.push(1u64 << (state % 64))?;
@@ -97,13 +97,13 @@ impl Visited {
     }
 
     /// Drops the rows if all are of byte offsets before `from`, and goes on from there. Their memory is kept for later rows.
-    pub fn drop_after(&mut self, from: usize)
+    pub fn drop_before(&mut self, from: usize)
         requires { self.old.base ≤ from }
         ensures count { self.new.count ≡ self.old.count }
         ensures base { (self.old.base ≤ self.new.base) × (self.new.base ≤ from) }
         ensures rows { (stop : ℕ) → self.old.rows ≤ stop - self.old.base + 1 → self.new.rows ≤ stop - self.new.base + 1 }
         ensures pairs { (q i : ℕ) → Has self.new q i → Has self.old q i }
-        ensures spent { spent self.old ≤ spent self.new }
+        ensures visited_bound { visited_bound self.old ≤ visited_bound self.new }
         ensures dropped { self.old.rows ≤ from - self.old.base → (self.new.base ≡ from) × (self.new.rows ≡ 0) }
     {
         if self.rows <= from - self.base {
@@ -115,7 +115,7 @@ impl Visited {
 
     /// Whether all rows are of byte offsets before `from`.
     #[inline(always)]
-    pub fn is_after(&self, from: usize) -> bool
+    pub fn ends_before(&self, from: usize) -> bool
         requires { self.now.base ≤ from }
         ensures { result ≡ true → self.now.rows ≤ from - self.now.base }
     {
@@ -131,7 +131,8 @@ impl Visited {
         ensures same { (self.new.count ≡ self.old.count) × (self.new.base ≡ self.old.base) }
         ensures rows { self.new.rows ≡ self.old.rows }
         ensures adds { Adds (Has self.old) (Has self.new) state at }
-        ensures counted { MatchBool result (members self.new ≡ members self.old + 1) (Has self.old state at × IsSame self.old self.new) }
+        ensures counted { MatchBool result (pair_count self.new ≡ pair_count self.old + 1)
+            (Has self.old state at × IsSame self.old self.new) }
     {
         let place = (at - self.base) * self.width + state / 64;
         let word = self.words[place];
@@ -163,7 +164,7 @@ impl Visited {
         ensures same { (self.new.count ≡ self.old.count) × (self.new.base ≡ self.old.base) }
         ensures rows { self.new.rows ≡ at - self.old.base + count }
         ensures adds { AddsRun (Has self.old) (Has self.new) state at (at + count) }
-        ensures counted { members self.new ≡ members self.old + count }
+        ensures counted { pair_count self.new ≡ pair_count self.old + count }
     {
         let length = self.words.len() + count;
         if self.words.resize(length, 1u64 << (state % 64)).is_ok() {
@@ -194,8 +195,8 @@ impl Visited {
         ensures same { (self.new.count ≡ self.old.count) × (self.new.base ≡ self.old.base) }
         ensures rows { self.new.rows ≤ max self.old.rows (at - self.old.base + 1) }
         ensures adds { Adds (Has self.old) (Has self.new) state at }
-        ensures counted { IfOk result (λ new. MatchBool new (members self.new ≡ members self.old + 1)
-            (Has self.old state at × (members self.new ≡ members self.old))) }
+        ensures counted { IfOk result (λ new. MatchBool new (pair_count self.new ≡ pair_count self.old + 1)
+            (Has self.old state at × (pair_count self.new ≡ pair_count self.old))) }
         ensures err { OnErr result (IsSame self.old self.new) }
     {
         if self.width == 1 && at - self.base == self.rows {

@@ -60,8 +60,8 @@ abbrev pub RefusesSecond : Bool → List CharClassMatcher → List State → ℕ
 RefusesSecond unicode matchers states entry marks = (c : ℕ) → c < 128 → slice_index_or marks c false ≡ true → CannotFollow unicode matchers states entry (Some c)
 
 -- what is marked was marked before
-abbrev pub KeepsMarks : List Bool → List Bool → Type 0
-KeepsMarks before after = (c : ℕ) → slice_index_or after c false ≡ true → slice_index_or before c false ≡ true
+abbrev pub HasNoNewMarks : List Bool → List Bool → Type 0
+HasNoNewMarks before after = (c : ℕ) → slice_index_or after c false ≡ true → slice_index_or before c false ≡ true
 
 -- the state is not final, and if it reads, then by one of these leaves
 abbrev pub IsAmong : List Leaf → State → Type 0

@@ -77,7 +77,7 @@ impl FirstChars {
         }))
     }
 
-    /// Whether no match begins before this character, `None` at the end of the text, with another character after it.
+    /// Whether no match that begins after another character begins with this one; `None` is the end of the text.
     pub fn refuses(&self, matchers: &[CharClassMatcher], unicode: bool, after: Option<char>) -> bool
         ensures { result ≡ true → (states : List State) (entry : ℕ) → IsTableOf unicode matchers.now states entry self.now
             → CannotBegin unicode matchers.now states entry after }
@@ -103,7 +103,7 @@ impl FirstChars {
         &self.second
     }
 
-    /// Whether no match begins anywhere with a character after it, as where the start of the text is demanded.
+    /// Whether no match begins after a character, as where the start of the text is demanded.
     #[inline(always)]
     pub fn refuses_all(&self) -> bool
         ensures { result ≡ true → (unicode : Bool) (matchers : List CharClassMatcher) (states : List State) (entry : ℕ) (after : Option ℕ)
@@ -139,7 +139,7 @@ pub fn reached(
 
 /// Adds the numbers of the states that this one leads to without reading. The error is want of memory.
 fn add_led(found: &mut Vec<usize>, state: State) -> Result<(), AllocError>
-    ensures kept { OnOk result (Extends found.old.items found.new.items) }
+    ensures extends { OnOk result (Extends found.old.items found.new.items) }
     ensures led { OnOk result ((p : ℕ) → Leads state p → Contains found.new.items p) }
 {
     match state {
@@ -160,7 +160,7 @@ fn add_led(found: &mut Vec<usize>, state: State) -> Result<(), AllocError>
 
 /// Adds a number, unless it is there. The error is want of memory.
 fn add_number(found: &mut Vec<usize>, number: usize) -> Result<(), AllocError>
-    ensures kept { OnOk result (Extends found.old.items found.new.items) }
+    ensures extends { OnOk result (Extends found.old.items found.new.items) }
     ensures there { OnOk result (Contains found.new.items number) }
 {
     if found.contains(&number) {
@@ -176,7 +176,8 @@ fn leaves_of(
     states: &[State],
     numbers: &[usize],
 ) -> Result<Option<Vec<Leaf>>, AllocError>
-    ensures { IfOk result (λ made. IfSome made (λ leaves. (q : ℕ) → Contains numbers.now q → IsAmong leaves.items (state_at states.now q))) }
+    ensures { IfOk result (λ made. IfSome made (λ leaves.
+        (q : ℕ) → Contains numbers.now q → IsAmong leaves.items (state_at states.now q))) }
 {
     let mut leaves = Vec::new(alloc);
     for i in 0..numbers.len() {
@@ -190,7 +191,7 @@ fn leaves_of(
 
 /// Adds the leaf of a state that reads; returns whether the state is not final. The error is want of memory.
 fn add_leaf(leaves: &mut Vec<Leaf>, state: State) -> Result<bool, AllocError>
-    ensures kept { OnOk result ((leaf : Leaf) → Contains leaves.old.items leaf → Contains leaves.new.items leaf) }
+    ensures extends { OnOk result ((leaf : Leaf) → Contains leaves.old.items leaf → Contains leaves.new.items leaf) }
     ensures among { IfOk result (λ goes_on. goes_on ≡ true → IsAmong leaves.new.items state) }
 {
     match state {

@@ -1,7 +1,7 @@
 //! The characters that a match can have second.
 
 ghost use Rattle.std.specs.Prelude.{◌≡◌, ◌<◌, ℕ, true, false, List, IfOk, IfSome, OnOk, Some, slice_index_or};
-ghost use Rattle.fancy_regex_states.specs.First.{IsTableOf, CannotBegin, CannotGoOn, KeepsMarks, RefusesSecond};
+ghost use Rattle.fancy_regex_states.specs.First.{IsTableOf, CannotBegin, CannotGoOn, HasNoNewMarks, RefusesSecond};
 
 use crate::first::{FirstChars, reached};
 use crate::state::State;
@@ -57,15 +57,15 @@ fn refuse_after(
     matchers: &[CharClassMatcher],
     unicode: bool,
 ) -> Result<bool, AllocError>
-    ensures kept { OnOk result (KeepsMarks refused.old refused.new) }
-    ensures following { IfOk result (λ known. known ≡ true → (c : ℕ) → c < 128 → slice_index_or refused.new c false ≡ true
+    ensures no_new { OnOk result (HasNoNewMarks refused.old refused.new) }
+    ensures second { IfOk result (λ known. known ≡ true → (c : ℕ) → c < 128 → slice_index_or refused.new c false ≡ true
         → CannotGoOn unicode matchers.now states.now (Some c) state) }
 {
     match state {
         State::Read { next, .. } => {
             match FirstChars::of_one(alloc, states, next, matchers, unicode)? {
                 Some(first) => {
-                    keep_refused(refused, &first, matchers, unicode);
+                    retain_refused(refused, &first, matchers, unicode);
                     Ok(true)
                 }
                 None => Ok(false),
@@ -79,13 +79,13 @@ fn refuse_after(
 }
 
 /// Takes away the marks of those that the table does not refuse.
-fn keep_refused(
+fn retain_refused(
     refused: &mut [bool; 128],
     first: &FirstChars,
     matchers: &[CharClassMatcher],
     unicode: bool,
 )
-    ensures kept { KeepsMarks refused.old refused.new }
+    ensures no_new { HasNoNewMarks refused.old refused.new }
     ensures refused { (c : ℕ) → c < 128 → slice_index_or refused.new c false ≡ true → (states : List State) (entry : ℕ)
         → IsTableOf unicode matchers.now states entry first.now → CannotBegin unicode matchers.now states entry (Some c) }
 {

@@ -21,7 +21,7 @@ returns-in-Read-clause-within c text base low boundary next_boundary =
     let here = get_or_default context.states.now c.args.id Match (Read (Any false false) 0) c.requires.state in
     rw c.read.ensures
     (read_within context.rules.unicode text (length context.states.now) context.stop base c.in-Read.next c.args.at context.matchers.now c.in-Read.leaf c.args.after
-    (rw (here ∙ c.in-Read.is) at (c.requires.closed c.args.id c.requires.state)) low c.requires.high next_boundary)
+    (rw (here ∙ c.in-Read.is) at (c.requires.context.closed c.args.id c.requires.state)) low c.requires.high next_boundary)
 
 pub returns-in-Enter-clause-leads : goal.returns-in-Enter-clause-leads
 returns-in-Enter-clause-leads c view go before shows agree =

@@ -1,31 +1,29 @@
-use Rattle.std.proofs.Common.{◌≡◌, ℕ, ◌+◌, ◌-◌, ◌*◌, ◌^◌, ◌≤◌, ◌∷◌, false, None, length, min, vec_len}
-use Rattle.fancy_regex_class.specs.Looks.{looked_text, look_count, SameCounter}
+use Rattle.std.proofs.Common.{◌≡◌, ℕ, ◌+◌, ◌-◌, ◌*◌, ◌≤◌, ◌∷◌, false, None, length, vec_len}
+use Rattle.fancy_regex_class.specs.Looks.{looked_text, look_count}
 use Rattle.fancy_regex_linear.specs.Meaning.{View}
-use Rattle.fancy_regex_linear.specs.Attempt.{Continuation, land}
-use Rattle.fancy_regex_linear.specs.Visited.{Has, members}
-use Rattle.fancy_regex_linear.specs.Search.{IsPair, AllWithin, AllFail, Explains, Dfs, top_first, ended}
+use Rattle.fancy_regex_linear.specs.Attempt.{Continuation, trace_end}
+use Rattle.fancy_regex_linear.specs.Visited.{Has, pair_count}
+use Rattle.fancy_regex_linear.specs.Search.{AllFail, Explains, Dfs, top_first, end_spot}
+use Rattle.fancy_regex_linear.specs.Layers.{IsAtPair, IsOnlyLookedAt}
 use Rattle.fancy_regex_linear.specs.declared.frame.Frame.TheVariants.{Explore}
 use Rattle.fancy_regex_linear.proofs.search.attempt.Given as goal
 
 abbrev pub invariant-pairs : goal.invariant-pairs
 invariant-pairs l = record {
   tracking : (view : View) (go : ℕ → Continuation) → Explains l.context (looked_text l.fn.text) view go
-      → AllFail view.longest go (Has l.fn.visited)
-      → Dfs view.longest go (land l.fn.backtrack.slots.items (go l.entry l.from).answer) (ended l.best l.farthest) l.fn.backtrack.slots.items (Has l.visited)
-      (Explore l.id l.at ∷ top_first l.backtrack.stack.items) l.backtrack.slots.items;
+      → AllFail view.longest go (Has l.fn.memory.visited)
+      → Dfs view.longest go (trace_end l.fn.memory.backtrack.slots.items (go l.entry l.from).answer) (end_spot l.best l.memory.farthest.items) l.fn.memory.backtrack.slots.items
+      (Has l.memory.visited) (Explore l.id l.at ∷ top_first l.memory.backtrack.stack.items) l.memory.backtrack.slots.items;
   first : l.context.rules.longest ≡ false → l.best ≡ None;
-  pair : IsPair (looked_text l.fn.text) (length l.context.states.now) l.context.stop l.fn.visited.base l.id l.at;
-  within : AllWithin (looked_text l.fn.text) (length l.context.states.now) l.context.stop l.fn.visited.base (top_first l.backtrack.stack.items);
-  count : l.visited.count ≡ length l.context.states.now;
-  base : l.visited.base ≡ l.fn.visited.base;
-  rows : l.visited.rows ≤ l.context.stop - l.fn.visited.base + 1;
-  slots : vec_len l.backtrack.slots ≡ vec_len l.fn.backtrack.slots;
-  farthest : length l.farthest ≡ vec_len l.fn.backtrack.slots;
-  counted : look_count l.text + members l.fn.visited ≤ look_count l.fn.text + members l.visited;
-  more : min (look_count l.fn.text) (2 ^ 64 - 1) ≤ look_count l.text;
-  text : looked_text l.text ≡ looked_text l.fn.text;
-  same_counter : SameCounter l.fn.text l.text;
+  place : IsAtPair l.context (looked_text l.text) l.memory.visited l.memory.backtrack l.id l.at;
+  base : l.memory.visited.base ≡ l.fn.memory.visited.base;
+  rows : l.memory.visited.rows ≤ l.context.stop - l.fn.memory.visited.base + 1;
+  slots : vec_len l.memory.backtrack.slots ≡ vec_len l.fn.memory.backtrack.slots;
+  farthest : vec_len l.memory.farthest ≡ vec_len l.fn.memory.farthest;
+  counted : look_count l.text + pair_count l.fn.memory.visited ≤ look_count l.fn.text + pair_count l.memory.visited;
+  looks : IsOnlyLookedAt l.fn.text l.text;
 }
 
 abbrev pub decreases-pairs : goal.decreases-pairs
-decreases-pairs l = 2 * ((l.context.stop - l.fn.visited.base + 1) * length l.context.states.now - members l.visited) + vec_len l.backtrack.stack
+decreases-pairs l =
+    2 * ((l.context.stop - l.fn.memory.visited.base + 1) * length l.context.states.now - pair_count l.memory.visited) + vec_len l.memory.backtrack.stack

@@ -9,4 +9,4 @@ pub returns-in-Read : goal.returns-in-Read
 returns-in-Read c =
     let context = c.args.context.now in
     let here = get_or_default context.states.now c.args.id Match (Read (Any false false) 0) c.requires.state in
-    read_into context c.args.id c.in-Read.leaf c.in-Read.next c.requires.state (rw (here ∙ c.in-Read.is) at (c.requires.closed c.args.id c.requires.state)) (here ∙ c.in-Read.is)
+    read_into context c.args.id c.in-Read.leaf c.in-Read.next c.requires.state (rw (here ∙ c.in-Read.is) at (c.requires.context.closed c.args.id c.requires.state)) (here ∙ c.in-Read.is)

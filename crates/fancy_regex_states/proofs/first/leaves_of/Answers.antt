@@ -8,7 +8,7 @@ use Rattle.fancy_regex_states.proofs.first.leaves_of.Goals as goal
 pub loop-i-preserved : goal.loop-i-preserved
 loop-i-preserved c =
     let here = get_or_default c.args.states.now (get_or c.args.numbers.now c.loop-i.i 0) (Read (Any false false) 0) Match (omega (arith, c.if-number-states.false)) in
-    among_next c.args.states.now c.args.numbers.now c.loop-i.leaves.items c.add_leaf.new.leaves.items c.loop-i.i c.in_ok-add_leaf.ensures.kept c.loop-i.invariant
+    among_next c.args.states.now c.args.numbers.now c.loop-i.leaves.items c.add_leaf.new.leaves.items c.loop-i.i c.in_ok-add_leaf.ensures.extends c.loop-i.invariant
     (rw here at (c.in_ok-add_leaf.ensures.among c.if-not-branch.false))
 
 pub returns : goal.returns

@@ -38,7 +38,7 @@ repeat-returns-clause-shape t c = λ plain groups.
     c.in_ok-translated.ensures.moves ∙ ap never_empty (c.in_ok-translated.ensures.shape plain groups) ∙ sym (flag_is unicode groups n k child plain) in
     let body : shape c.in_ok-boxed.field-0.value ≡ re_of unicode groups n k child = ap shape c.in_ok-boxed.ensures ∙ c.in_ok-translated.ensures.shape plain groups in
     rw (sym c.is_never_repeated.ensures ∙ c.if-is_never_repeated.false)
-    (shape_repeat c.in_ok-boxed.field-0 c.args.lo c.args.hi c.args.greedy c.in_ok-translated.translated.moves
+    (shape_repeat c.in_ok-boxed.field-0 (record { lo = c.args.lo; hi = c.args.hi; greedy = c.args.greedy; moves = c.in_ok-translated.translated.moves })
     ∙ ap₂ (λ (b : Bool) (x : Re). re.repeat c.args.lo c.args.hi c.args.greedy b x) flag body)
 
 pub row-loop-i-init : goal.row-loop-i-init

@@ -1,40 +1,34 @@
 use Rattle.std.proofs.Common.{◌≡◌, ℕ, ◌+◌, ◌-◌, ◌*◌, ◌^◌, ◌≤◌, ◌∙◌, min, List, Option, Some, None, refl, sym, ap, ap₂, subst, arith, length}
 use Rattle.fancy_regex_class.specs.Looks.{looked_text, look_count}
 use Rattle.fancy_regex_linear.specs.Meaning.{Spot, View}
-use Rattle.fancy_regex_linear.specs.Attempt.{Continuation, land}
+use Rattle.fancy_regex_linear.specs.Attempt.{Continuation, trace_end}
 use Rattle.fancy_regex_linear.specs.Find.{earliest, attempted, places, places_from}
 use Rattle.fancy_regex_linear.specs.Starts.{places_left, spot_from}
-use Rattle.fancy_regex_linear.specs.Visited.{Has, spent}
-use Rattle.fancy_regex_linear.specs.Search.{AllFail, Explains, ended}
+use Rattle.fancy_regex_linear.specs.Visited.{Has, visited_bound}
+use Rattle.fancy_regex_linear.specs.Search.{AllFail, Explains, end_spot}
 use Rattle.fancy_regex_linear.specs.declared.visited.Visited.{Visited}
-use Rattle.fancy_regex_linear.proofs.VisitedLemmas.{spent_most, looks_within, none_has}
+use Rattle.fancy_regex_linear.proofs.VisitedLemmas.{visited_bound_most, looks_within, none_has}
 use Rattle.fancy_regex_linear.proofs.StartLemmas.{passed_over, earliest_next, earliest_here, earliest_none, tried_next, tried_here, tried_none, after_from, above_base, next_after}
-use Rattle.fancy_regex_linear.proofs.DfsLemmas.{land_none}
-use Rattle.fancy_regex_linear.proofs.search.earliest_way.Goals as goal
-use Rattle.fancy_regex_linear.proofs.search.earliest_way.Goals.{After-next_start, In-Some-scanned, In-Some-run_ahead, After-begin, After-begin_ahead, In_ok-end, In_ok-end-2}
+use Rattle.fancy_regex_linear.proofs.DfsLemmas.{trace_end_none}
+use Rattle.fancy_regex_linear.proofs.search.earliest_match.Goals as goal
+use Rattle.fancy_regex_linear.proofs.search.earliest_match.Goals.{After-next_start, In-Some-scanned, In-Some-run_ahead, After-attempt_start, After-attempt_run, In_ok-end, In_ok-end-2}
 
 pub starts-init : goal.starts-init
 starts-init c = record {
-  found = λ view go explains. (λ q i r has reaches. absurd (none_has c.args.visited.now q i c.requires.fresh.1 has), refl, refl, omega arith);
+  found = λ view go explains. (λ q i r has reaches. absurd (none_has c.args.memory.now.visited q i c.requires.fresh.1 has), refl, refl, omega arith);
   from = (omega arith, c.requires.range.0, c.requires.start);
-  count = c.requires.count;
+  between = c.requires.between;
   base = (omega (arith, c.requires.fresh.0), omega (arith, c.requires.fresh.0, c.requires.range.0), omega (arith, c.requires.fresh.0));
-  rows = omega (arith, c.requires.fresh.1);
-  empty = c.requires.empty;
-  slots = refl;
-  farthest = c.requires.slots;
   at_most =
-      let first : c.args.start * length c.args.context.now.states.now ≡ c.args.visited.now.base * c.args.visited.now.count =
-      ap₂ (λ (a b : ℕ). a * b) (sym c.requires.fresh.0) (sym c.requires.count) in
+      let first : c.args.start * length c.args.context.now.states.now ≡ c.args.memory.now.visited.base * c.args.memory.now.visited.count =
+      ap₂ (λ (a b : ℕ). a * b) (sym c.requires.fresh.0) (sym c.requires.between.count) in
       omega (arith, first);
-  more = omega arith;
-  text = refl;
-  same_counter = refl;
+  looks = record { more = omega arith; text = refl; same_counter = refl };
 }
 
 -- what an attempt at a place gives
 abbrev spot : (c : After-next_start) → (ℕ → Continuation) → ℕ → Option Spot
-spot c go = spot_from go c.args.context.now.entry c.args.backtrack.now.slots.items
+spot c go = spot_from go c.args.context.now.entry c.args.memory.now.backtrack.slots.items
 
 abbrev all_places : (c : After-next_start) → List ℕ
 all_places c = places (looked_text c.args.text.now) c.args.anchored c.args.start c.args.context.now.stop
@@ -48,14 +42,14 @@ passed : (c : After-next_start) (view : View) (go : ℕ → Continuation) → Ex
     × (min (look_count c.args.text.now + attempted (spot c go) (all_places c)) (2 ^ 64 - 1) ≤ min (look_count c.next_start.new.text + (attempted (spot c go) (left c) - 1)) (2 ^ 64 - 1))
 passed c view go explains =
     let inv = rw c.in-Some.is at (c.starts.invariant.found view go explains) in
-    let here : Explains c.args.context.now (looked_text c.starts.text) view go = rw c.starts.invariant.text explains in
-    let over = rw c.starts.invariant.text at (c.next_start.ensures.passed view go here inv.0 c.args.backtrack.now.slots.items) in
-    let least = rw c.starts.invariant.text at (c.next_start.ensures.at_least view go here inv.0 c.args.backtrack.now.slots.items) in
+    let here : Explains c.args.context.now (looked_text c.starts.text) view go = rw c.starts.invariant.looks.text explains in
+    let over = rw c.starts.invariant.looks.text at (c.next_start.ensures.passed view go here inv.0 c.args.memory.now.backtrack.slots.items) in
+    let least = rw c.starts.invariant.looks.text at (c.next_start.ensures.at_least view go here inv.0 c.args.memory.now.backtrack.slots.items) in
     (inv.2 ∙ over, omega (arith, inv.3, least))
 
--- no more pairs were spent than there are
-capped : (v : Visited) (stop count : ℕ) → v.count ≡ count → v.base ≤ stop → v.rows ≤ stop - v.base + 1 → spent v ≤ (stop + 1) * count
-capped v stop count same low rows = subst (λ (n : ℕ). spent v ≤ (stop + 1) * n) same (spent_most v stop low rows)
+-- no more pairs were visited_bound than there are
+capped : (v : Visited) (stop count : ℕ) → v.count ≡ count → v.base ≤ stop → v.rows ≤ stop - v.base + 1 → visited_bound v ≤ (stop + 1) * count
+capped v stop count same low rows = subst (λ (n : ℕ). visited_bound v ≤ (stop + 1) * n) same (visited_bound_most v stop low rows)
 
 pub returns-in_default-next_start-clause-answer : goal.returns-in_default-next_start-clause-answer
 returns-in_default-next_start-clause-answer c view go explains =
@@ -76,19 +70,19 @@ returns-in_default-next_start-clause-at_most c =
     let stop : ℕ = c.args.context.now.stop in
     let from = rw c.in-Some.is at c.starts.invariant.from in
     let so_far = rw c.in-Some.is at c.starts.invariant.at_most in
-    let cap = capped c.starts.visited stop count c.starts.invariant.count c.starts.invariant.base.1 c.starts.invariant.rows in
-    looks_within (look_count c.next_start.new.text) (look_count c.args.text.now) (spent c.starts.visited) c.args.start stop count (stop + 1 - c.args.start) c.requires.range.0
+    let cap = capped c.starts.memory.visited stop count c.starts.invariant.between.count c.starts.invariant.base.1 c.starts.invariant.between.rows in
+    looks_within (look_count c.next_start.new.text) (look_count c.args.text.now) (visited_bound c.starts.memory.visited) c.args.start stop count (stop + 1 - c.args.start) c.requires.range.0
     (omega (arith, so_far, c.in_default-next_start.ensures.at_most, from.0, from.1)) cap (omega (arith, c.requires.range.0))
 
 pub returns-clause-answer : goal.returns-clause-answer
 returns-clause-answer c view go explains =
     let inv = rw c.in_default.is at (c.starts.invariant.found view go explains) in
-    sym (inv.2 ∙ earliest_none (spot_from go c.args.context.now.entry c.args.backtrack.now.slots.items))
+    sym (inv.2 ∙ earliest_none (spot_from go c.args.context.now.entry c.args.memory.now.backtrack.slots.items))
 
 pub returns-clause-at_least : goal.returns-clause-at_least
 returns-clause-at_least c view go explains =
     let inv = rw c.in_default.is at (c.starts.invariant.found view go explains) in
-    let none = tried_none (spot_from go c.args.context.now.entry c.args.backtrack.now.slots.items) in
+    let none = tried_none (spot_from go c.args.context.now.entry c.args.memory.now.backtrack.slots.items) in
     omega (arith, inv.3, none)
 
 pub returns-clause-at_most : goal.returns-clause-at_most
@@ -96,12 +90,12 @@ returns-clause-at_most c =
     let count : ℕ = length c.args.context.now.states.now in
     let stop : ℕ = c.args.context.now.stop in
     let so_far = rw c.in_default.is at c.starts.invariant.at_most in
-    let cap = capped c.starts.visited stop count c.starts.invariant.count c.starts.invariant.base.1 c.starts.invariant.rows in
-    looks_within (look_count c.starts.text) (look_count c.args.text.now) (spent c.starts.visited) c.args.start stop count (stop + 1 - c.args.start) c.requires.range.0
+    let cap = capped c.starts.memory.visited stop count c.starts.invariant.between.count c.starts.invariant.base.1 c.starts.invariant.between.rows in
+    looks_within (look_count c.starts.text) (look_count c.args.text.now) (visited_bound c.starts.memory.visited) c.args.start stop count (stop + 1 - c.args.start) c.requires.range.0
     so_far cap (omega (arith, c.requires.range.0))
 
 -- the bound, after an attempt
-bound : (c : After-begin) → look_count c.begin.new.text ≤ look_count c.args.text.now + (c.args.context.now.stop - c.args.start + 1) * length c.args.context.now.states.now + (c.args.context.now.stop - c.args.start + 1)
+bound : (c : After-attempt_start) → look_count c.attempt_start.new.text ≤ look_count c.args.text.now + (c.args.context.now.stop - c.args.start + 1) * length c.args.context.now.states.now + (c.args.context.now.stop - c.args.start + 1)
 bound c =
     let count : ℕ = length c.args.context.now.states.now in
     let stop : ℕ = c.args.context.now.stop in
@@ -110,16 +104,16 @@ bound c =
     let so_far = rw c.in-Some.is at c.starts.invariant.at_most in
     let same = c.run_ahead.ensures.same c.in_default-run_ahead.is in
     let scan_same = c.scanned.ensures.same c.in_default-scanned.is in
-    let spent_same : spent c.run_ahead.new.visited ≡ spent c.starts.visited = ap spent same.1 in
-    let cap = capped c.begin.new.visited stop count (c.begin.ensures.count ∙ c.run_ahead.ensures.count ∙ c.starts.invariant.count) (omega (arith, c.begin.ensures.base.1, is.high)) c.begin.ensures.rows in
-    looks_within (look_count c.begin.new.text) (look_count c.args.text.now) (spent c.begin.new.visited) c.args.start stop count (c.in-Some-next_start.place.at + 1 - c.args.start) c.requires.range.0
-    (omega (arith, so_far, same.0, scan_same, spent_same, c.begin.ensures.counted, c.in-Some-next_start.ensures.at_most, from.0, is.low)) cap (omega (arith, is.high))
+    let visited_bound_same : visited_bound c.run_ahead.new.visited ≡ visited_bound c.starts.memory.visited = ap visited_bound same.1 in
+    let cap = capped c.attempt_start.new.memory.visited stop count (c.attempt_start.ensures.attempt.count ∙ c.run_ahead.ensures.count ∙ c.starts.invariant.between.count) (omega (arith, c.attempt_start.ensures.attempt.base.1, is.high)) c.attempt_start.ensures.attempt.rows in
+    looks_within (look_count c.attempt_start.new.text) (look_count c.args.text.now) (visited_bound c.attempt_start.new.memory.visited) c.args.start stop count (c.in-Some-next_start.place.at + 1 - c.args.start) c.requires.range.0
+    (omega (arith, so_far, same.0, scan_same, visited_bound_same, c.attempt_start.ensures.attempt.counted, c.in-Some-next_start.ensures.at_most, from.0, is.low)) cap (omega (arith, is.high))
 
 pub returns-in_err-end-2-clause-at_most : goal.returns-in_err-end-2-clause-at_most
-returns-in_err-end-2-clause-at_most c = bound (goal.at.returns-in_err-end-2-clause-at_most c).After-begin
+returns-in_err-end-2-clause-at_most c = bound (goal.at.returns-in_err-end-2-clause-at_most c).After-attempt_start
 
 pub returns-in-Some-3-clause-at_most : goal.returns-in-Some-3-clause-at_most
-returns-in-Some-3-clause-at_most c = bound (goal.at.returns-in-Some-3-clause-at_most c).After-begin
+returns-in-Some-3-clause-at_most c = bound (goal.at.returns-in-Some-3-clause-at_most c).After-attempt_start
 
 -- the same, where the pattern was scanned
 pub returns-in-Some-scanned-clause-at_most : goal.returns-in-Some-scanned-clause-at_most
@@ -129,16 +123,16 @@ returns-in-Some-scanned-clause-at_most c =
     let is = c.in-Some-next_start.ensures.start in
     let from = rw c.in-Some.is at c.starts.invariant.from in
     let so_far = rw c.in-Some.is at c.starts.invariant.at_most in
-    let cap = capped c.starts.visited stop count c.starts.invariant.count c.starts.invariant.base.1 c.starts.invariant.rows in
-    looks_within (look_count c.scanned.new.text) (look_count c.args.text.now) (spent c.starts.visited) c.args.start stop count (stop + 1 - c.args.start) c.requires.range.0
+    let cap = capped c.starts.memory.visited stop count c.starts.invariant.between.count c.starts.invariant.base.1 c.starts.invariant.between.rows in
+    looks_within (look_count c.scanned.new.text) (look_count c.args.text.now) (visited_bound c.starts.memory.visited) c.args.start stop count (stop + 1 - c.args.start) c.requires.range.0
     (omega (arith, so_far, c.scanned.ensures.at_most, c.in-Some-next_start.ensures.at_most, from.0, from.1, is.low, is.high)) cap (omega (arith, c.requires.range.0))
 
 scan_ends : (c : In-Some-scanned) (view : View) (go : ℕ → Continuation) → Explains c.args.context.now (looked_text c.args.text.now) view go
-    → ended (Some c.in-Some-scanned.end) c.starts.backtrack.slots.items ≡ spot_from go c.args.context.now.entry c.args.backtrack.now.slots.items c.in-Some-next_start.place.at
+    → end_spot (Some c.in-Some-scanned.end) c.starts.memory.backtrack.slots.items ≡ spot_from go c.args.context.now.entry c.args.memory.now.backtrack.slots.items c.in-Some-next_start.place.at
 scan_ends c view go explains =
     let inv = c.starts.invariant.found view go explains in
-    let here : Explains c.args.context.now (looked_text c.next_start.new.text) view go = rw (c.next_start.ensures.text, c.starts.invariant.text) explains in
-    c.in-Some-scanned.ensures.value view go here c.starts.backtrack.slots.items ∙ ap (λ s. land s (go c.args.context.now.entry c.in-Some-next_start.place.at).answer) inv.1
+    let here : Explains c.args.context.now (looked_text c.next_start.new.text) view go = rw (c.next_start.ensures.looks.text, c.starts.invariant.looks.text) explains in
+    c.in-Some-scanned.ensures.value view go here c.starts.memory.backtrack.slots.items ∙ ap (λ s. trace_end s (go c.args.context.now.entry c.in-Some-next_start.place.at).answer) inv.1
 
 pub returns-in-Some-scanned-clause-answer : goal.returns-in-Some-scanned-clause-answer
 returns-in-Some-scanned-clause-answer c view go explains =
@@ -153,23 +147,23 @@ returns-in-Some-scanned-clause-at_least c view go explains =
     let one = tried_here (spot d go) c.in-Some-next_start.place.at
     (places_from (looked_text c.args.text.now) c.args.anchored c.in-Some-next_start.place.next c.args.context.now.stop) _
     (sym (scan_ends (goal.at.returns-in-Some-scanned-clause-at_least c).In-Some-scanned view go explains)) in
-    omega (arith, over.1, one, c.scanned.ensures.more)
+    omega (arith, over.1, one, c.scanned.ensures.looks.more)
 
 -- what is known of the attempt
 record Attempted (c : In_ok-end-2) (view : View) (go : ℕ → Continuation) : Type 0 where
-  pub value : ended c.in_ok-end-2.field-0 c.begin.new.backtrack.slots.items ≡ spot_from go c.args.context.now.entry c.args.backtrack.now.slots.items c.in-Some-next_start.place.at
-  pub failed : c.in_ok-end-2.field-0 ≡ None → AllFail view.longest go (Has c.begin.new.visited) × (c.begin.new.backtrack.slots.items ≡ c.args.backtrack.now.slots.items)
+  pub value : end_spot c.in_ok-end-2.field-0 c.attempt_start.new.memory.backtrack.slots.items ≡ spot_from go c.args.context.now.entry c.args.memory.now.backtrack.slots.items c.in-Some-next_start.place.at
+  pub failed : c.in_ok-end-2.field-0 ≡ None → AllFail view.longest go (Has c.attempt_start.new.memory.visited) × (c.attempt_start.new.memory.backtrack.slots.items ≡ c.args.memory.now.backtrack.slots.items)
 
 tried : (c : In_ok-end-2) (view : View) (go : ℕ → Continuation) → Explains c.args.context.now (looked_text c.args.text.now) view go → Attempted c view go
 tried c view go explains =
     let inv = c.starts.invariant.found view go explains in
-    let here : Explains c.args.context.now (looked_text c.run_ahead.new.text) view go = rw (c.run_ahead.ensures.text, c.scanned.ensures.text, c.next_start.ensures.text, c.starts.invariant.text) explains in
+    let here : Explains c.args.context.now (looked_text c.run_ahead.new.text) view go = rw (c.run_ahead.ensures.text, c.scanned.ensures.looks.text, c.next_start.ensures.looks.text, c.starts.invariant.looks.text) explains in
     let fail : AllFail view.longest go (Has c.run_ahead.new.visited) = λ q i r has. inv.0 q i r (c.run_ahead.ensures.pairs q i has) in
-    let value = c.in_ok-end-2.ensures.value view go here fail in
+    let value = c.in_ok-end-2.ensures.end.value view go here fail in
     record {
-      value = value ∙ ap (λ s. land s (go c.args.context.now.entry c.in-Some-next_start.place.at).answer) inv.1;
+      value = value ∙ ap (λ s. trace_end s (go c.args.context.now.entry c.in-Some-next_start.place.at).answer) inv.1;
       failed = λ none.
-          let after = rw none at c.in_ok-end-2.ensures.failed in
+          let after = c.in_ok-end-2.ensures.end.failed none in
           let both = after view go here fail in
           (both.0, both.1 ∙ inv.1);
     }
@@ -192,7 +186,7 @@ returns-in-Some-3-clause-at_least c view go explains =
     (places_from (looked_text c.args.text.now) c.args.anchored c.in-Some-next_start.place.next c.args.context.now.stop) _ (sym value) in
     let same = c.run_ahead.ensures.same c.in_default-run_ahead.is in
     let scan_same = c.scanned.ensures.same c.in_default-scanned.is in
-    omega (arith, over.1, one, same.0, scan_same, c.begin.ensures.more)
+    omega (arith, over.1, one, same.0, scan_same, c.attempt_start.ensures.attempt.looks.more)
 
 pub starts-preserved : goal.starts-preserved
 starts-preserved c =
@@ -200,14 +194,14 @@ starts-preserved c =
     let place = c.in-Some-next_start.place in
     let text = looked_text c.args.text.now in
     let stop : ℕ = c.args.context.now.stop in
-    let is = rw c.starts.invariant.text at c.in-Some-next_start.ensures.start in
+    let is = rw c.starts.invariant.looks.text at c.in-Some-next_start.ensures.start in
     let from = rw c.in-Some.is at c.starts.invariant.from in
     let so_far = rw c.in-Some.is at c.starts.invariant.at_most in
-    let after = next_after text stop place.at place.next is.high is.following in
+    let after = next_after text stop place.at place.next is.high is.next in
     let same = c.run_ahead.ensures.same c.in_default-run_ahead.is in
     let scan_same = c.scanned.ensures.same c.in_default-scanned.is in
-    let spent_same : spent c.run_ahead.new.visited ≡ spent c.starts.visited = ap spent same.1 in
-    let base_same : c.run_ahead.new.visited.base ≡ c.starts.visited.base = ap (λ v. v.base) same.1 in
+    let visited_bound_same : visited_bound c.run_ahead.new.visited ≡ visited_bound c.starts.memory.visited = ap visited_bound same.1 in
+    let base_same : c.run_ahead.new.visited.base ≡ c.starts.memory.visited.base = ap (λ v. v.base) same.1 in
     record {
       found = λ view go explains.
           let try = tried (goal.at.starts-preserved c).In_ok-end-2 view go explains in
@@ -220,23 +214,26 @@ starts-preserved c =
             failed.0,
             failed.1,
             over.0 ∙ next,
-            omega (arith, over.1, more, same.0, scan_same, c.begin.ensures.more),
+            omega (arith, over.1, more, same.0, scan_same, c.attempt_start.ensures.attempt.looks.more),
           );
-      from = after_from text stop c.args.start place.at place.next (omega (arith, from.0, is.low)) is.following;
-      count = c.begin.ensures.count ∙ c.run_ahead.ensures.count ∙ c.starts.invariant.count;
-      base = (omega (arith, c.starts.invariant.base.0, base_same, c.begin.ensures.base.0), omega (arith, c.begin.ensures.base.1, is.high), above_base text stop c.begin.new.visited.base place.at place.next c.begin.ensures.base.1 is.following);
-      rows = c.begin.ensures.rows;
-      empty = rw c.in_default-3.is at c.in_ok-end-2.ensures.empty;
-      slots = c.begin.ensures.slots ∙ c.starts.invariant.slots;
-      farthest = c.begin.auto.farthest ∙ c.starts.invariant.farthest;
-      at_most = omega (arith, so_far, same.0, scan_same, spent_same, c.begin.ensures.counted, c.in-Some-next_start.ensures.at_most, from.0, is.low, after);
-      more = omega (arith, c.next_start.ensures.more, same.0, scan_same, c.begin.ensures.more, c.starts.invariant.more);
-      text = c.begin.ensures.text ∙ c.run_ahead.ensures.text ∙ c.scanned.ensures.text ∙ c.next_start.ensures.text ∙ c.starts.invariant.text;
-      same_counter = c.begin.ensures.same_counter ∙ c.run_ahead.ensures.same_counter ∙ c.scanned.ensures.same_counter ∙ c.next_start.ensures.same_counter ∙ c.starts.invariant.same_counter;
+      from = after_from text stop c.args.start place.at place.next (omega (arith, from.0, is.low)) is.next;
+      between = record {
+        count = c.attempt_start.ensures.attempt.count ∙ c.run_ahead.ensures.count ∙ c.starts.invariant.between.count;
+        rows = c.attempt_start.ensures.attempt.rows;
+        empty = c.in_ok-end-2.ensures.end.empty c.in_default-3.is;
+        farthest = c.attempt_start.ensures.attempt.farthest ∙ c.starts.invariant.between.farthest ∙ sym c.attempt_start.ensures.attempt.slots;
+      };
+      base = (omega (arith, c.starts.invariant.base.0, base_same, c.attempt_start.ensures.attempt.base.0), omega (arith, c.attempt_start.ensures.attempt.base.1, is.high), above_base text stop c.attempt_start.new.memory.visited.base place.at place.next c.attempt_start.ensures.attempt.base.1 is.next);
+      at_most = omega (arith, so_far, same.0, scan_same, visited_bound_same, c.attempt_start.ensures.attempt.counted, c.in-Some-next_start.ensures.at_most, from.0, is.low, after);
+      looks = record {
+        more = omega (arith, c.next_start.ensures.looks.more, same.0, scan_same, c.attempt_start.ensures.attempt.looks.more, c.starts.invariant.looks.more);
+        text = c.attempt_start.ensures.attempt.looks.text ∙ c.run_ahead.ensures.text ∙ c.scanned.ensures.looks.text ∙ c.next_start.ensures.looks.text ∙ c.starts.invariant.looks.text;
+        same_counter = c.attempt_start.ensures.attempt.looks.same_counter ∙ c.run_ahead.ensures.same_counter ∙ c.scanned.ensures.looks.same_counter ∙ c.next_start.ensures.looks.same_counter ∙ c.starts.invariant.looks.same_counter;
+      };
     }
 
 -- the bound, where the start was led ahead
-bound_ahead : (c : After-begin_ahead) → look_count c.begin_ahead.new.text ≤ look_count c.args.text.now + (c.args.context.now.stop - c.args.start + 1) * length c.args.context.now.states.now + (c.args.context.now.stop - c.args.start + 1)
+bound_ahead : (c : After-attempt_run) → look_count c.attempt_run.new.text ≤ look_count c.args.text.now + (c.args.context.now.stop - c.args.start + 1) * length c.args.context.now.states.now + (c.args.context.now.stop - c.args.start + 1)
 bound_ahead c =
     let count : ℕ = length c.args.context.now.states.now in
     let stop : ℕ = c.args.context.now.stop in
@@ -247,34 +244,34 @@ bound_ahead c =
     let scan_same = c.scanned.ensures.same c.in_default-scanned.is in
     let from = rw c.in-Some.is at c.starts.invariant.from in
     let so_far = rw c.in-Some.is at c.starts.invariant.at_most in
-    let cap = capped c.begin_ahead.new.visited stop count (c.begin_ahead.ensures.same.0 ∙ c.run_ahead.ensures.count ∙ c.starts.invariant.count)
-    (omega (arith, c.begin_ahead.ensures.same.1, led.0, ahead.range.1)) c.begin_ahead.ensures.rows in
-    looks_within (look_count c.begin_ahead.new.text) (look_count c.args.text.now) (spent c.begin_ahead.new.visited) c.args.start stop count (c.in-Some-next_start.place.at + 1 - c.args.start) c.requires.range.0
-    (omega (arith, so_far, c.begin_ahead.ensures.counted, led.2, scan_same, c.in-Some-run_ahead.ensures.looked, c.in-Some-next_start.ensures.at_most, from.0, is.low, ahead.range.0)) cap (omega (arith, is.high))
+    let cap = capped c.attempt_run.new.memory.visited stop count (c.attempt_run.ensures.attempt.count ∙ c.run_ahead.ensures.count ∙ c.starts.invariant.between.count)
+    (omega (arith, c.attempt_run.ensures.attempt.base.0, c.attempt_run.ensures.attempt.base.1, led.0, ahead.range.1)) c.attempt_run.ensures.attempt.rows in
+    looks_within (look_count c.attempt_run.new.text) (look_count c.args.text.now) (visited_bound c.attempt_run.new.memory.visited) c.args.start stop count (c.in-Some-next_start.place.at + 1 - c.args.start) c.requires.range.0
+    (omega (arith, so_far, c.attempt_run.ensures.attempt.counted, led.2, scan_same, c.in-Some-run_ahead.ensures.looked, c.in-Some-next_start.ensures.at_most, from.0, is.low, ahead.range.0)) cap (omega (arith, is.high))
 
 pub returns-in_err-end-clause-at_most : goal.returns-in_err-end-clause-at_most
-returns-in_err-end-clause-at_most c = bound_ahead (goal.at.returns-in_err-end-clause-at_most c).After-begin_ahead
+returns-in_err-end-clause-at_most c = bound_ahead (goal.at.returns-in_err-end-clause-at_most c).After-attempt_run
 
 pub returns-in-Some-2-clause-at_most : goal.returns-in-Some-2-clause-at_most
-returns-in-Some-2-clause-at_most c = bound_ahead (goal.at.returns-in-Some-2-clause-at_most c).After-begin_ahead
+returns-in-Some-2-clause-at_most c = bound_ahead (goal.at.returns-in-Some-2-clause-at_most c).After-attempt_run
 
 -- what is known of the attempt at the end of the stretch
 record Led (c : In_ok-end) (view : View) (go : ℕ → Continuation) : Type 0 where
-  pub value : ended c.in_ok-end.field-0 c.begin_ahead.new.backtrack.slots.items ≡ spot_from go c.args.context.now.entry c.args.backtrack.now.slots.items c.in-Some-next_start.place.at
-  pub failed : c.in_ok-end.field-0 ≡ None → AllFail view.longest go (Has c.begin_ahead.new.visited) × (c.begin_ahead.new.backtrack.slots.items ≡ c.args.backtrack.now.slots.items)
+  pub value : end_spot c.in_ok-end.field-0 c.attempt_run.new.memory.backtrack.slots.items ≡ spot_from go c.args.context.now.entry c.args.memory.now.backtrack.slots.items c.in-Some-next_start.place.at
+  pub failed : c.in_ok-end.field-0 ≡ None → AllFail view.longest go (Has c.attempt_run.new.memory.visited) × (c.attempt_run.new.memory.backtrack.slots.items ≡ c.args.memory.now.backtrack.slots.items)
       × ((go c.in-Some-run_ahead.run'.head c.in-Some-run_ahead.run'.end).answer ≡ None)
 
 led_on : (c : In_ok-end) (view : View) (go : ℕ → Continuation) → Explains c.args.context.now (looked_text c.args.text.now) view go → Led c view go
 led_on c view go explains =
     let inv = c.starts.invariant.found view go explains in
-    let here : Explains c.args.context.now (looked_text c.run_ahead.new.text) view go = rw (c.run_ahead.ensures.text, c.scanned.ensures.text, c.next_start.ensures.text, c.starts.invariant.text) explains in
+    let here : Explains c.args.context.now (looked_text c.run_ahead.new.text) view go = rw (c.run_ahead.ensures.text, c.scanned.ensures.looks.text, c.next_start.ensures.looks.text, c.starts.invariant.looks.text) explains in
     let fail : AllFail view.longest go (Has c.run_ahead.new.visited) = λ q i r has. inv.0 q i r (c.run_ahead.ensures.pairs q i has) in
-    let value = c.in_ok-end.ensures.value view go here fail in
+    let value = c.in_ok-end.ensures.end.value view go here fail in
     record {
-      value = value ∙ ap (λ s. land s (go c.args.context.now.entry c.in-Some-next_start.place.at).answer) inv.1;
+      value = value ∙ ap (λ s. trace_end s (go c.args.context.now.entry c.in-Some-next_start.place.at).answer) inv.1;
       failed = λ none.
-          let after = rw none at c.in_ok-end.ensures.failed in
-          let dead = rw none at c.in_ok-end.ensures.dead in
+          let after = c.in_ok-end.ensures.end.failed none in
+          let dead = c.in_ok-end.ensures.dead none in
           let both = after view go here fail in
           (both.0, both.1 ∙ inv.1, dead view go here fail);
     }
@@ -295,7 +292,7 @@ returns-in-Some-2-clause-at_least c view go explains =
     let value = rw c.in-Some-2.is at try.value in
     let one = tried_here (spot d go) c.in-Some-next_start.place.at
     (places_from (looked_text c.args.text.now) c.args.anchored c.in-Some-next_start.place.next c.args.context.now.stop) _ (sym value) in
-    omega (arith, over.1, one, c.scanned.ensures.same c.in_default-scanned.is, c.in-Some-run_ahead.ensures.looked, c.begin_ahead.ensures.more)
+    omega (arith, over.1, one, c.scanned.ensures.same c.in_default-scanned.is, c.in-Some-run_ahead.ensures.looked, c.attempt_run.ensures.attempt.looks.more)
 
 pub starts-preserved-in-Some-run_ahead : goal.starts-preserved-in-Some-run_ahead
 starts-preserved-in-Some-run_ahead c =
@@ -305,9 +302,9 @@ starts-preserved-in-Some-run_ahead c =
     let context = c.args.context.now in
     let text = looked_text c.args.text.now in
     let stop : ℕ = c.args.context.now.stop in
-    let is = rw c.starts.invariant.text at c.in-Some-next_start.ensures.start in
-    let split = rw c.starts.invariant.text at c.in-Some-next_start.ensures.split in
-    let ahead = rw (c.scanned.ensures.text, c.next_start.ensures.text, c.starts.invariant.text) at c.in-Some-run_ahead.ensures.ahead in
+    let is = rw c.starts.invariant.looks.text at c.in-Some-next_start.ensures.start in
+    let split = rw c.starts.invariant.looks.text at c.in-Some-next_start.ensures.split in
+    let ahead = rw (c.scanned.ensures.looks.text, c.next_start.ensures.looks.text, c.starts.invariant.looks.text) at c.in-Some-run_ahead.ensures.ahead in
     let led = c.in-Some-run_ahead.ensures.counted in
     let scan_same = c.scanned.ensures.same c.in_default-scanned.is in
     let from = rw c.in-Some.is at c.starts.invariant.from in
@@ -321,24 +318,27 @@ starts-preserved-in-Some-run_ahead c =
           let skip = passed_over (spot d go) text c.args.anchored stop (run.end - place.at) place.at run.end (omega (arith, ahead.range.0)) c.requires.text is.boundary ahead.range.1
           (λ i b low less. (
             c.in-Some-run_ahead.ensures.many,
-            ap (land c.args.backtrack.now.slots.items) (dead i low less) ∙ land_none c.args.backtrack.now.slots.items,
+            ap (trace_end c.args.memory.now.backtrack.slots.items) (dead i low less) ∙ trace_end_none c.args.memory.now.backtrack.slots.items,
             ahead.ascii i low less,
           )) in
           let same_tried = ap (attempted (spot d go)) split in (
             failed.0,
             failed.1,
             over.0 ∙ ap (earliest (spot d go)) (sym split) ∙ skip.0,
-            omega (arith, over.1, same_tried, skip.1, scan_same, c.in-Some-run_ahead.ensures.looked, c.begin_ahead.ensures.more, ahead.range.0),
+            omega (arith, over.1, same_tried, skip.1, scan_same, c.in-Some-run_ahead.ensures.looked, c.attempt_run.ensures.attempt.looks.more, ahead.range.0),
           );
       from = (omega (arith, from.0, is.low, ahead.range.0), ahead.range.1, ahead.boundary);
-      count = c.begin_ahead.ensures.same.0 ∙ c.run_ahead.ensures.count ∙ c.starts.invariant.count;
-      base = (omega (arith, c.begin_ahead.ensures.same.1, led.0, from.0, is.low, ahead.range.0), omega (arith, c.begin_ahead.ensures.same.1, led.0, ahead.range.1), omega (arith, c.begin_ahead.ensures.same.1, led.0));
-      rows = c.begin_ahead.ensures.rows;
-      empty = rw c.in_default-2.is at c.in_ok-end.ensures.empty;
-      slots = c.begin_ahead.ensures.slots ∙ c.starts.invariant.slots;
-      farthest = c.begin_ahead.auto.farthest ∙ c.starts.invariant.farthest;
-      at_most = omega (arith, so_far, c.begin_ahead.ensures.counted, led.2, scan_same, c.in-Some-run_ahead.ensures.looked, c.in-Some-next_start.ensures.at_most, from.0, is.low, ahead.range.0);
-      more = omega (arith, c.next_start.ensures.more, scan_same, c.in-Some-run_ahead.ensures.looked, c.begin_ahead.ensures.more, c.starts.invariant.more);
-      text = c.begin_ahead.ensures.text ∙ c.run_ahead.ensures.text ∙ c.scanned.ensures.text ∙ c.next_start.ensures.text ∙ c.starts.invariant.text;
-      same_counter = c.begin_ahead.ensures.same_counter ∙ c.run_ahead.ensures.same_counter ∙ c.scanned.ensures.same_counter ∙ c.next_start.ensures.same_counter ∙ c.starts.invariant.same_counter;
+      between = record {
+        count = c.attempt_run.ensures.attempt.count ∙ c.run_ahead.ensures.count ∙ c.starts.invariant.between.count;
+        rows = c.attempt_run.ensures.attempt.rows;
+        empty = c.in_ok-end.ensures.end.empty c.in_default-2.is;
+        farthest = c.attempt_run.ensures.attempt.farthest ∙ c.starts.invariant.between.farthest ∙ sym c.attempt_run.ensures.attempt.slots;
+      };
+      base = (omega (arith, c.attempt_run.ensures.attempt.base.0, c.attempt_run.ensures.attempt.base.1, led.0, from.0, is.low, ahead.range.0), omega (arith, c.attempt_run.ensures.attempt.base.0, c.attempt_run.ensures.attempt.base.1, led.0, ahead.range.1), omega (arith, c.attempt_run.ensures.attempt.base.0, c.attempt_run.ensures.attempt.base.1, led.0));
+      at_most = omega (arith, so_far, c.attempt_run.ensures.attempt.counted, led.2, scan_same, c.in-Some-run_ahead.ensures.looked, c.in-Some-next_start.ensures.at_most, from.0, is.low, ahead.range.0);
+      looks = record {
+        more = omega (arith, c.next_start.ensures.looks.more, scan_same, c.in-Some-run_ahead.ensures.looked, c.attempt_run.ensures.attempt.looks.more, c.starts.invariant.looks.more);
+        text = c.attempt_run.ensures.attempt.looks.text ∙ c.run_ahead.ensures.text ∙ c.scanned.ensures.looks.text ∙ c.next_start.ensures.looks.text ∙ c.starts.invariant.looks.text;
+        same_counter = c.attempt_run.ensures.attempt.looks.same_counter ∙ c.run_ahead.ensures.same_counter ∙ c.scanned.ensures.looks.same_counter ∙ c.next_start.ensures.looks.same_counter ∙ c.starts.invariant.looks.same_counter;
+      };
     }

@@ -1,0 +1,87 @@
+-- The ways of a plain tree keep the start that the match will be said to have.
+use Rattle.std.proofs.Common.{◌≡◌, ℕ, zero, suc, ◌+◌, ◌-◌, ◌==◌, Bool, true, false, List, [], ◌∷◌, length, Option, Some, None, if◌then◌else◌, refl, ◌∙◌}
+use Rattle.std.specs.List.{flat_map}
+use Rattle.std.specs.Char.{len_utf8}
+use Rattle.regex_hir.specs.Text.{char_at}
+use Rattle.fancy_regex_tree.specs.Tree.{Tree, Trees, empty, any, assertion, literal, concat, alt, group, repeat, delegate, no_trees, more_trees}
+use Rattle.fancy_regex_meaning.specs.Groups.{group_count}
+use Rattle.fancy_regex_meaning.specs.Sizes.{bound_of}
+use Rattle.fancy_regex_meaning.specs.Ways.{MatchState, Moves, Setting, Meaning, meaning, meanings, all_of, any_of, prefer, due, up_to, loop, character, with_position, for_some, match_empty_if, holds}
+use Rattle.fancy_regex_meaning.specs.Ways as ways
+use Rattle.fancy_regex_meaning.specs.WayLaws.{Each}
+use Rattle.fancy_regex_meaning.proofs.EachLemmas.{Each-weaker, Each-append, Each-map, Each-flat_map}
+use Rattle.fancy_regex_linear.specs.Plain.{IsPlain, ArePlain}
+
+abbrev HaveStartOf : MatchState → List MatchState → Type 0
+HaveStartOf w vs = Each (λ v. v.kept ≡ w.kept) vs
+
+abbrev KeepsStart : Moves → Type 0
+KeepsStart f = (w : MatchState) → HaveStartOf w (f w)
+
+follow : (w : MatchState) (f : Moves) (vs : List MatchState) → KeepsStart f → HaveStartOf w vs → HaveStartOf w (flat_map f vs)
+follow w f vs h k =
+    Each-flat_map (λ v. v.kept ≡ w.kept) (λ v. v.kept ≡ w.kept) f
+    (λ v e. Each-weaker (λ u. u.kept ≡ v.kept) (λ u. u.kept ≡ w.kept) (λ u q. q ∙ e) (f v) (h v)) vs k
+
+in_turn : (g : Bool) (w : MatchState) (us vs : List MatchState) → HaveStartOf w us → HaveStartOf w vs → HaveStartOf w (prefer g us vs)
+in_turn true w us vs h k = Each-append (λ v. v.kept ≡ w.kept) us vs h k
+in_turn false w us vs h k = Each-append (λ v. v.kept ≡ w.kept) vs us k h
+
+due_keeps : (n : ℕ) (f g : Moves) → KeepsStart f → KeepsStart g → KeepsStart (due n f g)
+due_keeps zero f g h k w = k w
+due_keeps (suc n) f g h k w = follow w (due n f g) (f w) (due_keeps n f g h k) (h w)
+
+up_to_keeps : (n : ℕ) (g : Bool) (f : Moves) → KeepsStart f → KeepsStart (up_to n g f)
+up_to_keeps zero g f h w = (refl, tt)
+up_to_keeps (suc n) g f h w = in_turn g w _ (w ∷ []) (follow w (up_to n g f) (f w) (up_to_keeps n g f h) (h w)) (refl, tt)
+
+iteration_keeps : (b : Bool) (w v : MatchState) (again : List MatchState) → v.kept ≡ w.kept → HaveStartOf v again → HaveStartOf w (if b then v ∷ [] else again)
+iteration_keeps true w v again e h = (e, tt)
+iteration_keeps false w v again e h = Each-weaker (λ u. u.kept ≡ v.kept) (λ u. u.kept ≡ w.kept) (λ u q. q ∙ e) again h
+
+loop_keeps : (n : ℕ) (g : Bool) (f : Moves) → KeepsStart f → KeepsStart (loop n g f)
+loop_keeps zero g f h w = tt
+loop_keeps (suc n) g f h w =
+    in_turn g w _ (w ∷ [])
+    (Each-flat_map (λ v. v.kept ≡ w.kept) (λ v. v.kept ≡ w.kept) _
+    (λ v e. iteration_keeps (v.position == w.position) w v (loop n g f v) e (loop_keeps n g f h v)) (f w) (h w))
+    (refl, tt)
+
+repeat_keeps : (s : Setting) (lo : ℕ) (bound : Option ℕ) (g : Bool) (f : Moves) → KeepsStart f → KeepsStart (ways.repeat s lo bound g f)
+repeat_keeps s lo None g f h w = due_keeps lo f (loop (length s.text + 1) g f) h (loop_keeps (length s.text + 1) g f h) w
+repeat_keeps s lo (Some hi) g f h w = due_keeps lo f (up_to (hi - lo) g f) h (up_to_keeps (hi - lo) g f h) w
+
+if_keeps : (b : Bool) (w v : MatchState) → v.kept ≡ w.kept → HaveStartOf w (if b then v ∷ [] else [])
+if_keeps true w v e = (e, tt)
+if_keeps false w v e = tt
+
+char_keeps : (test : ℕ → Bool) (w : MatchState) (o : Option ℕ) → HaveStartOf w (for_some (λ c. if test c then with_position w (w.position + len_utf8 c) ∷ [] else []) o)
+char_keeps test w None = tt
+char_keeps test w (Some c) = if_keeps (test c) w (with_position w (w.position + len_utf8 c)) refl
+
+module _ (s : Setting) (groups : List Tree) (call : ℕ → Moves) where
+  mutual
+    unfolding meaning
+
+    pub keeps_start : (n : ℕ) (t : Tree) → IsPlain t → KeepsStart (meaning s groups call n t).from
+    keeps_start n empty p w = (refl, tt)
+    keeps_start n (any newline crlf) p w = char_keeps _ w (char_at s.text w.position)
+    keeps_start n (literal val casei) p w = char_keeps _ w (char_at s.text w.position)
+    keeps_start n (delegate class casei) p w = char_keeps _ w (char_at s.text w.position)
+    keeps_start n (assertion a) p w = if_keeps (holds s a w.position) w w refl
+    keeps_start n (concat ts) p w = row_keeps n ts p w
+    keeps_start n (alt ts) p w = branches_keeps n ts p.1 w
+    keeps_start n (group t) p w =
+        Each-map (λ v. v.kept ≡ w.kept) (λ v. v.kept ≡ w.kept) (λ v. ways.set_pair n (w.position, v.position) v) (λ v e. e) ((meaning s groups call (n + 1) t).from w) (keeps_start (n + 1) t p w)
+    keeps_start n (repeat t lo hi greedy) p w = repeat_keeps s lo (bound_of hi) greedy (meaning s groups call n t).from (keeps_start n t p) w
+    keeps_start n _ p w = absurd p
+
+    row_keeps : (n : ℕ) (ts : Trees) → ArePlain ts → KeepsStart (all_of (meanings s groups call n ts))
+    row_keeps n no_trees p w = (refl, tt)
+    row_keeps n (more_trees t ts) p w =
+        follow w (all_of (meanings s groups call (n + group_count t) ts)) ((meaning s groups call n t).from w) (row_keeps (n + group_count t) ts p.1) (keeps_start n t p.0 w)
+
+    branches_keeps : (n : ℕ) (ts : Trees) → ArePlain ts → KeepsStart (any_of (meanings s groups call n ts)).from
+    branches_keeps n no_trees p w = tt
+    branches_keeps n (more_trees t ts) p w =
+        Each-append (λ v. v.kept ≡ w.kept) ((meaning s groups call n t).from w) ((any_of (meanings s groups call (n + group_count t) ts)).from w) (keeps_start n t p.0 w) (branches_keeps (n + group_count t) ts p.1 w)
