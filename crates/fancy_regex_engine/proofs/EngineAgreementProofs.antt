@@ -10,7 +10,7 @@ use Rattle.fancy_regex_class.specs.RunInputs.{setting_for, search_for, group_slo
 use Rattle.fancy_regex_class.specs.declared.input.RunInput.{RunInput}
 use Rattle.fancy_regex_machine.specs.SearchAnswers.{match_places}
 use Rattle.fancy_regex_machine.specs.RunArguments.{run_parameters_for}
-use Rattle.fancy_regex_machine.specs.RunConfigs.{may_start}
+use Rattle.fancy_regex_prefilter.specs.RunContexts.{may_start}
 use Rattle.fancy_regex_machine.specs.declared.search.RunOptions.{RunOptions}
 use Rattle.fancy_regex_engine.specs.EngineAgreement.{EnginesAgree, TriesAllStarts}
 
@@ -63,6 +63,6 @@ pub one_answer : EnginesAgree
 one_answer prog easy pattern text input options ran searched of free asked runs searches =
     runs pattern false of.program asked
     ∙ ap (option_map (match_places prog.whole)) (match_is prog.unicode prog.longest text input options pattern free)
-    ∙ places_same pattern prog.whole (of.whole ∙ of.runner.whole) _
+    ∙ places_same pattern prog.whole (of.whole ∙ of.states.whole) _
     ∙ ap₂ (λ (u l : Bool). option_map (match_slots pattern) (first_match (setting_for u text input) pattern (search_for l input))) of.unicode of.longest
-    ∙ sym (searches pattern of.runner)
+    ∙ sym (searches pattern of.states)

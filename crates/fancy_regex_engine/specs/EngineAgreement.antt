@@ -1,4 +1,4 @@
--- The backtracking machine and the runner of easy patterns return the same match.
+-- The backtracking machine and the linear engine return the same match.
 use Rattle.std.specs.Prelude.{◌≡◌, ℕ, Bool, false, List, Option, None, Result, Ok, IfOk, option_map, Vec}
 use Rattle.std.specs.declared.alloc.AllocError.{AllocError}
 use Rattle.std.specs.declared.alloc.Global.{Global}
@@ -8,7 +8,7 @@ use Rattle.fancy_regex_desugar.specs.Unfolded.{core_pattern_of}
 use Rattle.fancy_regex_program_laws.specs.ProgramLaws.{RunRequirements}
 use Rattle.fancy_regex_program.specs.declared.prog.Prog.{Prog}
 use Rattle.fancy_regex_class.specs.RunInputs.{setting_for, search_for, match_slots}
-use Rattle.fancy_regex_linear.specs.Runner.{IsEasyOf}
+use Rattle.fancy_regex_linear.specs.EasyPatterns.{IsEasyOf}
 use Rattle.fancy_regex_linear.specs.declared.easy.Easy.{Easy}
 use Rattle.fancy_regex_class.specs.declared.input.RunInput.{RunInput}
 use Rattle.fancy_regex_program.specs.Programs.{IsProgramOf}
@@ -36,10 +36,10 @@ abbrev pub SearchAnswers : Easy → List ℕ → RunInput → Result Places Allo
 SearchAnswers easy text input result = IfOk result (λ found. (pattern : Pattern) → IsEasyOf easy pattern
     → listed found ≡ option_map (match_slots pattern) (first_match (setting_for easy.unicode text input) pattern (search_for easy.longest input)))
 
--- The program and the runner were made from one pattern, with the same options.
+-- The program and the states of the linear engine were made from one pattern, with the same options.
 pub record AreOfSamePattern (prog : Prog) (easy : Easy) (pattern : Pattern) : Type 0 where
   pub program : IsProgramOf prog pattern false
-  pub runner : IsEasyOf easy pattern
+  pub states : IsEasyOf easy pattern
   pub whole : prog.whole ≡ easy.whole
   pub unicode : prog.unicode ≡ easy.unicode
   pub longest : prog.longest ≡ easy.longest

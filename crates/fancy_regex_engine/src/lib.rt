@@ -17,6 +17,7 @@ pub use fancy_regex_machine::{
 };
 pub use fancy_regex_program::{
     AbsentRepeater, CaptureGroupRange, Delegate, Insn, Prog, Repeat, RepeatEpsilon,
+    is_valid_program,
 };
 
 /// Wherever both succeed, a run of a pattern's program and an `Easy` search of the same pattern return the same spans of all

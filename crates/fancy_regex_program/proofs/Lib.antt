@@ -4,6 +4,9 @@ mod PartCauses
 mod ReadingLemmas
 mod StartLemmas
 pub mod BodyStartLemmas
+mod EachOp
 mod SpanLemmas
 pub mod SpanPlaces
+pub mod ValidCode
+pub mod ValidSpans
 pub mod Sending

@@ -20,7 +20,7 @@ pub hands : {T : Type 0} (r : Result T CompileError) (e : CompileError) (P : Com
 hands (Ok x) e P is h = absurd is
 hands (Err y) e P is h = subst P (sym is) h
 
--- what is light is not too heavy for the runner
+-- what is light is not too heavy for the linear engine
 light_enough : (w : ℕ) → nat_le (min unbounded w) 4096 ≡ true → greatest_weight < w + 2 → ⊥
 light_enough w light heavy = grind (arith, nat_tests)
 

@@ -2,6 +2,7 @@ pub mod Ops
 pub mod Machine
 pub mod Reading
 pub mod Code
+pub mod ValidPrograms
 pub mod SlotLayout
 pub mod Shapes
 pub mod Caps

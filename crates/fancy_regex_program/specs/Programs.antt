@@ -17,7 +17,7 @@ use Rattle.fancy_regex_info.specs.declared.error.CompileError.TheVariants.{Inval
 use Rattle.fancy_regex_program.specs.Caps.{IsWithinCap, IsPastCap}
 use Rattle.fancy_regex_program.specs.Code.{slots_in, program_of}
 use Rattle.fancy_regex_program.specs.Ops.{ops_of}
-use Rattle.fancy_regex_program.specs.Shapes.{IsWritable}
+use Rattle.fancy_regex_program.specs.Shapes.{IsAllowed, IsWritable}
 use Rattle.fancy_regex_program.specs.declared.insn.Insn.{Insn}
 use Rattle.fancy_regex_program.specs.declared.prog.Prog.{Prog}
 
@@ -25,6 +25,12 @@ use Rattle.fancy_regex_program.specs.declared.prog.Prog.{Prog}
 pub record IsWhole (unicode whole anchored : Bool) (groups : ℕ) (p : CorePattern) (insns : List Insn) (slots : ℕ) : Type 0 where
   pub ops : ops_of insns ≡ program_of (in_class unicode) (folded unicode) whole anchored groups p
   pub slots_are : slots ≡ 2 * groups + slots_in p
+
+-- With so many groups the pattern can be written if the compiler lets it through, and group 0 is one of them if it is the whole.
+pub record IsWritableIfAllowed (unicode whole : Bool) (groups : ℕ) (p : CorePattern) : Type 0 where
+  pub whole_group : whole ≡ true → 0 < groups
+  pub first : ℕ
+  pub writable : IsAllowed unicode true p → IsWritable first groups p
 
 -- The program is that of the pattern, and begins at the first start alone where it is anchored.
 pub record IsProgramOf (prog : Prog) (pattern : Pattern) (anchored : Bool) : Type 0 where

@@ -1,6 +1,6 @@
 -- The slots of the groups at a way.
-use Rattle.std.specs.Prelude.{ℕ, Bool, List, [], ◌∷◌, slice_set, Some, None, if◌then◌else◌}
-use Rattle.fancy_regex_meaning.specs.Ways.{Pairs, MatchState}
+use Rattle.std.specs.Prelude.{ℕ, Bool, List, slice_set, if◌then◌else◌}
+use Rattle.fancy_regex_meaning.specs.Ways.{MatchState}
 use Rattle.fancy_regex_class.specs.RunInputs.{group_slots}
 
 -- The slots of the groups at a way. Where group 0 is the whole, its first slot holds the kept start.

@@ -9,7 +9,7 @@ ghost use Rattle.fancy_regex_class.specs.Classes.{in_class, folded};
 ghost use Rattle.fancy_regex_class.specs.RunInputs.{setting_for};
 ghost use Rattle.fancy_regex_bytes.specs.ByteSets.{has};
 ghost use Rattle.fancy_regex_desugar.specs.Delegates.{is_delegated, searched, first_end, first_end_until};
-ghost use Rattle.fancy_regex_linear.specs.Runner.{IsEasyOf};
+ghost use Rattle.fancy_regex_linear.specs.EasyPatterns.{IsEasyOf};
 ghost use Rattle.fancy_regex_program.specs.BodyStarts.{body_starts_in, body_refuses};
 
 use crate::range::CaptureGroupRange;
@@ -70,7 +70,8 @@ impl Delegate {
 
     /// Whether it is known that no match of the part begins with this ASCII character.
     pub(crate) fn refuses(&self, c: char) -> bool
-        ensures { IsTrue result → body_refuses (in_class self.now.easy.unicode) (folded self.now.easy.unicode) (searched self.now.for_any (tree_of self.now.part)) c ≡ true }
+        ensures { IsTrue result → body_refuses (in_class self.now.easy.unicode) (folded self.now.easy.unicode)
+            (searched self.now.for_any (tree_of self.now.part)) c ≡ true }
     {
         match &self.starts {
             Some(set) => c.is_ascii() && !set.contains(c as u8),
@@ -91,20 +92,10 @@ impl Delegate {
         requires first { IsCharBoundary text.now input.now.first }
         requires range { input.now.range.end ≡ length text.now }
         requires anchored { input.now.anchored ≡ true }
-        ensures { IfOk result (λ found. found ≡ first_end (setting_for self.now.easy.unicode text.now input.now) (searched self.now.for_any (tree_of self.now.part)) input.now.first) }
+        ensures { IfOk result (λ found. found ≡ first_end (setting_for self.now.easy.unicode text.now input.now)
+            (searched self.now.for_any (tree_of self.now.part)) input.now.first) }
     {
-        let mut steps = Steps::new();
-        let found = self
-            .easy
-            .search_in(self.alloc, text, input, &mut steps, memory)?;
-        match found {
-            Some(places) => {
-                let end = place_at(&places, 1);
-                memory.give_back(places);
-                Ok(end)
-            }
-            None => Ok(None),
-        }
+        self.end_until(text, input, memory)
     }
 
     /// The byte offset at which the first match of the part from `input.first` on that ends in range ends; `None` if there is none. The
@@ -118,7 +109,8 @@ impl Delegate {
         requires first { IsCharBoundary text.now input.now.first }
         requires range { input.now.range.end ≤ length text.now }
         requires anchored { input.now.anchored ≡ true }
-        ensures { IfOk result (λ found. found ≡ first_end_until (setting_for self.now.easy.unicode text.now input.now) (searched self.now.for_any (tree_of self.now.part)) input.now.range.end input.now.first) }
+        ensures { IfOk result (λ found. found ≡ first_end_until (setting_for self.now.easy.unicode text.now input.now)
+            (searched self.now.for_any (tree_of self.now.part)) input.now.range.end input.now.first) }
     {
         let mut steps = Steps::new();
         let found = self

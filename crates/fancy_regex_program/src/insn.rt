@@ -8,8 +8,9 @@ use std::sync::Arc;
 
 const _: () = prove!(size_of::<Insn>() <= 24);
 
-/// One instruction of a program, of at most 24 bytes: operands that are larger lie after a pointer. Jump targets are indices of instructions. Slots are numbered from 0; each holds a byte
-/// offset, a count, a height of the backtrack stack, or nothing. The slots 2k and 2k + 1 are the start and the end of group k.
+/// One instruction of a program, of at most 24 bytes: larger operands are boxed or shared. Jump targets are indices of
+/// instructions. Slots are numbered from 0; each holds a byte offset, a count, a height of the backtrack stack, or nothing. The
+/// slots 2k and 2k + 1 are the start and the end of group k.
 #[derive(Clone, Debug, Drop)]
 pub enum Insn {
     /// The whole pattern has matched.

@@ -13,6 +13,7 @@ mod range;
 mod reading;
 mod spans;
 mod starts;
+mod validity;
 
 pub use delegate::Delegate;
 pub use insn::{AbsentRepeater, Insn, Repeat, RepeatEpsilon};
@@ -20,3 +21,4 @@ pub use prog::Prog;
 pub use range::CaptureGroupRange;
 pub use reading::is_uncounted;
 pub use spans::SpanCode;
+pub use validity::is_valid_program;

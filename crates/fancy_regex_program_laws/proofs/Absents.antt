@@ -10,10 +10,10 @@ use Rattle.fancy_regex_program.specs.Ops as op
 use Rattle.fancy_regex_program.specs.Ops.{Op}
 use Rattle.fancy_regex_program.specs.Machine.{unset, RunParameters, RunState, Move, Limited, goes, forks, fails, by_limit, at_op, at_position, moved, wrote_at, begun, looked, looks, lowers, scans, offers, offers_here, offers_below, match_char, before, act, exec, in_front}
 use Rattle.fancy_regex_program.specs.SlotLayout.{slots_of_way}
-use Rattle.fancy_regex_program_laws.proofs.Denote.{Tale, Follow, Run, opens, closes, below, end_ends, end_seen, end_looked, end_look, end_absent}
-use Rattle.fancy_regex_program_laws.proofs.Runs.{above_refl, above_cons, Same, same_refl, same_trans, same_set, thread, lt_yes, lt_no, lt_is, Within, Sound, known, Comes, Pops, Follows, pops_to, pops_scan, forked, by_move, Exits, exits_later, Does}
+use Rattle.fancy_regex_program_laws.proofs.Denote.{Continuation, SuccessContinuation, Denotation, opens, closes, below, end_ends, end_seen, end_looked, end_look, end_absent}
+use Rattle.fancy_regex_program_laws.proofs.Runs.{above_refl, above_cons, Same, same_refl, same_trans, same_set, thread, lt_yes, lt_no, lt_is, Within, Sound, state, Comes, Pops, Follows, pops_to, pops_scan, forked, by_move, Exits, exits_later, Does}
 use Rattle.fancy_regex_program_laws.proofs.ProgramParts.{HasAt, has_back, plain_at, with_slot_is}
-use Rattle.fancy_regex_program_laws.proofs.TextPositions.{Next, places_after, places_from, next_of}
+use Rattle.fancy_regex_program_laws.proofs.TextPositions.{IsFollowedBy, places_after, places_from, followed_by}
 
 -- places one character apart, down to the start
 abbrev Down : List ℕ → ℕ → List ℕ → Type 0
@@ -40,16 +40,16 @@ module _ (code : List Op) (r : RunParameters) (whole : Bool) (count : ℕ) (utf8
   placed_at : (w : MatchState) (q : ℕ) → Sound text count w → IsCharBoundary text q → Sound text count (with_position w q)
   placed_at w q sound cut = record { cuts = (cut, sound.cuts.1, sound.cuts.2); many = sound.many }
 
-  module _ (pc slot much : ℕ) (b : List Op) (g : Run) (body : Does code r whole count (pc + 2) (pc + 2 + length b) (slot + 2) much false g)
+  module _ (pc slot much : ℕ) (b : List Op) (g : Denotation) (body : Does code r whole count (pc + 2) (pc + 2 + length b) (slot + 2) much false g)
       (at_scan : slice_get code (pc + 1) ≡ Some (op.absent_scan (pc + 3 + length b) (slot + 1)))
       (at_limit : slice_get code (pc + 2 + length b) ≡ Some (op.absent_limit (slot + 1)))
       (at_end : slice_get code (pc + 3 + length b) ≡ Some (op.absent_end slot (slot + 1))) where
     abbrev end : ℕ
     end = pc + 3 + length b
 
-    module _ (w : MatchState) (k : Follow) (sound : Sound text count w) where
+    module _ (w : MatchState) (k : SuccessContinuation) (sound : Sound text count w) where
       -- the ends that are offered from a place on, down to the start
-      ends_run : (p : ℕ) (ps : List ℕ) (l low : ℕ) (m : List ℕ) (rest : List Thread) (x : Tale) → Down text w.position (p ∷ ps) → IsCharBoundary text p →
+      ends_run : (p : ℕ) (ps : List ℕ) (l low : ℕ) (m : List ℕ) (rest : List Thread) (x : Continuation) → Down text w.position (p ∷ ps) → IsCharBoundary text p →
           get_or m slot 0 ≡ w.position → get_or m (slot + 1) 0 ≡ l → 2 * count ≤ low → low ≤ slot → slot + 2 + much ≤ length m →
           take (2 * count) m ≡ slots_of_way whole w → Pops code r whole count rest x → Exits code r whole count rest low m false w.position (end + 1) k →
           Comes code r whole count (thread end p m ∷ rest) (end_ends (below l (p ∷ ps)) w k x)
@@ -81,9 +81,9 @@ module _ (code : List Op) (r : RunParameters) (whole : Bool) (count : ℕ) (utf8
           ends_run q qs l low m rest x down.4 down.3 start_is limit_is above_base above_low room fits pops exits in
           let here : nat_lt p l ≡ true → Comes code r whole count (thread (end + 1) p m ∷ u ∷ rest) (k (with_position w p) (end_ends (q ∷ qs) w k x)) = λ is.
           let lt = lt_is p l is in
-          let rest_tale = subst (λ l'. Comes code r whole count (u ∷ rest) (end_ends l' w k x)) (all_below text w.position l q qs (omega (arith, lt, down.1)) down.4) others in
+          let rest_comes = subst (λ l'. Comes code r whole count (u ∷ rest) (end_ends l' w k x)) (all_below text w.position l q qs (omega (arith, lt, down.1)) down.4) others in
           exits.go (with_position w p) m (u ∷ rest) (end_ends (q ∷ qs) w k x) (λ e. omega (arith, down.0)) (placed_at w p sound cut) fits (same_refl (2 * count) low m) (above_cons u rest)
-          (pops_to code r whole count u rest (end_ends (q ∷ qs) w k x) (plain_at code end (op.absent_end slot (slot + 1)) at_end refl refl) rest_tale) in
+          (pops_to code r whole count u rest (end_ends (q ∷ qs) w k x) (plain_at code end (op.absent_end slot (slot + 1)) at_end refl refl) rest_comes) in
           by_move code r whole count t rest (op.absent_end slot (slot + 1)) move (end_ends (below l (p ∷ q ∷ qs)) w k x) at_end cut acts
           ((elim (nat_lt p l) as (λ c. nat_lt p l ≡ c → Follows code r whole count rest (cond c (offers_here t (Some q)) (offers_below t (Some q))) (end_ends (cond c (p ∷ below l (q ∷ qs)) (below l (q ∷ qs))) w k x)) [
             | true ↦ λ is.
@@ -94,11 +94,11 @@ module _ (code : List Op) (r : RunParameters) (whole : Bool) (count : ℕ) (utf8
           ]) refl)
 
       -- it has looked far enough
-      looked_run : (p : ℕ) (ps : List ℕ) (outer low : ℕ) (m : List ℕ) (rest : List Thread) (x : Tale) → Down text w.position (p ∷ ps) → IsCharBoundary text p →
+      looked_run : (p : ℕ) (ps : List ℕ) (outer low : ℕ) (m : List ℕ) (rest : List Thread) (x : Continuation) → Down text w.position (p ∷ ps) → IsCharBoundary text p →
           get_or m slot 0 ≡ w.position → 2 * count ≤ low → low ≤ slot → slot + 2 + much ≤ length m →
           take (2 * count) m ≡ slots_of_way whole w → Pops code r whole count rest x → Exits code r whole count rest low m false w.position (end + 1) k →
           (held : RunState) → Within whole (2 * count) (length rest) (λ j. exec code r j (record { kept = held.kept; limit = outer }) (thread end p (set m (slot + 1) held.limit) ∷ rest))
-          (end_looked (p ∷ ps) outer w k x (known code r whole count held))
+          (end_looked (p ∷ ps) outer w k x (state code r whole count held))
       looked_run p ps outer low m rest x down cut start_is above_base above_low room fits pops exits held =
           let m1 = set m (slot + 1) held.limit in
           let long : length m1 ≡ length m = length-set m (slot + 1) held.limit in
@@ -111,7 +111,7 @@ module _ (code : List Op) (r : RunParameters) (whole : Bool) (count : ℕ) (utf8
           (record { kept = held.kept; limit = outer })
 
       -- the body at a place, and later further on
-      tries : (q : ℕ) (m : List ℕ) (rest : List Thread) (y : Tale) → IsCharBoundary text q → 2 * count ≤ slot → slot + 2 + much ≤ length m →
+      tries : (q : ℕ) (m : List ℕ) (rest : List Thread) (y : Continuation) → IsCharBoundary text q → 2 * count ≤ slot → slot + 2 + much ≤ length m →
           take (2 * count) m ≡ slots_of_way whole w → Comes code r whole count (thread (pc + 1) q m ∷ rest) y →
           Comes code r whole count (thread (pc + 2) q m ∷ thread (pc + 1) q m ∷ rest) (g (with_position w q) end_seen (closes y))
       tries q m rest y cut above_base room fits later =
@@ -128,7 +128,7 @@ module _ (code : List Op) (r : RunParameters) (whole : Bool) (count : ℕ) (utf8
           })
 
       -- it looks on from a place where its body was tried
-      looks_run : (qs : List ℕ) (p : ℕ) (ps : List ℕ) (outer low : ℕ) (m : List ℕ) (rest : List Thread) (x : Tale) → Next text p qs → Down text w.position (p ∷ ps) → IsCharBoundary text p →
+      looks_run : (qs : List ℕ) (p : ℕ) (ps : List ℕ) (outer low : ℕ) (m : List ℕ) (rest : List Thread) (x : Continuation) → IsFollowedBy text p qs → Down text w.position (p ∷ ps) → IsCharBoundary text p →
           get_or m slot 0 ≡ w.position → get_or m (slot + 1) 0 ≡ outer → 2 * count ≤ low → low ≤ slot → slot + 2 + much ≤ length m →
           take (2 * count) m ≡ slots_of_way whole w → Pops code r whole count rest x → Exits code r whole count rest low m false w.position (end + 1) k →
           Comes code r whole count (thread (pc + 1) p m ∷ rest) (end_look g (p ∷ ps) qs outer w k x)
@@ -150,7 +150,7 @@ module _ (code : List Op) (r : RunParameters) (whole : Bool) (count : ℕ) (utf8
           ∙ ap (λ (o : Option ℕ). elim o as (λ o. Move) [ None ↦ by_limit (looked end (slot + 1) t) | Some q ↦ by_limit (looks end (slot + 1) t q) ]) next.0
           ∙ ap (λ o. by_limit (λ l. cond (nat_le l q) (record { limit = o; threads = wrote_at end (slot + 1) l t ∷ [] }) (on l))) outer_is in
           let further : Comes code r whole count (thread (pc + 1) q m ∷ rest) (end_look g (q ∷ p ∷ ps) qs outer w k x) =
-          looks_run qs q (p ∷ ps) outer low m rest x (next_of text utf8 q qs next.2 next.4)
+          looks_run qs q (p ∷ ps) outer low m rest x (followed_by text utf8 q qs next.2 next.4)
           (omega (arith, start_least text w.position p ps down, next.1), next.1, next.3, cut, down) next.2 start_is outer_is above_base above_low room fits pops exits in
           let two : pc + 2 ≡ pc + 1 + 1 = omega arith in
           let tried : Comes code r whole count (thread (pc + 1 + 1) q m ∷ thread (pc + 1) q m ∷ rest) (g (with_position w q) end_seen (closes (end_look g (q ∷ p ∷ ps) qs outer w k x))) =
@@ -159,14 +159,14 @@ module _ (code : List Op) (r : RunParameters) (whole : Bool) (count : ℕ) (utf8
           by_move code r whole count t rest (op.absent_scan end (slot + 1)) (by_limit (λ l. cond (nat_le l q) (out l) (on l))) (end_look g (p ∷ ps) (q ∷ qs) outer w k x) at_scan cut acts
           (λ held. elim (nat_le held.limit q) as (λ c. Within whole (2 * count) (length rest)
           (λ j. in_front code (exec code r j) (record { kept = held.kept; limit = (cond c (out held.limit) (on held.limit)).limit }) (cond c (out held.limit) (on held.limit)).threads rest)
-          (cond c (end_looked (p ∷ ps) outer w k x (known code r whole count held))
-          (opens (g (with_position w q) end_seen (closes (end_look g (q ∷ p ∷ ps) qs outer w k x))) (known code r whole count held)))) [
+          (cond c (end_looked (p ∷ ps) outer w k x (state code r whole count held))
+          (opens (g (with_position w q) end_seen (closes (end_look g (q ∷ p ∷ ps) qs outer w k x))) (state code r whole count held)))) [
             | true ↦ looked_run p ps outer low m rest x down cut start_is above_base above_low room fits pops exits held
             | false ↦ forked code r whole count (thread (pc + 1 + 1) q m) (thread (pc + 1) q m) rest (g (with_position w q) end_seen (closes (end_look g (q ∷ p ∷ ps) qs outer w k x))) tried held
           ])
 
   -- an absent repeater
-  pub does_absent : (pc slot much : ℕ) (free : Bool) (b : List Op) (g : Run) →
+  pub does_absent : (pc slot much : ℕ) (free : Bool) (b : List Op) (g : Denotation) →
       HasAt code pc (op.absent_begin slot (slot + 1) ∷ op.absent_scan (pc + 3 + length b) (slot + 1)
       ∷ (b ++ op.absent_limit (slot + 1) ∷ op.absent_end slot (slot + 1) ∷ [])) →
       Does code r whole count (pc + 2) (pc + 2 + length b) (slot + 2) much false g →
@@ -184,8 +184,8 @@ module _ (code : List Op) (r : RunParameters) (whole : Bool) (count : ℕ) (utf8
         let qs = places_after text w.position in
         let all = places_from text w.position cut in
         let there : slot < length m = omega arith in
-        let tale = end_absent g (w.position ∷ qs) w k x in
-        let starts : Follows code r whole count rest (by_limit (begun slot (slot + 1) t)) tale = λ held.
+        let continuation = end_absent g (w.position ∷ qs) w k x in
+        let starts : Follows code r whole count rest (by_limit (begun slot (slot + 1) t)) continuation = λ held.
         let ma = set m slot w.position in
         let m1 = set ma (slot + 1) held.limit in
         let long_a : length ma ≡ length m = length-set m slot w.position in
@@ -199,12 +199,12 @@ module _ (code : List Op) (r : RunParameters) (whole : Bool) (count : ℕ) (utf8
         (exits_later code r whole count rest low m free w.position (pc + 4 + length b) k exits rest m1 false w.position (above_refl rest) kept (λ e. refl) (λ e. omega arith)) in
         let y = end_look g (w.position ∷ []) qs held.limit w k x in
         let later : Comes code r whole count (thread (pc + 1) w.position m1 ∷ rest) y =
-        looks_run pc slot much b g body at.1.0 last.0 at_end w k sound qs w.position [] held.limit low m1 rest x (next_of text utf8 w.position qs cut all) refl cut
+        looks_run pc slot much b g body at.1.0 last.0 at_end w k sound qs w.position [] held.limit low m1 rest x (followed_by text utf8 w.position qs cut all) refl cut
         start_is limit_is above_base above_low (omega (arith, long)) fits1 pops exits1 in
         let tried = tries pc slot much b g body at.1.0 last.0 at_end w k sound w.position m1 rest y cut (omega arith) (omega (arith, long)) fits1 later in
         forked code r whole count (thread (pc + 2) w.position m1) (thread (pc + 1) w.position m1) rest (g (with_position w w.position) end_seen (closes y)) tried
         (record { kept = held.kept; limit = unset }) in
         subst (λ l. Comes code r whole count (t ∷ rest) (end_absent g l w k x)) (sym all)
-        (by_move code r whole count t rest (op.absent_begin slot (slot + 1)) (by_limit (begun slot (slot + 1) t)) tale at.0 cut
+        (by_move code r whole count t rest (op.absent_begin slot (slot + 1)) (by_limit (begun slot (slot + 1) t)) continuation at.0 cut
         (with_slot_is slot t _ there ∙ with_slot_is (slot + 1) t _ (omega arith)) starts);
   }

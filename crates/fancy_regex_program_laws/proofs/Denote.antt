@@ -1,4 +1,4 @@
--- How a pattern's program ends, told by the pattern: k is what follows a way, and r what follows where no way is left.
+-- The meaning of a pattern's program, in continuation-passing style: k continues after a way, and r where no way is left.
 use Rattle.std.proofs.Common.{ℕ, zero, suc, ◌+◌, ◌-◌, Bool, false, List, [], ◌∷◌, Option, Some, None, length, cond}
 use Rattle.std.specs.Prelude.{◌==◌, is_some, nat_le, nat_lt}
 use Rattle.std.specs.List.{filter}
@@ -12,73 +12,73 @@ use Rattle.fancy_regex_desugar.specs.CoreWays.{passes}
 use Rattle.fancy_regex_program_laws.specs.ProgramLaws.{FoundMatch}
 use Rattle.fancy_regex_program.specs.Machine.{unset, lower, match_char, match_text, match_newline, match_backref}
 
--- what is told of a run: its answer, and how many branches it opens, where either is claimed
-pub record Told : Type 0 where
+-- The outcome of a run: its answer, and how many branches it opens. It says something of a run only where it is claimed.
+pub record Outcome : Type 0 where
   pub answer : Option FoundMatch
   pub branches : ℕ
   pub claimed : Bool
 
--- what is held while a run goes back
-pub record Known : Type 0 where
+-- The state that backtracking does not undo: the best match so far, and the limit of the current absent repeater.
+pub record PersistentState : Type 0 where
   pub kept : Option FoundMatch
   pub limit : ℕ
 
--- what a run tells then
-abbrev pub Tale : Type 0
-Tale = Known → Told
+-- what a run ends as from there, in that state
+abbrev pub Continuation : Type 0
+Continuation = PersistentState → Outcome
 
-abbrev pub Follow : Type 0
-Follow = MatchState → Tale → Tale
+abbrev pub SuccessContinuation : Type 0
+SuccessContinuation = MatchState → Continuation → Continuation
 
--- what a way, what follows and what else there is end as
-abbrev pub Run : Type 0
-Run = MatchState → Follow → Tale → Tale
+-- what a run from a way ends as, by what follows it and what is left otherwise
+abbrev pub Denotation : Type 0
+Denotation = MatchState → SuccessContinuation → Continuation → Continuation
 
-abbrev pub one_more : Told → Told
+abbrev pub one_more : Outcome → Outcome
 one_more t = record { answer = t.answer; branches = suc t.branches; claimed = t.claimed }
 
-abbrev pub one_less : Told → Told
+abbrev pub one_less : Outcome → Outcome
 one_less t = record { answer = t.answer; branches = t.branches - 1; claimed = t.claimed }
 
 -- one branch more
-abbrev pub opens : Tale → Tale
-opens r known = one_more (r known)
+abbrev pub opens : Continuation → Continuation
+opens r state = one_more (r state)
 
 -- a branch of an absent repeater is taken up again, which is no backtrack
-abbrev pub closes : Tale → Tale
-closes r known = one_less (r known)
+abbrev pub closes : Continuation → Continuation
+closes r state = one_less (r state)
 
--- nothing is claimed of what no run comes to
-abbrev pub untold : Tale
-untold known = record { answer = None; branches = 0; claimed = false }
+-- the outcome where no run comes, which claims nothing
+abbrev pub no_claim : Continuation
+no_claim state = record { answer = None; branches = 0; claimed = false }
 
 -- goes on at the place, if there is one
-abbrev pub end_to : Option ℕ → Run
+abbrev pub end_to : Option ℕ → Denotation
 end_to None w k r = r
 end_to (Some q) w k r = k (with_position w q) r
 
 -- with a bound at the end that is found for it, and without as the run
-abbrev pub end_within : Option ℕ → (ℕ → ℕ → Option ℕ) → Run → Run
+abbrev pub end_within : Option ℕ → (ℕ → ℕ → Option ℕ) → Denotation → Denotation
 end_within None end g w k r = g w k r
 end_within (Some stop) end g w k r = end_to (end stop w.position) w k r
 
-abbrev pub end_if : Bool → Run
+abbrev pub end_if : Bool → Denotation
 end_if b w k r = cond b (k w r) r
 
 -- another turn first, or the stop first
-abbrev pub end_pick : Bool → Run → MatchState → Follow → Follow → Tale → Tale
+abbrev pub end_pick : Bool → Denotation → MatchState → SuccessContinuation → SuccessContinuation → Continuation → Continuation
 end_pick greedy g w again k r = opens (cond greedy (g w again (k w r)) (k w (g w again r)))
 
-abbrev pub end_upto : Run → Bool → ℕ → Run
+abbrev pub end_upto : Denotation → Bool → ℕ → Denotation
 end_upto g greedy zero w k r = k w r
 end_upto g greedy (suc n) w k r = end_pick greedy g w (λ v x. end_upto g greedy n v k x) k r
 
-abbrev pub end_loop : Run → Bool → ℕ → Run
+abbrev pub end_loop : Denotation → Bool → ℕ → Denotation
 end_loop g greedy zero w k r = r
 end_loop g greedy (suc n) w k r =
     end_pick greedy g w (λ v x. cond (v.position == w.position) (k v x) (end_loop g greedy n v k x)) k r
 
-abbrev pub end_times : Run → ℕ → Run → Run
+abbrev pub end_times : Denotation → ℕ → Denotation → Denotation
 end_times g zero rest w k r = rest w k r
 end_times g (suc n) rest w k r = g w (λ v x. end_times g n rest v k x) r
 
@@ -87,43 +87,43 @@ abbrev pub below : ℕ → List ℕ → List ℕ
 below l ps = filter (λ p. nat_lt p l) ps
 
 -- an absent repeater's ends, one after the other
-abbrev pub end_ends : List ℕ → Run
+abbrev pub end_ends : List ℕ → Denotation
 end_ends [] w k r = r
 end_ends (q ∷ []) w k r = k (with_position w q) r
 end_ends (q ∷ p ∷ ps) w k r = opens (k (with_position w q) (end_ends (p ∷ ps) w k r))
 
 -- a way of its body lowers the limit
-abbrev pub end_seen : Follow
-end_seen v x known = x (record { kept = known.kept; limit = lower known.limit v.position })
+abbrev pub end_seen : SuccessContinuation
+end_seen v x state = x (record { kept = state.kept; limit = lower state.limit v.position })
 
 -- those below the limit, where the limit was that one before
-abbrev pub end_looked : List ℕ → ℕ → Run
-end_looked done outer w k r known = end_ends (below known.limit done) w k r (record { kept = known.kept; limit = outer })
+abbrev pub end_looked : List ℕ → ℕ → Denotation
+end_looked done outer w k r state = end_ends (below state.limit done) w k r (record { kept = state.kept; limit = outer })
 
 -- the body is tried at the places that are left, in order; the places that are done stand last first
-abbrev pub end_look : Run → List ℕ → List ℕ → ℕ → Run
-end_look g done [] outer w k r known = end_looked done outer w k r known
-end_look g done (q ∷ qs) outer w k r known =
-    cond (nat_le known.limit q) (end_looked done outer w k r known)
-    (opens (g (with_position w q) end_seen (closes (end_look g (q ∷ done) qs outer w k r))) known)
+abbrev pub end_look : Denotation → List ℕ → List ℕ → ℕ → Denotation
+end_look g done [] outer w k r state = end_looked done outer w k r state
+end_look g done (q ∷ qs) outer w k r state =
+    cond (nat_le state.limit q) (end_looked done outer w k r state)
+    (opens (g (with_position w q) end_seen (closes (end_look g (q ∷ done) qs outer w k r))) state)
 
 -- and from the first one on
-abbrev pub end_absent : Run → List ℕ → Run
-end_absent g [] w k r known = r known
-end_absent g (p ∷ ps) w k r known =
-    opens (g (with_position w p) end_seen (closes (end_look g (p ∷ []) ps known.limit w k r))) (record { kept = known.kept; limit = unset })
+abbrev pub end_absent : Denotation → List ℕ → Denotation
+end_absent g [] w k r state = r state
+end_absent g (p ∷ ps) w k r state =
+    opens (g (with_position w p) end_seen (closes (end_look g (p ∷ []) ps state.limit w k r))) (record { kept = state.kept; limit = unset })
 
 module _ (s : Setting) where
-  abbrev pub end_text : Text → Run
+  abbrev pub end_text : Text → Denotation
   end_text text w k r = end_to (match_text s.text text w.position) w k r
 
-  abbrev pub end_again : Bool → Option (ℕ × ℕ) → Run
+  abbrev pub end_again : Bool → Option (ℕ × ℕ) → Denotation
   end_again casei None w k r = r
   end_again casei (Some pair) w k r =
       cond (match_backref s casei pair.0 pair.1 w.position) (k (with_position w (w.position + (pair.1 - pair.0))) r) r
 
   module _ (bound : Option ℕ) where
-    abbrev pub ending : CorePattern → Run
+    abbrev pub ending : CorePattern → Denotation
     ending nothing w k r = k w r
     ending (read leaf) w k r = end_to (match_char s.text (passes s leaf) w.position) w k r
     ending (general_newline unicode) w k r = end_to (match_newline s unicode w.position) w k r

@@ -20,7 +20,7 @@ use Rattle.fancy_regex_program.specs.Machine.{unset, RunParameters, goes, goes_t
 use Rattle.fancy_regex_program.specs.Code.{Code, waits, flushed, slots_in, closed, is_uncounted, loop_entry, code_of}
 use Rattle.fancy_regex_program.specs.SlotLayout.{slots_of_way}
 use Rattle.fancy_regex_program.specs.Shapes.{IsWritable}
-use Rattle.fancy_regex_program_laws.proofs.Denote.{Tale, Follow, Run, end_to, end_text, ending}
+use Rattle.fancy_regex_program_laws.proofs.Denote.{Continuation, SuccessContinuation, Denotation, end_to, end_text, ending}
 use Rattle.fancy_regex_program_laws.proofs.PairsInSlots.{take_kept}
 use Rattle.fancy_regex_program_laws.proofs.Runs.{above_refl, same_refl, same_set_below, thread, Sound, Comes, Pops, by_move, Exits, exits_at, exits_later, comes_at, Does}
 use Rattle.fancy_regex_program_laws.proofs.ProgramParts.{HasAt, has_front, has_back, StartsPlain, starts_both, plain_from, plain_at, with_slot_is, does_to, does_move, does_tail, does_test, does_fail, does_alt, does_group, does_ahead, does_atomic, does_never}
@@ -57,13 +57,13 @@ any_same s true crlf = refl
 any_same s false true = refl
 any_same s false false = refl
 
-one_more : (s : Setting) (c p : ℕ) (w : MatchState) (k : Follow) (x : Tale) (o : Option ℕ) →
+one_more : (s : Setting) (c p : ℕ) (w : MatchState) (k : SuccessContinuation) (x : Continuation) (o : Option ℕ) →
     end_to (elim o [ None ↦ None | Some q ↦ Some q ]) w k x ≡ end_to o (with_position w p) k x
 one_more s c p w k x None = refl
 one_more s c p w k x (Some q) = refl
 
 -- a text and one character more
-text_more : (s : Setting) (l : Text) (c p : ℕ) (w : MatchState) (k : Follow) (x : Tale) →
+text_more : (s : Setting) (l : Text) (c p : ℕ) (w : MatchState) (k : SuccessContinuation) (x : Continuation) →
     end_to (match_text s.text (l ++ c ∷ []) p) w k x
     ≡ end_to (match_text s.text l p) w (λ v y. end_to (match_char s.text (λ d. d == c) v.position) v k y) x
 text_more s [] c p w k x = one_more s c p w k x (match_char s.text (λ d. d == c) p)
@@ -88,7 +88,7 @@ starts_loop true lo head slot = (refl, refl)
 starts_loop false lo head slot = (refl, refl)
 
 -- What leads onward may be asked to.
-does_any : (code : List Op) (r : RunParameters) (whole : Bool) (count from to own much : ℕ) (free : Bool) (g : Run) →
+does_any : (code : List Op) (r : RunParameters) (whole : Bool) (count from to own much : ℕ) (free : Bool) (g : Denotation) →
     Does code r whole count from to own much false g → Does code r whole count from to own much free g
 does_any code r whole count from to own much free g does = record {
   by = λ low w m rest x k above_base above_low room sound fits pops exits.
@@ -141,8 +141,8 @@ module _ (has_member : Text → Bool → ℕ → Bool) (fold : ℕ → ℕ) (who
 
 module _ (code : List Op) (r : RunParameters) (whole : Bool) (count : ℕ) (utf8 : IsUtf8 r.setting.text) (small : length r.setting.text < unset) where
   -- What a stretch of the program does, where that text waits before it and that text after it.
-  pub record Leads (from to own much : ℕ) (free : Bool) (before after : Text) (g : Run) : Type 0 where
-    pub by : (low : ℕ) (w : MatchState) (m : List ℕ) (rest : List Thread) (x : Tale) (k : Follow) → 2 * count ≤ low → low ≤ own → own + much ≤ length m →
+  pub record Leads (from to own much : ℕ) (free : Bool) (before after : Text) (g : Denotation) : Type 0 where
+    pub by : (low : ℕ) (w : MatchState) (m : List ℕ) (rest : List Thread) (x : Continuation) (k : SuccessContinuation) → 2 * count ≤ low → low ≤ own → own + much ≤ length m →
         Sound r.setting.text count w → take (2 * count) m ≡ slots_of_way whole w → Pops code r whole count rest x →
         Exits code r whole count rest low m free w.position to (λ v y. end_text r.setting after v k y) →
         Comes code r whole count (thread from w.position m ∷ rest) (end_text r.setting before w (λ v y. g v k y) x)
@@ -154,7 +154,7 @@ module _ (code : List Op) (r : RunParameters) (whole : Bool) (count : ℕ) (utf8
       (λ w q sound e. good_text r.setting utf8 count (c ∷ cs) free w q sound e)
 
   -- the text that waits, and a node after it
-  leads_node : (pc slot much : ℕ) (free : Bool) (l : Text) (b : List Op) (g : Run) → StartsPlain b → HasAt code pc (flushed l ++ b) →
+  leads_node : (pc slot much : ℕ) (free : Bool) (l : Text) (b : List Op) (g : Denotation) → StartsPlain b → HasAt code pc (flushed l ++ b) →
       Does code r whole count (pc + length (flushed l)) (pc + length (flushed l) + length b) slot much free g →
       Leads pc (pc + length (flushed l ++ b)) slot much free l [] g
   leads_node pc slot much free [] b g starts at does = record {
@@ -177,7 +177,7 @@ module _ (code : List Op) (r : RunParameters) (whole : Bool) (count : ℕ) (utf8
   }
 
   -- a stretch, and the text that waits after it
-  does_closed : (pc slot much : ℕ) (free : Bool) (l : Text) (b : List Op) (g : Run) → HasAt code (pc + length b) (flushed l) →
+  does_closed : (pc slot much : ℕ) (free : Bool) (l : Text) (b : List Op) (g : Denotation) → HasAt code (pc + length b) (flushed l) →
       Leads pc (pc + length b) slot much free [] l g → Does code r whole count pc (pc + length (b ++ flushed l)) slot much free g
   does_closed pc slot much free [] b g at leads = record {
     by = λ low w m rest x k above_base above_low room sound fits pops exits.
@@ -231,7 +231,7 @@ module _ (code : List Op) (r : RunParameters) (whole : Bool) (count : ℕ) (utf8
     far k le is = let a = apart is in omega arith
 
     -- a node that is one operation
-    leads_one : (pc slot : ℕ) (free : Bool) (l : Text) (o : Op) (g : Run) → is_start (Some o) ≡ false → is_scan (Some o) ≡ false → HasAt code pc (flushed l ++ o ∷ []) →
+    leads_one : (pc slot : ℕ) (free : Bool) (l : Text) (o : Op) (g : Denotation) → is_start (Some o) ≡ false → is_scan (Some o) ≡ false → HasAt code pc (flushed l ++ o ∷ []) →
         (slice_get code (pc + length (flushed l)) ≡ Some o → Does code r whole count (pc + length (flushed l)) (pc + length (flushed l) + 1) slot 0 free g) →
         Leads pc (pc + length (flushed l ++ o ∷ [])) slot 0 free l [] g
     leads_one pc slot free l o g a b at does =
@@ -239,7 +239,7 @@ module _ (code : List Op) (r : RunParameters) (whole : Bool) (count : ℕ) (utf8
         leads_node pc slot 0 free l (o ∷ []) g (a, b) at (does here.0)
 
     -- a node round a body that stands in it
-    leads_round : (pc slot much : ℕ) (free : Bool) (l : Text) (b : List Op) (g : Run) (to : ℕ) → StartsPlain b → HasAt code pc (flushed l ++ b) →
+    leads_round : (pc slot much : ℕ) (free : Bool) (l : Text) (b : List Op) (g : Denotation) (to : ℕ) → StartsPlain b → HasAt code pc (flushed l ++ b) →
         to ≡ pc + length (flushed l) + length b →
         (HasAt code (pc + length (flushed l)) b → Does code r whole count (pc + length (flushed l)) to slot much free g) →
         Leads pc (pc + length (flushed l ++ b)) slot much free l [] g

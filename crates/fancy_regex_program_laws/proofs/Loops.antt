@@ -9,7 +9,7 @@ use Rattle.fancy_regex_program.specs.Ops as op
 use Rattle.fancy_regex_program.specs.Ops.{Op}
 use Rattle.fancy_regex_program.specs.Machine.{unset, RunParameters, Move, goes, forks, cuts, at_op, wrote, with_room, forks_by, repeat_move, repeat_epsilon_move, next_count, marked, stuck, act}
 use Rattle.fancy_regex_program.specs.SlotLayout.{slots_of_way}
-use Rattle.fancy_regex_program_laws.proofs.Denote.{Tale, Follow, Run, opens, end_pick, end_upto, end_loop, end_times}
+use Rattle.fancy_regex_program_laws.proofs.Denote.{Continuation, SuccessContinuation, Denotation, opens, end_pick, end_upto, end_loop, end_times}
 use Rattle.fancy_regex_program_laws.proofs.Runs.{Above, above_refl, above_trans, above_cons, lowered_above, Same, same_refl, same_trans, same_lower, same_set, thread, lt_yes, lt_no, lt_is, eq_yes, eq_self, eq_other, eq_no, IsPlain, Sound, Comes, Pops, Follows, pops_to, forked, goes_cut, by_move, Exits, exits_later, comes_at, Does}
 use Rattle.fancy_regex_program_laws.proofs.ProgramParts.{HasAt, has_front, has_back, StartsPlain, plain_from, plain_at, with_slot_is}
 
@@ -68,10 +68,10 @@ leave_stop greedy lo next slot check n last t lt same =
 
 module _ (code : List Op) (r : RunParameters) (whole : Bool) (count : ℕ) where
   -- both sides of a loop's choice: another turn, and the stop
-  pub fork_comes : (greedy : Bool) (more stop : Thread) (rest : List Thread) (g : Run) (w : MatchState) (next k : Follow) (x : Tale) →
+  pub fork_comes : (greedy : Bool) (more stop : Thread) (rest : List Thread) (g : Denotation) (w : MatchState) (next k : SuccessContinuation) (x : Continuation) →
       IsPlain code more.pc → IsPlain code stop.pc → Pops code r whole count rest x →
-      ((stack : List Thread) (y : Tale) → Above rest stack → Pops code r whole count stack y → Comes code r whole count (more ∷ stack) (g w next y)) →
-      ((stack : List Thread) (y : Tale) → Above rest stack → Pops code r whole count stack y → Comes code r whole count (stop ∷ stack) (k w y)) →
+      ((stack : List Thread) (y : Continuation) → Above rest stack → Pops code r whole count stack y → Comes code r whole count (more ∷ stack) (g w next y)) →
+      ((stack : List Thread) (y : Continuation) → Above rest stack → Pops code r whole count stack y → Comes code r whole count (stop ∷ stack) (k w y)) →
       Follows code r whole count rest (forks_by greedy more stop) (end_pick greedy g w next k x)
   fork_comes true more stop rest g w next k x pm ps pops go stops =
       forked code r whole count more stop rest (g w next (k w x))
@@ -80,10 +80,10 @@ module _ (code : List Op) (r : RunParameters) (whole : Bool) (count : ℕ) where
       forked code r whole count stop more rest (k w (g w next x))
       (stops (more ∷ rest) (g w next x) (above_cons more rest) (pops_to code r whole count more rest (g w next x) pm (go rest x (above_refl rest) pops)))
 
-  module _ (greedy : Bool) (lo hi head end next slot much : ℕ) (free : Bool) (g : Run) (body : Does code r whole count (head + 1) end (slot + 1) much free g)
+  module _ (greedy : Bool) (lo hi head end next slot much : ℕ) (free : Bool) (g : Denotation) (body : Does code r whole count (head + 1) end (slot + 1) much free g)
       (plain : IsPlain code (head + 1)) (at_head : slice_get code head ≡ Some (op.repeat greedy lo hi next slot)) (at_end : slice_get code end ≡ Some (op.jump head)) where
     -- a loop that may stop
-    upto_runs : (n c low : ℕ) (w : MatchState) (m : List ℕ) (rest : List Thread) (x : Tale) (k : Follow) → n ≡ hi - c → lo ≤ c → get_or m slot 0 ≡ c →
+    upto_runs : (n c low : ℕ) (w : MatchState) (m : List ℕ) (rest : List Thread) (x : Continuation) (k : SuccessContinuation) → n ≡ hi - c → lo ≤ c → get_or m slot 0 ≡ c →
         2 * count ≤ low → low ≤ slot → slot + 1 + much ≤ length m → Sound r.setting.text count w → take (2 * count) m ≡ slots_of_way whole w →
         Pops code r whole count rest x → Exits code r whole count rest low m free w.position next k →
         Comes code r whole count (thread head w.position m ∷ rest) (end_upto g greedy n w k x)
@@ -104,7 +104,7 @@ module _ (code : List Op) (r : RunParameters) (whole : Bool) (count : ℕ) where
         let acts : act r (Some (op.repeat greedy lo hi next slot)) (length rest) t ≡ forks_by greedy t1 (at_op next t1) =
         with_slot_is slot t _ there ∙ turn_fork greedy lo hi next slot (get_or m slot 0) t (omega arith) (omega arith)
         ∙ ap (λ v. forks_by greedy (wrote slot (v + 1) t) (at_op next (wrote slot (v + 1) t))) count' in
-        let again : Follow = λ v y. end_upto g greedy n v k y in
+        let again : SuccessContinuation = λ v y. end_upto g greedy n v k y in
         by_move code r whole count t rest (op.repeat greedy lo hi next slot) (forks_by greedy t1 (at_op next t1)) (end_pick greedy g w again k x) at_head sound.cuts.0 acts
         (fork_comes greedy t1 (at_op next t1) rest g w again k x plain exits.plain pops
         (λ stack y above pops'. body.by (slot + 1) w m1 stack y again (omega arith) (omega arith) (omega (arith, long)) sound fits1 pops'
@@ -120,7 +120,7 @@ module _ (code : List Op) (r : RunParameters) (whole : Bool) (count : ℕ) where
         (λ stack y above pops'. exits.go w m1 stack y (λ e. omega arith) sound fits1 kept above pops'))
 
     -- the turns that are due
-    times_runs : (n c low : ℕ) (w : MatchState) (m : List ℕ) (rest : List Thread) (x : Tale) (k : Follow) → c + n ≡ lo → get_or m slot 0 ≡ c →
+    times_runs : (n c low : ℕ) (w : MatchState) (m : List ℕ) (rest : List Thread) (x : Continuation) (k : SuccessContinuation) → c + n ≡ lo → get_or m slot 0 ≡ c →
         2 * count ≤ low → low ≤ slot → slot + 1 + much ≤ length m → Sound r.setting.text count w → take (2 * count) m ≡ slots_of_way whole w →
         Pops code r whole count rest x → Exits code r whole count rest low m free w.position next k →
         Comes code r whole count (thread head w.position m ∷ rest) (end_times g n (end_upto g greedy (hi - lo)) w k x)
@@ -136,7 +136,7 @@ module _ (code : List Op) (r : RunParameters) (whole : Bool) (count : ℕ) where
         let kept : Same (2 * count) low m m1 = same_set (2 * count) low m slot (c + 1) above_low in
         let acts : act r (Some (op.repeat greedy lo hi next slot)) (length rest) t ≡ goes (wrote slot (c + 1) t) =
         with_slot_is slot t _ there ∙ turn_due greedy lo hi next slot (get_or m slot 0) t (omega arith) ∙ ap (λ v. goes (wrote slot (v + 1) t)) count' in
-        let after : Follow = λ v y. end_times g n (end_upto g greedy (hi - lo)) v k y in
+        let after : SuccessContinuation = λ v y. end_times g n (end_upto g greedy (hi - lo)) v k y in
         by_move code r whole count t rest (op.repeat greedy lo hi next slot) (goes (wrote slot (c + 1) t)) (g w after x) at_head sound.cuts.0 acts
         (body.by (slot + 1) w m1 rest x after (omega arith) (omega arith) (omega (arith, long)) sound fits1 pops
         (record {
@@ -149,10 +149,10 @@ module _ (code : List Op) (r : RunParameters) (whole : Bool) (count : ℕ) where
               by_move code r whole count u stack2 (op.jump head) (goes (at_op head u)) (after v z) at_end sound2.cuts.0 refl turn_again;
         }))
 
-  module _ (greedy : Bool) (lo head end next slot much : ℕ) (fit : lo < unset) (g : Run) (body : Does code r whole count (head + 1) end (slot + 2) much false g)
+  module _ (greedy : Bool) (lo head end next slot much : ℕ) (fit : lo < unset) (g : Denotation) (body : Does code r whole count (head + 1) end (slot + 2) much false g)
       (plain : IsPlain code (head + 1)) (at_head : slice_get code head ≡ Some (op.repeat_epsilon greedy lo next slot (slot + 1))) (at_end : slice_get code end ≡ Some (op.jump head)) where
     -- a loop that may stop, and may go on
-    loop_runs : (n low : ℕ) (w : MatchState) (m : List ℕ) (rest : List Thread) (x : Tale) (k : Follow) → length r.setting.text - w.position < n →
+    loop_runs : (n low : ℕ) (w : MatchState) (m : List ℕ) (rest : List Thread) (x : Continuation) (k : SuccessContinuation) → length r.setting.text - w.position < n →
         lo ≤ get_or m slot 0 → get_or m slot 0 ≤ lo + 1 → (lo < get_or m slot 0 → (get_or m (slot + 1) 0 == w.position) ≡ false) →
         2 * count ≤ low → low ≤ slot → slot + 2 + much ≤ length m → Sound r.setting.text count w → take (2 * count) m ≡ slots_of_way whole w →
         Pops code r whole count rest x → Exits code r whole count rest low m false w.position next k →
@@ -174,7 +174,7 @@ module _ (code : List Op) (r : RunParameters) (whole : Bool) (count : ℕ) where
         let acts : act r (Some (op.repeat_epsilon greedy lo next slot check)) (length rest) t ≡ forks_by greedy t1 (at_op next t1) =
         with_room_is lo _ fit ∙ with_slot_is slot t _ there ∙ with_slot_is check t _ (omega arith)
         ∙ leave_fork greedy lo next slot check (get_or m slot 0) (get_or m check 0) t least moves ∙ ap (λ v. forks_by greedy v (at_op next v)) bump in
-        let again : Follow = λ v y. cond (v.position == w.position) (k v y) (end_loop g greedy n v k y) in
+        let again : SuccessContinuation = λ v y. cond (v.position == w.position) (k v y) (end_loop g greedy n v k y) in
         by_move code r whole count t rest (op.repeat_epsilon greedy lo next slot check) (forks_by greedy t1 (at_op next t1)) (end_pick greedy g w again k x) at_head sound.cuts.0 acts
         (fork_comes greedy t1 (at_op next t1) rest g w again k x plain exits.plain pops
         (λ stack y above pops'. body.by (slot + 2) w m1 stack y again (omega arith) (omega arith) (omega (arith, long)) sound fits1 pops'
@@ -210,7 +210,7 @@ module _ (code : List Op) (r : RunParameters) (whole : Bool) (count : ℕ) where
         }))
         (λ stack y above pops'. exits.go w m1 stack y (λ e. omega arith) sound fits1 kept above pops'))
 
-    loop_times_runs : (n c low : ℕ) (w : MatchState) (m : List ℕ) (rest : List Thread) (x : Tale) (k : Follow) → c + n ≡ lo → get_or m slot 0 ≡ c →
+    loop_times_runs : (n c low : ℕ) (w : MatchState) (m : List ℕ) (rest : List Thread) (x : Continuation) (k : SuccessContinuation) → c + n ≡ lo → get_or m slot 0 ≡ c →
         2 * count ≤ low → low ≤ slot → slot + 2 + much ≤ length m → Sound r.setting.text count w → take (2 * count) m ≡ slots_of_way whole w →
         Pops code r whole count rest x → Exits code r whole count rest low m false w.position next k →
         Comes code r whole count (thread head w.position m ∷ rest) (end_times g n (end_loop g greedy (length r.setting.text + 1)) w k x)
@@ -226,7 +226,7 @@ module _ (code : List Op) (r : RunParameters) (whole : Bool) (count : ℕ) where
         let acts : act r (Some (op.repeat_epsilon greedy lo next slot (slot + 1))) (length rest) t ≡ goes (wrote slot (c + 1) t) =
         with_room_is lo _ fit ∙ with_slot_is slot t _ there ∙ with_slot_is (slot + 1) t _ (omega arith)
         ∙ leave_due greedy lo next slot (slot + 1) (get_or m slot 0) (get_or m (slot + 1) 0) t (omega arith) ∙ ap (λ v. goes (wrote slot (v + 1) t)) count' in
-        let after : Follow = λ v y. end_times g n (end_loop g greedy (length r.setting.text + 1)) v k y in
+        let after : SuccessContinuation = λ v y. end_times g n (end_loop g greedy (length r.setting.text + 1)) v k y in
         by_move code r whole count t rest (op.repeat_epsilon greedy lo next slot (slot + 1)) (goes (wrote slot (c + 1) t)) (g w after x) at_head sound.cuts.0 acts
         (body.by (slot + 1) w m1 rest x after (omega arith) (omega arith) (omega (arith, long)) sound fits1 pops
         (record {
@@ -241,7 +241,7 @@ module _ (code : List Op) (r : RunParameters) (whole : Bool) (count : ℕ) where
 
 module _ (code : List Op) (r : RunParameters) (whole : Bool) (count : ℕ) where
   -- a repeat with a greatest count
-  pub does_repeat : (pc slot much lo hi : ℕ) (greedy free : Bool) (b : List Op) (g : Run) → StartsPlain b →
+  pub does_repeat : (pc slot much lo hi : ℕ) (greedy free : Bool) (b : List Op) (g : Denotation) → StartsPlain b →
       HasAt code pc (op.begin_repeat slot ∷ op.repeat greedy lo hi (pc + 3 + length b) slot ∷ (b ++ op.jump (pc + 1) ∷ [])) →
       Does code r whole count (pc + 2) (pc + 2 + length b) (slot + 1) much false g →
       Does code r whole count pc (pc + 3 + length b) slot (1 + much) free (end_times g lo (end_upto g greedy (hi - lo)))
@@ -265,7 +265,7 @@ module _ (code : List Op) (r : RunParameters) (whole : Bool) (count : ℕ) where
   }
 
   -- a repeat without a greatest count
-  pub does_loop : (pc slot much lo : ℕ) (greedy free : Bool) (b : List Op) (g : Run) → lo < unset → StartsPlain b →
+  pub does_loop : (pc slot much lo : ℕ) (greedy free : Bool) (b : List Op) (g : Denotation) → lo < unset → StartsPlain b →
       HasAt code pc (op.begin_repeat slot ∷ op.repeat_epsilon greedy lo (pc + 3 + length b) slot (slot + 1) ∷ (b ++ op.jump (pc + 1) ∷ [])) →
       Does code r whole count (pc + 2) (pc + 2 + length b) (slot + 2) much false g →
       Does code r whole count pc (pc + 3 + length b) slot (2 + much) free (end_times g lo (end_loop g greedy (length r.setting.text + 1)))
@@ -289,7 +289,7 @@ module _ (code : List Op) (r : RunParameters) (whole : Bool) (count : ℕ) where
   }
 
   -- a conditional
-  pub does_conditional : (pc slot nc na nb : ℕ) (free : Bool) (c a b : List Op) (gc ga gb : Run) → StartsPlain b →
+  pub does_conditional : (pc slot nc na nb : ℕ) (free : Bool) (c a b : List Op) (gc ga gb : Denotation) → StartsPlain b →
       HasAt code pc (op.begin_atomic slot ∷ op.split (pc + 2) (pc + 4 + length c + length a)
       ∷ (c ++ op.end_atomic slot ∷ (a ++ op.jump (pc + 4 + length c + length a + length b) ∷ b))) →
       Does code r whole count (pc + 2) (pc + 2 + length c) (slot + 1) nc false gc →
@@ -342,8 +342,8 @@ module _ (code : List Op) (r : RunParameters) (whole : Bool) (count : ℕ) where
               by_move code r whole count z stack (op.end_atomic slot) (cuts (get_or n slot 0) on_a) (ga v f x) at_cut.0 sound'.cuts.0 (with_slot_is slot z _ there')
               (goes_cut code r whole count on_a rest stack (get_or n slot 0) (ga v f x) cut (above_trans (above_cons u rest) above) done1);
         }) in
-        let tale = gc w (λ v y. ga v f x) (gb w f x) in
-        let split = by_move code r whole count t1 rest (op.split (pc + 2) (pc + 4 + length c + length a)) (forks (thread (pc + 2) w.position m1) u) (opens tale) at.1.0 sound.cuts.0 refl
-        (forked code r whole count (thread (pc + 2) w.position m1) u rest tale next) in
-        by_move code r whole count t rest (op.begin_atomic slot) (goes (wrote slot height t)) (opens tale) at.0 sound.cuts.0 (with_slot_is slot t _ there) split;
+        let continuation = gc w (λ v y. ga v f x) (gb w f x) in
+        let split = by_move code r whole count t1 rest (op.split (pc + 2) (pc + 4 + length c + length a)) (forks (thread (pc + 2) w.position m1) u) (opens continuation) at.1.0 sound.cuts.0 refl
+        (forked code r whole count (thread (pc + 2) w.position m1) u rest continuation next) in
+        by_move code r whole count t rest (op.begin_atomic slot) (goes (wrote slot height t)) (opens continuation) at.0 sound.cuts.0 (with_slot_is slot t _ there) split;
   }

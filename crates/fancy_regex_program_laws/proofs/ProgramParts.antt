@@ -12,7 +12,7 @@ use Rattle.fancy_regex_program.specs.Ops as op
 use Rattle.fancy_regex_program.specs.Ops.{Op}
 use Rattle.fancy_regex_program.specs.Machine.{unset, RunParameters, Move, goes, forks, fails, cuts, cut_fails, at_op, moved, wrote, slot_of, with_slot, goes_if, goes_to, goes_past, tail_move, match_char, match_text, match_newline, is_start, is_scan, act, pop, exec}
 use Rattle.fancy_regex_program.specs.SlotLayout.{slots_of_way}
-use Rattle.fancy_regex_program_laws.proofs.Denote.{Run, opens, end_to, end_within, end_if}
+use Rattle.fancy_regex_program_laws.proofs.Denote.{Denotation, opens, end_to, end_within, end_if}
 use Rattle.fancy_regex_program_laws.proofs.PairsInSlots.{take_pair}
 use Rattle.fancy_regex_program_laws.proofs.Runs.{above_refl, above_trans, above_cons, lowered_above, Same, same_refl, same_trans, same_lower, same_set, same_set_below, thread, lt_yes, IsPlain, Sound, Comes, Follows, pops_to, forked, goes_cut, fails_cut, by_move, exits_later, comes_at, Does, base}
 
@@ -64,10 +64,10 @@ module _ (code : List Op) (r : RunParameters) (whole : Bool) (count : ℕ) where
   text = r.setting.text
 
   -- the same stretch under another spelling of its end
-  pub does_to : (from to to' own much : ℕ) (free : Bool) (g : Run) → to ≡ to' → Does code r whole count from to own much free g → Does code r whole count from to' own much free g
+  pub does_to : (from to to' own much : ℕ) (free : Bool) (g : Denotation) → to ≡ to' → Does code r whole count from to own much free g → Does code r whole count from to' own much free g
   does_to from to to' own much free g e h = subst (λ p. Does code r whole count from p own much free g) e h
 
-  pub does_from : (from from' to own much : ℕ) (free : Bool) (g : Run) → from ≡ from' → Does code r whole count from to own much free g → Does code r whole count from' to own much free g
+  pub does_from : (from from' to own much : ℕ) (free : Bool) (g : Denotation) → from ≡ from' → Does code r whole count from to own much free g → Does code r whole count from' to own much free g
   does_from from from' to own much free g e h = subst (λ p. Does code r whole count p to own much free g) e h
 
   -- an operation that goes to a place of the text, if there is one
@@ -86,7 +86,7 @@ module _ (code : List Op) (r : RunParameters) (whole : Bool) (count : ℕ) where
   }
 
   -- a tail: its operations, or with a bound the end that is found for it
-  pub does_tail : (pc slot much : ℕ) (free : Bool) (o : Op) (bound : Option ℕ) (end : ℕ → ℕ → Option ℕ) (b : List Op) (g : Run) → slice_get code pc ≡ Some o →
+  pub does_tail : (pc slot much : ℕ) (free : Bool) (o : Op) (bound : Option ℕ) (end : ℕ → ℕ → Option ℕ) (b : List Op) (g : Denotation) → slice_get code pc ≡ Some o →
       ((height : ℕ) (t : Thread) → act r (Some o) height t ≡ tail_move bound end (pc + 1 + length b) t) →
       ((stop : ℕ) (w : MatchState) (q : ℕ) → Sound text count w → end stop w.position ≡ Some q → (free ≡ false → w.position ≤ q) × Sound text count (with_position w q)) →
       Does code r whole count (pc + 1) (pc + 1 + length b) slot much free g →
@@ -136,7 +136,7 @@ module _ (code : List Op) (r : RunParameters) (whole : Bool) (count : ℕ) where
   }
 
   -- one of two
-  pub does_alt : (pc slot na nb : ℕ) (free : Bool) (a b : List Op) (ga gb : Run) → StartsPlain b →
+  pub does_alt : (pc slot na nb : ℕ) (free : Bool) (a b : List Op) (ga gb : Denotation) → StartsPlain b →
       HasAt code pc (op.split (pc + 1) (pc + 2 + length a) ∷ (a ++ op.jump (pc + 2 + length a + length b) ∷ b)) →
       Does code r whole count (pc + 1) (pc + 1 + length a) slot na free ga →
       Does code r whole count (pc + 2 + length a) (pc + 2 + length a + length b) (slot + na) nb free gb →
@@ -165,7 +165,7 @@ module _ (code : List Op) (r : RunParameters) (whole : Bool) (count : ℕ) where
 
 module _ (code : List Op) (r : RunParameters) (whole : Bool) (count : ℕ) (utf8 : IsUtf8 r.setting.text) where
   -- a capturing group
-  pub does_group : (pc slot much k : ℕ) (free : Bool) (b : List Op) (g : Run) → k < count → (whole ≡ true → 1 ≤ k) →
+  pub does_group : (pc slot much k : ℕ) (free : Bool) (b : List Op) (g : Denotation) → k < count → (whole ≡ true → 1 ≤ k) →
       HasAt code pc (op.save slot ∷ (b ++ op.copy slot (2 * k) ∷ op.save (2 * k + 1) ∷ [])) →
       Does code r whole count (pc + 1) (pc + 1 + length b) (slot + 1) much false g →
       Does code r whole count pc (pc + 1 + length b + 2) slot (1 + much) free (λ w f x. g w (λ v y. f (set_pair k (w.position, v.position) v) y) x)
@@ -197,19 +197,19 @@ module _ (code : List Op) (r : RunParameters) (whole : Bool) (count : ℕ) (utf8
               let done = exits.go (set_pair k (w.position, v.position) v) n2 stack y (λ e. on refl)
               (record { cuts = (keeps_cuts r.setting utf8).pair k w v sound.cuts sound'.cuts (on refl); many = many' })
               (take_pair whole count n v k w.position v.position apart inside sound'.many fits') kept above pops' in
-              let tale = f (set_pair k (w.position, v.position) v) y in
-              let saved = by_move code r whole count u1 stack (op.save (2 * k + 1)) (goes (wrote (2 * k + 1) v.position u1)) tale last.1.0 sound'.cuts.0
-              (with_slot_is (2 * k + 1) u1 _ there2) (comes_at code r whole count (pc + 1 + length b + 2) (pc + 1 + length b + 1 + 1) v.position n2 stack tale (sym end) done) in
+              let continuation = f (set_pair k (w.position, v.position) v) y in
+              let saved = by_move code r whole count u1 stack (op.save (2 * k + 1)) (goes (wrote (2 * k + 1) v.position u1)) continuation last.1.0 sound'.cuts.0
+              (with_slot_is (2 * k + 1) u1 _ there2) (comes_at code r whole count (pc + 1 + length b + 2) (pc + 1 + length b + 1 + 1) v.position n2 stack continuation (sym end) done) in
               let acts : act r (Some (op.copy slot (2 * k))) (length stack) u ≡ goes u1 =
               with_slot_is slot u _ there' ∙ with_slot_is (2 * k) u _ there1 ∙ ap (λ p. goes (wrote (2 * k) p u)) start in
-              by_move code r whole count u stack (op.copy slot (2 * k)) (goes u1) tale last.0 sound'.cuts.0 acts saved;
+              by_move code r whole count u stack (op.copy slot (2 * k)) (goes u1) continuation last.0 sound'.cuts.0 acts saved;
         }) in
         by_move code r whole count t rest (op.save slot) (goes (wrote slot w.position t)) (g w (λ v y. f (set_pair k (w.position, v.position) v) y) x) at.0 sound.cuts.0
         (with_slot_is slot t _ there) next;
   }
 
   -- a look-ahead
-  pub does_ahead : (pc slot much : ℕ) (free : Bool) (b : List Op) (g : Run) →
+  pub does_ahead : (pc slot much : ℕ) (free : Bool) (b : List Op) (g : Denotation) →
       HasAt code pc (op.save slot ∷ (b ++ op.restore slot ∷ [])) →
       Does code r whole count (pc + 1) (pc + 1 + length b) (slot + 1) much true g →
       Does code r whole count pc (pc + 1 + length b + 1) slot (1 + much) free (λ w f x. g w (λ v y. f (with_position v w.position) y) x)
@@ -239,7 +239,7 @@ module _ (code : List Op) (r : RunParameters) (whole : Bool) (count : ℕ) (utf8
   }
 
   -- the first way alone
-  pub does_atomic : (pc slot much : ℕ) (free : Bool) (b : List Op) (g : Run) →
+  pub does_atomic : (pc slot much : ℕ) (free : Bool) (b : List Op) (g : Denotation) →
       HasAt code pc (op.begin_atomic slot ∷ (b ++ op.end_atomic slot ∷ [])) →
       Does code r whole count (pc + 1) (pc + 1 + length b) (slot + 1) much free g →
       Does code r whole count pc (pc + 1 + length b + 1) slot (1 + much) free (λ w f x. g w (λ v y. f v x) x)
@@ -271,7 +271,7 @@ module _ (code : List Op) (r : RunParameters) (whole : Bool) (count : ℕ) (utf8
   }
 
   -- no way leads on
-  pub does_never : (pc slot much : ℕ) (free : Bool) (b : List Op) (g : Run) →
+  pub does_never : (pc slot much : ℕ) (free : Bool) (b : List Op) (g : Denotation) →
       HasAt code pc (op.begin_atomic slot ∷ op.split (pc + 2) (pc + 3 + length b) ∷ (b ++ op.fail_negative slot ∷ [])) →
       Does code r whole count (pc + 2) (pc + 2 + length b) (slot + 1) much true g →
       Does code r whole count pc (pc + 3 + length b) slot (1 + much) free (λ w f x. opens (g w (λ v y. x) (f w x)))
@@ -301,8 +301,8 @@ module _ (code : List Op) (r : RunParameters) (whole : Bool) (count : ℕ) (utf8
               by_move code r whole count z stack (op.fail_negative slot) (cut_fails (get_or n slot 0)) x last.0 sound'.cuts.0 (with_slot_is slot z _ there')
               (fails_cut code r whole count rest stack (get_or n slot 0) x cut (above_trans (above_cons u rest) above) pops);
         }) in
-        let tale = g w (λ v y. x) (f w x) in
-        let split = by_move code r whole count t1 rest (op.split (pc + 2) (pc + 3 + length b)) (forks (thread (pc + 2) w.position m1) u) (opens tale) at.1.0 sound.cuts.0 refl
-        (forked code r whole count (thread (pc + 2) w.position m1) u rest tale next) in
-        by_move code r whole count t rest (op.begin_atomic slot) (goes (wrote slot height t)) (opens tale) at.0 sound.cuts.0 (with_slot_is slot t _ there) split;
+        let continuation = g w (λ v y. x) (f w x) in
+        let split = by_move code r whole count t1 rest (op.split (pc + 2) (pc + 3 + length b)) (forks (thread (pc + 2) w.position m1) u) (opens continuation) at.1.0 sound.cuts.0 refl
+        (forked code r whole count (thread (pc + 2) w.position m1) u rest continuation next) in
+        by_move code r whole count t rest (op.begin_atomic slot) (goes (wrote slot height t)) (opens continuation) at.0 sound.cuts.0 (with_slot_is slot t _ there) split;
   }

@@ -15,7 +15,7 @@ use Rattle.fancy_regex_program.specs.Ops.{Op}
 use Rattle.fancy_regex_program.specs.Machine.{RunParameters, Ending, ended, tick, back, RunState, Move, forks, cuts, cut_fails, is_valid_offset, is_start, is_scan, act, pop, follow, exec}
 use Rattle.fancy_regex_program_laws.specs.ProgramLaws.{found_by_thread}
 use Rattle.fancy_regex_program.specs.SlotLayout.{slots_of_way}
-use Rattle.fancy_regex_program_laws.proofs.Denote.{Told, Known, Tale, Follow, Run, opens, closes}
+use Rattle.fancy_regex_program_laws.proofs.Denote.{Outcome, PersistentState, Continuation, SuccessContinuation, Denotation, opens, closes}
 
 -- the stack is the rest with more on it
 pub record Above (rest stack : List Thread) : Type 0 where
@@ -65,9 +65,9 @@ same_set_below base low m slot v lt = record {
   at = λ j ge below. let ne : j ≡ slot → _ = λ (e : j ≡ slot). absurd (omega arith) in get_or-set_other m slot j v 0 ne;
 }
 
--- An end that came, above so many branches: its answer is the one that is told, and it passed no more branches than those
+-- An end that came, above so many branches: its answer is that of the outcome, and it passed no more branches than those
 -- and the ones that were opened.
-pub record Reaches (whole : Bool) (base height : ℕ) (o : Option Ending) (e : Told) : Type 0 where
+pub record Reaches (whole : Bool) (base height : ℕ) (o : Option Ending) (e : Outcome) : Type 0 where
   pub ending : Ending
   pub comes : o ≡ Some ending
   pub answer : option_map (found_by_thread whole base) ending.answer ≡ e.answer
@@ -75,7 +75,7 @@ pub record Reaches (whole : Bool) (base height : ℕ) (o : Option Ending) (e : T
   pub narrow : ending.peak ≤ height + e.branches
 
 -- an end that comes with enough steps, where it is claimed
-pub record Within (whole : Bool) (base height : ℕ) (f : ℕ → Option Ending) (e : Told) : Type 0 where
+pub record Within (whole : Bool) (base height : ℕ) (f : ℕ → Option Ending) (e : Outcome) : Type 0 where
   pub fuel : ℕ
   pub by : e.claimed ≡ true → (j : ℕ) → fuel ≤ j → Reaches whole base height (f j) e
 
@@ -153,28 +153,28 @@ module _ (code : List Op) (r : RunParameters) (whole : Bool) (count : ℕ) where
   abbrev pub base : ℕ
   base = 2 * count
 
-  -- what is held, as it is told
-  abbrev pub known : RunState → Known
-  known held = record { kept = option_map (found_by_thread whole base) held.kept; limit = held.limit }
+  -- the state that backtracking does not undo, as outcomes have it
+  abbrev pub state : RunState → PersistentState
+  state held = record { kept = option_map (found_by_thread whole base) held.kept; limit = held.limit }
 
-  abbrev pub Comes : List Thread → Tale → Type 0
-  Comes ts f = (held : RunState) → Within whole base (under ts) (λ j. exec code r j held ts) (f (known held))
+  abbrev pub Comes : List Thread → Continuation → Type 0
+  Comes ts f = (held : RunState) → Within whole base (under ts) (λ j. exec code r j held ts) (f (state held))
 
-  abbrev pub Pops : List Thread → Tale → Type 0
-  Pops rest f = (held : RunState) → Within whole base (length rest) (λ j. pop code (exec code r j) held rest) (f (known held))
+  abbrev pub Pops : List Thread → Continuation → Type 0
+  Pops rest f = (held : RunState) → Within whole base (length rest) (λ j. pop code (exec code r j) held rest) (f (state held))
 
   -- how the machine goes on after a move
-  abbrev pub Follows : List Thread → Move → Tale → Type 0
+  abbrev pub Follows : List Thread → Move → Continuation → Type 0
   Follows rest m f = (held : RunState) →
-      Within whole base (length rest) (λ j. follow code r.find.options.longest (exec code r j) held rest m) (f (known held))
+      Within whole base (length rest) (λ j. follow code r.find.options.longest (exec code r j) held rest m) (f (state held))
 
-  pub pops_to : (t : Thread) (rest : List Thread) (f : Tale) → IsPlain code t.pc → Comes (t ∷ rest) f → Pops (t ∷ rest) f
+  pub pops_to : (t : Thread) (rest : List Thread) (f : Continuation) → IsPlain code t.pc → Comes (t ∷ rest) f → Pops (t ∷ rest) f
   pops_to t rest f plain h held =
       let c = h held in
       record {
         fuel = c.fuel;
-        by = λ told j le.
-            let e = c.by told j le in
+        by = λ claim j le.
+            let e = c.by claim j le in
             record {
               ending = back e.ending;
               comes = popped (is_some held.kept) (is_start (slice_get code t.pc)) (is_scan (slice_get code t.pc)) (Some (ended held.kept)) (exec code r j held (t ∷ rest)) plain.start plain.scan
@@ -186,14 +186,14 @@ module _ (code : List Op) (r : RunParameters) (whole : Bool) (count : ℕ) where
       }
 
   -- where an absent repeater looks on
-  pub pops_scan : (t : Thread) (rest : List Thread) (f : Tale) → is_start (slice_get code t.pc) ≡ false → is_scan (slice_get code t.pc) ≡ true →
+  pub pops_scan : (t : Thread) (rest : List Thread) (f : Continuation) → is_start (slice_get code t.pc) ≡ false → is_scan (slice_get code t.pc) ≡ true →
       Comes (t ∷ rest) f → Pops (t ∷ rest) (closes f)
   pops_scan t rest f start scan h held =
       let c = h held in
       record {
         fuel = c.fuel;
-        by = λ told j le.
-            let e = c.by told j le in
+        by = λ claim j le.
+            let e = c.by claim j le in
             record {
               ending = e.ending;
               comes = looked_on (is_some held.kept) (is_start (slice_get code t.pc)) (is_scan (slice_get code t.pc)) (Some (ended held.kept)) (exec code r j held (t ∷ rest)) start scan ∙ e.comes;
@@ -204,13 +204,13 @@ module _ (code : List Op) (r : RunParameters) (whole : Bool) (count : ℕ) where
       }
 
   -- a branch more, on which the first thread stands
-  pub forked : (a b : Thread) (rest : List Thread) (f : Tale) → Comes (a ∷ b ∷ rest) f → Follows rest (forks a b) (opens f)
+  pub forked : (a b : Thread) (rest : List Thread) (f : Continuation) → Comes (a ∷ b ∷ rest) f → Follows rest (forks a b) (opens f)
   forked a b rest f h held =
       let c = h held in
       record {
         fuel = c.fuel;
-        by = λ told j le.
-            let e = c.by told j le in
+        by = λ claim j le.
+            let e = c.by claim j le in
             record { ending = e.ending; comes = e.comes; answer = e.answer; few = omega (arith, e.few); narrow = omega (arith, e.narrow) };
       }
 
@@ -218,14 +218,14 @@ module _ (code : List Op) (r : RunParameters) (whole : Bool) (count : ℕ) where
   shorter rest stack above = omega (arith, ap length above.is, length-append above.more rest)
 
   -- the branches above the rest are dropped
-  pub goes_cut : (t : Thread) (rest stack : List Thread) (n : ℕ) (f : Tale) → truncated n stack ≡ rest → Above rest stack → Comes (t ∷ rest) f → Follows stack (cuts n t) f
+  pub goes_cut : (t : Thread) (rest stack : List Thread) (n : ℕ) (f : Continuation) → truncated n stack ≡ rest → Above rest stack → Comes (t ∷ rest) f → Follows stack (cuts n t) f
   goes_cut t rest stack n f is above h held =
       let c = h held in
       let le = shorter rest stack above in
       record {
         fuel = c.fuel;
-        by = λ told j enough.
-            let e = c.by told j enough in
+        by = λ claim j enough.
+            let e = c.by claim j enough in
             record {
               ending = e.ending;
               comes = ap (λ l. exec code r j held (t ∷ l)) is ∙ e.comes;
@@ -235,14 +235,14 @@ module _ (code : List Op) (r : RunParameters) (whole : Bool) (count : ℕ) where
             };
       }
 
-  pub fails_cut : (rest stack : List Thread) (n : ℕ) (f : Tale) → truncated n stack ≡ rest → Above rest stack → Pops rest f → Follows stack (cut_fails n) f
+  pub fails_cut : (rest stack : List Thread) (n : ℕ) (f : Continuation) → truncated n stack ≡ rest → Above rest stack → Pops rest f → Follows stack (cut_fails n) f
   fails_cut rest stack n f is above h held =
       let c = h held in
       let le = shorter rest stack above in
       record {
         fuel = c.fuel;
-        by = λ told j enough.
-            let e = c.by told j enough in
+        by = λ claim j enough.
+            let e = c.by claim j enough in
             record {
               ending = e.ending;
               comes = ap (λ l. pop code (exec code r j) held l) is ∙ e.comes;
@@ -253,7 +253,7 @@ module _ (code : List Op) (r : RunParameters) (whole : Bool) (count : ℕ) where
       }
 
   -- one step
-  pub by_move : (t : Thread) (rest : List Thread) (o : Op) (m : Move) (f : Tale) → slice_get code t.pc ≡ Some o →
+  pub by_move : (t : Thread) (rest : List Thread) (o : Op) (m : Move) (f : Continuation) → slice_get code t.pc ≡ Some o →
       IsCharBoundary r.setting.text t.position → act r (Some o) (length rest) t ≡ m → Follows rest m f → Comes (t ∷ rest) f
   unfolding exec
   by_move t rest o m f at here is h held = record { fuel = suc (h held).fuel; by = step }
@@ -261,10 +261,10 @@ module _ (code : List Op) (r : RunParameters) (whole : Bool) (count : ℕ) where
       next : ℕ → Option Ending
       next j = follow code r.find.options.longest (exec code r j) held rest m
 
-      step : (f (known held)).claimed ≡ true → (j : ℕ) → suc (h held).fuel ≤ j → Reaches whole base (length rest) (exec code r j held (t ∷ rest)) (f (known held))
-      step told zero le = absurd (omega arith)
-      step told (suc j) le =
-          let e = (h held).by told j (omega arith) in
+      step : (f (state held)).claimed ≡ true → (j : ℕ) → suc (h held).fuel ≤ j → Reaches whole base (length rest) (exec code r j held (t ∷ rest)) (f (state held))
+      step claim zero le = absurd (omega arith)
+      step claim (suc j) le =
+          let e = (h held).by claim j (omega arith) in
           record {
             ending = tick (length rest) e.ending;
             comes = ap (λ x. cond (is_valid_offset r.setting.text t.position)
@@ -279,17 +279,17 @@ module _ (code : List Op) (r : RunParameters) (whole : Bool) (count : ℕ) where
           }
 
   -- what follows each way at the program's exit
-  pub record Exits (rest : List Thread) (low : ℕ) (m : List ℕ) (free : Bool) (from to : ℕ) (k : Follow) : Type 0 where
+  pub record Exits (rest : List Thread) (low : ℕ) (m : List ℕ) (free : Bool) (from to : ℕ) (k : SuccessContinuation) : Type 0 where
     pub plain : IsPlain code to
-    pub go : (v : MatchState) (n : List ℕ) (stack : List Thread) (x : Tale) → (free ≡ false → from ≤ v.position) → Sound r.setting.text count v →
+    pub go : (v : MatchState) (n : List ℕ) (stack : List Thread) (x : Continuation) → (free ≡ false → from ≤ v.position) → Sound r.setting.text count v →
         take base n ≡ slots_of_way whole v → Same base low m n → Above rest stack → Pops stack x → Comes (thread to v.position n ∷ stack) (k v x)
 
   -- the same exit under another spelling of its place
-  pub exits_at : (rest : List Thread) (low : ℕ) (m : List ℕ) (free : Bool) (from to to' : ℕ) (k : Follow) → to ≡ to' → Exits rest low m free from to k → Exits rest low m free from to' k
+  pub exits_at : (rest : List Thread) (low : ℕ) (m : List ℕ) (free : Bool) (from to to' : ℕ) (k : SuccessContinuation) → to ≡ to' → Exits rest low m free from to k → Exits rest low m free from to' k
   exits_at rest low m free from to to' k e h = subst (λ p. Exits rest low m free from p k) e h
 
   -- the same exit seen from further on
-  pub exits_later : (rest : List Thread) (low : ℕ) (m : List ℕ) (free : Bool) (from to : ℕ) (k : Follow) → Exits rest low m free from to k →
+  pub exits_later : (rest : List Thread) (low : ℕ) (m : List ℕ) (free : Bool) (from to : ℕ) (k : SuccessContinuation) → Exits rest low m free from to k →
       (stack : List Thread) (n : List ℕ) (free' : Bool) (q : ℕ) → Above rest stack → Same base low m n →
       (free ≡ false → free' ≡ false) → (free ≡ false → from ≤ q) → Exits stack low n free' q to k
   exits_later rest low m free from to k h stack n free' q above same frees on = record {
@@ -298,12 +298,12 @@ module _ (code : List Op) (r : RunParameters) (whole : Bool) (count : ℕ) where
         h.go v n2 stack2 x (λ e. let a = on e in let b = on2 (frees e) in omega arith) sound fits (same_trans same same2) (above_trans above above2) pops;
   }
 
-  pub comes_at : (to to' p : ℕ) (m : List ℕ) (rest : List Thread) (f : Tale) → to ≡ to' → Comes (thread to p m ∷ rest) f → Comes (thread to' p m ∷ rest) f
+  pub comes_at : (to to' p : ℕ) (m : List ℕ) (rest : List Thread) (f : Continuation) → to ≡ to' → Comes (thread to p m ∷ rest) f → Comes (thread to' p m ∷ rest) f
   comes_at to to' p m rest f e h = subst (λ q. Comes (thread q p m ∷ rest) f) e h
 
   -- What a stretch of the program does, from one place to another, with slots of its own from one on. It may go back, if
   -- it is free to.
-  pub record Does (from to own much : ℕ) (free : Bool) (g : Run) : Type 0 where
-    pub by : (low : ℕ) (w : MatchState) (m : List ℕ) (rest : List Thread) (x : Tale) (k : Follow) → base ≤ low → low ≤ own → own + much ≤ length m →
+  pub record Does (from to own much : ℕ) (free : Bool) (g : Denotation) : Type 0 where
+    pub by : (low : ℕ) (w : MatchState) (m : List ℕ) (rest : List Thread) (x : Continuation) (k : SuccessContinuation) → base ≤ low → low ≤ own → own + much ≤ length m →
         Sound r.setting.text count w → take base m ≡ slots_of_way whole w → Pops rest x → Exits rest low m free w.position to k →
         Comes (thread from w.position m ∷ rest) (g w k x)

@@ -1,4 +1,4 @@
--- What a search tells, start after start.
+-- The outcome of a search, start after start.
 use Rattle.std.proofs.Common.{◌≡◌, ℕ, ◌+◌, ◌<◌, ◌≤◌, Bool, true, false, List, [], ◌∷◌, map, length, Option, Some, None, refl, sym, ap, ◌∙◌, arith, cond, ⊎_elim}
 use Rattle.std.specs.Prelude.{nat_lt, option_map, is_some}
 use Rattle.std.specs.List.{filter}
@@ -11,13 +11,13 @@ use Rattle.fancy_regex_program.specs.Machine.{unset, RunParameters}
 use Rattle.fancy_regex_program.specs.SlotLayout.{slots_of_match}
 use Rattle.fancy_regex_program.specs.Shapes.{IsWritable}
 use Rattle.fancy_regex_program_laws.specs.ProgramLaws.{FoundMatch, entry_way, way_at, choices_up_to}
-use Rattle.fancy_regex_program_laws.proofs.Denote.{Told, Known, Tale, Follow, opens}
+use Rattle.fancy_regex_program_laws.proofs.Denote.{Outcome, PersistentState, Continuation, SuccessContinuation, opens}
 use Rattle.fancy_regex_program_laws.proofs.Runs.{lt_yes, lt_no}
 use Rattle.fancy_regex_program_laws.proofs.Trail.{Open, Close, At, Trail, folded, states, opened, trail}
 use Rattle.fancy_regex_program_laws.proofs.WaysOf.{states_trail, opened_trail}
 
-abbrev pub told : Option FoundMatch → Told
-told answer = record { answer = answer; branches = 0; claimed = true }
+abbrev pub outcome_of : Option FoundMatch → Outcome
+outcome_of answer = record { answer = answer; branches = 0; claimed = true }
 
 abbrev pub better : Option FoundMatch → FoundMatch → Option FoundMatch
 better None h = Some h
@@ -28,7 +28,7 @@ bests kept [] = kept
 bests kept (h ∷ hs) = bests (better kept h) hs
 
 -- what is held with that way, and that limit
-abbrev pub holding : ℕ → Option FoundMatch → Known
+abbrev pub holding : ℕ → Option FoundMatch → PersistentState
 holding l kept = record { kept = kept; limit = l }
 
 module _ (find : Search) (whole : Bool) where
@@ -36,32 +36,32 @@ module _ (find : Search) (whole : Bool) where
   found_by_way w = record { position = w.position; start = cond whole w.kept 0; slots = slots_of_match whole w }
 
   -- what follows a way at the program's end
-  abbrev pub at_end : Bool → Follow
-  at_end longest v x known =
-      cond (is_admitted find v) (cond longest (x (holding known.limit (better known.kept (found_by_way v)))) (told (Some (found_by_way v)))) (x known)
+  abbrev pub at_end : Bool → SuccessContinuation
+  at_end longest v x state =
+      cond (is_admitted find v) (cond longest (x (holding state.limit (better state.kept (found_by_way v)))) (outcome_of (Some (found_by_way v)))) (x state)
 
   abbrev wanted : Trail → List MatchState
   wanted es = filter (is_admitted find) (states es)
 
-  -- what is told of each way is claimed
-  claims_ways : (longest : Bool) (r : Tale) → ((known : Known) → (r known).claimed ≡ true) → (es : Trail) (known : Known) → (folded (at_end longest) r es known).claimed ≡ true
-  claims_ways longest r h [] known = h known
-  claims_ways longest r h (Open ∷ es) known = claims_ways longest r h es known
-  claims_ways longest r h (Close ∷ es) known = claims_ways longest r h es known
-  claims_ways longest r h (At w ∷ es) known =
-      at_way (is_admitted find w) longest (claims_ways longest r h es (holding known.limit (better known.kept (found_by_way w)))) (claims_ways longest r h es known)
+  -- the outcome of each way is claimed
+  claims_ways : (longest : Bool) (r : Continuation) → ((state : PersistentState) → (r state).claimed ≡ true) → (es : Trail) (state : PersistentState) → (folded (at_end longest) r es state).claimed ≡ true
+  claims_ways longest r h [] state = h state
+  claims_ways longest r h (Open ∷ es) state = claims_ways longest r h es state
+  claims_ways longest r h (Close ∷ es) state = claims_ways longest r h es state
+  claims_ways longest r h (At w ∷ es) state =
+      at_way (is_admitted find w) longest (claims_ways longest r h es (holding state.limit (better state.kept (found_by_way w)))) (claims_ways longest r h es state)
     where
-      rest : Tale
+      rest : Continuation
       rest = folded (at_end longest) r es
 
-      at_way : (admitted last : Bool) → (rest (holding known.limit (better known.kept (found_by_way w)))).claimed ≡ true → (rest known).claimed ≡ true →
-          (cond admitted (cond last (rest (holding known.limit (better known.kept (found_by_way w)))) (told (Some (found_by_way w)))) (rest known)).claimed ≡ true
+      at_way : (admitted last : Bool) → (rest (holding state.limit (better state.kept (found_by_way w)))).claimed ≡ true → (rest state).claimed ≡ true →
+          (cond admitted (cond last (rest (holding state.limit (better state.kept (found_by_way w)))) (outcome_of (Some (found_by_way w)))) (rest state)).claimed ≡ true
       at_way true true kept passed = kept
       at_way true false kept passed = refl
       at_way false last kept passed = passed
 
   -- with longest, all ways are seen
-  all_answer : (r : Tale) (es : Trail) (l : ℕ) (kept : Option FoundMatch) →
+  all_answer : (r : Continuation) (es : Trail) (l : ℕ) (kept : Option FoundMatch) →
       (folded (at_end true) r es (holding l kept)).answer ≡ (r (holding l (bests kept (map found_by_way (wanted es))))).answer
   all_answer r [] l kept = refl
   all_answer r (Open ∷ es) l kept = all_answer r es l kept
@@ -73,7 +73,7 @@ module _ (find : Search) (whole : Bool) where
         | false ↦ all_answer r es l kept
       ]
 
-  all_opened : (r : Tale) (es : Trail) (l : ℕ) (kept : Option FoundMatch) →
+  all_opened : (r : Continuation) (es : Trail) (l : ℕ) (kept : Option FoundMatch) →
       (folded (at_end true) r es (holding l kept)).branches ≤ opened es + (r (holding l (bests kept (map found_by_way (wanted es))))).branches
   all_opened r [] l kept = omega arith
   all_opened r (Open ∷ es) l kept = omega (arith, all_opened r es l kept)
@@ -86,30 +86,30 @@ module _ (find : Search) (whole : Bool) where
       ]
 
   -- else the first
-  abbrev first_told : Told → List MatchState → Told
-  first_told t [] = t
-  first_told t (w ∷ ws) = told (Some (found_by_way w))
+  abbrev first_outcome : Outcome → List MatchState → Outcome
+  first_outcome t [] = t
+  first_outcome t (w ∷ ws) = outcome_of (Some (found_by_way w))
 
-  first_answer : (r : Tale) (es : Trail) (known : Known) → (folded (at_end false) r es known).answer ≡ (first_told (r known) (wanted es)).answer
-  first_answer r [] known = refl
-  first_answer r (Open ∷ es) known = first_answer r es known
-  first_answer r (Close ∷ es) known = first_answer r es known
-  first_answer r (At w ∷ es) known =
-      elim (is_admitted find w) as (λ b. (cond b (told (Some (found_by_way w))) (folded (at_end false) r es known)).answer
-      ≡ (first_told (r known) (cond b (w ∷ wanted es) (wanted es))).answer) [
+  first_answer : (r : Continuation) (es : Trail) (state : PersistentState) → (folded (at_end false) r es state).answer ≡ (first_outcome (r state) (wanted es)).answer
+  first_answer r [] state = refl
+  first_answer r (Open ∷ es) state = first_answer r es state
+  first_answer r (Close ∷ es) state = first_answer r es state
+  first_answer r (At w ∷ es) state =
+      elim (is_admitted find w) as (λ b. (cond b (outcome_of (Some (found_by_way w))) (folded (at_end false) r es state)).answer
+      ≡ (first_outcome (r state) (cond b (w ∷ wanted es) (wanted es))).answer) [
         | true ↦ refl
-        | false ↦ first_answer r es known
+        | false ↦ first_answer r es state
       ]
 
-  first_opened : (r : Tale) (es : Trail) (known : Known) → (folded (at_end false) r es known).branches ≤ opened es + (first_told (r known) (wanted es)).branches
-  first_opened r [] known = omega arith
-  first_opened r (Open ∷ es) known = omega (arith, first_opened r es known)
-  first_opened r (Close ∷ es) known = omega (arith, first_opened r es known)
-  first_opened r (At w ∷ es) known =
-      elim (is_admitted find w) as (λ b. (cond b (told (Some (found_by_way w))) (folded (at_end false) r es known)).branches
-      ≤ opened es + (first_told (r known) (cond b (w ∷ wanted es) (wanted es))).branches) [
+  first_opened : (r : Continuation) (es : Trail) (state : PersistentState) → (folded (at_end false) r es state).branches ≤ opened es + (first_outcome (r state) (wanted es)).branches
+  first_opened r [] state = omega arith
+  first_opened r (Open ∷ es) state = omega (arith, first_opened r es state)
+  first_opened r (Close ∷ es) state = omega (arith, first_opened r es state)
+  first_opened r (At w ∷ es) state =
+      elim (is_admitted find w) as (λ b. (cond b (outcome_of (Some (found_by_way w))) (folded (at_end false) r es state)).branches
+      ≤ opened es + (first_outcome (r state) (cond b (w ∷ wanted es) (wanted es))).branches) [
         | true ↦ omega arith
-        | false ↦ first_opened r es known
+        | false ↦ first_opened r es state
       ]
 
   -- keeping the one that ends farther, one after the other, gives the first of those that end farthest
@@ -151,84 +151,84 @@ module _ (find : Search) (whole : Bool) where
   bests_none [] = refl
   bests_none (w ∷ ws) = bests_some w ws
 
-  abbrev chosen_told : Told → Option MatchState → Told
-  chosen_told t None = t
-  chosen_told t (Some w) = told (Some (found_by_way w))
+  abbrev chosen_outcome : Outcome → Option MatchState → Outcome
+  chosen_outcome t None = t
+  chosen_outcome t (Some w) = outcome_of (Some (found_by_way w))
 
-  first_chosen : (t : Told) (ws : List MatchState) → first_told t ws ≡ chosen_told t (first_item ws)
+  first_chosen : (t : Outcome) (ws : List MatchState) → first_outcome t ws ≡ chosen_outcome t (first_item ws)
   first_chosen t [] = refl
   first_chosen t (w ∷ ws) = refl
 
-  module _ (l : ℕ) (r : Tale) (over : (h : FoundMatch) → r (holding l (Some h)) ≡ told (Some h)) where
-    longest_chosen : (o : Option MatchState) → r (holding l (option_map found_by_way o)) ≡ chosen_told (r (holding l None)) o
+  module _ (l : ℕ) (r : Continuation) (over : (h : FoundMatch) → r (holding l (Some h)) ≡ outcome_of (Some h)) where
+    longest_chosen : (o : Option MatchState) → r (holding l (option_map found_by_way o)) ≡ chosen_outcome (r (holding l None)) o
     longest_chosen None = refl
     longest_chosen (Some w) = over (found_by_way w)
 
     attempt_answer : (longest : Bool) (es : Trail) →
-        (folded (at_end longest) r es (holding l None)).answer ≡ (chosen_told (r (holding l None)) (chosen longest (wanted es))).answer
+        (folded (at_end longest) r es (holding l None)).answer ≡ (chosen_outcome (r (holding l None)) (chosen longest (wanted es))).answer
     attempt_answer false es = first_answer r es (holding l None) ∙ ap (λ t. t.answer) (first_chosen (r (holding l None)) (wanted es))
     attempt_answer true es =
         all_answer r es l None ∙ ap (λ o. (r (holding l o)).answer) (bests_none (wanted es)) ∙ ap (λ t. t.answer) (longest_chosen (first_longest (wanted es)))
 
     attempt_opened : (longest : Bool) (es : Trail) →
-        (folded (at_end longest) r es (holding l None)).branches ≤ opened es + (chosen_told (r (holding l None)) (chosen longest (wanted es))).branches
+        (folded (at_end longest) r es (holding l None)).branches ≤ opened es + (chosen_outcome (r (holding l None)) (chosen longest (wanted es))).branches
     attempt_opened false es = omega (arith, first_opened r es (holding l None), ap (λ t. t.branches) (first_chosen (r (holding l None)) (wanted es)))
     attempt_opened true es =
         omega (arith, all_opened r es l None, ap (λ o. (r (holding l o)).branches) (bests_none (wanted es)), ap (λ t. t.branches) (longest_chosen (first_longest (wanted es))))
 
-abbrev pub else_told : Option FoundMatch → Told → Told
-else_told None t = t
-else_told (Some h) t = told (Some h)
+abbrev pub else_outcome : Option FoundMatch → Outcome → Outcome
+else_outcome None t = t
+else_outcome (Some h) t = outcome_of (Some h)
 
 module _ (r : RunParameters) (p : CorePattern) (whole : Bool) (count : ℕ) (first : ℕ) (ok : IsWritable first count p) (small : length r.setting.text < unset) where
-  abbrev pub end_follow : Follow
+  abbrev pub end_follow : SuccessContinuation
   end_follow = at_end r.find whole r.find.options.longest
 
   abbrev pub trail_from : ℕ → Trail
   trail_from q = trail r.setting (tail_bound r.find) p (entry_way count q)
 
   -- a branch for the next start, if there is one
-  abbrev pub with_next : List ℕ → Tale → Tale
+  abbrev pub with_next : List ℕ → Continuation → Continuation
   with_next [] x = x
   with_next (q ∷ qs) x = opens x
 
-  -- what is told where the start before has no way left: a way that is kept, or what the other starts tell
-  abbrev pub after : List ℕ → Tale
-  after [] known = told known.kept
-  after (q ∷ qs) known = else_told known.kept (with_next qs (folded end_follow (after qs) (trail_from q)) known)
+  -- the outcome where the start before has no way left: a match that was found, or that of the other starts
+  abbrev pub after : List ℕ → Continuation
+  after [] state = outcome_of state.kept
+  after (q ∷ qs) state = else_outcome state.kept (with_next qs (folded end_follow (after qs) (trail_from q)) state)
 
-  abbrev pub search_tale : ℕ → List ℕ → Tale
-  search_tale q qs = with_next qs (folded end_follow (after qs) (trail_from q))
+  abbrev pub search_outcome : ℕ → List ℕ → Continuation
+  search_outcome q qs = with_next qs (folded end_follow (after qs) (trail_from q))
 
-  next_claims : (qs : List ℕ) (x : Tale) (known : Known) → (x known).claimed ≡ true → (with_next qs x known).claimed ≡ true
-  next_claims [] x known h = h
-  next_claims (q ∷ qs) x known h = h
+  next_claims : (qs : List ℕ) (x : Continuation) (state : PersistentState) → (x state).claimed ≡ true → (with_next qs x state).claimed ≡ true
+  next_claims [] x state h = h
+  next_claims (q ∷ qs) x state h = h
 
-  after_claims : (qs : List ℕ) (known : Known) → (after qs known).claimed ≡ true
-  after_claims [] known = refl
-  after_claims (q ∷ qs) known =
-      kept_or known.kept
-      (next_claims qs (folded end_follow (after qs) (trail_from q)) known
-      (claims_ways r.find whole r.find.options.longest (after qs) (after_claims qs) (trail_from q) known))
+  after_claims : (qs : List ℕ) (state : PersistentState) → (after qs state).claimed ≡ true
+  after_claims [] state = refl
+  after_claims (q ∷ qs) state =
+      kept_or state.kept
+      (next_claims qs (folded end_follow (after qs) (trail_from q)) state
+      (claims_ways r.find whole r.find.options.longest (after qs) (after_claims qs) (trail_from q) state))
     where
-      kept_or : (o : Option FoundMatch) → (search_tale q qs known).claimed ≡ true → (else_told o (search_tale q qs known)).claimed ≡ true
+      kept_or : (o : Option FoundMatch) → (search_outcome q qs state).claimed ≡ true → (else_outcome o (search_outcome q qs state)).claimed ≡ true
       kept_or None h = h
       kept_or (Some found) h = refl
 
-  pub search_claims : (q : ℕ) (qs : List ℕ) (known : Known) → (search_tale q qs known).claimed ≡ true
-  search_claims q qs known =
-      next_claims qs (folded end_follow (after qs) (trail_from q)) known
-      (claims_ways r.find whole r.find.options.longest (after qs) (after_claims qs) (trail_from q) known)
+  pub search_claims : (q : ℕ) (qs : List ℕ) (state : PersistentState) → (search_outcome q qs state).claimed ≡ true
+  search_claims q qs state =
+      next_claims qs (folded end_follow (after qs) (trail_from q)) state
+      (claims_ways r.find whole r.find.options.longest (after qs) (after_claims qs) (trail_from q) state)
 
-  next_answer : (qs : List ℕ) (x : Tale) (known : Known) → (with_next qs x known).answer ≡ (x known).answer
-  next_answer [] x known = refl
-  next_answer (q ∷ qs) x known = refl
+  next_answer : (qs : List ℕ) (x : Continuation) (state : PersistentState) → (with_next qs x state).answer ≡ (x state).answer
+  next_answer [] x state = refl
+  next_answer (q ∷ qs) x state = refl
 
-  next_opened : (qs : List ℕ) (x : Tale) (known : Known) → (with_next qs x known).branches ≤ 1 + (x known).branches
-  next_opened [] x known = omega arith
-  next_opened (q ∷ qs) x known = omega arith
+  next_opened : (qs : List ℕ) (x : Continuation) (state : PersistentState) → (with_next qs x state).branches ≤ 1 + (x state).branches
+  next_opened [] x state = omega arith
+  next_opened (q ∷ qs) x state = omega arith
 
-  after_kept : (qs : List ℕ) (l : ℕ) (h : FoundMatch) → after qs (holding l (Some h)) ≡ told (Some h)
+  after_kept : (qs : List ℕ) (l : ℕ) (h : FoundMatch) → after qs (holding l (Some h)) ≡ outcome_of (Some h)
   after_kept [] l h = refl
   after_kept (q ∷ qs) l h = refl
 
@@ -236,43 +236,43 @@ module _ (r : RunParameters) (p : CorePattern) (whole : Bool) (count : ℕ) (fir
   ways_are q = ap (λ ws. chosen r.find.options.longest (filter (is_admitted r.find) ws)) (states_trail r.setting (tail_bound r.find) small first count p ok (entry_way count q))
 
   module _ (l : ℕ) where
-    abbrev fresh : Known
+    abbrev fresh : PersistentState
     fresh = holding l None
 
     abbrev Finds : List ℕ → Type 0
     Finds qs = (after qs fresh).answer ≡ option_map (found_by_way r.find whole) (first_some (way_at r p count) qs)
 
     picked : (o : Option MatchState) (qs : List ℕ) → Finds qs →
-        (chosen_told r.find whole (after qs fresh) o).answer ≡ option_map (found_by_way r.find whole) (elim o [ None ↦ first_some (way_at r p count) qs | Some y ↦ Some y ])
+        (chosen_outcome r.find whole (after qs fresh) o).answer ≡ option_map (found_by_way r.find whole) (elim o [ None ↦ first_some (way_at r p count) qs | Some y ↦ Some y ])
     picked None qs h = h
     picked (Some w) qs h = refl
 
-    one_start : (q : ℕ) (qs : List ℕ) → Finds qs → (search_tale q qs fresh).answer ≡ option_map (found_by_way r.find whole) (first_some (way_at r p count) (q ∷ qs))
+    one_start : (q : ℕ) (qs : List ℕ) → Finds qs → (search_outcome q qs fresh).answer ≡ option_map (found_by_way r.find whole) (first_some (way_at r p count) (q ∷ qs))
     one_start q qs h =
         next_answer qs (folded end_follow (after qs) (trail_from q)) fresh
         ∙ attempt_answer r.find whole l (after qs) (after_kept qs l) r.find.options.longest (trail_from q)
-        ∙ ap (λ o. (chosen_told r.find whole (after qs fresh) o).answer) (ways_are q)
+        ∙ ap (λ o. (chosen_outcome r.find whole (after qs fresh) o).answer) (ways_are q)
         ∙ picked (way_at r p count q) qs h
 
     finds : (qs : List ℕ) → Finds qs
     finds [] = refl
     finds (q ∷ qs) = one_start q qs (finds qs)
 
-    pub search_answer : (q : ℕ) (qs : List ℕ) → (search_tale q qs fresh).answer ≡ option_map (found_by_way r.find whole) (first_some (way_at r p count) (q ∷ qs))
+    pub search_answer : (q : ℕ) (qs : List ℕ) → (search_outcome q qs fresh).answer ≡ option_map (found_by_way r.find whole) (first_some (way_at r p count) (q ∷ qs))
     search_answer q qs = one_start q qs (finds qs)
 
     counted : (o : Option MatchState) (qs : List ℕ) (n : ℕ) → (after qs fresh).branches ≤ n →
-        (chosen_told r.find whole (after qs fresh) o).branches ≤ cond (is_some o) 0 n
+        (chosen_outcome r.find whole (after qs fresh) o).branches ≤ cond (is_some o) 0 n
     counted None qs n h = h
     counted (Some w) qs n h = omega arith
 
-    one_start_opened : (q : ℕ) (qs : List ℕ) → (after qs fresh).branches ≤ choices_up_to r p count qs → (search_tale q qs fresh).branches ≤ choices_up_to r p count (q ∷ qs)
+    one_start_opened : (q : ℕ) (qs : List ℕ) → (after qs fresh).branches ≤ choices_up_to r p count qs → (search_outcome q qs fresh).branches ≤ choices_up_to r p count (q ∷ qs)
     one_start_opened q qs h =
         omega (
           arith,
           next_opened qs (folded end_follow (after qs) (trail_from q)) fresh,
           attempt_opened r.find whole l (after qs) (after_kept qs l) r.find.options.longest (trail_from q),
-          ap (λ o. (chosen_told r.find whole (after qs fresh) o).branches) (ways_are q),
+          ap (λ o. (chosen_outcome r.find whole (after qs fresh) o).branches) (ways_are q),
           counted (way_at r p count q) qs (choices_up_to r p count qs) h,
           opened_trail r.setting (tail_bound r.find) small first count p ok (entry_way count q),
         )
@@ -281,5 +281,5 @@ module _ (r : RunParameters) (p : CorePattern) (whole : Bool) (count : ℕ) (fir
     opens_few [] = omega arith
     opens_few (q ∷ qs) = one_start_opened q qs (opens_few qs)
 
-    pub search_opened : (q : ℕ) (qs : List ℕ) → (search_tale q qs fresh).branches ≤ choices_up_to r p count (q ∷ qs)
+    pub search_opened : (q : ℕ) (qs : List ℕ) → (search_outcome q qs fresh).branches ≤ choices_up_to r p count (q ∷ qs)
     search_opened q qs = one_start_opened q qs (opens_few qs)

@@ -15,7 +15,7 @@ use Rattle.fancy_regex_desugar.specs.CoreWays.{passes, core_ways}
 use Rattle.fancy_regex_desugar.specs.Shapes.{StepsBackOnlyFirst}
 use Rattle.fancy_regex_program.specs.Machine.{unset}
 use Rattle.fancy_regex_program.specs.Shapes.{IsWritable}
-use Rattle.fancy_regex_program_laws.proofs.Denote.{Tale, Follow, opens, closes, ending}
+use Rattle.fancy_regex_program_laws.proofs.Denote.{Continuation, SuccessContinuation, opens, closes, ending}
 use Rattle.fancy_regex_program_laws.proofs.Trail.{Open, Close, At, Trail, folded, states, trail, ending_trail}
 use Rattle.fancy_regex_program_laws.proofs.WaysOf.{first_kept, Onward, follows_onward, keep_due, keep_up_to, keep_loop, leads_onward, states_trail}
 
@@ -95,7 +95,7 @@ module _ (s : Setting) (bound : Option ℕ) where
       (leads_onward s bound a k.1) (leads_past b t.1 k.2 w)
 
 -- the same trail with followers that agree on its ways
-folded_as : (P : MatchState → Type 0) (k k' : Follow) (r : Tale) (es : Trail) → Each P (states es) → ((v : MatchState) (x : Tale) → P v → k v x ≡ k' v x) → folded k r es ≡ folded k' r es
+folded_as : (P : MatchState → Type 0) (k k' : SuccessContinuation) (r : Continuation) (es : Trail) → Each P (states es) → ((v : MatchState) (x : Continuation) → P v → k v x ≡ k' v x) → folded k r es ≡ folded k' r es
 folded_as P k k' r [] h e = refl
 folded_as P k k' r (Open ∷ es) h e = ap opens (folded_as P k k' r es h e)
 folded_as P k k' r (Close ∷ es) h e = ap closes (folded_as P k k' r es h e)
@@ -103,8 +103,8 @@ folded_as P k k' r (At w ∷ es) h e = ap (k w) (folded_as P k k' r es h.1 e) �
 
 module _ (s : Setting) (bound : Option ℕ) (small : length s.text < unset) where
   -- Where each way takes a character, only what follows further on counts.
-  pub ending_past : (first end : ℕ) (p : CorePattern) → IsWritable first end p → StepsBackOnlyFirst false p → TakesSome p → (w : MatchState) (k k' : Follow) (x : Tale) →
-      ((v : MatchState) (y : Tale) → w.position < v.position → k v y ≡ k' v y) → ending s bound p w k x ≡ ending s bound p w k' x
+  pub ending_past : (first end : ℕ) (p : CorePattern) → IsWritable first end p → StepsBackOnlyFirst false p → TakesSome p → (w : MatchState) (k k' : SuccessContinuation) (x : Continuation) →
+      ((v : MatchState) (y : Continuation) → w.position < v.position → k v y ≡ k' v y) → ending s bound p w k x ≡ ending s bound p w k' x
   ending_past first end p ok placed t w k k' x e =
       ending_trail s bound p w k x
       ∙ folded_as (Past w) k k' x (trail s bound p w) (subst (Each (Past w)) (sym (states_trail s bound small first end p ok w)) (leads_past s bound p t placed w)) e

@@ -14,9 +14,9 @@ use Rattle.fancy_regex_program.specs.Machine.{match_char}
 use Rattle.fancy_regex_program_laws.proofs.Runs.{boundary_is}
 
 -- What comes after a place: nothing, or the next place, which is one character on, and the places after that.
-abbrev pub Next : List ℕ → ℕ → List ℕ → Type 0
-Next text p [] = match_char text (λ c. true) p ≡ None
-Next text p (q ∷ qs) =
+abbrev pub IsFollowedBy : List ℕ → ℕ → List ℕ → Type 0
+IsFollowedBy text p [] = match_char text (λ c. true) p ≡ None
+IsFollowedBy text p (q ∷ qs) =
     (match_char text (λ c. true) p ≡ Some q) × (p < q) × IsCharBoundary text q × (position_before text 1 q ≡ Some p) × (boundaries text q (length text) ≡ q ∷ qs)
 
 -- the places after a place
@@ -30,15 +30,15 @@ places_from text p here =
     ap (λ k. filter (is_boundary text) (numbers_from k p)) n
     ∙ ap (λ b. cond b (p ∷ places_after text p) (places_after text p)) (boundary_is text p here)
 
-pub next_of : (text : List ℕ) → IsUtf8 text → (p : ℕ) (qs : List ℕ) → IsCharBoundary text p → boundaries text p (length text) ≡ p ∷ qs → Next text p qs
-next_of text utf8 p qs here e = at (char_at text p) refl
+pub followed_by : (text : List ℕ) → IsUtf8 text → (p : ℕ) (qs : List ℕ) → IsCharBoundary text p → boundaries text p (length text) ≡ p ∷ qs → IsFollowedBy text p qs
+followed_by text utf8 p qs here e = at (char_at text p) refl
   where
-    at : (o : Option ℕ) → char_at text p ≡ o → Next text p qs
+    at : (o : Option ℕ) → char_at text p ≡ o → IsFollowedBy text p qs
     at None none =
         let le : p ≤ length text = here.0 in
         let last : p ∷ qs ≡ p ∷ [] = sym e ∙ end_place text p (length text) utf8 here none le (omega arith) in
         let same : qs ≡ [] = cc in
-        subst (Next text p) (sym same) (ap (λ (o : Option ℕ). elim o [ None ↦ None | Some c ↦ Some (p + len_utf8 c) ]) none)
+        subst (IsFollowedBy text p) (sym same) (ap (λ (o : Option ℕ). elim o [ None ↦ None | Some c ↦ Some (p + len_utf8 c) ]) none)
     at (Some c) found =
         let le : p ≤ length text = here.0 in
         let q = p + len_utf8 c in
@@ -50,7 +50,7 @@ next_of text utf8 p qs here e = at (char_at text p) refl
         sym e ∙ next_place text p (length text) c here found (omega (arith, fits)) le ∙ ap (λ l. p ∷ l) more in
         let same : qs ≡ q ∷ places_after text q = cc in
         let back : q - len_utf8 c ≡ p = omega arith in
-        subst (Next text p) (sym same) (
+        subst (IsFollowedBy text p) (sym same) (
           ap (λ (o : Option ℕ). elim o [ None ↦ None | Some d ↦ Some (p + len_utf8 d) ]) found,
           omega (arith, some),
           cut,

@@ -10,7 +10,7 @@ use Rattle.fancy_regex_desugar.specs.Delegates.{first_end, first_end_until}
 use Rattle.fancy_regex_desugar.specs.CoreWays.{passes}
 use Rattle.fancy_regex_program.specs.Machine.{unset, lower, match_char, match_newline, match_backref}
 use Rattle.fancy_regex_program_laws.specs.ProgramLaws.{FoundMatch}
-use Rattle.fancy_regex_program_laws.proofs.Denote.{Known, Tale, Follow, Run, one_more, one_less, opens, closes, below, end_ends, end_seen, end_look, end_absent, end_to, end_within, end_pick, end_upto, end_loop, end_times, end_again, ending}
+use Rattle.fancy_regex_program_laws.proofs.Denote.{PersistentState, Continuation, SuccessContinuation, Denotation, one_more, one_less, opens, closes, below, end_ends, end_seen, end_look, end_absent, end_to, end_within, end_pick, end_upto, end_loop, end_times, end_again, ending}
 
 pub data Event : Type 0 where
   Open : Event
@@ -25,7 +25,7 @@ abbrev pub Trails : Type 0
 Trails = MatchState → Trail
 
 -- how it ends, where k follows each way
-abbrev pub folded : Follow → Tale → Trail → Tale
+abbrev pub folded : SuccessContinuation → Continuation → Trail → Continuation
 folded k r [] = r
 folded k r (Open ∷ es) = opens (folded k r es)
 folded k r (Close ∷ es) = closes (folded k r es)
@@ -117,59 +117,59 @@ trail_absent t (p ∷ ps) w =
     Open ∷ (silent (t (with_position w p)) ++ Close ∷ trail_look t (p ∷ []) ps (lowest unset (t (with_position w p))) w)
 
 -- how a trail ends as a run
-abbrev pub run_of : Trails → Run
+abbrev pub run_of : Trails → Denotation
 run_of t w k r = folded k r (t w)
 
-pub folded_append : (k : Follow) (r : Tale) (xs ys : Trail) → folded k r (xs ++ ys) ≡ folded k (folded k r ys) xs
+pub folded_append : (k : SuccessContinuation) (r : Continuation) (xs ys : Trail) → folded k r (xs ++ ys) ≡ folded k (folded k r ys) xs
 folded_append k r [] ys = refl
 folded_append k r (Open ∷ xs) ys = ap opens (folded_append k r xs ys)
 folded_append k r (Close ∷ xs) ys = ap closes (folded_append k r xs ys)
 folded_append k r (At w ∷ xs) ys = ap (k w) (folded_append k r xs ys)
 
-folded_spliced : (k : Follow) (r : Tale) (g : Trails) (es : Trail) → folded k r (spliced g es) ≡ folded (λ w x. folded k x (g w)) r es
+folded_spliced : (k : SuccessContinuation) (r : Continuation) (g : Trails) (es : Trail) → folded k r (spliced g es) ≡ folded (λ w x. folded k x (g w)) r es
 folded_spliced k r g [] = refl
 folded_spliced k r g (Open ∷ es) = ap opens (folded_spliced k r g es)
 folded_spliced k r g (Close ∷ es) = ap closes (folded_spliced k r g es)
 folded_spliced k r g (At w ∷ es) = folded_append k r (g w) (spliced g es) ∙ ap (λ x. folded k x (g w)) (folded_spliced k r g es)
 
 -- the first way alone goes on, with what was left before
-folded_first : (k : Follow) (r : Tale) (g : Trails) (other : Trail) (es : Trail) →
+folded_first : (k : SuccessContinuation) (r : Continuation) (g : Trails) (other : Trail) (es : Trail) →
     folded k r (cut_first g other es) ≡ folded (λ w x. folded k r (g w)) (folded k r other) es
 folded_first k r g other [] = refl
 folded_first k r g other (Open ∷ es) = ap opens (folded_first k r g other es)
 folded_first k r g other (Close ∷ es) = ap closes (folded_first k r g other es)
 folded_first k r g other (At w ∷ es) = refl
 
-pick_trail : (t : Trails) (greedy : Bool) (g : Trails) (again : Follow) (k : Follow) (w : MatchState) (r : Tale) → ((v : MatchState) (x : Tale) → again v x ≡ folded k x (g v)) →
+pick_trail : (t : Trails) (greedy : Bool) (g : Trails) (again : SuccessContinuation) (k : SuccessContinuation) (w : MatchState) (r : Continuation) → ((v : MatchState) (x : Continuation) → again v x ≡ folded k x (g v)) →
     end_pick greedy (run_of t) w again k r ≡ folded k r (trail_pick greedy (spliced g (t w)) w)
 pick_trail t true g again k w r h =
-    ap opens (ap (λ (f : Follow). folded f (k w r) (t w)) (fun_ext (λ v. fun_ext (λ x. h v x)))
+    ap opens (ap (λ (f : SuccessContinuation). folded f (k w r) (t w)) (fun_ext (λ v. fun_ext (λ x. h v x)))
     ∙ sym (folded_spliced k (k w r) g (t w))
     ∙ sym (folded_append k r (spliced g (t w)) (At w ∷ [])))
 pick_trail t false g again k w r h =
-    ap opens (ap (λ (f : Follow). k w (folded f r (t w))) (fun_ext (λ v. fun_ext (λ x. h v x)))
+    ap opens (ap (λ (f : SuccessContinuation). k w (folded f r (t w))) (fun_ext (λ v. fun_ext (λ x. h v x)))
     ∙ ap (λ x. k w x) (sym (folded_spliced k r g (t w))))
 
-upto_trail : (t : Trails) (greedy : Bool) (n : ℕ) (w : MatchState) (k : Follow) (r : Tale) → end_upto (run_of t) greedy n w k r ≡ folded k r (trail_upto t greedy n w)
+upto_trail : (t : Trails) (greedy : Bool) (n : ℕ) (w : MatchState) (k : SuccessContinuation) (r : Continuation) → end_upto (run_of t) greedy n w k r ≡ folded k r (trail_upto t greedy n w)
 upto_trail t greedy zero w k r = refl
 upto_trail t greedy (suc n) w k r = pick_trail t greedy (trail_upto t greedy n) (λ v x. end_upto (run_of t) greedy n v k x) k w r (λ v x. upto_trail t greedy n v k x)
 
-again_trail : (b : Bool) (k : Follow) (v : MatchState) (x y : Tale) (es : Trail) → y ≡ folded k x es → cond b (k v x) y ≡ folded k x (cond b (At v ∷ []) es)
+again_trail : (b : Bool) (k : SuccessContinuation) (v : MatchState) (x y : Continuation) (es : Trail) → y ≡ folded k x es → cond b (k v x) y ≡ folded k x (cond b (At v ∷ []) es)
 again_trail true k v x y es h = refl
 again_trail false k v x y es h = h
 
-loop_trail : (t : Trails) (greedy : Bool) (n : ℕ) (w : MatchState) (k : Follow) (r : Tale) → end_loop (run_of t) greedy n w k r ≡ folded k r (trail_loop t greedy n w)
+loop_trail : (t : Trails) (greedy : Bool) (n : ℕ) (w : MatchState) (k : SuccessContinuation) (r : Continuation) → end_loop (run_of t) greedy n w k r ≡ folded k r (trail_loop t greedy n w)
 loop_trail t greedy zero w k r = refl
 loop_trail t greedy (suc n) w k r =
     pick_trail t greedy (λ v. cond (v.position == w.position) (At v ∷ []) (trail_loop t greedy n v))
     (λ v x. cond (v.position == w.position) (k v x) (end_loop (run_of t) greedy n v k x)) k w r
     (λ v x. again_trail (v.position == w.position) k v x (end_loop (run_of t) greedy n v k x) (trail_loop t greedy n v) (loop_trail t greedy n v k x))
 
-times_trail : (t : Trails) (n : ℕ) (rest : Run) (after : Trails) → ((w : MatchState) (k : Follow) (r : Tale) → rest w k r ≡ folded k r (after w)) →
-    (w : MatchState) (k : Follow) (r : Tale) → end_times (run_of t) n rest w k r ≡ folded k r (trail_times t n after w)
+times_trail : (t : Trails) (n : ℕ) (rest : Denotation) (after : Trails) → ((w : MatchState) (k : SuccessContinuation) (r : Continuation) → rest w k r ≡ folded k r (after w)) →
+    (w : MatchState) (k : SuccessContinuation) (r : Continuation) → end_times (run_of t) n rest w k r ≡ folded k r (trail_times t n after w)
 times_trail t zero rest after h w k r = h w k r
 times_trail t (suc n) rest after h w k r =
-    ap (λ (f : Follow). folded f r (t w)) (fun_ext (λ v. fun_ext (λ x. times_trail t n rest after h v k x)))
+    ap (λ (f : SuccessContinuation). folded f r (t w)) (fun_ext (λ v. fun_ext (λ x. times_trail t n rest after h v k x)))
     ∙ sym (folded_spliced k r (trail_times t n after) (t w))
 
 pub states_append : (xs ys : Trail) → states (xs ++ ys) ≡ states xs ++ states ys
@@ -184,13 +184,13 @@ opened_append (Open ∷ xs) ys = omega (arith, opened_append xs ys)
 opened_append (Close ∷ xs) ys = omega (arith, opened_append xs ys)
 opened_append (At w ∷ xs) ys = opened_append xs ys
 
-ends_trail : (qs : List ℕ) (w : MatchState) (k : Follow) (r : Tale) → end_ends qs w k r ≡ folded k r (trail_ends qs w)
+ends_trail : (qs : List ℕ) (w : MatchState) (k : SuccessContinuation) (r : Continuation) → end_ends qs w k r ≡ folded k r (trail_ends qs w)
 ends_trail [] w k r = refl
 ends_trail (q ∷ []) w k r = refl
 ends_trail (q ∷ p ∷ ps) w k r = ap (λ x. opens (k (with_position w q) x)) (ends_trail (p ∷ ps) w k r)
 
 -- what the body's ways leave: a limit
-seen_trail : (k : Follow) (r x : Tale) (rest : ℕ → Trail) (kept : Option FoundMatch) (outer : ℕ) →
+seen_trail : (k : SuccessContinuation) (r x : Continuation) (rest : ℕ → Trail) (kept : Option FoundMatch) (outer : ℕ) →
     ((n : ℕ) → x (record { kept = kept; limit = n }) ≡ folded k r (rest n) (record { kept = kept; limit = outer })) → (es : Trail) (l : ℕ) →
     folded end_seen x es (record { kept = kept; limit = l }) ≡ folded k r (silent es ++ rest (lowest l es)) (record { kept = kept; limit = outer })
 seen_trail k r x rest kept outer h [] l = h l
@@ -198,18 +198,18 @@ seen_trail k r x rest kept outer h (Open ∷ es) l = ap one_more (seen_trail k r
 seen_trail k r x rest kept outer h (Close ∷ es) l = ap one_less (seen_trail k r x rest kept outer h es l)
 seen_trail k r x rest kept outer h (At v ∷ es) l = seen_trail k r x rest kept outer h es (lower l v.position)
 
-module _ (t : Trails) (w : MatchState) (k : Follow) (r : Tale) (kept : Option FoundMatch) (outer : ℕ) where
-  abbrev before : Known
+module _ (t : Trails) (w : MatchState) (k : SuccessContinuation) (r : Continuation) (kept : Option FoundMatch) (outer : ℕ) where
+  abbrev before : PersistentState
   before = record { kept = kept; limit = outer }
 
   look_trail : (done qs : List ℕ) (l : ℕ) → end_look (run_of t) done qs outer w k r (record { kept = kept; limit = l }) ≡ folded k r (trail_look t done qs l w) before
-  look_trail done [] l = ap (λ (x : Tale). x before) (ends_trail (below l done) w k r)
+  look_trail done [] l = ap (λ (x : Continuation). x before) (ends_trail (below l done) w k r)
   look_trail done (q ∷ qs) l =
       elim (nat_le l q) as (λ b. cond b (end_ends (below l done) w k r before)
       (one_more (folded end_seen (closes (end_look (run_of t) (q ∷ done) qs outer w k r)) (t (with_position w q)) (record { kept = kept; limit = l })))
       ≡ folded k r (cond b (trail_ends (below l done) w)
       (Open ∷ (silent (t (with_position w q)) ++ Close ∷ trail_look t (q ∷ done) qs (lowest l (t (with_position w q))) w))) before) [
-        | true ↦ ap (λ (x : Tale). x before) (ends_trail (below l done) w k r)
+        | true ↦ ap (λ (x : Continuation). x before) (ends_trail (below l done) w k r)
         | false ↦ ap one_more (seen_trail k r (closes (end_look (run_of t) (q ∷ done) qs outer w k r)) (λ n. Close ∷ trail_look t (q ∷ done) qs n w) kept outer
             (λ n. ap one_less (look_trail (q ∷ done) qs n)) (t (with_position w q)) l)
       ]
@@ -220,16 +220,16 @@ module _ (t : Trails) (w : MatchState) (k : Follow) (r : Tale) (kept : Option Fo
       ap one_more (seen_trail k r (closes (end_look (run_of t) (p ∷ []) ps outer w k r)) (λ n. Close ∷ trail_look t (p ∷ []) ps n w) kept outer
       (λ n. ap one_less (look_trail (p ∷ []) ps n)) (t (with_position w p)) unset)
 
-to_trail : (o : Option ℕ) (w : MatchState) (k : Follow) (r : Tale) → end_to o w k r ≡ folded k r (trail_to o w)
+to_trail : (o : Option ℕ) (w : MatchState) (k : SuccessContinuation) (r : Continuation) → end_to o w k r ≡ folded k r (trail_to o w)
 to_trail None w k r = refl
 to_trail (Some q) w k r = refl
 
-within_trail : (bound : Option ℕ) (end : ℕ → ℕ → Option ℕ) (g : Run) (t : Trails) → ((w : MatchState) (k : Follow) (r : Tale) → g w k r ≡ folded k r (t w)) →
-    (w : MatchState) (k : Follow) (r : Tale) → end_within bound end g w k r ≡ folded k r (trail_within bound end t w)
+within_trail : (bound : Option ℕ) (end : ℕ → ℕ → Option ℕ) (g : Denotation) (t : Trails) → ((w : MatchState) (k : SuccessContinuation) (r : Continuation) → g w k r ≡ folded k r (t w)) →
+    (w : MatchState) (k : SuccessContinuation) (r : Continuation) → end_within bound end g w k r ≡ folded k r (trail_within bound end t w)
 within_trail None end g t h w k r = h w k r
 within_trail (Some stop) end g t h w k r = to_trail (end stop w.position) w k r
 
-if_trail : (b : Bool) (w : MatchState) (k : Follow) (r : Tale) → cond b (k w r) r ≡ folded k r (trail_if b w)
+if_trail : (b : Bool) (w : MatchState) (k : SuccessContinuation) (r : Continuation) → cond b (k w r) r ≡ folded k r (trail_if b w)
 if_trail true w k r = refl
 if_trail false w k r = refl
 
@@ -238,7 +238,7 @@ module _ (s : Setting) where
   trail_again casei None w = []
   trail_again casei (Some pair) w = trail_if (match_backref s casei pair.0 pair.1 w.position) (with_position w (w.position + (pair.1 - pair.0)))
 
-  again_text : (casei : Bool) (o : Option (ℕ × ℕ)) (w : MatchState) (k : Follow) (r : Tale) → end_again s casei o w k r ≡ folded k r (trail_again casei o w)
+  again_text : (casei : Bool) (o : Option (ℕ × ℕ)) (w : MatchState) (k : SuccessContinuation) (r : Continuation) → end_again s casei o w k r ≡ folded k r (trail_again casei o w)
   again_text casei None w k r = refl
   again_text casei (Some pair) w k r = if_trail (match_backref s casei pair.0 pair.1 w.position) (with_position w (w.position + (pair.1 - pair.0))) k r
 
@@ -268,7 +268,7 @@ module _ (s : Setting) where
     trail (absent a) w = trail_absent (trail a) (boundaries s.text w.position (length s.text)) w
 
     -- the ending is that of the trail
-    pub ending_trail : (p : CorePattern) (w : MatchState) (k : Follow) (r : Tale) → ending s bound p w k r ≡ folded k r (trail p w)
+    pub ending_trail : (p : CorePattern) (w : MatchState) (k : SuccessContinuation) (r : Continuation) → ending s bound p w k r ≡ folded k r (trail p w)
     ending_trail nothing w k r = refl
     ending_trail (read leaf) w k r = to_trail (match_char s.text (passes s leaf) w.position) w k r
     ending_trail (general_newline unicode) w k r = to_trail (match_newline s unicode w.position) w k r
@@ -278,7 +278,7 @@ module _ (s : Setting) where
     ending_trail fail w k r = refl
     ending_trail (cat a b) w k r =
         ending_trail a w (λ v x. ending s bound b v k x) r
-        ∙ ap (λ (f : Follow). folded f r (trail a w)) (fun_ext (λ v. fun_ext (λ x. ending_trail b v k x)))
+        ∙ ap (λ (f : SuccessContinuation). folded f r (trail a w)) (fun_ext (λ v. fun_ext (λ x. ending_trail b v k x)))
         ∙ sym (folded_spliced k r (trail b) (trail a w))
     ending_trail (alt a b) w k r =
         ap opens (ending_trail a w k (ending s bound b w k r)
@@ -295,18 +295,18 @@ module _ (s : Setting) where
     ending_trail (delegate t a) w k r = to_trail (first_end s t w.position) w k r
     ending_trail (tail t a) w k r = within_trail bound (first_end_until s t) (ending s bound a) (trail a) (ending_trail a) w k r
     ending_trail (repeat a lo None greedy) w k r =
-        ap (λ (g : Run). end_times g lo (end_loop g greedy (length s.text + 1)) w k r) (fun_ext (λ v. fun_ext (λ f. fun_ext (λ x. ending_trail a v f x))))
+        ap (λ (g : Denotation). end_times g lo (end_loop g greedy (length s.text + 1)) w k r) (fun_ext (λ v. fun_ext (λ f. fun_ext (λ x. ending_trail a v f x))))
         ∙ times_trail (trail a) lo (end_loop (run_of (trail a)) greedy (length s.text + 1)) (trail_loop (trail a) greedy (length s.text + 1)) (loop_trail (trail a) greedy (length s.text + 1)) w k r
     ending_trail (repeat a lo (Some hi) greedy) w k r =
-        ap (λ (g : Run). end_times g lo (end_upto g greedy (hi - lo)) w k r) (fun_ext (λ v. fun_ext (λ f. fun_ext (λ x. ending_trail a v f x))))
+        ap (λ (g : Denotation). end_times g lo (end_upto g greedy (hi - lo)) w k r) (fun_ext (λ v. fun_ext (λ f. fun_ext (λ x. ending_trail a v f x))))
         ∙ times_trail (trail a) lo (end_upto (run_of (trail a)) greedy (hi - lo)) (trail_upto (trail a) greedy (hi - lo)) (upto_trail (trail a) greedy (hi - lo)) w k r
     ending_trail (backref n casei) w k r = again_text casei (pair_of w n) w k r
     ending_trail (exists n) w k r = if_trail (is_some (pair_of w n)) w k r
     ending_trail (conditional c a b) w k r =
         ap opens (ending_trail c w (λ v x. ending s bound a v k r) (ending s bound b w k r)
         ∙ ap (λ x. folded (λ v y. ending s bound a v k r) x (trail c w)) (ending_trail b w k r)
-        ∙ ap (λ (f : Follow). folded f (folded k r (trail b w)) (trail c w)) (fun_ext (λ v. fun_ext (λ x. ending_trail a v k r)))
+        ∙ ap (λ (f : SuccessContinuation). folded f (folded k r (trail b w)) (trail c w)) (fun_ext (λ v. fun_ext (λ x. ending_trail a v k r)))
         ∙ sym (folded_first k r (trail a) (trail b w) (trail c w)))
     ending_trail (absent a) w k r =
-        ap (λ (g : Run). end_absent g (boundaries s.text w.position (length s.text)) w k r) (fun_ext (λ v. fun_ext (λ f. fun_ext (λ x. ending_trail a v f x))))
-        ∙ fun_ext (λ known. absent_trail (trail a) w k r known.kept known.limit (boundaries s.text w.position (length s.text)))
+        ap (λ (g : Denotation). end_absent g (boundaries s.text w.position (length s.text)) w k r) (fun_ext (λ v. fun_ext (λ f. fun_ext (λ x. ending_trail a v f x))))
+        ∙ fun_ext (λ state. absent_trail (trail a) w k r state.kept state.limit (boundaries s.text w.position (length s.text)))

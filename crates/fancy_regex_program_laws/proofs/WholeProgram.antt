@@ -22,13 +22,13 @@ use Rattle.fancy_regex_program.specs.Code.{slots_in, opening, closing, program_o
 use Rattle.fancy_regex_program.specs.SlotLayout.{slots_of_way, slots_of_match}
 use Rattle.fancy_regex_class.specs.RunInputs.{group_slots}
 use Rattle.fancy_regex_program_laws.specs.ProgramLaws.{FoundMatch, found_by_thread, entry_way, way_at, choices_up_to, first_group_number, RunRequirements, attempted_starts, Terminates, ProgramsAnswerSearches}
-use Rattle.fancy_regex_program_laws.proofs.Denote.{Tale, Follow, ending}
-use Rattle.fancy_regex_program_laws.proofs.Runs.{thread, Within, IsPlain, Sound, Comes, known, Pops, Follows, forked, by_move, Does}
+use Rattle.fancy_regex_program_laws.proofs.Denote.{Continuation, SuccessContinuation, ending}
+use Rattle.fancy_regex_program_laws.proofs.Runs.{thread, Within, IsPlain, Sound, Comes, state, Pops, Follows, forked, by_move, Does}
 use Rattle.fancy_regex_program_laws.proofs.ProgramParts.{HasAt, has_front, has_back, has_all, plain_at, with_slot_is}
 use Rattle.fancy_regex_program_laws.proofs.Emitted.{closed_code, runs_closed}
 use Rattle.fancy_regex_program_laws.proofs.PairsInSlots.{length_flat}
 use Rattle.fancy_regex_program_laws.proofs.Trail.{folded, ending_trail}
-use Rattle.fancy_regex_program_laws.proofs.StartByStart.{told, better, holding, found_by_way, end_follow, trail_from, after, search_tale, search_claims, search_answer, search_opened}
+use Rattle.fancy_regex_program_laws.proofs.StartByStart.{outcome_of, better, holding, found_by_way, end_follow, trail_from, after, search_outcome, search_claims, search_answer, search_opened}
 
 -- All operations of a program stand in it.
 flat_none : (count : ℕ) → group_slots (replicate count None) ≡ replicate (2 * count) unset
@@ -173,7 +173,7 @@ module _ (r : RunParameters) (p : CorePattern) (whole anchored : Bool) (count : 
       runs_closed code r whole count asked.utf8 asked.small asked.groups (first_group_number whole) apart p (length front) (2 * count) false asked.writable asked.placed
       (has_front code (length front) body last body_at)
 
-  abbrev follow_end : Follow
+  abbrev follow_end : SuccessContinuation
   follow_end = end_follow r p whole count (first_group_number whole) asked.writable asked.small
 
   -- what the slots of the groups hold at the end
@@ -203,19 +203,19 @@ module _ (r : RunParameters) (p : CorePattern) (whole anchored : Bool) (count : 
       chosen false = refl
 
   -- an admitted way, and one that is not
-  ends : (t : Thread) (v : MatchState) (stack : List Thread) (x : Tale) → found_by_thread whole (2 * count) t ≡ found_by_way r.find whole v → Pops code r whole count stack x → (a : Bool) →
+  ends : (t : Thread) (v : MatchState) (stack : List Thread) (x : Continuation) → found_by_thread whole (2 * count) t ≡ found_by_way r.find whole v → Pops code r whole count stack x → (a : Bool) →
       Follows code r whole count stack (cond a (accepts t) fails)
-      (λ known. cond a (cond r.find.options.longest (x (holding known.limit (better known.kept (found_by_way r.find whole v)))) (told (Some (found_by_way r.find whole v)))) (x known))
+      (λ state. cond a (cond r.find.options.longest (x (holding state.limit (better state.kept (found_by_way r.find whole v)))) (outcome_of (Some (found_by_way r.find whole v)))) (x state))
   ends t v stack x e pops false = pops
   ends t v stack x e pops true = λ held.
       elim r.find.options.longest as (λ b. Within whole (2 * count) (length stack)
       (λ j. cond b (pop code (exec code r j) (record { kept = farther held.kept t; limit = held.limit }) stack) (Some (ended (Some t))))
-      (cond b (x (holding held.limit (better (option_map (found_by_thread whole (2 * count)) held.kept) (found_by_way r.find whole v)))) (told (Some (found_by_way r.find whole v))))) [
+      (cond b (x (holding held.limit (better (option_map (found_by_thread whole (2 * count)) held.kept) (found_by_way r.find whole v)))) (outcome_of (Some (found_by_way r.find whole v))))) [
         | true ↦ subst (λ o. Within whole (2 * count) (length stack) (λ j. pop code (exec code r j) (record { kept = farther held.kept t; limit = held.limit }) stack) (x (holding held.limit o)))
             (farther_is held.kept t (found_by_way r.find whole v) e) (pops (record { kept = farther held.kept t; limit = held.limit }))
         | false ↦ record {
           fuel = 0;
-          by = λ told j le. record { ending = ended (Some t); comes = refl; answer = ap Some e; few = omega arith; narrow = omega arith };
+          by = λ claim j le. record { ending = ended (Some t); comes = refl; answer = ap Some e; few = omega arith; narrow = omega arith };
         }
       ]
 
@@ -223,7 +223,7 @@ module _ (r : RunParameters) (p : CorePattern) (whole anchored : Bool) (count : 
   start_of_whole v n true h = (h refl).1
   start_of_whole v n false h = refl
 
-  finish_comes : (pc : ℕ) (v : MatchState) (n : List ℕ) (stack : List Thread) (x : Tale) → slice_get code pc ≡ Some op.finish → Sound r.setting.text count v → Ended v n →
+  finish_comes : (pc : ℕ) (v : MatchState) (n : List ℕ) (stack : List Thread) (x : Continuation) → slice_get code pc ≡ Some op.finish → Sound r.setting.text count v → Ended v n →
       Pops code r whole count stack x → Comes code r whole count (thread pc v.position n ∷ stack) (follow_end v x)
   finish_comes pc v n stack x at sound end pops =
       let t : Thread = thread pc v.position n in
@@ -242,7 +242,7 @@ module _ (r : RunParameters) (p : CorePattern) (whole anchored : Bool) (count : 
       let long : 0 < length (group_slots v.pairs) = omega (arith, length_flat v.pairs) in
       sym (get_or-take (2 * count) n 0 0 (omega arith)) ∙ ap (λ l. get_or l 0 0) (fits ∙ ap (λ b. slots_of_way b v) is) ∙ get_or-set_same (group_slots v.pairs) 0 v.kept 0 long
 
-  close_comes : (b : Bool) → whole ≡ b → (pc : ℕ) → HasAt code pc (cond b (op.save 1 ∷ []) [] ++ op.finish ∷ []) → (v : MatchState) (n : List ℕ) (stack : List Thread) (x : Tale) →
+  close_comes : (b : Bool) → whole ≡ b → (pc : ℕ) → HasAt code pc (cond b (op.save 1 ∷ []) [] ++ op.finish ∷ []) → (v : MatchState) (n : List ℕ) (stack : List Thread) (x : Continuation) →
       2 * count ≤ length n → Sound r.setting.text count v → take (2 * count) n ≡ slots_of_way whole v → Pops code r whole count stack x →
       Comes code r whole count (thread pc v.position n ∷ stack) (follow_end v x)
   close_comes true is pc at v n stack x room sound fits pops =
@@ -266,7 +266,7 @@ module _ (r : RunParameters) (p : CorePattern) (whole anchored : Bool) (count : 
   plain_end true pc at = plain_at code pc (op.save 1) at.0 refl refl
   plain_end false pc at = plain_at code pc op.finish at.0 refl refl
 
-  body_comes : (q : ℕ) (m : List ℕ) (rest : List Thread) (x : Tale) → IsCharBoundary r.setting.text q → 2 * count + slots_in p ≤ length m →
+  body_comes : (q : ℕ) (m : List ℕ) (rest : List Thread) (x : Continuation) → IsCharBoundary r.setting.text q → 2 * count + slots_in p ≤ length m →
       take (2 * count) m ≡ slots_of_way whole (entry_way count q) → Pops code r whole count rest x →
       Comes code r whole count (thread (length front) q m ∷ rest) (folded follow_end x (trail_from r p whole count (first_group_number whole) asked.writable asked.small q))
   body_comes q m rest x here room fits pops =
@@ -287,7 +287,7 @@ module _ (r : RunParameters) (p : CorePattern) (whole anchored : Bool) (count : 
   slots_fit = take_unset (2 * count) (slots_in p) ∙ sym (flat_none count)
 
   -- from the operation after the one that tries starts
-  start_comes : (b : Bool) → whole ≡ b → (pc q : ℕ) (rest : List Thread) (x : Tale) → HasAt code pc (cond b (op.save 0 ∷ []) []) → length front ≡ pc + length (cond b (op.save 0 ∷ []) []) →
+  start_comes : (b : Bool) → whole ≡ b → (pc q : ℕ) (rest : List Thread) (x : Continuation) → HasAt code pc (cond b (op.save 0 ∷ []) []) → length front ≡ pc + length (cond b (op.save 0 ∷ []) []) →
       IsCharBoundary r.setting.text q → Pops code r whole count rest x →
       Comes code r whole count (thread pc q slots ∷ rest) (folded follow_end x (trail_from r p whole count (first_group_number whole) asked.writable asked.small q))
   start_comes true is pc q rest x at e here pops =
@@ -298,40 +298,40 @@ module _ (r : RunParameters) (p : CorePattern) (whole anchored : Bool) (count : 
       let fits : take (2 * count) m ≡ slots_of_way whole (entry_way count q) =
       take-set-lt (2 * count) slots 0 q (omega arith) ∙ ap (λ l. set l 0 q) slots_fit ∙ sym (ap (λ b. slots_of_way b (entry_way count q)) is) in
       let next = body_comes q m rest x here (omega (arith, length-set slots 0 q, length_unset (2 * count + slots_in p) unset)) fits pops in
-      let tale = folded follow_end x (trail_from r p whole count (first_group_number whole) asked.writable asked.small q) in
-      by_move code r whole count t rest (op.save 0) (goes (wrote 0 q t)) tale at.0 here (with_slot_is 0 t _ there)
-      (subst (λ n. Comes code r whole count (thread n q m ∷ rest) tale) e next)
+      let continuation = folded follow_end x (trail_from r p whole count (first_group_number whole) asked.writable asked.small q) in
+      by_move code r whole count t rest (op.save 0) (goes (wrote 0 q t)) continuation at.0 here (with_slot_is 0 t _ there)
+      (subst (λ n. Comes code r whole count (thread n q m ∷ rest) continuation) e next)
   start_comes false is pc q rest x at e here pops =
       let fits : take (2 * count) slots ≡ slots_of_way whole (entry_way count q) = slots_fit ∙ sym (ap (λ b. slots_of_way b (entry_way count q)) is) in
       let next = body_comes q slots rest x here (omega (arith, length_unset (2 * count + slots_in p) unset)) fits pops in
       let same : length front ≡ pc = omega arith in
       subst (λ n. Comes code r whole count (thread n q slots ∷ rest) (folded follow_end x (trail_from r p whole count (first_group_number whole) asked.writable asked.small q))) same next
 
-  abbrev others : List ℕ → Tale
+  abbrev others : List ℕ → Continuation
   others = after r p whole count (first_group_number whole) asked.writable asked.small
 
-  abbrev tale_from : ℕ → List ℕ → Tale
-  tale_from = search_tale r p whole count (first_group_number whole) asked.writable asked.small
+  abbrev outcome_from : ℕ → List ℕ → Continuation
+  outcome_from = search_outcome r p whole count (first_group_number whole) asked.writable asked.small
 
   nothing_left : Pops code r whole count [] (others [])
   nothing_left held = record {
     fuel = 0;
-    by = λ told j le. record { ending = ended held.kept; comes = refl; answer = refl; few = omega arith; narrow = omega arith };
+    by = λ claim j le. record { ending = ended held.kept; comes = refl; answer = refl; few = omega arith; narrow = omega arith };
   }
 
   -- at a later start, where the one before has no way left
-  later_pops : (q : ℕ) (qs : List ℕ) → slice_get code 0 ≡ Some op.split_unanchored → Comes code r whole count (thread 0 q slots ∷ []) (tale_from q qs) →
+  later_pops : (q : ℕ) (qs : List ℕ) → slice_get code 0 ≡ Some op.split_unanchored → Comes code r whole count (thread 0 q slots ∷ []) (outcome_from q qs) →
       Pops code r whole count (thread 0 q slots ∷ []) (others (q ∷ qs))
   later_pops q qs at comes held = by_kept held.kept held.limit
     where
       by_kept : (kept : Option Thread) (l : ℕ) → Within whole (2 * count) 1 (λ j. pop code (exec code r j) (record { kept = kept; limit = l }) (thread 0 q slots ∷ []))
-          (others (q ∷ qs) (known code r whole count (record { kept = kept; limit = l })))
+          (others (q ∷ qs) (state code r whole count (record { kept = kept; limit = l })))
       by_kept None l =
           let c = comes (record { kept = None; limit = l }) in
           record {
             fuel = c.fuel;
-            by = λ told j le.
-                let e = c.by told j le in
+            by = λ claim j le.
+                let e = c.by claim j le in
                 record {
                   ending = back e.ending;
                   comes = ap (λ o. option_map (cond (is_scan o) (λ e. e) back) (exec code r j (record { kept = None; limit = l }) (thread 0 q slots ∷ []))) at ∙ ap (option_map back) e.comes;
@@ -342,7 +342,7 @@ module _ (r : RunParameters) (p : CorePattern) (whole anchored : Bool) (count : 
           }
       by_kept (Some kept) l = record {
         fuel = 0;
-        by = λ told j le. record {
+        by = λ claim j le. record {
           ending = ended (Some kept);
           comes = ap (λ o. cond (is_start o) (Some (ended (Some kept)))
               (option_map (cond (is_scan (slice_get code 0)) (λ e. e) back) (exec code r j (record { kept = Some kept; limit = l }) (thread 0 q slots ∷ [])))) at;
@@ -373,23 +373,23 @@ module _ (r : RunParameters) (p : CorePattern) (whole anchored : Bool) (count : 
       length-append (cond anchored [] (op.split_unanchored ∷ [])) (cond whole (op.save 0 ∷ []) [])
       ∙ ap (λ c. length (cond c [] (op.split_unanchored ∷ [])) + length (cond whole (op.save 0 ∷ []) [])) is
 
-  from_here : anchored ≡ false → (qs : List ℕ) (q : ℕ) → following r q ≡ qs → IsCharBoundary r.setting.text q → Comes code r whole count (thread 0 q slots ∷ []) (tale_from q qs)
+  from_here : anchored ≡ false → (qs : List ℕ) (q : ℕ) → following r q ≡ qs → IsCharBoundary r.setting.text q → Comes code r whole count (thread 0 q slots ∷ []) (outcome_from q qs)
   from_here is [] q e here =
       let at = split_at is in
-      by_move code r whole count (thread 0 q slots) [] op.split_unanchored (goes (thread 1 q slots)) (tale_from q []) at.0 here
+      by_move code r whole count (thread 0 q slots) [] op.split_unanchored (goes (thread 1 q slots)) (outcome_from q []) at.0 here
       (ap (starts_here (thread 0 q slots)) (next_is r q ∙ ap first_item e))
       (start_comes whole refl 1 q [] (others []) at.1 (omega (arith, long_front false is)) here nothing_left)
   from_here is (next ∷ qs) q e here =
       let at = split_at is in
       let n = next_place q next qs e in
       let later = from_here is qs next n.1 n.0 in
-      by_move code r whole count (thread 0 q slots) [] op.split_unanchored (forks (thread 1 q slots) (thread 0 next slots)) (tale_from q (next ∷ qs)) at.0 here
+      by_move code r whole count (thread 0 q slots) [] op.split_unanchored (forks (thread 1 q slots) (thread 0 next slots)) (outcome_from q (next ∷ qs)) at.0 here
       (ap (starts_here (thread 0 q slots)) (next_is r q ∙ ap first_item e))
       (forked code r whole count (thread 1 q slots) (thread 0 next slots) []
       (folded follow_end (others (next ∷ qs)) (trail_from r p whole count (first_group_number whole) asked.writable asked.small q))
       (start_comes whole refl 1 q (thread 0 next slots ∷ []) (others (next ∷ qs)) at.1 (omega (arith, long_front false is)) here (later_pops next qs at.0 later)))
 
-  from_first : anchored ≡ true → (q : ℕ) → IsCharBoundary r.setting.text q → Comes code r whole count (thread 0 q slots ∷ []) (tale_from q [])
+  from_first : anchored ≡ true → (q : ℕ) → IsCharBoundary r.setting.text q → Comes code r whole count (thread 0 q slots ∷ []) (outcome_from q [])
   from_first is q here =
       let at : HasAt code 0 (cond whole (op.save 0 ∷ []) []) =
       subst (λ b. HasAt code 0 (cond b [] (op.split_unanchored ∷ []) ++ cond whole (op.save 0 ∷ []) [])) is (has_front code 0 front (body ++ last) all_at) in
@@ -413,14 +413,14 @@ module _ (r : RunParameters) (p : CorePattern) (whole anchored : Bool) (count : 
       outer true d = absurd cc
       outer false d = inner r.find.anchored d
 
-  -- what is told of the starts that are tried
-  over_from : (q : ℕ) (qs : List ℕ) → tried r ≡ q ∷ qs → Comes code r whole count (thread 0 q slots ∷ []) (tale_from q qs) →
+  -- the outcome of the starts that are tried
+  over_from : (q : ℕ) (qs : List ℕ) → tried r ≡ q ∷ qs → Comes code r whole count (thread 0 q slots ∷ []) (outcome_from q qs) →
       (n : ℕ) × ((j : ℕ) → n ≤ j → Finishes r p whole anchored count (tried r) j)
   over_from q qs e comes =
       let c = comes initial_run_state in (
         c.fuel,
         λ j le.
-            let m = c.by (search_claims r p whole count (first_group_number whole) asked.writable asked.small q qs (known code r whole count initial_run_state)) j le in
+            let m = c.by (search_claims r p whole count (first_group_number whole) asked.writable asked.small q qs (state code r whole count initial_run_state)) j le in
             record {
               ending = m.ending;
               comes = ap (λ (l : List ℕ). elim (first_item l) as (λ o. Option Ending) [ None ↦ Some (ended None) | Some s ↦ exec code r j initial_run_state (first_thread (2 * count + slots_in p) s ∷ []) ]) e ∙ m.comes;

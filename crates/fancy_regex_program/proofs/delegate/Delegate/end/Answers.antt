@@ -1,31 +1,15 @@
-use Rattle.std.proofs.Common.{ℕ, Some, None, Vec, Global, sym, ap, ◌∙◌, slice_get}
-use Rattle.std.specs.Prelude.{option_map}
-use base.Stored.{Coded-set}
-use Rattle.std.specs.Coded.{coded_option, coded_ℕ}
-use mathlib.Core.Logic.{∥∥₁_elim}
+use Rattle.std.proofs.Common.{◌≡◌, ℕ, Option, subst}
+use Rattle.std.specs.Prelude.{IfOk}
 use Rattle.fancy_regex_tree.specs.Tree.{tree_of}
-use Rattle.fancy_regex_meaning.specs.Groups.{pattern_of}
 use Rattle.fancy_regex_class.specs.RunInputs.{setting_for}
 use Rattle.fancy_regex_desugar.specs.Delegates.{searched}
-use Rattle.fancy_regex_desugar.proofs.DelegateProofs.{searched_can_be}
-use Rattle.fancy_regex_program.proofs.DelegateLemmas.{end_of_search}
+use Rattle.fancy_regex_program.proofs.DelegateLemmas.{until_end}
 use Rattle.fancy_regex_program.proofs.delegate.Delegate.end.Goals as goal
 
-pub returns-in-Some : goal.returns-in-Some
-returns-in-Some c =
+-- a match of the part ends in the text, so in the whole range
+pub returns : goal.returns
+returns c =
     let self = c.args.self.now in
-    let t = searched self.for_any (tree_of self.part) in
     let s = setting_for self.easy.unicode c.args.text.now c.args.input.now in
-    ∥∥₁_elim self.serves (Coded-set (coded_option coded_ℕ) _ _) (λ serves.
-    c.place_at-end.ensures ∙ ap (λ l. slice_get l 1) c.deref.ensures.value
-    ∙ end_of_search s t (searched_can_be self.for_any (tree_of self.part) self.delegated) c.args.input.now c.requires.range c.requires.anchored c.requires.first.0 self.easy.longest self.first (Some c.in-Some.places)
-    (ap (option_map (λ (v : Vec ℕ Global). v.items)) (sym c.in-Some.is) ∙ c.in_ok-found.ensures.answer (pattern_of t) serves))
-
-pub returns-in-None : goal.returns-in-None
-returns-in-None c =
-    let self = c.args.self.now in
-    let t = searched self.for_any (tree_of self.part) in
-    let s = setting_for self.easy.unicode c.args.text.now c.args.input.now in
-    ∥∥₁_elim self.serves (Coded-set (coded_option coded_ℕ) _ _) (λ serves.
-    end_of_search s t (searched_can_be self.for_any (tree_of self.part) self.delegated) c.args.input.now c.requires.range c.requires.anchored c.requires.first.0 self.easy.longest self.first None
-    (ap (option_map (λ (v : Vec ℕ Global). v.items)) (sym c.in-None.is) ∙ c.in_ok-found.ensures.answer (pattern_of t) serves))
+    let same = until_end s (searched self.for_any (tree_of self.part)) c.args.input.now.first c.args.input.now.range.end c.requires.first.0 c.requires.range in
+    subst (λ (end : Option ℕ). IfOk c.end_until.result (λ found. found ≡ end)) same c.end_until.ensures

@@ -6,7 +6,7 @@ use Rattle.fancy_regex_tree.specs.Tree.{tree_of, Tree}
 use Rattle.fancy_regex_meaning.specs.Groups.{pattern_of}
 use Rattle.fancy_regex_desugar.specs.Delegates as delegates
 use Rattle.fancy_regex_desugar.proofs.DelegateProofs.{part_of, searched_can_be}
-use Rattle.fancy_regex_linear.specs.Runner.{IsEasyOf}
+use Rattle.fancy_regex_linear.specs.EasyPatterns.{IsEasyOf}
 use Rattle.fancy_regex_program.specs.BodyStarts.{body_starts_in}
 use Rattle.fancy_regex_program.specs.Parts.{IsPartCause}
 use Rattle.fancy_regex_program.proofs.LazyLemmas.{searched_printable}
