@@ -34,11 +34,11 @@ use Rattle.fancy_regex_compiler.proofs.RowLemmas.{wrote_nothing, wrote_fail}
 use Rattle.fancy_regex_compiler.proofs.StepLemmas.{same_progress, closing_fits, row_step, leads_nowhere, leads_one, drew_alternatives, drew_tested}
 
 -- the first of a row, and the others
-pub expanded_rest : (tree_context : TreeContext) (keeps absents behind : Bool) (xs rest : List Info) (x : Info) → xs ≡ x ∷ rest →
-    AreExpandedParts tree_context keeps absents behind xs →
-    IsExpandedPart tree_context keeps absents behind (info_of x) × AreExpandedParts tree_context keeps absents behind rest
-expanded_rest tree_context keeps absents behind xs rest x is h =
-    let all : AreExpandedParts tree_context keeps absents behind (x ∷ rest) = subst (AreExpandedParts tree_context keeps absents behind) is h in
+pub expanded_rest : (tree_context : TreeContext) (keeps absents steps_back : Bool) (xs rest : List Info) (x : Info) → xs ≡ x ∷ rest →
+    AreExpandedParts tree_context keeps absents steps_back xs →
+    IsExpandedPart tree_context keeps absents steps_back (info_of x) × AreExpandedParts tree_context keeps absents steps_back rest
+expanded_rest tree_context keeps absents steps_back xs rest x is h =
+    let all : AreExpandedParts tree_context keeps absents steps_back (x ∷ rest) = subst (AreExpandedParts tree_context keeps absents steps_back) is h in
     (all 0 x refl, λ k y at. all (suc k) y at)
 
 room_row : (a b : CorePattern) → room (cat a b) ≡ room a + room b
@@ -84,49 +84,49 @@ leads_fail context old body slot keeps p S step fails step_is drew long =
     (let rooms = ap room fails in omega (arith, long, rooms, room_fail)) (subst (IsAllowed context.unicode keeps) (sym fails) tt))
 
 -- an alternation of no branch
-pub leads_no_branch : (context : CompileContext) (old : Emitter) (body : ProgramBuilder) (slot : ℕ) (branches : List Info) (behind : Bool) (scope : Scope) (step : Step) → branches ≡ [] →
+pub leads_no_branch : (context : CompileContext) (old : Emitter) (body : ProgramBuilder) (slot : ℕ) (branches : List Info) (steps_back : Bool) (scope : Scope) (step : Step) → branches ≡ [] →
     step ≡ record { slot = slot; tasks = tasks.Nothing } → draft_of body ≡ added op.fail (draft_of old.body) → extent (draft_of body) ≡ extent (draft_of old.body) + 1 →
-    LeadsTo context (branches_pattern context branches behind scope old.opened.items) scope.may_keep
-    (λ tree_context. AreExpandedParts tree_context scope.may_keep scope.may_be_absent behind branches) old (record { body = body; classes = old.classes; opened = old.opened; parts = old.parts }) slot step
-leads_no_branch context old body slot branches behind scope step is step_is drew long =
-    leads_fail context old body slot scope.may_keep (branches_pattern context branches behind scope old.opened.items)
-    (λ tree_context. AreExpandedParts tree_context scope.may_keep scope.may_be_absent behind branches) step
-    (ap (λ xs. branches_pattern context xs behind scope old.opened.items) is) step_is drew long
+    LeadsTo context (branches_pattern context branches steps_back scope old.opened.items) scope.may_keep
+    (λ tree_context. AreExpandedParts tree_context scope.may_keep scope.may_be_absent steps_back branches) old (record { body = body; classes = old.classes; opened = old.opened; parts = old.parts }) slot step
+leads_no_branch context old body slot branches steps_back scope step is step_is drew long =
+    leads_fail context old body slot scope.may_keep (branches_pattern context branches steps_back scope old.opened.items)
+    (λ tree_context. AreExpandedParts tree_context scope.may_keep scope.may_be_absent steps_back branches) step
+    (ap (λ xs. branches_pattern context xs steps_back scope old.opened.items) is) step_is drew long
 
 -- an alternation of one branch
-pub leads_branch : (context : CompileContext) (e : Emitter) (slot : ℕ) (branches : List Info) (behind : Bool) (scope : Scope) (step : Step) (x : Bor Info) → branches ≡ x.now ∷ [] →
-    step ≡ record { slot = slot; tasks = tasks.One (task.Node x behind scope) } →
-    LeadsTo context (branches_pattern context branches behind scope e.opened.items) scope.may_keep
-    (λ tree_context. AreExpandedParts tree_context scope.may_keep scope.may_be_absent behind branches) e e slot step
-leads_branch context e slot branches behind scope step x is step_is =
-    let p = branches_pattern context branches behind scope e.opened.items in
-    let S = λ (tree_context : TreeContext). AreExpandedParts tree_context scope.may_keep scope.may_be_absent behind branches in
-    let one : p ≡ node_pattern context x.now behind scope e.opened.items = ap (λ xs. branches_pattern context xs behind scope e.opened.items) is in
+pub leads_branch : (context : CompileContext) (e : Emitter) (slot : ℕ) (branches : List Info) (steps_back : Bool) (scope : Scope) (step : Step) (x : Bor Info) → branches ≡ x.now ∷ [] →
+    step ≡ record { slot = slot; tasks = tasks.One (task.Node x steps_back scope) } →
+    LeadsTo context (branches_pattern context branches steps_back scope e.opened.items) scope.may_keep
+    (λ tree_context. AreExpandedParts tree_context scope.may_keep scope.may_be_absent steps_back branches) e e slot step
+leads_branch context e slot branches steps_back scope step x is step_is =
+    let p = branches_pattern context branches steps_back scope e.opened.items in
+    let S = λ (tree_context : TreeContext). AreExpandedParts tree_context scope.may_keep scope.may_be_absent steps_back branches in
+    let one : p ≡ node_pattern context x.now steps_back scope e.opened.items = ap (λ xs. branches_pattern context xs steps_back scope e.opened.items) is in
     subst (λ r. LeadsTo context p scope.may_keep S e e slot r) (sym step_is)
-    (leads_one context e slot scope.may_keep (node_pattern context x.now behind scope e.opened.items) p (task.Node x behind scope) S one refl (λ h. h) refl (omega arith)
-    (λ tree_context s stand. (expanded_rest tree_context scope.may_keep scope.may_be_absent behind branches [] x.now is stand).0))
+    (leads_one context e slot scope.may_keep (node_pattern context x.now steps_back scope e.opened.items) p (task.Node x steps_back scope) S one refl (λ h. h) refl (omega arith)
+    (λ tree_context s stand. (expanded_rest tree_context scope.may_keep scope.may_be_absent steps_back branches [] x.now is stand).0))
 
 -- two branches or more
 alt_more : (f : Info → CorePattern) (x : Info) (xs : List Info) → 1 ≤ length xs → alt_all (map f (x ∷ xs)) ≡ alt (f x) (alt_all (map f xs))
 alt_more f x [] some = absurd (omega (arith, some))
 alt_more f x (y ∷ ys) some = refl
 
-pub leads_alternatives : (context : CompileContext) (old : Emitter) (body : ProgramBuilder) (slot : ℕ) (branches : List Info) (behind : Bool) (scope : Scope) (step : Step)
+pub leads_alternatives : (context : CompileContext) (old : Emitter) (body : ProgramBuilder) (slot : ℕ) (branches : List Info) (steps_back : Bool) (scope : Scope) (step : Step)
     (split first : ℕ) (x : Bor Info) (rest : Bor (List Info)) (d : Draft) → branches ≡ x.now ∷ rest.now → 1 ≤ length rest.now →
-    step ≡ record { slot = slot; tasks = tasks.Two (task.Node x behind scope) (task.Otherwise split first rest behind scope) } →
+    step ≡ record { slot = slot; tasks = tasks.Two (task.Node x steps_back scope) (task.Otherwise split first rest steps_back scope) } →
     d ≡ closed_draft (draft_of old.body) → split ≡ length d.ops → draft_of body ≡ with_op (op.split 0 0) d → first ≡ length (draft_of body).ops →
     extent (draft_of body) ≤ extent (draft_of old.body) + 1 →
-    LeadsTo context (branches_pattern context branches behind scope old.opened.items) scope.may_keep
-    (λ tree_context. AreExpandedParts tree_context scope.may_keep scope.may_be_absent behind branches) old (record { body = body; classes = old.classes; opened = old.opened; parts = old.parts }) slot step
-leads_alternatives context old body slot branches behind scope step split first x rest d is some step_is closes at begun at_first long =
+    LeadsTo context (branches_pattern context branches steps_back scope old.opened.items) scope.may_keep
+    (λ tree_context. AreExpandedParts tree_context scope.may_keep scope.may_be_absent steps_back branches) old (record { body = body; classes = old.classes; opened = old.opened; parts = old.parts }) slot step
+leads_alternatives context old body slot branches steps_back scope step split first x rest d is some step_is closes at begun at_first long =
     let new : Emitter = record { body = body; classes = old.classes; opened = old.opened; parts = old.parts } in
     let u = context.unicode in
     let w = context.whole in
-    let f = λ (y : Info). node_pattern context y behind scope old.opened.items in
+    let f = λ (y : Info). node_pattern context y steps_back scope old.opened.items in
     let a = f x.now in
     let b = alt_all (map f rest.now) in
-    let p = branches_pattern context branches behind scope old.opened.items in
-    let S = λ (tree_context : TreeContext). AreExpandedParts tree_context scope.may_keep scope.may_be_absent behind branches in
+    let p = branches_pattern context branches steps_back scope old.opened.items in
+    let S = λ (tree_context : TreeContext). AreExpandedParts tree_context scope.may_keep scope.may_be_absent steps_back branches in
     let whole : p ≡ alt a b = ap (λ xs. alt_all (map f xs)) is ∙ alt_more f x.now rest.now some in
     let drew = drew_alternatives u w a b slot split first (draft_of old.body) d (draft_of body) closes at begun at_first in
     subst (λ r. LeadsTo context p scope.may_keep S old new slot r) (sym step_is)
@@ -135,45 +135,45 @@ leads_alternatives context old body slot branches behind scope step split first 
       allowed = λ h. subst (IsAllowed u scope.may_keep) (sym whole) (h.1.0, h.0);
       fits = (let rooms = ap room whole in omega (arith, long, rooms, room_alt a b));
       stands = λ tree_context s stand.
-          let both = expanded_rest tree_context scope.may_keep scope.may_be_absent behind branches rest.now x.now is stand in
+          let both = expanded_rest tree_context scope.may_keep scope.may_be_absent steps_back branches rest.now x.now is stand in
           (both.1, (both.0, tt));
     })
 
 -- the room of an alternation of no branch, and of two or more
-pub none_need : (context : CompileContext) (branches : List Info) (behind : Bool) (scope : Scope) (opened : List ℕ) → branches ≡ [] →
-    1 ≤ room (branches_pattern context branches behind scope opened)
-none_need context branches behind scope opened is =
-    let rooms = ap (λ xs. room (branches_pattern context xs behind scope opened)) is in
+pub none_need : (context : CompileContext) (branches : List Info) (steps_back : Bool) (scope : Scope) (opened : List ℕ) → branches ≡ [] →
+    1 ≤ room (branches_pattern context branches steps_back scope opened)
+none_need context branches steps_back scope opened is =
+    let rooms = ap (λ xs. room (branches_pattern context xs steps_back scope opened)) is in
     omega (arith, rooms, room_fail)
 
-pub branches_need : (context : CompileContext) (branches : List Info) (behind : Bool) (scope : Scope) (opened : List ℕ) (x : Info) (rest : List Info) → branches ≡ x ∷ rest →
-    1 ≤ length rest → 1 ≤ room (branches_pattern context branches behind scope opened)
-branches_need context branches behind scope opened x rest is some =
-    let f = λ (y : Info). node_pattern context y behind scope opened in
+pub branches_need : (context : CompileContext) (branches : List Info) (steps_back : Bool) (scope : Scope) (opened : List ℕ) (x : Info) (rest : List Info) → branches ≡ x ∷ rest →
+    1 ≤ length rest → 1 ≤ room (branches_pattern context branches steps_back scope opened)
+branches_need context branches steps_back scope opened x rest is some =
+    let f = λ (y : Info). node_pattern context y steps_back scope opened in
     let whole = ap (λ xs. room (alt_all (map f xs))) is ∙ ap room (alt_more f x rest some) in
     omega (arith, whole, room_alt (f x) (alt_all (map f rest)))
 
 -- from the end of a branch to the others
-pub leads_otherwise : (context : CompileContext) (old : Emitter) (body : ProgramBuilder) (slot : ℕ) (branches : Bor (List Info)) (behind : Bool) (scope : Scope) (step : Step)
+pub leads_otherwise : (context : CompileContext) (old : Emitter) (body : ProgramBuilder) (slot : ℕ) (branches : Bor (List Info)) (steps_back : Bool) (scope : Scope) (step : Step)
     (split first second jump : ℕ) (d1 d2 : Draft) →
-    step ≡ record { slot = slot; tasks = tasks.Two (task.Branches branches behind scope) (task.Close (ends.Alternatives jump)) } →
+    step ≡ record { slot = slot; tasks = tasks.Two (task.Branches branches steps_back scope) (task.Close (ends.Alternatives jump)) } →
     d1 ≡ closed_draft (draft_of old.body) → jump ≡ length d1.ops → d2 ≡ with_op (op.jump 0) d1 → second ≡ length d2.ops →
     draft_of body ≡ patched split (op.split first second) d2 → extent (draft_of body) ≤ extent (draft_of old.body) + 1 →
     Leads context old (record { body = body; classes = old.classes; opened = old.opened; parts = old.parts }) slot step.slot (listed step.tasks)
-    (past_others context split first (branches_pattern context branches.now behind scope old.opened.items) (progress old slot))
-    (IsAllowed context.unicode scope.may_keep (branches_pattern context branches.now behind scope old.opened.items))
-    (1 + room (branches_pattern context branches.now behind scope old.opened.items))
-    (λ tree_context. AreExpandedParts tree_context scope.may_keep scope.may_be_absent behind branches.now)
-leads_otherwise context old body slot branches behind scope step split first second jump d1 d2 step_is closes at jumps at_second patches long =
+    (past_others context split first (branches_pattern context branches.now steps_back scope old.opened.items) (progress old slot))
+    (IsAllowed context.unicode scope.may_keep (branches_pattern context branches.now steps_back scope old.opened.items))
+    (1 + room (branches_pattern context branches.now steps_back scope old.opened.items))
+    (λ tree_context. AreExpandedParts tree_context scope.may_keep scope.may_be_absent steps_back branches.now)
+leads_otherwise context old body slot branches steps_back scope step split first second jump d1 d2 step_is closes at jumps at_second patches long =
     let new : Emitter = record { body = body; classes = old.classes; opened = old.opened; parts = old.parts } in
-    let b = branches_pattern context branches.now behind scope old.opened.items in
+    let b = branches_pattern context branches.now steps_back scope old.opened.items in
     let end = past_others context split first b (progress old slot) in
     let drawn : draft_of body ≡ at_others split first (draft_of old.body) =
     patches ∙ ap₂ (λ k x. patched split (op.split first k) x) at_second (jumps ∙ ap (with_op (op.jump 0)) closes)
     ∙ ap (λ (x : Draft). patched split (op.split first (length x.ops)) (with_op (op.jump 0) (closed_draft (draft_of old.body)))) (jumps ∙ ap (with_op (op.jump 0)) closes) in
     let there : jump ≡ length (closed_draft (draft_of old.body)).ops = at ∙ ap (λ (x : Draft). length x.ops) closes in
     subst (λ r. Leads context old new slot r.slot (listed r.tasks) end (IsAllowed context.unicode scope.may_keep b) (1 + room b)
-    (λ tree_context. AreExpandedParts tree_context scope.may_keep scope.may_be_absent behind branches.now)) (sym step_is)
+    (λ tree_context. AreExpandedParts tree_context scope.may_keep scope.may_be_absent steps_back branches.now)) (sym step_is)
     (record {
       ends = ap₂ (λ k x. past_closing context (ends.Alternatives k) (past_pattern context b (let s : Progress = record { draft = x; slot = slot; opened = old.opened.items } in s))) there drawn;
       allowed = λ h. h.1.0;
@@ -182,25 +182,25 @@ leads_otherwise context old body slot branches behind scope step split first sec
     })
 
 -- from the condition of a conditional to its branches
-pub leads_tested : (context : CompileContext) (old : Emitter) (body : ProgramBuilder) (slot kept : ℕ) (scope : Scope) (step : Step) (split first : ℕ) (hit miss : Bor Info)
+pub leads_tested : (context : CompileContext) (old : Emitter) (body : ProgramBuilder) (slot height_slot : ℕ) (scope : Scope) (step : Step) (split first : ℕ) (hit miss : Bor Info)
     (rest : Bor (List Info)) → rest.now ≡ miss.now ∷ [] →
     step ≡ record { slot = slot; tasks = tasks.Two (task.Node hit false scope) (task.Otherwise split first rest false scope) } →
-    draft_of body ≡ added (op.end_atomic kept) (draft_of old.body) → extent (draft_of body) ≤ extent (draft_of old.body) + 1 →
+    draft_of body ≡ added (op.end_atomic height_slot) (draft_of old.body) → extent (draft_of body) ≤ extent (draft_of old.body) + 1 →
     Leads context old (record { body = body; classes = old.classes; opened = old.opened; parts = old.parts }) slot step.slot (listed step.tasks)
     (past_others context split first (node_pattern context miss.now false scope old.opened.items) (past_pattern context (node_pattern context hit.now false scope old.opened.items)
-    (record { draft = with_op (op.end_atomic kept) (closed_draft (draft_of old.body)); slot = slot; opened = old.opened.items })))
+    (record { draft = with_op (op.end_atomic height_slot) (closed_draft (draft_of old.body)); slot = slot; opened = old.opened.items })))
     (IsAllowed context.unicode scope.may_keep (node_pattern context hit.now false scope old.opened.items)
     × IsAllowed context.unicode scope.may_keep (node_pattern context miss.now false scope old.opened.items))
     (2 + (room (node_pattern context hit.now false scope old.opened.items) + room (node_pattern context miss.now false scope old.opened.items)))
     (λ tree_context. IsExpandedPart tree_context scope.may_keep scope.may_be_absent false (info_of hit.now)
     × IsExpandedPart tree_context scope.may_keep scope.may_be_absent false (info_of miss.now))
-leads_tested context old body slot kept scope step split first hit miss rest one step_is drawn long =
+leads_tested context old body slot height_slot scope step split first hit miss rest one step_is drawn long =
     let new : Emitter = record { body = body; classes = old.classes; opened = old.opened; parts = old.parts } in
     let y = node_pattern context hit.now false scope old.opened.items in
     let n = node_pattern context miss.now false scope old.opened.items in
     let r = branches_pattern context rest.now false scope old.opened.items in
     let only : r ≡ n = ap (λ xs. branches_pattern context xs false scope old.opened.items) one in
-    let end = past_others context split first n (past_pattern context y (let s : Progress = record { draft = added (op.end_atomic kept) (draft_of old.body); slot = slot; opened = old.opened.items } in s)) in
+    let end = past_others context split first n (past_pattern context y (let s : Progress = record { draft = added (op.end_atomic height_slot) (draft_of old.body); slot = slot; opened = old.opened.items } in s)) in
     subst (λ r. Leads context old new slot r.slot (listed r.tasks) end (IsAllowed context.unicode scope.may_keep y × IsAllowed context.unicode scope.may_keep n) (2 + (room y + room n))
     (λ tree_context. IsExpandedPart tree_context scope.may_keep scope.may_be_absent false (info_of hit.now)
     × IsExpandedPart tree_context scope.may_keep scope.may_be_absent false (info_of miss.now))) (sym step_is)

@@ -1,16 +1,15 @@
 -- What is written for conditionals and for branches, whose jumps lead past what comes after them.
-use Rattle.std.proofs.Common.{◌≡◌, ℕ, ◌+◌, ◌*◌, ◌-◌, ◌<◌, Bool, List, [], ◌∷◌, ◌++◌, length, set, refl, sym, ap, ap₂, ◌∙◌, arith, append_assoc, append-nil, length-append}
+use Rattle.std.proofs.Common.{◌≡◌, ℕ, ◌+◌, ◌-◌, ◌<◌, Bool, List, [], ◌∷◌, ◌++◌, length, set, refl, sym, ap, ap₂, ◌∙◌, arith, append_assoc, length-append}
 use Rattle.std.proofs.lemmas.List.{length-set, set-append_left}
 use Rattle.std.proofs.Math.Seq.{set-append_seam}
 use Rattle.fancy_regex_tree.specs.Tree.{Text}
 use Rattle.fancy_regex_class.specs.Classes.{in_class, folded}
-use Rattle.fancy_regex_desugar.specs.CorePatterns.{CorePattern, cat, alt, conditional}
-use Rattle.fancy_regex_desugar.specs.Unfolded.{Written, cat_all, alt_all}
+use Rattle.fancy_regex_desugar.specs.CorePatterns.{CorePattern, alt, conditional}
 use Rattle.fancy_regex_program.specs.Ops as op
 use Rattle.fancy_regex_program.specs.Ops.{Op}
 use Rattle.fancy_regex_program.specs.Code.{waits, flushed, slots_in, code_of}
 use Rattle.fancy_regex_compiler.specs.Writing.{Draft, with_op, closed_draft, added, patched, with_pat, with_choice}
-use Rattle.fancy_regex_compiler.proofs.Drafts.{same_draft, closed_twice, length_with_op, pat_cat, pat_nothing}
+use Rattle.fancy_regex_compiler.proofs.Drafts.{same_draft, length_with_op}
 
 two_writes : (c a b : List Op) (x y i j : Op) → set (set (c ++ x ∷ (a ++ y ∷ b)) (length c) i) (length (c ++ i ∷ a)) j ≡ c ++ i ∷ (a ++ j ∷ b)
 two_writes c a b x y i j =
@@ -237,53 +236,6 @@ module _ (u w : Bool) where
       refl
       ∙ sym made
 
-  -- branches in front of others
-  abbrev pub choices : ℕ → List CorePattern → ℕ → Draft → Draft
-  choices end [] slot d = d
-  choices end (p ∷ ps) slot d = choices end ps (slot + slots_in p) (with_choice u w end p slot d)
-
-  -- the slot after them
-  abbrev pub slot_after : ℕ → List CorePattern → ℕ
-  slot_after slot [] = slot
-  slot_after slot (p ∷ ps) = slot_after (slot + slots_in p) ps
-
-  abbrev pub last_of : ℕ → List CorePattern → CorePattern → ℕ → Draft → Draft
-  last_of end ps q slot d = closed_draft (P q (slot_after slot ps) (choices end ps slot d))
-
-  choice_closed : (end : ℕ) (p : CorePattern) (slot : ℕ) (d : Draft) → closed_draft (with_choice u w end p slot d) ≡ with_choice u w end p slot d
-  unfolding with_op closed_draft patched
-  choice_closed end p slot d = same_draft (append-nil (with_choice u w end p slot d).ops) refl
-
-  pub pats_alt : (p : CorePattern) (ps : List CorePattern) (q : CorePattern) (slot end : ℕ) (d : Draft) →
-      end ≡ length (last_of end (p ∷ ps) q slot (closed_draft d)).ops →
-      P (alt_all (p ∷ (ps ++ q ∷ []))) slot d ≡ last_of end (p ∷ ps) q slot (closed_draft d)
-  pats_alt p [] q slot end d is = pat_alt p q slot end d is
-  pats_alt p (r ∷ ps) q slot end d is =
-      let s = slot + slots_in p in
-      let e = with_choice u w end p slot (closed_draft d) in
-      let same : closed_draft e ≡ e = choice_closed end p slot (closed_draft d) in
-      let b = alt_all (r ∷ (ps ++ q ∷ [])) in
-      let rest : P b s e ≡ last_of end (r ∷ ps) q s (closed_draft e) =
-      pats_alt r ps q s end e (is ∙ ap (λ f. length (last_of end (r ∷ ps) q s f).ops) (sym same)) in
-      let shut : closed_draft (P b s e) ≡ last_of end (r ∷ ps) q s e =
-      ap closed_draft rest ∙ closed_twice (P q (slot_after s (r ∷ ps)) (choices end (r ∷ ps) s (closed_draft e)))
-      ∙ ap (λ f. last_of end (r ∷ ps) q s f) same in
-      pat_alt p b slot end d (is ∙ ap (λ (f : Draft). length f.ops) (sym shut)) ∙ shut
-
-  pub slots_alt : (p : CorePattern) (ps : List CorePattern) (q : CorePattern) (slot : ℕ) →
-      slot_after slot (p ∷ ps) + slots_in q ≡ slot + slots_in (alt_all (p ∷ (ps ++ q ∷ [])))
-  slots_alt p [] q slot = omega arith
-  slots_alt p (r ∷ ps) q slot = slots_alt r ps q (slot + slots_in p) ∙ omega arith
-
-  pub choices_more : (end : ℕ) (ps : List CorePattern) (p : CorePattern) (slot : ℕ) (d : Draft) →
-      choices end (ps ++ p ∷ []) slot d ≡ with_choice u w end p (slot_after slot ps) (choices end ps slot d)
-  choices_more end [] p slot d = refl
-  choices_more end (q ∷ ps) p slot d = choices_more end ps p (slot + slots_in q) (with_choice u w end q slot d)
-
-  pub slot_more : (ps : List CorePattern) (p : CorePattern) (slot : ℕ) → slot_after slot (ps ++ p ∷ []) ≡ slot_after slot ps + slots_in p
-  slot_more [] p slot = refl
-  slot_more (q ∷ ps) p slot = slot_more ps p (slot + slots_in q)
-
   -- jumps that are patched
   abbrev pub set_right : ℕ → List ℕ → Draft → Draft
   set_right end [] d = d
@@ -297,14 +249,6 @@ module _ (u w : Bool) where
   abbrev pub AllBelow : ℕ → List ℕ → Type 0
   AllBelow n [] = Unit {0}
   AllBelow n (j ∷ js) = (j < n) × AllBelow n js
-
-  pub below_later : (n m : ℕ) (js : List ℕ) → n < m → AllBelow n js → AllBelow m js
-  below_later n m [] less h = tt
-  below_later n m (j ∷ js) less h = (omega (arith, h.0), below_later n m js less h.1)
-
-  pub below_one_more : (n m : ℕ) (js : List ℕ) (j : ℕ) → n < m → j < m → AllBelow n js → AllBelow m (js ++ j ∷ [])
-  below_one_more n m [] j less last h = (last, tt)
-  below_one_more n m (i ∷ js) j less last h = (omega (arith, h.0), below_one_more n m js j less last h.1)
 
   abbrev set_ops : ℕ → List ℕ → List Op → List Op
   set_ops end [] xs = xs
@@ -363,49 +307,3 @@ module _ (u w : Bool) where
       ∙ ap (λ k. bare (ys ++ choice_ops end p slot k)) (sym long)
       ∙ sym (choice_is end p slot ys)
       ∙ ap (with_choice u w end p slot) (sym (set_bare end js xs))
-
-  pub choice_bare : (end : ℕ) (p : CorePattern) (slot : ℕ) (d : Draft) → (with_choice u w end p slot d).text ≡ []
-  unfolding with_op closed_draft patched
-  choice_bare end p slot d = refl
-
-  pub choice_longer : (p : CorePattern) (slot : ℕ) (xs : List Op) → length xs < length (with_choice u w 0 p slot (bare xs)).ops
-  choice_longer p slot xs =
-      omega (arith, ap (λ (e : Draft). length e.ops) (choice_is 0 p slot xs), length-append xs (choice_ops 0 p slot (length xs)))
-
-  pub right_long : (end : ℕ) (js : List ℕ) (d : Draft) → length (set_right end js d).ops ≡ length d.ops
-  unfolding patched
-  right_long end [] d = refl
-  right_long end (j ∷ js) d = right_long end js (patched j (op.jump end) d) ∙ length-set d.ops j (op.jump end)
-
-  -- The last branch, after jumps that are patched later.
-  pub last_goes_on : (end : ℕ) (js : List ℕ) (xs : List Op) (q : CorePattern) (slot : ℕ) → AllBelow (length xs) js →
-      set_right end js (closed_draft (P q slot (bare xs))) ≡ closed_draft (P q slot (set_right end js (bare xs)))
-  unfolding with_pat closed_draft
-  last_goes_on end js xs q slot below =
-      let ys = set_ops end js xs in
-      let g = flushed (waits q []) in
-      let rest = C q [] (length xs) slot ++ g in
-      set_bare end js ((xs ++ C q [] (length xs) slot) ++ g)
-      ∙ ap (λ l. bare (set_ops end js l)) (append_assoc xs (C q [] (length xs) slot) g)
-      ∙ ap bare (set_front end js xs rest below ∙ sym (append_assoc ys (C q [] (length xs) slot) g))
-      ∙ ap (λ k. bare ((ys ++ C q [] k slot) ++ g)) (sym (set_long end js xs))
-      ∙ ap (λ e. closed_draft (P q slot e)) (sym (set_bare end js xs))
-
-  -- a row, and one part more
-  pub row_more : (us : List Written) (x : Written) (slot : ℕ) (d : Draft) →
-      P (cat_all (us ++ x ∷ [])) slot d ≡ P x.front (slot + slots_in (cat_all us)) (P (cat_all us) slot d)
-  row_more [] x slot d =
-      let zero_more : slot ≡ slot + 0 = omega arith in
-      pat_cat u w x.front (cat_all []) slot d ∙ pat_nothing u w (slot + slots_in x.front) (P x.front slot d)
-      ∙ ap₂ (λ s e. P x.front s e) zero_more (sym (pat_nothing u w slot d))
-  row_more (y ∷ us) x slot d =
-      let s = slot + slots_in y.front in
-      let e = P y.front slot d in
-      let same : s + slots_in (cat_all us) ≡ slot + (slots_in y.front + slots_in (cat_all us)) = omega arith in
-      pat_cat u w y.front (cat_all (us ++ x ∷ [])) slot d
-      ∙ row_more us x s e
-      ∙ ap₂ (λ k f. P x.front k f) same (sym (pat_cat u w y.front (cat_all us) slot d))
-
-  pub slots_row : (us : List Written) (x : Written) → slots_in (cat_all (us ++ x ∷ [])) ≡ slots_in (cat_all us) + slots_in x.front
-  slots_row [] x = omega arith
-  slots_row (y ∷ us) x = omega (arith, slots_row us x)

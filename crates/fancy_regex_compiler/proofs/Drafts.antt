@@ -1,14 +1,14 @@
 -- What is written for each kind of pattern.
-use Rattle.std.proofs.Common.{◌≡◌, ℕ, ◌+◌, ◌*◌, ◌-◌, ◌<◌, Bool, true, false, cond, List, [], ◌∷◌, ◌++◌, length, drop, set, Option, Some, None, refl, sym, ap, ap₂, ◌∙◌, arith, append_assoc, append-nil, length-append}
+use Rattle.std.proofs.Common.{◌≡◌, ℕ, ◌+◌, ◌*◌, ◌-◌, Bool, true, false, cond, List, [], ◌∷◌, ◌++◌, length, drop, set, Some, None, refl, sym, ap, ap₂, ◌∙◌, arith, append_assoc, append-nil, length-append}
 use Rattle.std.specs.Prelude.{slice_get}
 use Rattle.std.proofs.Math.Seq.{set-append_seam, drop-append_seam}
 use Rattle.fancy_regex_tree.specs.Tree.{Text, Tree}
 use Rattle.fancy_regex_class.specs.Classes.{in_class, folded}
-use Rattle.fancy_regex_desugar.specs.CorePatterns.{CorePattern, literal, nothing, read, keep_out, fail, cat, alt, group, ahead, never, back, atomic, delegate, tail, repeat, conditional, absent}
+use Rattle.fancy_regex_desugar.specs.CorePatterns.{CorePattern, literal, nothing, read, keep_out, fail, cat, group, ahead, never, back, atomic, delegate, tail, repeat, absent}
 use Rattle.fancy_regex_program.specs.Ops as op
 use Rattle.fancy_regex_program.specs.Ops.{Op}
 use Rattle.fancy_regex_program.specs.Code.{waits, flushed, slots_in, is_uncounted, loop_entry, loop_head, code_of}
-use Rattle.fancy_regex_compiler.specs.Writing.{Draft, with_op, with_char, closed_draft, added, patched, ended_by, ended, with_pat, with_choice}
+use Rattle.fancy_regex_compiler.specs.Writing.{Draft, with_op, with_char, closed_draft, added, patched, ended_by, ended, with_pat}
 
 pub same_draft : {a b : List Op} {s t : Text} → a ≡ b → s ≡ t → ◌≡◌ {A = Draft} (record { ops = a; text = s }) (record { ops = b; text = t })
 same_draft e f = ap₂ (λ o x. let d : Draft = record { ops = o; text = x } in d) e f
@@ -40,11 +40,6 @@ get_seam (o ∷ p) x rest = get_seam p x rest
 -- an operation is written over a hole
 fill : (p : List Op) (x y : Op) (c g rest : List Op) → set ((((p ++ x ∷ []) ++ c) ++ g) ++ rest) (length p) y ≡ p ++ y ∷ ((c ++ g) ++ rest)
 fill p x y c g rest = ap (λ l. set l (length p) y) (flat_hole p x c g rest) ∙ set-append_seam p x ((c ++ g) ++ rest) y
-
--- nothing more waits after what is closed
-pub closed_twice : (d : Draft) → closed_draft (closed_draft d) ≡ closed_draft d
-unfolding closed_draft
-closed_twice d = same_draft (append-nil (d.ops ++ flushed d.text)) refl
 
 pub length_with_op : (o : Op) (d : Draft) → length (with_op o d).ops ≡ length d.ops + 1
 unfolding with_op
@@ -91,15 +86,15 @@ module _ (u w : Bool) where
   unfolding with_pat code_of
   pat_delegate t a slot d = alone (op.delegate (in_class u) (folded u) t) d
 
-  kept : (b : Bool) (d : Draft) → ◌≡◌ {A = Draft} (record { ops = d.ops ++ (flushed d.text ++ cond b (op.save 0 ∷ []) []); text = [] })
+  either_kept : (b : Bool) (d : Draft) → ◌≡◌ {A = Draft} (record { ops = d.ops ++ (flushed d.text ++ cond b (op.save 0 ∷ []) []); text = [] })
       (cond b (added (op.save 0) d) (closed_draft d))
   unfolding closed_draft
-  kept true d = alone (op.save 0) d
-  kept false d = same_draft (ap (λ l. d.ops ++ l) (append-nil (flushed d.text))) refl
+  either_kept true d = alone (op.save 0) d
+  either_kept false d = same_draft (ap (λ l. d.ops ++ l) (append-nil (flushed d.text))) refl
 
   pub pat_keep : (slot : ℕ) (d : Draft) → P keep_out slot d ≡ cond w (added (op.save 0) d) (closed_draft d)
   unfolding with_pat code_of
-  pat_keep slot d = kept w d
+  pat_keep slot d = either_kept w d
 
   -- a part with its own rest, after one operation
   after_one : (d : Draft) (o : Op) (a : CorePattern) (s : ℕ) (rest : List Op) →

@@ -1,14 +1,11 @@
 -- What the functions of the emitter have written.
-use Rattle.std.proofs.Common.{◌≡◌, ℕ, ◌+◌, ◌-◌, ◌*◌, ◌<◌, Bool, true, false, cond, List, [], ◌∷◌, ◌++◌, length, drop, Option, Some, None, refl, sym, ap, ap₂, ◌∙◌, arith}
-use Rattle.fancy_regex_desugar.specs.CorePatterns.{CorePattern, literal, nothing, read, keep_out, fail, cat, group, ahead, never, back, atomic, repeat, conditional, absent}
-use Rattle.fancy_regex_desugar.specs.Unfolded.{Written, cat_all, alt_all}
+use Rattle.std.proofs.Common.{◌≡◌, ℕ, ◌+◌, ◌-◌, ◌*◌, Bool, length, drop, Some, None, sym}
+use Rattle.fancy_regex_desugar.specs.CorePatterns.{CorePattern, group, ahead, never, atomic, repeat, conditional, absent}
 use Rattle.fancy_regex_program.specs.Ops as op
-use Rattle.fancy_regex_program.specs.Ops.{Op}
 use Rattle.fancy_regex_program.specs.Code.{slots_in, is_uncounted, loop_entry, loop_head}
-use Rattle.fancy_regex_compiler.specs.Writing.{Draft, draft_of, with_op, with_char, closed_draft, added, patched, with_pat, with_choice, Wrote, WroteClosed, WroteChoice}
-use Rattle.fancy_regex_compiler.specs.declared.emitter.Emitter.{Emitter}
-use Rattle.fancy_regex_compiler.proofs.Drafts.{same_draft, pat_nothing, pat_cat, pat_fail, pat_back, pat_group, pat_ahead, pat_atomic, pat_never, pat_counted, pat_loop, pat_absent}
-use Rattle.fancy_regex_compiler.proofs.Branches.{bare, begun, split_there, tested, chosen, jump_there, all_there, pat_conditional, choices, slot_after, last_of, pats_alt, slots_alt, choices_more, slot_more, set_right, AllBelow, below_later, below_one_more, choice_goes_on, choice_bare, choice_longer, right_long, last_goes_on, row_more, slots_row}
+use Rattle.fancy_regex_compiler.specs.Writing.{Draft, with_op, closed_draft, added, patched, with_pat}
+use Rattle.fancy_regex_compiler.proofs.Drafts.{pat_group, pat_ahead, pat_atomic, pat_never, pat_counted, pat_loop, pat_absent}
+use Rattle.fancy_regex_compiler.proofs.Branches.{pat_conditional}
 
 module _ (u w : Bool) where
   abbrev P : CorePattern → ℕ → Draft → Draft
@@ -67,81 +64,3 @@ module _ (u w : Bool) where
       d8 ≡ patched at (op.split first second) d7 → d9 ≡ patched there (op.jump end) d8 → d9 ≡ P (conditional c a b) slot d0
   drew_conditional c a b slot inside after_c after_a at first there second end d0 d1 d2 d3 d4 d5 d6 d7 d8 d9 ei e1 ea e2 ef e3 ec e4 e5 eb et e6 es e7 ee e8 e9 =
       rw (e9, e8, ee, e7, es, e6, et, e5, eb, e4, ec, e3, ef, e2, ea, e1, ei) (sym (pat_conditional u w c a b slot d0))
-
-  pub drew_choice : (p : CorePattern) (slot at first second : ℕ) (d0 d1 d2 d3 d4 : Draft) → at ≡ length d0.ops → d1 ≡ with_op (op.split 0 0) d0 → first ≡ length d1.ops →
-      d2 ≡ closed_draft (P p slot d1) → d3 ≡ with_op (op.jump 0) d2 → second ≡ length d3.ops → d4 ≡ patched at (op.split first second) d3 →
-      d4 ≡ with_choice u w 0 p slot d0
-  drew_choice p slot at first second d0 d1 d2 d3 d4 ea e1 ef e2 e3 es e4 = rw (e4, es, e3, e2, ef, e1, ea) refl
-
-  -- branches so far, whose jumps are still to be patched
-  pub record Chosen (old now : Emitter) (jumps : List ℕ) (slot next : ℕ) (ps : List CorePattern) : Type 0 where
-    pub draft : (end : ℕ) → set_right u w end jumps (draft_of now.body) ≡ choices u w end ps slot (closed_draft (draft_of old.body))
-    pub bare : (draft_of now.body).text ≡ []
-    pub below : AllBelow u w (length (draft_of now.body).ops) jumps
-    pub slots : next ≡ slot_after u w slot ps
-    pub opened : now.opened.items ≡ old.opened.items
-
-  bare_is : (d : Draft) → d.text ≡ [] → d ≡ bare u w d.ops
-  bare_is d e = same_draft refl e
-
-  pub chosen_begins : (old now : Emitter) (slot : ℕ) → draft_of now.body ≡ closed_draft (draft_of old.body) → now.opened.items ≡ old.opened.items →
-      Chosen old now [] slot slot []
-  unfolding closed_draft
-  chosen_begins old now slot e o = record {
-    draft = λ end. e;
-    bare = ap (λ d. d.text) e;
-    below = tt;
-    slots = refl;
-    opened = o;
-  }
-
-  pub chosen_goes_on : (old now new : Emitter) (jumps : List ℕ) (slot next after j : ℕ) (ps : List CorePattern) (p : CorePattern) → Chosen old now jumps slot next ps →
-      WroteChoice u w now new next after p → j + 1 ≡ length (draft_of new.body).ops → Chosen old new (jumps ++ j ∷ []) slot after (ps ++ p ∷ [])
-  chosen_goes_on old now new jumps slot next after j ps p h c last =
-      let xs = (draft_of now.body).ops in
-      let is = bare_is (draft_of now.body) h.bare in
-      let made = c.draft ∙ ap (with_choice u w 0 p next) is in
-      let longer = choice_longer u w p next xs in
-      let long : length (draft_of new.body).ops ≡ length (with_choice u w 0 p next (bare u w xs)).ops = ap (λ (d : Draft). length d.ops) made in
-      record {
-        draft = λ end.
-            ap (set_right u w end (jumps ++ j ∷ [])) made
-            ∙ choice_goes_on u w end jumps xs p next j h.below (last ∙ long)
-            ∙ ap (λ d. with_choice u w end p next (set_right u w end jumps d)) (sym is)
-            ∙ ap₂ (λ s d. with_choice u w end p s d) h.slots (h.draft end)
-            ∙ sym (choices_more u w end ps p slot (closed_draft (draft_of old.body)));
-        bare = ap (λ (d : Draft). d.text) c.draft ∙ choice_bare u w 0 p next (draft_of now.body);
-        below = below_one_more u w (length xs) (length (draft_of new.body).ops) jumps j (omega (arith, longer, long)) (omega (arith, last)) h.below;
-        slots = c.slots ∙ ap (λ s. s + slots_in p) h.slots ∙ sym (slot_more u w ps p slot);
-        opened = c.opened ∙ h.opened;
-      }
-
-  -- the last branch after them, and the jumps patched
-  pub chosen_ends : (old now new : Emitter) (final : Draft) (jumps : List ℕ) (slot next after end : ℕ) (r : CorePattern) (ps : List CorePattern) (q : CorePattern) →
-      Chosen old now jumps slot next (r ∷ ps) → WroteClosed u w now new next after q → end ≡ length (draft_of new.body).ops →
-      final ≡ set_right u w end jumps (draft_of new.body) → final ≡ P (alt_all (r ∷ (ps ++ q ∷ []))) slot (draft_of old.body)
-  chosen_ends old now new final jumps slot next after end r ps q h c at e =
-      let xs = (draft_of now.body).ops in
-      let is = bare_is (draft_of now.body) h.bare in
-      let made : final ≡ last_of u w end (r ∷ ps) q slot (closed_draft (draft_of old.body)) =
-      e ∙ ap (set_right u w end jumps) (c.draft ∙ ap (λ d. closed_draft (P q next d)) is)
-      ∙ last_goes_on u w end jumps xs q next h.below
-      ∙ ap (λ d. closed_draft (P q next (set_right u w end jumps d))) (sym is)
-      ∙ ap₂ (λ s d. closed_draft (P q s d)) h.slots (h.draft end) in
-      let long : end ≡ length (last_of u w end (r ∷ ps) q slot (closed_draft (draft_of old.body))).ops =
-      at ∙ sym (right_long u w end jumps (draft_of new.body)) ∙ ap (λ (d : Draft). length d.ops) (sym e ∙ made) in
-      made ∙ sym (pats_alt u w r ps q slot end (draft_of old.body) long)
-
-  pub chosen_slots : (old now new : Emitter) (jumps : List ℕ) (slot next after : ℕ) (r : CorePattern) (ps : List CorePattern) (q : CorePattern) →
-      Chosen old now jumps slot next (r ∷ ps) → WroteClosed u w now new next after q → after ≡ slot + slots_in (alt_all (r ∷ (ps ++ q ∷ [])))
-  chosen_slots old now new jumps slot next after r ps q h c =
-      c.slots ∙ ap (λ s. s + slots_in q) h.slots ∙ slots_alt u w r ps q slot
-
-  -- a row so far, and one part more
-  pub row_goes_on : (old now new : Emitter) (slot next after : ℕ) (us : List Written) (x : Written) → Wrote u w old now slot next (cat_all us) →
-      Wrote u w now new next after x.front → Wrote u w old new slot after (cat_all (us ++ x ∷ []))
-  row_goes_on old now new slot next after us x h k = record {
-    draft = k.draft ∙ ap₂ (λ s d. P x.front s d) h.slots h.draft ∙ sym (row_more u w us x slot (draft_of old.body));
-    slots = k.slots ∙ omega (arith, h.slots, slots_row u w us x);
-    opened = k.opened ∙ h.opened;
-  }

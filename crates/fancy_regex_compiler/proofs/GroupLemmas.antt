@@ -9,7 +9,7 @@ use Rattle.fancy_regex_tree.specs.declared.expr.Absent.TheViews.{roll-Expr, roll
 use Rattle.fancy_regex_tree.specs.declared.expr.Absent.TheOpen.{Expr-F, Absent-F, AstNode-F}
 use Rattle.fancy_regex_tree.specs.declared.expr.Absent.TheFolds.{fold-roll-Expr, fold-roll-Absent, fold-roll-AstNode}
 use Rattle.fancy_regex_tree.specs.Tree.{Tree, absent_tree, ast_tree, node_tree, tree_of, absent_tree_of, ast_tree_of}
-use Rattle.fancy_regex_info.specs.Infos.{InfoTree, InfoTrees, infos, info_of}
+use Rattle.fancy_regex_info.specs.Infos.{InfoTree, infos, info_of}
 use Rattle.fancy_regex_info.specs.declared.info.Info.{Info}
 use Rattle.fancy_regex_info.specs.declared.info.Info.TheViews.{out-Info}
 use Rattle.fancy_regex_compiler.specs.Known.{is_group, listed, bodies_in, row_bodies_in, groups_in}
@@ -92,17 +92,17 @@ pub row_begins : (start : List InfoTree) → start ≡ start ++ bodies_in_row []
 unfolding bodies_in row_bodies_in
 row_begins start = sym (append-nil start)
 
-behind : (xs : List Info) (y : Info) → bodies_in_row (xs ++ y ∷ []) ≡ bodies_in_row xs ++ bodies_in (info_of y)
+bodies_after : (xs : List Info) (y : Info) → bodies_in_row (xs ++ y ∷ []) ≡ bodies_in_row xs ++ bodies_in (info_of y)
 unfolding bodies_in row_bodies_in
-behind [] y = append-nil (bodies_in (info_of y))
-behind (x ∷ xs) y =
-    ap (λ zs. bodies_in (info_of x) ++ zs) (behind xs y) ∙ sym (append_assoc (bodies_in (info_of x)) (bodies_in_row xs) (bodies_in (info_of y)))
+bodies_after [] y = append-nil (bodies_in (info_of y))
+bodies_after (x ∷ xs) y =
+    ap (λ zs. bodies_in (info_of x) ++ zs) (bodies_after xs y) ∙ sym (append_assoc (bodies_in (info_of x)) (bodies_in_row xs) (bodies_in (info_of y)))
 
 pub row_goes_on : (start now next : List InfoTree) (xs : List Info) (i : ℕ) (x : Info) → i < length xs → x ≡ get_or xs i x →
     now ≡ start ++ bodies_in_row (take i xs) → next ≡ now ++ bodies_in (info_of x) → next ≡ start ++ bodies_in_row (take (i + 1) xs)
 row_goes_on start now next xs i x inside is was step =
     step ∙ ap (λ zs. zs ++ bodies_in (info_of x)) was ∙ append_assoc start (bodies_in_row (take i xs)) (bodies_in (info_of x))
-    ∙ ap (λ zs. start ++ zs) (sym (behind (take i xs) x))
+    ∙ ap (λ zs. start ++ zs) (sym (bodies_after (take i xs) x))
     ∙ ap (λ y. start ++ bodies_in_row (take i xs ++ y ∷ [])) is
     ∙ ap (λ zs. start ++ bodies_in_row zs) (sym (take_more xs i x inside))
 

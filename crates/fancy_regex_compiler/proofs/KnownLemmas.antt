@@ -1,23 +1,22 @@
 -- What the analysis says of a tree gives the pattern of the definitions.
-use Rattle.std.proofs.Common.{◌≡◌, ℕ, zero, suc, ◌+◌, ◌*◌, Bool, true, false, cond, not, List, [], ◌∷◌, ◌++◌, map, length, count_by, sum_by, Option, Some, None, option_map, refl, sym, ap, ap₂, ◌∙◌, arith, append_assoc, append-nil, length-append}
-use Rattle.std.specs.Prelude.{slice_get, slice_index, ◌==◌, ◌&&◌, nat_le}
+use Rattle.std.proofs.Common.{◌≡◌, ℕ, zero, suc, ◌+◌, ◌*◌, Bool, true, false, cond, not, List, [], ◌∷◌, ◌++◌, length, count_by, Option, Some, None, option_map, refl, sym, ap, ap₂, ◌∙◌, arith, append-nil, length-append}
+use Rattle.std.specs.Prelude.{slice_get, ◌==◌, ◌&&◌, nat_le}
 use Rattle.std.proofs.lemmas.Bool.Decides.{nat_tests}
 use Rattle.std.proofs.lemmas.List.Sums.{sum_by-append, sum_by-cons}
 use Rattle.std.proofs.Math.Path.{fun_ext}
 use Rattle.fancy_regex_tree.specs.Tree as tree
 use Rattle.fancy_regex_tree.specs.Tree.{Tree, Trees, no_trees, more_trees}
-use Rattle.fancy_regex_meaning.specs.Groups.{Pattern, bodies, row_bodies, group_count, row_group_count, pattern_of, explicit_pattern_of}
-use Rattle.fancy_regex_meaning.specs.Sizes.{size, target}
-use Rattle.fancy_regex_meaning.specs.Ways.{is_at_call_limit, max_open_calls_per_group, max_open_calls}
-use Rattle.fancy_regex_desugar.specs.CorePatterns.{CorePattern, any, literal, class, nothing, read, general_newline, check, continue, keep_out, fail, cat, group, atomic, repeat, backref, exists, conditional, absent}
+use Rattle.fancy_regex_meaning.specs.Groups.{Pattern, bodies, row_bodies, group_count, row_group_count}
+use Rattle.fancy_regex_meaning.specs.Ways.{max_open_calls_per_group, max_open_calls}
+use Rattle.fancy_regex_desugar.specs.CorePatterns.{CorePattern, fail, cat, group, atomic, conditional, absent}
 use Rattle.fancy_regex_desugar.specs.Delegates.{may_explode, is_plain, are_plain, begins_tail}
-use Rattle.fancy_regex_desugar.specs.Unfolded.{Written, pat_for, cat_all, alt_all, first_way_of, look, node, branches, written, written_all, written_call, written_plain, written_tail, written_whole, core_pattern_of}
+use Rattle.fancy_regex_desugar.specs.Unfolded.{pat_for, cat_all, first_way_of, look, node, branches, written, written_all, written_call, written_plain, written_tail, written_whole, core_pattern_of}
 use Rattle.fancy_regex_info.specs.Analysis.{analysis}
 use Rattle.fancy_regex_info.specs.Easy.{is_easy, all_easy}
 use Rattle.fancy_regex_info.specs.References.{is_read}
-use Rattle.fancy_regex_info.specs.Infos.{NodeProperties, InfoTree, InfoTrees, known, no_infos, more_infos, properties_in, properties, expected_info, expected_infos}
+use Rattle.fancy_regex_info.specs.Infos.{InfoTree, properties_in, properties, expected_info, expected_infos}
 use Rattle.fancy_regex_info.specs.Views.{pattern_in}
-use Rattle.fancy_regex_compiler.specs.Known.{front_of, behind_of, layer, info_written, info_written_all, is_plain_info, are_plain_infos, info_begins_tail, tree_in, trees_in, plain_row, info_tail, info_whole, info_call, listed, bodies_in, row_bodies_in, groups_in, most_calls_in, pat_in}
+use Rattle.fancy_regex_compiler.specs.Known.{front_of, behind_of, info_written, info_written_all, is_plain_info, are_plain_infos, info_begins_tail, tree_in, trees_in, plain_row, info_tail, info_whole, info_call, bodies_in, row_bodies_in, groups_in, pat_in}
 
 -- Whether a tree without groups is easy does not depend on which groups are read.
 module _ (reads others : ℕ → Bool) where

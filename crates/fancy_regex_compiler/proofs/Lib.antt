@@ -10,14 +10,12 @@ mod TreeLemmas
 mod LeafLemmas
 mod EmitLemmas
 mod NodeLemmas
-mod EndLemmas
 mod RefusalLemmas
 mod ClearLemmas
 mod TreeContextLemmas
 mod TextLemmas
 mod GroupLemmas
 mod RowLemmas
-mod AllowedLemmas
 mod WritableLemmas
 mod WholeLemmas
 mod ClassLemmas
@@ -27,3 +25,4 @@ mod CapLemmas
 mod WorkLemmas
 mod StepLemmas
 mod BranchSteps
+mod OutcomeLemmas

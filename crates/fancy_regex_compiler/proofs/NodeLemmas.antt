@@ -1,5 +1,5 @@
 -- The pattern of a node, by what the code knows of it.
-use Rattle.std.proofs.Common.{◌≡◌, ℕ, ◌+◌, Bool, true, false, cond, List, [], ◌∷◌, map, Option, Some, None, option_map, Box, Vec, Global, refl, sym, ap, ap₂, ◌∙◌, arith}
+use Rattle.std.proofs.Common.{◌≡◌, ℕ, Bool, true, false, cond, List, [], ◌∷◌, map, Some, option_map, Box, Vec, Global, refl, sym, ap, ap₂, ◌∙◌}
 use Rattle.std.specs.Prelude.{slice_get}
 use Rattle.std.proofs.lemmas.Option.{slice_get-map}
 use Rattle.fancy_regex_tree.specs.declared.expr.Expr.{Expr}
@@ -11,7 +11,7 @@ use Rattle.fancy_regex_tree.specs.Tree as tree
 use Rattle.fancy_regex_tree.specs.Tree.{Tree, tree_of, trees}
 use Rattle.fancy_regex_desugar.specs.CorePatterns.{CorePattern, nothing, cat, group, back, atomic, conditional, absent}
 use Rattle.fancy_regex_desugar.specs.Unfolded.{Written, cat_all, alt_all, first_way_of, repeated, look, fronts, behinds}
-use Rattle.fancy_regex_info.specs.Infos.{NodeProperties, InfoTree, InfoTrees, known, infos, info_of, info_layer, properties_in}
+use Rattle.fancy_regex_info.specs.Infos.{NodeProperties, InfoTree, known, infos, info_of, info_layer}
 use Rattle.fancy_regex_info.specs.declared.info.Info.{Info}
 use Rattle.fancy_regex_info.specs.declared.info.Info.TheFolds.{fold_out-Info}
 use Rattle.fancy_regex_info.specs.declared.info.Info.TheViews.{out-Info}
@@ -45,9 +45,6 @@ module _ (call : ℕ → CorePattern) where
   node_is i t is =
       ap (info_written call) (info_known i)
       ∙ ap₂ (λ us v. layer call (facts_at i) v us) (written_listed (out-Info i).children.items) is
-
-  start_at : (i : Info) → (properties_in (info_of i)).start ≡ (out-Info i).start_group
-  start_at i = ap (λ x. (properties_in x).start) (info_known i)
 
   child_is : (xs : List Info) (k : ℕ) (x : Info) → slice_get xs k ≡ Some x → child (map W xs) k ≡ W x
   child_is xs k x at = ap or_fails (slice_get-map W xs k ∙ ap (option_map W) at)

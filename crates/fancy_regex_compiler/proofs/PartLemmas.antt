@@ -17,7 +17,6 @@ use Rattle.fancy_regex_class.specs.Classes.{class_text}
 use Rattle.fancy_regex_class.specs.Matchers.{RefusesText}
 use Rattle.fancy_regex_info.specs.Easy.{is_easy, all_easy}
 use Rattle.fancy_regex_linear.specs.Plain.{has_no_iteration, classes, row_classes}
-use Rattle.fancy_regex_analysis.specs.AnalysisErrors.{is_too_complex}
 use Rattle.fancy_regex_analysis.specs.NodeErrors.{is_invalid_node}
 use Rattle.fancy_regex_analysis.specs.EmittedParts.{some_descendant, some_of_row, some_emitted}
 use Rattle.fancy_regex_info.specs.References.{is_read}
@@ -90,12 +89,12 @@ module _ (reads : ℕ → Bool) (count : ℕ) (c : Text × Bool) (i : Inside) wh
               (in_order lo hi (λ bad. ok (or_left (nat_lt hi lo) _ bad)) zero_is) m))
           | false ↦ λ more.
               class_emitted k t e (λ bad. ok (or_right (nat_lt hi lo) _ (ap (λ b. cond b false (some_emitted Wrong i t)) more ∙ bad)))
-              (kept (has_no_iteration lo hi) m)
+              (in_iterations (has_no_iteration lo hi) m)
         ] refl
       where
-        kept : (b : Bool) → Contains (cond b [] (classes t)) c → Contains (classes t) c
-        kept true m = absurd (none_there c m)
-        kept false m = m
+        in_iterations : (b : Bool) → Contains (cond b [] (classes t)) c → Contains (classes t) c
+        in_iterations true m = absurd (none_there c m)
+        in_iterations false m = m
     class_emitted k t e ok m = absurd (none_there c m)
 
     row_emitted : (k : ℕ) (ts : Trees) → all_easy reads k ts ≡ true → (some_of_row Wrong i ts ≡ true → ⊥) → Contains (row_classes ts) c → some_of_row Test i ts ≡ true
@@ -108,10 +107,10 @@ module _ (reads : ℕ → Bool) (count : ℕ) (c : Text × Bool) (i : Inside) wh
         (Contains-append_cases (classes t) (row_classes ts) c m)
 
 -- what is said of a class of a delegated part holds where the part stands
-pub part_reason : (tree_context : TreeContext) (keeps absents behind u : Bool) (gs : List InfoTree) (for_any : Bool) (t : Tree) (x : InfoTree) (e : CompileError) →
-    IsAnalyzed tree_context gs → IsExpandedBody tree_context keeps absents behind t x → IsPartCause u for_any t e → IsReason u tree_context.groups tree_context.root e
-part_reason tree_context keeps absents behind u gs for_any t x (InnerError shown) s h cause =
-    let stands = subst (ExpandedPart tree_context keeps absents behind x) h.is h.part in
+pub part_reason : (tree_context : TreeContext) (keeps absents steps_back u : Bool) (gs : List InfoTree) (for_any : Bool) (t : Tree) (x : InfoTree) (e : CompileError) →
+    IsAnalyzed tree_context gs → IsExpandedBody tree_context keeps absents steps_back t x → IsPartCause u for_any t e → IsReason u tree_context.groups tree_context.root e
+part_reason tree_context keeps absents steps_back u gs for_any t x (InnerError shown) s h cause =
+    let stands = subst (ExpandedPart tree_context keeps absents steps_back x) h.is h.part in
     let sought = searched for_any t in
     let reads = is_read (length (pattern_of sought).groups) sought in
     let easy : is_easy reads 1 t ≡ true = sym (searched_easy for_any reads 1 t) ∙ (part_of sought (searched_can_be for_any t cause.0)).easy in
@@ -125,8 +124,8 @@ part_reason tree_context keeps absents behind u gs for_any t x (InnerError shown
           (λ bad. s.nodes (stands.parts (λ _. is_invalid_node (length tree_context.groups)) bad)) there);
       refused = subst (λ y. RefusesText (class_text u cause.1.class.1 y)) (sym cause.1.is_shown) cause.1.refused;
     }
-part_reason tree_context keeps absents behind u gs for_any t x Memory s h cause = tt
-part_reason tree_context keeps absents behind u gs for_any t x _ s h cause = absurd cause
+part_reason tree_context keeps absents steps_back u gs for_any t x Memory s h cause = tt
+part_reason tree_context keeps absents steps_back u gs for_any t x _ s h cause = absurd cause
 
 -- what the analysis of a part says
 pub own_is : (t : Tree) (x : InfoTree) → x ≡ analysis false t → properties_in x ≡ own_properties t
@@ -192,8 +191,3 @@ module _ (for_any : Bool) (t : Tree) where
   is_part offers light printable =
       ap (λ b. b && (is_light_part (own_properties (searched for_any t)) && is_printable (searched for_any t))) offers
       ∙ ap (λ b. b && is_printable (searched for_any t)) light ∙ searched_printable for_any t ∙ printable
-
-pub part_fits : (u for_any : Bool) (t : Tree) (e : CompileError) → IsPartCause u for_any t e → is_too_complex e ≡ false
-part_fits u for_any t (InnerError shown) h = refl
-part_fits u for_any t Memory h = refl
-part_fits u for_any t _ h = absurd h

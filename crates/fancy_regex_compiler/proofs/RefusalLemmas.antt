@@ -1,11 +1,10 @@
 -- Where a part stands in a clear tree, so do the parts that are written out with it.
-use Rattle.std.proofs.Common.{◌≡◌, ℕ, zero, suc, ◌+◌, ◌<◌, ◌≤◌, nat_lt, Bool, true, false, not, cond, ◌&&◌, ◌||◌, ◌==◌, List, [], ◌∷◌, ◌++◌, length, map, String, Some, None, is_some, option_map, Box, Vec, Global, Result, Ok, Err, IfErr, IsErrAnd, take, get_or, refl, sym, ap, ◌∙◌, subst, arith}
+use Rattle.std.proofs.Common.{◌≡◌, ℕ, zero, suc, ◌+◌, ◌<◌, ◌≤◌, nat_lt, Bool, true, false, not, cond, ◌&&◌, ◌||◌, ◌==◌, List, [], ◌∷◌, ◌++◌, length, map, String, Some, None, is_some, option_map, Box, Vec, Global, Result, Ok, Err, IfErr, IsErrAnd, refl, sym, ap, ◌∙◌, subst, arith}
 use Rattle.std.specs.Prelude.{slice_get, unwrap_or, chars, string_bytes}
 use Rattle.std.specs.List.{Contains}
 use Rattle.std.proofs.lemmas.Bool.Decides.{nat_tests}
-use Rattle.std.proofs.lemmas.List.{length-take, get_or-take}
 use Rattle.std.proofs.lemmas.List.Elements.{Contains-append_left, Contains-append_right}
-use Rattle.std.proofs.lemmas.Option.{slice_get-map, slice_get_read, none-some}
+use Rattle.std.proofs.lemmas.Option.{slice_get-map, none-some}
 use Rattle.std.proofs.lemmas.Result.{IfErr-weaker}
 use Rattle.fancy_regex_tree.specs.declared.expr.Absent.{Absent}
 use Rattle.fancy_regex_tree.specs.declared.expr.Absent.TheVariants as variants
@@ -18,7 +17,7 @@ use Rattle.fancy_regex_tree.specs.declared.expr.Expr.TheVariants as view
 use Rattle.fancy_regex_tree.specs.declared.expr.LookAround.{LookAround}
 use Rattle.fancy_regex_tree.specs.declared.expr.LookAround.TheVariants.{LookAhead, LookAheadNeg, LookBehind, LookBehindNeg}
 use Rattle.fancy_regex_tree.specs.Tree as tree
-use Rattle.fancy_regex_tree.specs.Tree.{Text, Tree, Trees, absent_tree, ast_tree, node_tree, tree_of, absent_tree_of, ast_tree_of, trees, no_trees, more_trees}
+use Rattle.fancy_regex_tree.specs.Tree.{Tree, Trees, absent_tree, ast_tree, node_tree, tree_of, absent_tree_of, ast_tree_of, trees, no_trees, more_trees}
 use Rattle.fancy_regex_meaning.specs.Groups.{group_count}
 use Rattle.fancy_regex_meaning.specs.Sizes.{Size, size}
 use Rattle.fancy_regex_info.specs.Infos.{InfoTree, InfoTrees, known, info_of, expected_info, expected_infos, properties_in}
@@ -33,7 +32,7 @@ use Rattle.fancy_regex_info.specs.declared.info.Info.{Info}
 use Rattle.fancy_regex_info.specs.declared.info.Info.TheViews.{out-Info}
 use Rattle.fancy_regex_compiler.specs.Known.{listed}
 use Rattle.fancy_regex_compiler.specs.Known.{tree_in}
-use Rattle.fancy_regex_compiler.specs.Refusals.{Inside, Call, is_class, IsMissing, KeepsNone, NoneAbsent, IsNoLeaf, IsReason, TreeContext, IsAnalyzed, ExpandedPart, IsExpandedPart, AreExpandedParts, IsExpandedBody, IsExpandedRepeat, IsExpandedAbsent, IsExpandedConditional, IsExpandedTarget, looks_behind, IsReasonWhere}
+use Rattle.fancy_regex_compiler.specs.Refusals.{Inside, EmittedCall, is_class, IsMissing, KeepsNone, NoneAbsent, IsNoLeaf, IsReason, TreeContext, IsAnalyzed, ExpandedPart, IsExpandedPart, AreExpandedParts, IsExpandedBody, IsExpandedRepeat, IsExpandedAbsent, IsExpandedConditional, IsExpandedTarget, looks_behind, IsReasonWhere}
 use Rattle.fancy_regex_compiler.proofs.KindLemmas.{NoParts, faulty}
 use Rattle.fancy_regex_compiler.proofs.NodeLemmas.{info_known}
 use Rattle.fancy_regex_compiler.proofs.GroupLemmas.{listed_infos}
@@ -75,23 +74,18 @@ not_above hi lo fails = (let is : nat_lt hi lo ≡ false = same_or_not (nat_lt h
 is_zero : (n : ℕ) → (n == 0) ≡ true → n ≡ 0
 is_zero n h = grind (arith, nat_tests)
 
-one_only : (call : Call) → Contains (call ∷ []) call
+one_only : (call : EmittedCall) → Contains (call ∷ []) call
 one_only call = (0, omega arith, refl)
 
 -- an error that is handed on with what is known of it
-pub hands : {T : Type 0} (r : Result T CompileError) (e : CompileError) (P : CompileError → Type 0) → IsErrAnd r (λ f. f ≡ e) → P e → IfErr r P
-hands (Ok x) e P is h = absurd is
-hands (Err y) e P is h = subst P (sym is) h
-
-pub item_at : (xs : List Info) (n k : ℕ) (x : Info) → k < length (take n xs) → x ≡ get_or (take n xs) k x → slice_get xs k ≡ Some x
-item_at xs n k x inside is =
-    let long = length-take n xs in
-    slice_get_read xs (length xs) k x refl (omega (arith, long)) (is ∙ get_or-take n xs k x (omega (arith, long)))
+pub passed_on : {T : Type 0} (r : Result T CompileError) (e : CompileError) (P : CompileError → Type 0) → IsErrAnd r (λ f. f ≡ e) → P e → IfErr r P
+passed_on (Ok x) e P is h = absurd is
+passed_on (Err y) e P is h = subst P (sym is) h
 
 -- what is said of an error, where it follows from what is known elsewhere
-pub told_by : {T : Type 0} (r : Result T CompileError) (u : Bool) (gs : List InfoTree) (A B : TreeContext → Type 0) →
+pub reason_weaker : {T : Type 0} (r : Result T CompileError) (u : Bool) (gs : List InfoTree) (A B : TreeContext → Type 0) →
     ((tree_context : TreeContext) → IsAnalyzed tree_context gs → B tree_context → A tree_context) → IfErr r (IsReasonWhere u gs A) → IfErr r (IsReasonWhere u gs B)
-told_by r u gs A B f h = IfErr-weaker r (IsReasonWhere u gs A) (IsReasonWhere u gs B) (λ e told tree_context s b. told tree_context s (f tree_context s b)) h
+reason_weaker r u gs A B f h = IfErr-weaker r (IsReasonWhere u gs A) (IsReasonWhere u gs B) (λ e told tree_context s b. told tree_context s (f tree_context s b)) h
 
 -- a tree that is no alternation is steady where it is always as long
 module _ (S : Tree → Size) where
@@ -213,7 +207,7 @@ module _ (tree_context : TreeContext) (keeps absents : Bool) where
       ((j : Inside) → (absents ≡ false → NoneAbsent j) → a2 ≡ false → NoneAbsent (o j)) → slice_get (out-Info i).children.items k ≡ Some x →
       ((n : ℕ) → slice_get (listed (row_in (D n t))) k ≡ Some (D (m n) u)) →
       ((test : Inside → Tree → Bool) (j : Inside) → some_emitted test (o j) u ≡ true → some_emitted test j t ≡ true) →
-      ((j : Inside) (call : Call) → Contains (emitted_calls (o j) u) call → Contains (emitted_calls j t) call) →
+      ((j : Inside) (call : EmittedCall) → Contains (emitted_calls (o j) u) call → Contains (emitted_calls j t) call) →
       (h : ExpandedPart tree_context keeps absents b (info_of i) t) → (b2 ≡ true → is_fixed_length (size tree_context.groups) u ≡ true) → IsExpandedPart tree_context k2 a2 b2 (info_of x)
   below k2 a2 b b2 i x k t u o m keep absent at kid part calling h steady =
       let found = sym (kid_at i x k at) ∙ ap (λ y. slice_get (listed (row_in y)) k) h.is ∙ kid h.first in
@@ -342,10 +336,10 @@ module _ (tree_context : TreeContext) (keeps absents : Bool) where
 
   steady_of : (how : LookAround) (u : Tree) → (is_variable_look_behind (size tree_context.groups) (tree.look_around u how) ≡ true → ⊥) →
       looks_behind how ≡ true → is_fixed_length (size tree_context.groups) u ≡ true
-  steady_of LookAhead u ok behind = wrong _ behind
-  steady_of LookAheadNeg u ok behind = wrong _ behind
-  steady_of LookBehind u ok behind = turned (is_fixed_length (size tree_context.groups) u) ok
-  steady_of LookBehindNeg u ok behind = turned (is_fixed_length (size tree_context.groups) u) ok
+  steady_of LookAhead u ok steps_back = wrong _ steps_back
+  steady_of LookAheadNeg u ok steps_back = wrong _ steps_back
+  steady_of LookBehind u ok steps_back = turned (is_fixed_length (size tree_context.groups) u) ok
+  steady_of LookBehindNeg u ok steps_back = turned (is_fixed_length (size tree_context.groups) u) ok
 
   pub kid_look : (gs : List InfoTree) (i x : Info) (t : Box Expr Global) (how : LookAround) → (out-Info i).expr.now ≡ view.LookAround t how →
       slice_get (out-Info i).children.items 0 ≡ Some x → IsAnalyzed tree_context gs → IsExpandedPart tree_context keeps absents false (info_of i) → IsExpandedPart tree_context false absents (looks_behind how) (info_of x)
@@ -419,7 +413,7 @@ module _ (tree_context : TreeContext) (keeps absents : Bool) where
     first : ℕ
     is : x ≡ D first u
     part : (test : Inside → Tree → Bool) (j : Inside) → some_emitted test j u ≡ true → some_of_row test j ts ≡ true
-    calling : (j : Inside) (call : Call) → Contains (emitted_calls j u) call → Contains (emitted_calls_in_row j ts) call
+    calling : (j : Inside) (call : EmittedCall) → Contains (emitted_calls j u) call → Contains (emitted_calls_in_row j ts) call
     steady : are_fixed_length (size tree_context.groups) ts ≡ true → is_fixed_length (size tree_context.groups) u ≡ true
 
   row_kid : (n : ℕ) (ts : Trees) (k : ℕ) (x : InfoTree) → slice_get (listed (expected_infos tree_context.groups tree_context.reads n ts)) k ≡ Some x → RowKid ts x
@@ -447,7 +441,7 @@ module _ (tree_context : TreeContext) (keeps absents : Bool) where
   -- each child of a row, by how it is written out with its node
   in_row : (b b2 : Bool) (i : Info) (t : Tree) (ts : Trees) → ((n : ℕ) → row_in (D n t) ≡ expected_infos tree_context.groups tree_context.reads n ts) →
       ((test : Inside → Tree → Bool) (j : Inside) → some_of_row test j ts ≡ true → some_descendant test j t ≡ true) →
-      ((j : Inside) (call : Call) → Contains (emitted_calls_in_row j ts) call → Contains (emitted_calls j t) call) →
+      ((j : Inside) (call : EmittedCall) → Contains (emitted_calls_in_row j ts) call → Contains (emitted_calls j t) call) →
       ExpandedPart tree_context keeps absents b (info_of i) t → (b2 ≡ true → are_fixed_length (size tree_context.groups) ts ≡ true) → AreExpandedParts tree_context keeps absents b2 (out-Info i).children.items
   in_row b b2 i t ts row part calling h steady k x at =
       let kid = row_kid h.first ts k (info_of x)
@@ -460,7 +454,7 @@ module _ (tree_context : TreeContext) (keeps absents : Bool) where
         is = kid.is;
         parts = λ test some. h.parts test (or_right (test h.inside t) (some_descendant test h.inside t) (part test h.inside (kid.part test h.inside some)));
         calls = λ call body has there. h.calls call body (calling h.inside call (kid.calling h.inside call has)) there;
-        steady = λ behind. kid.steady (steady behind);
+        steady = λ steps_back. kid.steady (steady steps_back);
       })
 
   pub kids_concat : (i : Info) (ts : Vec Expr Global) → (out-Info i).expr.now ≡ view.Concat ts → IsExpandedPart tree_context keeps absents false (info_of i) → AreExpandedParts tree_context keeps absents false (out-Info i).children.items

@@ -1,33 +1,29 @@
 -- The program of a pattern fits into the pattern's room, and is refused for its length only where the cap is below that.
-use Rattle.std.proofs.Common.{◌≡◌, ℕ, zero, suc, ◌+◌, ◌-◌, ◌*◌, ◌<◌, ◌≤◌, Bool, true, false, cond, List, [], ◌∷◌, ◌++◌, length, map, take, get_or, Option, Some, None, Result, IfErr, IsErrAnd, refl, sym, ap, subst, ◌∙◌, arith, length-append}
-use Rattle.std.specs.Prelude.{slice_get, unwrap_or}
-use Rattle.std.proofs.lemmas.List.{length-set, length-take, get_or-take}
-use Rattle.std.proofs.lemmas.Option.{slice_get_read, none-some}
+use Rattle.std.proofs.Common.{◌≡◌, ℕ, suc, ◌+◌, ◌-◌, ◌*◌, ◌<◌, ◌≤◌, Bool, true, false, cond, List, [], ◌∷◌, ◌++◌, length, Option, Some, None, Result, IfErr, IsErrAnd, refl, sym, ap, subst, ◌∙◌, arith, length-append}
+use Rattle.std.specs.Prelude.{slice_get}
+use Rattle.std.proofs.lemmas.List.{length-set}
 use Rattle.std.proofs.lemmas.Result.{IfErr-weaker}
 use Rattle.fancy_regex_tree.specs.Tree.{Text, Tree}
 use Rattle.fancy_regex_class.specs.Classes.{in_class, folded}
 use Rattle.fancy_regex_meaning.specs.Ways.{is_at_call_limit}
 use Rattle.fancy_regex_desugar.specs.CorePatterns.{CorePattern, any, literal, class, nothing, read, general_newline, check, continue, keep_out, fail, cat, alt, group, ahead, never, back, atomic, delegate, tail, repeat, backref, exists, conditional, absent}
 use Rattle.fancy_regex_desugar.specs.ProgramSizes.{room}
-use Rattle.fancy_regex_desugar.specs.Unfolded.{Written, cat_all, alt_all, look}
+use Rattle.fancy_regex_desugar.specs.Unfolded.{Written, look}
 use Rattle.fancy_regex_tree.specs.declared.expr.LookAround.{LookAround}
 use Rattle.fancy_regex_tree.specs.declared.expr.LookAround.TheVariants.{LookAhead, LookAheadNeg, LookBehind, LookBehindNeg}
 use Rattle.fancy_regex_analysis.specs.AnalysisErrors.{is_too_complex}
 use Rattle.fancy_regex_info.specs.Infos.{InfoTree}
 use Rattle.fancy_regex_info.specs.declared.error.CompileError.{CompileError}
-use Rattle.fancy_regex_info.specs.declared.info.Info.{Info}
 use Rattle.fancy_regex_analysis.proofs.PartErrorLemmas.{gives}
 use Rattle.fancy_regex_program.specs.Ops as op
 use Rattle.fancy_regex_program.specs.Ops.{Op, op_of}
 use Rattle.fancy_regex_program.specs.Code.{Code, waits, flushed, slots_in, one, after_text, closed, alt_code, group_code, ahead_code, never_code, atomic_code, tail_code, repeat_code, loop_code, conditional_code, absent_code, leaf_op, code_of}
 use Rattle.fancy_regex_compiler.specs.Extents.{extent, IsFull}
 use Rattle.fancy_regex_compiler.specs.Known.{front_of, info_written, info_call}
-use Rattle.fancy_regex_compiler.specs.Writing.{Draft, draft_of, with_op, closed_draft, added, patched, ended_by, ended, with_pat, with_choice, Wrote, WroteClosed, WroteChoice, IsInsn}
+use Rattle.fancy_regex_compiler.specs.Writing.{Draft, draft_of, with_op, closed_draft, added, patched, ended_by, ended, with_pat, Wrote, IsInsn}
 use Rattle.fancy_regex_compiler.specs.declared.program_builder.ProgramBuilder.{ProgramBuilder}
 use Rattle.fancy_regex_compiler.specs.declared.emitter.Emitter.{Emitter}
 use Rattle.fancy_regex_program.specs.declared.insn.Insn.{Insn}
-use Rattle.fancy_regex_compiler.proofs.Branches.{choices, set_right}
-use Rattle.fancy_regex_compiler.proofs.EmitLemmas.{Chosen}
 use Rattle.fancy_regex_compiler.proofs.RowLemmas.{call_opens}
 
 -- what waits is one operation at most
@@ -36,19 +32,19 @@ long_flushed [] = omega arith
 long_flushed (c ∷ cs) = omega arith
 
 -- operations after what waits
-behind_long : (text : Text) (code : Code) (pc slot most : ℕ) → length (code (pc + length (flushed text)) slot) ≤ most →
+after_text_long : (text : Text) (code : Code) (pc slot most : ℕ) → length (code (pc + length (flushed text)) slot) ≤ most →
     length (after_text text code pc slot) + 0 ≤ most + length (flushed text)
-behind_long text code pc slot most h = omega (arith, h, length-append (flushed text) (code (pc + length (flushed text)) slot))
+after_text_long text code pc slot most h = omega (arith, h, length-append (flushed text) (code (pc + length (flushed text)) slot))
 
 alone_long : (text : Text) (o : Op) (pc slot most : ℕ) → 1 ≤ most → length (after_text text (one o) pc slot) + 0 ≤ most + length (flushed text)
-alone_long text o pc slot most h = behind_long text (one o) pc slot most (omega (arith, h))
+alone_long text o pc slot most h = after_text_long text (one o) pc slot most (omega (arith, h))
 
-abbrev kept : Bool → Code
-kept w pc slot = cond w (op.save 0 ∷ []) []
+abbrev keep_out_code : Bool → Code
+keep_out_code w pc slot = cond w (op.save 0 ∷ []) []
 
-kept_long : (w : Bool) (pc slot : ℕ) → length (kept w pc slot) ≤ 12
-kept_long true pc slot = omega arith
-kept_long false pc slot = omega arith
+keep_out_long : (w : Bool) (pc slot : ℕ) → length (keep_out_code w pc slot) ≤ 12
+keep_out_long true pc slot = omega arith
+keep_out_long false pc slot = omega arith
 
 -- each construct, by the length of its parts
 group_long : (k : ℕ) (body : Code) (pc slot n : ℕ) → length (body (pc + 1) (slot + 1)) ≤ n → length (group_code k body pc slot) ≤ 12 + n
@@ -127,7 +123,7 @@ module _ (u w : Bool) where
   code_fits (general_newline unicode) text pc slot = alone_long text (op.general_newline unicode) pc slot 12 (omega arith)
   code_fits (check a) text pc slot = alone_long text (op.assertion a) pc slot 12 (omega arith)
   code_fits continue text pc slot = alone_long text op.continue pc slot 12 (omega arith)
-  code_fits keep_out text pc slot = behind_long text (kept w) pc slot 12 (kept_long w (pc + length (flushed text)) slot)
+  code_fits keep_out text pc slot = after_text_long text (keep_out_code w) pc slot 12 (keep_out_long w (pc + length (flushed text)) slot)
   code_fits fail text pc slot = alone_long text op.fail pc slot 12 (omega arith)
   code_fits (back n) text pc slot = alone_long text (op.go_back n) pc slot 1 (omega arith)
   code_fits (backref k casei) text pc slot = alone_long text (op.backref (2 * k) casei) pc slot 12 (omega arith)
@@ -138,45 +134,45 @@ module _ (u w : Bool) where
       let second = C b (waits a text) n (slot + slots_in a) in
       omega (arith, length-append first second, code_fits a text pc slot, code_fits b (waits a text) n (slot + slots_in a))
   code_fits (alt a b) text pc slot =
-      behind_long text (alt_code (shut a) (shut b) (slots_in a)) pc slot (2 + (room a + room b))
+      after_text_long text (alt_code (shut a) (shut b) (slots_in a)) pc slot (2 + (room a + room b))
       (alt_long (shut a) (shut b) (slots_in a) (pc + length (flushed text)) slot (room a) (room b)
       (λ k. shut_long a (code_fits a []) k slot) (shut_long b (code_fits b [])))
   code_fits (group k a) text pc slot =
       let n = pc + length (flushed text) in
-      behind_long text (group_code k (shut a)) pc slot (12 + room a)
+      after_text_long text (group_code k (shut a)) pc slot (12 + room a)
       (group_long k (shut a) n slot (room a) (shut_long a (code_fits a []) (n + 1) (slot + 1)))
   code_fits (ahead a) text pc slot =
       let n = pc + length (flushed text) in
-      behind_long text (ahead_code (shut a)) pc slot (12 + room a)
+      after_text_long text (ahead_code (shut a)) pc slot (12 + room a)
       (ahead_long (shut a) n slot (room a) (shut_long a (code_fits a []) (n + 1) (slot + 1)))
   code_fits (never a) text pc slot =
       let n = pc + length (flushed text) in
-      behind_long text (never_code (shut a)) pc slot (12 + room a)
+      after_text_long text (never_code (shut a)) pc slot (12 + room a)
       (never_long (shut a) n slot (room a) (shut_long a (code_fits a []) (n + 2) (slot + 1)))
   code_fits (atomic a) text pc slot =
       let n = pc + length (flushed text) in
-      behind_long text (atomic_code (shut a)) pc slot (12 + room a)
+      after_text_long text (atomic_code (shut a)) pc slot (12 + room a)
       (atomic_long (shut a) n slot (room a) (shut_long a (code_fits a []) (n + 1) (slot + 1)))
   code_fits (delegate t a) text pc slot = alone_long text (op.delegate (in_class u) (folded u) t) pc slot 12 (omega arith)
   code_fits (tail t a) text pc slot =
       let n = pc + length (flushed text) in
-      behind_long text (tail_code (op.tail (in_class u) (folded u) t) (shut a)) pc slot (1 + room a)
+      after_text_long text (tail_code (op.tail (in_class u) (folded u) t) (shut a)) pc slot (1 + room a)
       (tail_long (op.tail (in_class u) (folded u) t) (shut a) n slot (room a) (shut_long a (code_fits a []) (n + 1) slot))
   code_fits (repeat a lo None greedy) text pc slot =
       let n = pc + length (flushed text) in
-      behind_long text (loop_code lo greedy (shut a)) pc slot (12 + room a)
+      after_text_long text (loop_code lo greedy (shut a)) pc slot (12 + room a)
       (loop_long lo greedy (shut a) n slot (room a) (shut_long a (code_fits a []) (n + 2) (slot + 2)))
   code_fits (repeat a lo (Some hi) greedy) text pc slot =
       let n = pc + length (flushed text) in
-      behind_long text (repeat_code lo hi greedy (shut a)) pc slot (12 + room a)
+      after_text_long text (repeat_code lo hi greedy (shut a)) pc slot (12 + room a)
       (repeat_long lo hi greedy (shut a) n slot (room a) (shut_long a (code_fits a []) (n + 2) (slot + 1)))
   code_fits (conditional c a b) text pc slot =
-      behind_long text (conditional_code (shut c) (shut a) (shut b) (slots_in c) (slots_in a)) pc slot (12 + (room c + (room a + room b)))
+      after_text_long text (conditional_code (shut c) (shut a) (shut b) (slots_in c) (slots_in a)) pc slot (12 + (room c + (room a + room b)))
       (conditional_long (shut c) (shut a) (shut b) (slots_in c) (slots_in a) (pc + length (flushed text)) slot (room c) (room a) (room b)
       (shut_long c (code_fits c [])) (shut_long a (code_fits a [])) (shut_long b (code_fits b [])))
   code_fits (absent a) text pc slot =
       let n = pc + length (flushed text) in
-      behind_long text (absent_code (shut a)) pc slot (12 + room a)
+      after_text_long text (absent_code (shut a)) pc slot (12 + room a)
       (absent_long (shut a) n slot (room a) (shut_long a (code_fits a []) (n + 2) (slot + 2)))
 
 pub extent_op : (o : Op) (d : Draft) → extent (with_op o d) ≡ extent d + 1
@@ -216,111 +212,11 @@ extent_pat u w p slot d =
     let code = code_of (in_class u) (folded u) w p d.text (length d.ops) slot in
     omega (arith, code_fits u w p d.text (length d.ops) slot, length-append d.ops code)
 
-pub extent_choice : (u w : Bool) (end : ℕ) (p : CorePattern) (slot : ℕ) (d : Draft) → extent (with_choice u w end p slot d) ≤ extent d + (room p + 2)
-extent_choice u w end p slot d =
-    let first = with_op (op.split 0 0) d in
-    let body = with_pat u w p slot first in
-    let all = with_op (op.jump end) (closed_draft body) in
-    let filled = extent_patched (length d.ops) (op.split (length first.ops) (length all.ops)) all in
-    omega (arith, filled, extent_op (op.jump end) (closed_draft body), extent_closed body, extent_pat u w p slot first, extent_op (op.split 0 0) d)
-
 -- what was written fits into the pattern's room
 pub took : {u w : Bool} {old new : Emitter} {slot after : ℕ} {p : CorePattern} → Wrote u w old new slot after p →
     extent (draft_of new.body) ≤ extent (draft_of old.body) + room p
 took {u = u} {w = w} {old = old} {slot = slot} {p = p} h =
     subst (λ d. extent d ≤ extent (draft_of old.body) + room p) (sym h.draft) (extent_pat u w p slot (draft_of old.body))
-
-pub took_closed : {u w : Bool} {old new : Emitter} {slot after : ℕ} {p : CorePattern} → WroteClosed u w old new slot after p →
-    extent (draft_of new.body) ≤ extent (draft_of old.body) + room p
-took_closed {u = u} {w = w} {old = old} {slot = slot} {p = p} h =
-    let d = with_pat u w p slot (draft_of old.body) in
-    subst (λ e. extent e ≤ extent (draft_of old.body) + room p) (sym h.draft)
-    (omega (arith, extent_closed d, extent_pat u w p slot (draft_of old.body)))
-
-pub took_choice : {u w : Bool} {old new : Emitter} {slot after : ℕ} {p : CorePattern} → WroteChoice u w old new slot after p →
-    extent (draft_of new.body) ≤ extent (draft_of old.body) + (room p + 2)
-took_choice {u = u} {w = w} {old = old} {slot = slot} {p = p} h =
-    subst (λ d. extent d ≤ extent (draft_of old.body) + (room p + 2)) (sym h.draft) (extent_choice u w 0 p slot (draft_of old.body))
-
--- Branches so far, each with its split and its jump.
-abbrev pub choices_room : List CorePattern → ℕ
-choices_room [] = 0
-choices_room (p ∷ ps) = (room p + 2) + choices_room ps
-
-extent_choices : (u w : Bool) (end : ℕ) (ps : List CorePattern) (slot : ℕ) (d : Draft) → extent (choices u w end ps slot d) ≤ extent d + choices_room ps
-extent_choices u w end [] slot d = omega arith
-extent_choices u w end (p ∷ ps) slot d =
-    let first = with_choice u w end p slot d in
-    omega (arith, extent_choices u w end ps (slot + slots_in p) first, extent_choice u w end p slot d)
-
-extent_right : (u w : Bool) (end : ℕ) (js : List ℕ) (d : Draft) → extent (set_right u w end js d) ≡ extent d
-extent_right u w end [] d = refl
-extent_right u w end (j ∷ js) d = extent_right u w end js (patched j (op.jump end) d) ∙ extent_patched j (op.jump end) d
-
-pub chosen_took : {u w : Bool} {old now : Emitter} {jumps : List ℕ} {slot next : ℕ} {ps : List CorePattern} → Chosen u w old now jumps slot next ps →
-    extent (draft_of now.body) ≤ extent (draft_of old.body) + choices_room ps
-chosen_took {u = u} {w = w} {old = old} {now = now} {jumps = jumps} {slot = slot} {ps = ps} h =
-    let begun = closed_draft (draft_of old.body) in
-    omega (
-      arith,
-      extent_right u w 0 jumps (draft_of now.body),
-      ap extent (h.draft 0),
-      extent_choices u w 0 ps slot begun,
-      extent_closed (draft_of old.body),
-    )
-
--- a branch after others, and more after it
-branch_fits : (f : Info → CorePattern) (xs : List Info) (i : ℕ) (x : Info) → slice_get xs i ≡ Some x → i + 1 < length xs →
-    choices_room (map f (take i xs)) + (room (f x) + 2) ≤ room (alt_all (map f xs))
-unfolding room
-branch_fits f [] i x at below = absurd (none-some _ at)
-branch_fits f (y ∷ []) i x at below = absurd (omega (arith, below))
-branch_fits f (y ∷ z ∷ zs) zero x at below =
-    let same : room (f y) ≡ room (f x) = ap (λ o. room (f (unwrap_or o y))) at in
-    omega (arith, same)
-branch_fits f (y ∷ z ∷ zs) (suc i) x at below = omega (arith, branch_fits f (z ∷ zs) i x at (omega (arith, below)))
-
--- the last branch
-last_fits : (f : Info → CorePattern) (xs : List Info) (i : ℕ) (x : Info) → slice_get xs i ≡ Some x → i + 1 ≡ length xs →
-    choices_room (map f (take i xs)) + room (f x) ≤ room (alt_all (map f xs))
-unfolding room
-last_fits f [] i x at end = absurd (none-some _ at)
-last_fits f (y ∷ []) zero x at end =
-    let same : room (f y) ≡ room (f x) = ap (λ o. room (f (unwrap_or o y))) at in
-    omega (arith, same)
-last_fits f (y ∷ []) (suc i) x at end = absurd (omega (arith, end))
-last_fits f (y ∷ z ∷ zs) zero x at end = absurd (omega (arith, end))
-last_fits f (y ∷ z ∷ zs) (suc i) x at end = omega (arith, last_fits f (z ∷ zs) i x at (omega (arith, end)))
-
-row_fits : (f : Info → Written) (xs : List Info) (i : ℕ) (x : Info) → slice_get xs i ≡ Some x →
-    room (cat_all (map f (take i xs))) + room (f x).front ≤ room (cat_all (map f xs))
-unfolding room
-row_fits f [] i x at = absurd (none-some _ at)
-row_fits f (y ∷ ys) zero x at =
-    let same : room (f y).front ≡ room (f x).front = ap (λ o. room (f (unwrap_or o y)).front) at in
-    omega (arith, same)
-row_fits f (y ∷ ys) (suc i) x at = omega (arith, row_fits f ys i x at)
-
--- the same, as the loops read their items
-pub branch_read : (f : Info → CorePattern) (xs : List Info) (i : ℕ) (x : Info) → i < length (take (length xs - 1) xs) → x ≡ get_or (take (length xs - 1) xs) i x →
-    choices_room (map f (take i xs)) + (room (f x) + 2) ≤ room (alt_all (map f xs))
-branch_read f xs i x inside is =
-    let long = length-take (length xs - 1) xs in
-    let below : i + 1 < length xs = omega (arith, long, inside) in
-    let here = is ∙ get_or-take (length xs - 1) xs i x (omega (arith, long, inside)) in
-    branch_fits f xs i x (slice_get_read xs (length xs) i x refl (omega (arith, below)) here) below
-
-pub last_read : (f : Info → CorePattern) (xs : List Info) (i : ℕ) (x : Info) → 2 ≤ length xs → i ≤ length (take (length xs - 1) xs) →
-    length (take (length xs - 1) xs) ≤ i → x ≡ get_or xs (length xs - 1) x → choices_room (map f (take i xs)) + room (f x) ≤ room (alt_all (map f xs))
-last_read f xs i x two most least is =
-    let long = length-take (length xs - 1) xs in
-    let at : length xs - 1 ≡ i = omega (arith, long, two, most, least) in
-    let end : i + 1 ≡ length xs = omega (arith, at, two) in
-    last_fits f xs i x (slice_get_read xs (length xs) i x refl (omega (arith, end)) (is ∙ ap (λ k. get_or xs k x) at)) end
-
-pub row_read : (f : Info → Written) (xs : List Info) (i : ℕ) (x : Info) → i < length xs → x ≡ get_or xs i x →
-    room (cat_all (map f (take i xs))) + room (f x).front ≤ room (cat_all (map f xs))
-row_read f xs i x inside is = row_fits f xs i x (slice_get_read xs (length xs) i x refl inside is)
 
 -- the room of each construct
 pub room_keep : room keep_out ≡ 12

@@ -18,7 +18,7 @@ use Rattle.fancy_regex_program.specs.Code.{waits, flushed, slots_in, is_uncounte
 use Rattle.fancy_regex_compiler.specs.Extents.{extent, IsFull}
 use Rattle.fancy_regex_compiler.specs.Refusals.{TreeContext, IsAnalyzed, IsExpandedPart, IsReasonWhere, IsMemoryOrTooComplex}
 use Rattle.fancy_regex_program.specs.Shapes.{IsAllowed}
-use Rattle.fancy_regex_compiler.specs.Tasks.{Progress, progress, closed_by, closing_room, at_others, listed, opened_after, opened_behind, node_pattern, body_pattern, row_pattern, whole_pattern, past_pattern, past, past_all, task_room, tasks_room, IsAllowedTask, AreAllowedTasks, IsExpandedTask, AreExpandedTasks, Leads, LeadsTo, LeadsOn, tasks_work}
+use Rattle.fancy_regex_compiler.specs.Tasks.{Progress, progress, closed_by, closing_room, at_others, listed, opened_after, opened_after_all, node_pattern, body_pattern, row_pattern, whole_pattern, past_pattern, past, past_all, task_room, tasks_room, IsAllowedTask, AreAllowedTasks, IsExpandedTask, AreExpandedTasks, Leads, LeadsTo, LeadsOn, tasks_work}
 use Rattle.fancy_regex_compiler.specs.Writing.{Draft, draft_of, with_op, closed_draft, added, patched, with_pat, with_choice, Wrote, infos_of}
 use Rattle.fancy_regex_compiler.specs.declared.closing.Closing.{Closing}
 use Rattle.fancy_regex_compiler.specs.declared.closing.Closing.TheVariants as ends
@@ -43,9 +43,9 @@ same_progress {d = d} {e = e} {s = s} {t = t} {o = o} {p = p} x y z =
 
 -- the end of a construct takes at most its room
 pub closing_fits : (c : Closing) (d : Draft) → extent (closed_by c d) ≤ extent d + closing_room c
-closing_fits (ends.Group kept start end) d =
-    let e = with_op (op.copy kept start) (closed_draft d) in
-    omega (arith, extent_op (op.save end) e, extent_op (op.copy kept start) (closed_draft d), extent_closed d)
+closing_fits (ends.Group saved_start start end) d =
+    let e = with_op (op.copy saved_start start) (closed_draft d) in
+    omega (arith, extent_op (op.save end) e, extent_op (op.copy saved_start start) (closed_draft d), extent_closed d)
 closing_fits (ends.PositiveLookAround slot) d = omega (arith, extent_op (op.restore slot) (closed_draft d), extent_closed d)
 closing_fits (ends.NegativeLookAround slot split first) d =
     let e = with_op (op.fail_negative slot) (closed_draft d) in
@@ -81,24 +81,24 @@ closing_fits (ends.Alternatives jump) d =
 closing_fits (ends.Tail begin) d = omega (arith, extent_ended begin (length (closed_draft d).ops) (closed_draft d), extent_closed d)
 
 -- tasks above others
-behind_both : (ts us : List Task) (o : List ℕ) → opened_behind (ts ++ us) o ≡ opened_behind ts (opened_behind us o)
-behind_both [] us o = refl
-behind_both (t ∷ ts) us o = ap (opened_after t) (behind_both ts us o)
+opened_after_both : (ts us : List Task) (o : List ℕ) → opened_after_all (ts ++ us) o ≡ opened_after_all ts (opened_after_all us o)
+opened_after_both [] us o = refl
+opened_after_both (t ∷ ts) us o = ap (opened_after t) (opened_after_both ts us o)
 
 module _ (context : CompileContext) where
   past_one : (t : Task) (s : Progress) → (past context t s).opened ≡ opened_after t s.opened
-  past_one (task.Node info behind scope) s = refl
+  past_one (task.Node info steps_back scope) s = refl
   past_one (task.Body body for_any info scope) s = refl
   past_one (task.Whole info scope) s = refl
   past_one (task.Tail parts scope) s = refl
   past_one (task.Row parts scope) s = refl
-  past_one (task.Branches branches behind scope) s = refl
-  past_one (task.Otherwise split first branches behind scope) s = refl
+  past_one (task.Branches branches steps_back scope) s = refl
+  past_one (task.Otherwise split first branches steps_back scope) s = refl
   past_one (task.Tested slot split first x y scope) s = refl
   past_one (task.Close c) s = refl
   past_one task.EndCall s = refl
 
-  past_opened : (ts : List Task) (s : Progress) → (past_all context ts s).opened ≡ opened_behind ts s.opened
+  past_opened : (ts : List Task) (s : Progress) → (past_all context ts s).opened ≡ opened_after_all ts s.opened
   past_opened [] s = refl
   past_opened (t ∷ ts) s = past_one t (past_all context ts s) ∙ ap (opened_after t) (past_opened ts s)
 
@@ -106,23 +106,23 @@ module _ (context : CompileContext) where
   past_both [] us s = refl
   past_both (t ∷ ts) us s = ap (past context t) (past_both ts us s)
 
-  room_both : (ts us : List Task) (o : List ℕ) → tasks_room context (ts ++ us) o ≡ tasks_room context ts (opened_behind us o) + tasks_room context us o
+  room_both : (ts us : List Task) (o : List ℕ) → tasks_room context (ts ++ us) o ≡ tasks_room context ts (opened_after_all us o) + tasks_room context us o
   room_both [] us o = omega arith
   room_both (t ∷ ts) us o =
-      let here = ap (task_room context t) (behind_both ts us o) in
+      let here = ap (task_room context t) (opened_after_both ts us o) in
       omega (arith, here, room_both ts us o)
 
-  allowed_first : (ts us : List Task) (o : List ℕ) → AreAllowedTasks context (ts ++ us) o → AreAllowedTasks context ts (opened_behind us o)
+  allowed_first : (ts us : List Task) (o : List ℕ) → AreAllowedTasks context (ts ++ us) o → AreAllowedTasks context ts (opened_after_all us o)
   allowed_first [] us o h = tt
-  allowed_first (t ∷ ts) us o h = (subst (IsAllowedTask context t) (behind_both ts us o) h.0, allowed_first ts us o h.1)
+  allowed_first (t ∷ ts) us o h = (subst (IsAllowedTask context t) (opened_after_both ts us o) h.0, allowed_first ts us o h.1)
 
   allowed_second : (ts us : List Task) (o : List ℕ) → AreAllowedTasks context (ts ++ us) o → AreAllowedTasks context us o
   allowed_second [] us o h = h
   allowed_second (t ∷ ts) us o h = allowed_second ts us o h.1
 
-  allowed_both : (ts us : List Task) (o : List ℕ) → AreAllowedTasks context ts (opened_behind us o) → AreAllowedTasks context us o → AreAllowedTasks context (ts ++ us) o
+  allowed_both : (ts us : List Task) (o : List ℕ) → AreAllowedTasks context ts (opened_after_all us o) → AreAllowedTasks context us o → AreAllowedTasks context (ts ++ us) o
   allowed_both [] us o h k = k
-  allowed_both (t ∷ ts) us o h k = (subst (IsAllowedTask context t) (sym (behind_both ts us o)) h.0, allowed_both ts us o h.1 k)
+  allowed_both (t ∷ ts) us o h k = (subst (IsAllowedTask context t) (sym (opened_after_both ts us o)) h.0, allowed_both ts us o h.1 k)
 
 pub expanded_first : (tree_context : TreeContext) (ts us : List Task) → AreExpandedTasks tree_context (ts ++ us) → AreExpandedTasks tree_context ts
 expanded_first tree_context [] us h = tt
@@ -148,7 +148,7 @@ leads_on context old mid new slot now rest left t step end A m S is h k =
     let ts = listed step.tasks in
     let was = progress mid now in
     let after = progress new step.slot in
-    let opened : opened_behind ts new.opened.items ≡ opened_after t mid.opened.items =
+    let opened : opened_after_all ts new.opened.items ≡ opened_after t mid.opened.items =
     sym (past_opened context ts after) ∙ ap (λ (s : Progress). s.opened) k.ends ∙ past_one context t was in
     record {
       ends = past_both context rest ts after ∙ ap (past_all context rest) k.ends ∙ sym (past_both context rest (t ∷ []) was)
@@ -283,16 +283,16 @@ leads_back r context old mid new slot keeps n p q A B is drew opened long f h =
     }) h)
 
 -- a step to a part of a construct, and to its end
-pub leads_around : (context : CompileContext) (old new : Emitter) (slot : ℕ) (keeps : Bool) (p : CorePattern) (S : TreeContext → Type 0) (step : Step) (inside : ℕ) (c : Closing)
-    (info : Bor Info) (behind : Bool) (scope : Scope) → listed step.tasks ≡ task.Close c ∷ task.Node info behind scope ∷ [] → step.slot ≡ inside →
-    closed_by c (with_pat context.unicode context.whole (node_pattern context info.now behind scope new.opened.items) inside (draft_of new.body))
+pub leads_enclosed_node : (context : CompileContext) (old new : Emitter) (slot : ℕ) (keeps : Bool) (p : CorePattern) (S : TreeContext → Type 0) (step : Step) (inside : ℕ) (c : Closing)
+    (info : Bor Info) (steps_back : Bool) (scope : Scope) → listed step.tasks ≡ task.Close c ∷ task.Node info steps_back scope ∷ [] → step.slot ≡ inside →
+    closed_by c (with_pat context.unicode context.whole (node_pattern context info.now steps_back scope new.opened.items) inside (draft_of new.body))
     ≡ with_pat context.unicode context.whole p slot (draft_of old.body) →
-    inside + slots_in (node_pattern context info.now behind scope new.opened.items) ≡ slot + slots_in p → new.opened.items ≡ old.opened.items →
-    (IsAllowed context.unicode scope.may_keep (node_pattern context info.now behind scope new.opened.items) → IsAllowed context.unicode keeps p) →
-    extent (draft_of new.body) + (closing_room c + room (node_pattern context info.now behind scope new.opened.items)) ≤ extent (draft_of old.body) + room p →
-    ((tree_context : TreeContext) → IsAnalyzed tree_context (infos_of context) → S tree_context → IsExpandedTask tree_context (task.Node info behind scope)) →
+    inside + slots_in (node_pattern context info.now steps_back scope new.opened.items) ≡ slot + slots_in p → new.opened.items ≡ old.opened.items →
+    (IsAllowed context.unicode scope.may_keep (node_pattern context info.now steps_back scope new.opened.items) → IsAllowed context.unicode keeps p) →
+    extent (draft_of new.body) + (closing_room c + room (node_pattern context info.now steps_back scope new.opened.items)) ≤ extent (draft_of old.body) + room p →
+    ((tree_context : TreeContext) → IsAnalyzed tree_context (infos_of context) → S tree_context → IsExpandedTask tree_context (task.Node info steps_back scope)) →
     LeadsTo context p keeps S old new slot step
-leads_around context old new slot keeps p S step inside c info behind scope is at drew slots opened allowed fits stands =
+leads_enclosed_node context old new slot keeps p S step inside c info steps_back scope is at drew slots opened allowed fits stands =
     let end = past_pattern context p (progress old slot) in
     subst (λ k. Leads context old new slot k (listed step.tasks) end (IsAllowed context.unicode keeps p) (room p) S) (sym at)
     (subst (λ ts. Leads context old new slot inside ts end (IsAllowed context.unicode keeps p) (room p) S) (sym is) (record {
@@ -303,7 +303,7 @@ leads_around context old new slot keeps p S step inside c info behind scope is a
     }))
 
 -- the same of a body of which only the first way counts
-pub leads_around_body : (context : CompileContext) (old new : Emitter) (slot : ℕ) (keeps : Bool) (p : CorePattern) (S : TreeContext → Type 0) (step : Step) (inside : ℕ) (c : Closing)
+pub leads_enclosed_body : (context : CompileContext) (old new : Emitter) (slot : ℕ) (keeps : Bool) (p : CorePattern) (S : TreeContext → Type 0) (step : Step) (inside : ℕ) (c : Closing)
     (for_any : Bool) (body : Bor Expr) (info : Bor Info) (scope : Scope) → listed step.tasks ≡ task.Close c ∷ task.Body body for_any info scope ∷ [] → step.slot ≡ inside →
     closed_by c (with_pat context.unicode context.whole (body_pattern context for_any body.now info.now scope new.opened.items) inside (draft_of new.body))
     ≡ with_pat context.unicode context.whole p slot (draft_of old.body) →
@@ -312,7 +312,7 @@ pub leads_around_body : (context : CompileContext) (old new : Emitter) (slot : �
     extent (draft_of new.body) + (closing_room c + room (body_pattern context for_any body.now info.now scope new.opened.items)) ≤ extent (draft_of old.body) + room p →
     ((tree_context : TreeContext) → IsAnalyzed tree_context (infos_of context) → S tree_context → IsExpandedTask tree_context (task.Body body for_any info scope)) →
     LeadsTo context p keeps S old new slot step
-leads_around_body context old new slot keeps p S step inside c for_any body info scope is at drew slots opened allowed fits stands =
+leads_enclosed_body context old new slot keeps p S step inside c for_any body info scope is at drew slots opened allowed fits stands =
     let end = past_pattern context p (progress old slot) in
     subst (λ k. Leads context old new slot k (listed step.tasks) end (IsAllowed context.unicode keeps p) (room p) S) (sym at)
     (subst (λ ts. Leads context old new slot inside ts end (IsAllowed context.unicode keeps p) (room p) S) (sym is) (record {
@@ -332,33 +332,8 @@ want_is_reason u gs S PatternTooComplex h tree_context s stand = tt
 want_is_reason u gs S Memory h tree_context s stand = tt
 want_is_reason u gs S _ h tree_context s stand = absurd h
 
-pub told_want : {T : Type 0} (r : Result T CompileError) (u : Bool) (gs : List InfoTree) (S : TreeContext → Type 0) → IfErr r IsMemoryOrTooComplex → IfErr r (IsReasonWhere u gs S)
-told_want r u gs S h = IfErr-weaker r IsMemoryOrTooComplex (IsReasonWhere u gs S) (want_is_reason u gs S) h
-
-pub told_any : {T : Type 0} (r : Result T CompileError) (u : Bool) (gs : List InfoTree) (A B : TreeContext → Type 0) →
-    ((tree_context : TreeContext) → IsAnalyzed tree_context gs → B tree_context → A tree_context) →
-    IfErr r (λ e. (unicode : Bool) (groups : List InfoTree) → IsReasonWhere unicode groups A e) → IfErr r (IsReasonWhere u gs B)
-told_any r u gs A B f h =
-    IfErr-weaker r (λ e. (unicode : Bool) (groups : List InfoTree) → IsReasonWhere unicode groups A e) (IsReasonWhere u gs B)
-    (λ e told tree_context s b. told u gs tree_context s (f tree_context s b)) h
-
--- room that is known whatever is fixed for the compilation
-pub full_any : {T : Type 0} (r : Result T CompileError) (old : ProgramBuilder) (p : CompileContext → CorePattern) (context : CompileContext) →
-    IfErr r (λ e. (any : CompileContext) → IsFull old (room (p any)) e) → IfErr r (IsFull old (room (p context)))
-full_any r old p context h =
-    IfErr-weaker r (λ e. (any : CompileContext) → IsFull old (room (p any)) e) (IsFull old (room (p context))) (λ e k. k context) h
-
--- the same of more room
-pub full_each : {T : Type 0} (r : Result T CompileError) (old : ProgramBuilder) (m : ℕ) (p : CompileContext → CorePattern) → ((any : CompileContext) → m ≤ room (p any)) →
-    IfErr r (IsFull old m) → IfErr r (λ e. (any : CompileContext) → IsFull old (room (p any)) e)
-full_each r old m p less h =
-    IfErr-weaker r (IsFull old m) (λ e. (any : CompileContext) → IsFull old (room (p any)) e) (λ e k any too. let lt = k too in omega (arith, lt, less any)) h
-
-pub told_want_any : {T : Type 0} (r : Result T CompileError) (S : TreeContext → Type 0) → IfErr r IsMemoryOrTooComplex →
-    IfErr r (λ e. (unicode : Bool) (groups : List InfoTree) → IsReasonWhere unicode groups S e)
-told_want_any r S h =
-    IfErr-weaker r IsMemoryOrTooComplex (λ e. (unicode : Bool) (groups : List InfoTree) → IsReasonWhere unicode groups S e)
-    (λ e k unicode groups. want_is_reason unicode groups S e k) h
+pub reason_for_want : {T : Type 0} (r : Result T CompileError) (u : Bool) (gs : List InfoTree) (S : TreeContext → Type 0) → IfErr r IsMemoryOrTooComplex → IfErr r (IsReasonWhere u gs S)
+reason_for_want r u gs S h = IfErr-weaker r IsMemoryOrTooComplex (IsReasonWhere u gs S) (want_is_reason u gs S) h
 
 -- more room than was asked
 pub full_within : {T : Type 0} (r : Result T CompileError) (old : ProgramBuilder) (m n : ℕ) → m ≤ n → IfErr r (IsFull old m) → IfErr r (IsFull old n)

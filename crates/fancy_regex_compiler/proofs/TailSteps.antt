@@ -1,12 +1,12 @@
 -- A step of the compiler: the end of a whole pattern, and what comes before it.
-use Rattle.std.proofs.Common.{◌≡◌, ℕ, zero, suc, ◌+◌, ◌≤◌, ◌<◌, Bool, true, false, cond, true≢false, List, [], ◌∷◌, length, map, take, drop, Option, Some, None, Vec, refl, sym, ap, ap₂, ◌∙◌, subst, arith, ⊎_elim}
-use Rattle.std.specs.Prelude.{slice_get, ◌&&◌, ◌||◌, ◌==◌, nat_le, count_by, chars, option_map, string_bytes}
+use Rattle.std.proofs.Common.{◌≡◌, ℕ, zero, suc, ◌+◌, ◌≤◌, ◌<◌, Bool, true, false, cond, true≢false, List, [], ◌∷◌, length, map, take, drop, Option, Some, Vec, refl, sym, ap, ap₂, ◌∙◌, subst, arith, ⊎_elim}
+use Rattle.std.specs.Prelude.{slice_get, ◌&&◌, chars, option_map, string_bytes}
 use Rattle.std.specs.List.{Contains}
 use Rattle.std.specs.Borrow.{Bor}
 use Rattle.std.proofs.lemmas.List.Elements.{Contains-append_cases}
 use Rattle.std.proofs.lemmas.Option.{none-some}
 use Rattle.fancy_regex_tree.specs.Tree as tree
-use Rattle.fancy_regex_tree.specs.Tree.{Text, Tree, Trees, absent_tree, ast_tree, node_tree, tree_of, absent_tree_of, ast_tree_of, no_trees, more_trees, trees}
+use Rattle.fancy_regex_tree.specs.Tree.{Text, Tree, Trees, absent_tree, ast_tree, node_tree, tree_of, absent_tree_of, ast_tree_of, no_trees, more_trees}
 use Rattle.fancy_regex_tree.specs.declared.expr.Expr.{Expr}
 use Rattle.fancy_regex_tree.specs.declared.expr.Expr.TheVariants as view
 use Rattle.fancy_regex_tree.specs.declared.expr.Absent.{Absent}
@@ -36,13 +36,13 @@ use Rattle.fancy_regex_program.specs.Ops as op
 use Rattle.fancy_regex_program.specs.Ops.{op_of}
 use Rattle.fancy_regex_program.specs.Code.{slots_in}
 use Rattle.fancy_regex_compiler.specs.Extents.{extent}
-use Rattle.fancy_regex_compiler.specs.Known.{info_written, info_written_all, is_plain_info, are_plain_infos, info_begins_tail, tree_in, trees_in, plain_row, info_tail, info_whole, info_call}
+use Rattle.fancy_regex_compiler.specs.Known.{info_written, info_written_all, is_plain_info, are_plain_infos, info_begins_tail, tree_in, trees_in, plain_row, info_tail, info_whole}
 use Rattle.fancy_regex_program.specs.Parts.{IsDelegateOf, IsDelegateIfAny, IsPartCause}
-use Rattle.fancy_regex_compiler.specs.Refusals.{is_class, IsReason, TreeContext, IsAnalyzed, ExpandedPart, IsExpandedPart, AreExpandedParts}
+use Rattle.fancy_regex_compiler.specs.Refusals.{is_class, IsReason, TreeContext, IsAnalyzed, ExpandedPart, AreExpandedParts}
 use Rattle.fancy_regex_program.specs.Shapes.{IsAllowed}
 use Rattle.fancy_regex_compiler.specs.Tails.{row_trees, IsPlainFrom, SplitsRow}
-use Rattle.fancy_regex_compiler.specs.Tasks.{Progress, progress, listed, row_pattern, tail_pattern, whole_pattern, past_pattern, past, Leads, LeadsTo}
-use Rattle.fancy_regex_compiler.specs.Writing.{Draft, draft_of, with_op, closed_draft, ended, with_pat, infos_of, part}
+use Rattle.fancy_regex_compiler.specs.Tasks.{Progress, progress, row_pattern, tail_pattern, whole_pattern, past_pattern, Leads, LeadsTo}
+use Rattle.fancy_regex_compiler.specs.Writing.{Draft, draft_of, with_op, closed_draft, ended, with_pat, part}
 use Rattle.std.specs.declared.alloc.Global.{Global}
 use Rattle.std.specs.declared.sync.Arc.{Arc}
 use Rattle.fancy_regex_compiler.specs.declared.closing.Closing.TheVariants as ends
@@ -59,7 +59,6 @@ use Rattle.fancy_regex_compiler.proofs.NodeLemmas.{info_known, W, written_listed
 use Rattle.fancy_regex_compiler.proofs.PartLemmas.{class_emitted, both_true, none_there}
 use Rattle.fancy_regex_compiler.proofs.RoomLemmas.{room_tail}
 use Rattle.fancy_regex_compiler.proofs.StepLemmas.{same_progress, leads_one_step}
-use Rattle.fancy_regex_compiler.proofs.TreeLemmas.{tree_concat}
 
 -- a row of no part is not delegated
 none_delegated : is_delegated false (tree.concat no_trees) ≡ false
@@ -155,7 +154,7 @@ one_other (y ∷ ys) (suc k) inside h = and_other (is_plain_info (info_of y)) (a
 -- the tail begins at the first part
 begins_here : (x : Info) (xs : List Info) → SplitsRow (x ∷ xs) 0 → info_begins_tail (infos (map info_of (x ∷ xs))) ≡ true
 begins_here x xs s =
-    ap₂ (λ a b. a && b) (all_plain (x ∷ xs) (λ k y at. s.last.plain k y (let low = s.behind in omega (arith, low)) at)) (s.many x refl)
+    ap₂ (λ a b. a && b) (all_plain (x ∷ xs) (λ k y at. s.last.plain k y (let low = s.not_before in omega (arith, low)) at)) (s.many x refl)
 
 -- the ways of the parts from there on to that one are few
 abbrev pub BareTo : List Info → ℕ → ℕ → Type 0
@@ -171,26 +170,26 @@ begins_later x xs k (suc j) p inside bare =
 -- of the other parts
 later_split : (x : Info) (xs : List Info) (k from : ℕ) → IsPlainFrom (x ∷ xs) from → from ≤ suc k → suc k ≤ length (x ∷ xs) → BareTo (x ∷ xs) from (suc k) →
     ((y : Info) → slice_get (x ∷ xs) (suc k) ≡ Some y → may_explode (tree_in (info_of y)) ≡ true) → SplitsRow xs k
-later_split x xs k zero p behind inside bare many = record {
+later_split x xs k zero p not_before inside bare many = record {
   from = 0;
   last = record {
     inside = omega arith;
     plain = λ j y at_least at. p.plain (suc j) y (omega arith) at;
     other = λ j y next at. absurd (omega (arith, next));
   };
-  behind = omega arith;
+  not_before = omega arith;
   inside = omega (arith, inside);
   other = λ j y at_least below at. bare (suc j) y (omega arith) (omega (arith, below)) at;
   many = λ y at. many y at;
 }
-later_split x xs k (suc from) p behind inside bare many = record {
+later_split x xs k (suc from) p not_before inside bare many = record {
   from = from;
   last = record {
     inside = let low = p.inside in omega (arith, low);
     plain = λ j y at_least at. p.plain (suc j) y (omega (arith, at_least)) at;
     other = λ j y next at. p.other (suc j) y (omega (arith, next)) at;
   };
-  behind = omega (arith, behind);
+  not_before = omega (arith, not_before);
   inside = omega (arith, inside);
   other = λ j y at_least below at. bare (suc j) y (omega (arith, at_least)) (omega (arith, below)) at;
   many = λ y at. many y at;
@@ -213,7 +212,7 @@ module _ (call : ℕ → CorePattern) where
   split_is (x ∷ xs) (suc k) s =
       ap (λ b. cond b (plain_row (trees_in (infos (map info_of (x ∷ xs)))) (listed_all (x ∷ xs))) (cat (W call x).front (info_tail call (infos (map info_of xs)))))
       (begins_later x xs k s.from s.last s.inside s.other)
-      ∙ ap (cat (W call x).front) (split_is xs k (later_split x xs k s.from s.last s.behind s.inside s.other s.many))
+      ∙ ap (cat (W call x).front) (split_is xs k (later_split x xs k s.from s.last s.not_before s.inside s.other s.many))
 
   concat_whole : (f : NodeProperties) (t : Tree) (us : Trees) (xs : InfoTrees) → t ≡ tree.concat us → info_whole call (known f t xs) ≡ info_tail call xs
   unfolding info_whole

@@ -25,10 +25,10 @@ plan_of explicit t = record {
   root = t;
 }
 
-held : (tree_context : TreeContext) (k : ℕ) (x : InfoTree) (n : ℕ) (o : Option Tree) → slice_get tree_context.groups k ≡ o →
+body_at : (tree_context : TreeContext) (k : ℕ) (x : InfoTree) (n : ℕ) (o : Option Tree) → slice_get tree_context.groups k ≡ o →
     option_map (expected_info tree_context.groups tree_context.reads n) o ≡ Some x → IsBody tree_context k x
-held tree_context k x n None found at = absurd (none-some _ at)
-held tree_context k x n (Some body) found at = record {
+body_at tree_context k x n None found at = absurd (none-some _ at)
+body_at tree_context k x n (Some body) found at = record {
   body = body;
   first = n;
   found = found;
@@ -44,7 +44,7 @@ serves explicit t gs is clear =
       nodes = λ some. absurd (let never : true ≡ false = sym (part_node (is_invalid_node (length tree_context.groups)) explicit t some) ∙ clear.nodes in cc);
       count = ap length is ∙ count_is explicit t;
       bodies = λ k x at.
-          held tree_context k x (0 + k + 1) (slice_get tree_context.groups k) refl
+          body_at tree_context k x (0 + k + 1) (slice_get tree_context.groups k) refl
           (sym (get_from tree_context.groups tree_context.reads 0 tree_context.groups k) ∙ ap (λ l. slice_get l k) (sym (is ∙ groups_are explicit t)) ∙ at);
     }
 

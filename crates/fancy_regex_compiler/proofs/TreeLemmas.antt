@@ -56,17 +56,11 @@ tree_newline unicode = ap tree_of (sym (view.rolls-GeneralNewline unicode)) ∙ 
 pub tree_literal : (val : String Global) (casei : Bool) → tree_of (view.Literal val casei) ≡ tree.literal (chars (string_bytes val)) casei
 tree_literal val casei = ap tree_of (sym (view.rolls-Literal val casei)) ∙ fold-roll-Expr Tree (ℕ → Tree) Tree absent_tree ast_tree node_tree (Expr-F.Literal val casei)
 
-pub tree_bytes : (bytes : Vec ℕ Global) → tree_of (view.LiteralBytes bytes) ≡ tree.literal_bytes bytes.items
-tree_bytes bytes = ap tree_of (sym (view.rolls-LiteralBytes bytes)) ∙ fold-roll-Expr Tree (ℕ → Tree) Tree absent_tree ast_tree node_tree (Expr-F.LiteralBytes bytes)
-
 pub tree_delegate : (inner : String Global) (casei : Bool) → tree_of (view.Delegate inner casei) ≡ tree.delegate (chars (string_bytes inner)) casei
 tree_delegate inner casei = ap tree_of (sym (view.rolls-Delegate inner casei)) ∙ fold-roll-Expr Tree (ℕ → Tree) Tree absent_tree ast_tree node_tree (Expr-F.Delegate inner casei)
 
 pub tree_backref : (number : ℕ) (casei : Bool) → tree_of (view.Backref number casei) ≡ tree.backref number casei
 tree_backref number casei = ap tree_of (sym (view.rolls-Backref number casei)) ∙ fold-roll-Expr Tree (ℕ → Tree) Tree absent_tree ast_tree node_tree (Expr-F.Expr::Backref number casei)
-
-pub tree_level : (number : ℕ) (level : ℤ) (casei : Bool) → tree_of (view.BackrefWithRelativeRecursionLevel number level casei) ≡ tree.backref_with_level number level casei
-tree_level number level casei = ap tree_of (sym (view.rolls-BackrefWithRelativeRecursionLevel number level casei)) ∙ fold-roll-Expr Tree (ℕ → Tree) Tree absent_tree ast_tree node_tree (Expr-F.BackrefWithRelativeRecursionLevel number level casei)
 
 pub tree_keep_out : tree_of view.KeepOut ≡ tree.keep_out
 tree_keep_out = ap tree_of (sym view.rolls-KeepOut) ∙ fold-roll-Expr Tree (ℕ → Tree) Tree absent_tree ast_tree node_tree Expr-F.KeepOut

@@ -1,20 +1,26 @@
 -- The program of a whole pattern, and that of a tree.
-use Rattle.std.proofs.Common.{◌≡◌, ℕ, ◌+◌, ◌*◌, Bool, true, not, List, [], ◌++◌, length, map, refl, sym, ap, ap₂, subst, ◌∙◌, append_assoc}
+use Rattle.std.proofs.Common.{◌≡◌, ℕ, ◌+◌, ◌*◌, ◌<◌, Bool, true, false, not, true≢false, List, [], ◌++◌, length, map, refl, sym, ap, ap₂, subst, ◌∙◌, append_assoc, arith}
 use Rattle.fancy_regex_tree.specs.Tree.{Tree}
 use Rattle.fancy_regex_class.specs.Classes.{in_class, folded}
 use Rattle.fancy_regex_desugar.specs.CorePatterns.{CorePattern}
 use Rattle.fancy_regex_desugar.specs.Unfolded.{core_pattern_of}
 use Rattle.fancy_regex_info.specs.Analysis.{analysis}
 use Rattle.fancy_regex_info.specs.Infos.{InfoTree}
-use Rattle.fancy_regex_program.specs.Ops.{Op}
-use Rattle.fancy_regex_program.specs.Code.{flushed, waits, code_of, opening, closing, program_of}
+use Rattle.fancy_regex_program.specs.Ops.{Op, ops_of}
+use Rattle.fancy_regex_program.specs.Code.{flushed, slots_in, waits, code_of, opening, closing, program_of}
 use Rattle.fancy_regex_info.specs.Views.{pattern_in}
 use Rattle.fancy_regex_compiler.specs.Known.{info_whole, info_call, most_calls_in, groups_in, pat_with, pat_in}
-use Rattle.fancy_regex_program.specs.Programs.{IsWhole, IsMadeFrom}
-use Rattle.fancy_regex_program.specs.Shapes.{IsAllowed}
+use Rattle.fancy_regex_program.specs.Programs.{IsWhole, IsMadeFrom, IsWritableIfAllowed, RefersToGroups}
+use Rattle.fancy_regex_program.specs.Shapes.{IsAllowed, IsWritable}
+use Rattle.fancy_regex_program.specs.ValidPrograms.{IsValidProgram}
+use Rattle.fancy_regex_program.specs.declared.insn.Insn.{Insn}
 use Rattle.fancy_regex_compiler.specs.Writing.{Draft, closed_draft, with_pat}
 use Rattle.fancy_regex_program.specs.declared.prog.Prog.{Prog}
-use Rattle.fancy_regex_compiler.proofs.KnownLemmas.{pat_is}
+use Rattle.fancy_regex_program.proofs.ValidCode.{program_is_valid}
+use Rattle.fancy_regex_analysis.proofs.AnalysisErrorLemmas.{no_node_shows}
+use Rattle.fancy_regex_info.specs.declared.error.CompileError.TheVariants.{InvalidBackref}
+use Rattle.fancy_regex_compiler.specs.Refusals.{IsClear}
+use Rattle.fancy_regex_compiler.proofs.KnownLemmas.{pat_is, count_is}
 use Rattle.fancy_regex_compiler.proofs.WritableLemmas.{can_be_written}
 
 flat : (o c f e : List Op) → ((o ++ c) ++ f) ++ e ≡ o ++ ((c ++ f) ++ e)
@@ -58,4 +64,36 @@ made_from prog anchored explicit t p anchored_is wrote is groups whole allowed =
       program = record { anchored_is = anchored_is; body = all.ops; slots = all.slots_are; groups = groups };
       whole = whole;
       written = can_be_written prog.unicode explicit t (subst (IsAllowed prog.unicode true) is allowed);
+    }
+
+-- what is written is valid, where the pattern can be written
+pub whole_is_valid : (u w anchored : Bool) (groups : ℕ) (p : CorePattern) (insns : List Insn) (slots : ℕ) → IsWhole u w anchored groups p insns slots →
+    IsAllowed u true p → IsWritableIfAllowed u w groups p → IsValidProgram (ops_of insns) slots
+whole_is_valid u w anchored groups p insns slots is allowed writable =
+    let code = program_of (in_class u) (folded u) w anchored groups p in
+    let valid : IsValidProgram code (2 * groups + slots_in p) =
+    program_is_valid (in_class u) (folded u) w anchored writable.first groups p writable.whole_group (writable.writable allowed) in
+    let P = λ (n : ℕ). IsValidProgram (ops_of insns) n in
+    let Q = λ (ops : List Op). IsValidProgram ops (2 * groups + slots_in p) in
+    subst P (sym is.slots_are) (subst Q (sym is.ops) valid)
+
+whole_has_group : (w : Bool) (x : InfoTree) → w ≡ true → 0 < length (groups_in w x)
+whole_has_group true x e = omega arith
+whole_has_group false x e = absurd (true≢false (sym e))
+
+-- a clear tree's pattern can be written, where the compiler lets it through
+pub clear_is_writable : (u w explicit : Bool) (t : Tree) (groups : List InfoTree) (x : InfoTree) (count : ℕ) → groups ≡ groups_in w x → w ≡ not explicit →
+    x ≡ analysis explicit t → IsClear (pattern_in explicit t).groups t → count ≡ length groups → IsWritableIfAllowed u w count (pat_with groups x)
+clear_is_writable u w explicit t groups x count eg ew ex clear ec =
+    let n = length (pattern_in explicit t).groups in
+    let pat : pat_with groups x ≡ core_pattern_of (pattern_in explicit t) = pat_gathered groups x w explicit t eg ew ex in
+    let known : count ≡ n = ec ∙ ap length eg ∙ ap₂ (λ b y. length (groups_in b y)) ew ex ∙ count_is explicit t in
+    let refers : RefersToGroups explicit t = λ k shown. no_node_shows n (InvalidBackref k) t clear.nodes shown in
+    let first = (pattern_in explicit t).first_group in
+    let P = λ (p : CorePattern). IsWritable first count p in
+    let Q = λ (m : ℕ). IsWritable first m (core_pattern_of (pattern_in explicit t)) in
+    record {
+      whole_group = λ e. let some : 0 < length (groups_in w x) = whole_has_group w x e in let same = ap length eg in omega arith;
+      first = first;
+      writable = λ allowed. subst P (sym pat) (subst Q (sym known) ((can_be_written u explicit t (subst (IsAllowed u true) pat allowed)).writable refers));
     }

@@ -1,5 +1,5 @@
 -- Each step leaves less to do.
-use Rattle.std.proofs.Common.{◌≡◌, ℕ, zero, suc, ◌+◌, ◌-◌, ◌<◌, ◌≤◌, List, [], ◌∷◌, length, map, take, drop, Option, Some, None, Result, IfOk, refl, sym, ap, ◌∙◌, subst, arith}
+use Rattle.std.proofs.Common.{◌≡◌, ℕ, zero, suc, ◌+◌, ◌-◌, ◌<◌, ◌≤◌, List, [], ◌∷◌, take, drop, Some, refl, ap, ◌∙◌, arith}
 use Rattle.std.specs.Prelude.{slice_get, unwrap_or}
 use Rattle.std.proofs.lemmas.Option.{none-some}
 use Rattle.fancy_regex_tree.specs.Tree as tree
@@ -7,11 +7,8 @@ use Rattle.fancy_regex_tree.specs.Tree.{tree_of}
 use Rattle.fancy_regex_info.specs.Infos.{InfoTree, info_of}
 use Rattle.fancy_regex_info.specs.declared.info.Info.{Info}
 use Rattle.fancy_regex_info.specs.declared.info.Info.TheViews.{out-Info}
-use Rattle.fancy_regex_compiler.specs.Tasks.{listed, tasks_work, called_work, node_work, row_work, body_work, call_work, info_work, infos_work}
-use Rattle.std.proofs.lemmas.Result.{IfOk-weaker}
-use Rattle.fancy_regex_info.specs.declared.error.CompileError.{CompileError}
+use Rattle.fancy_regex_compiler.specs.Tasks.{called_work, node_work, row_work, body_work, call_work, info_work, infos_work}
 use Rattle.fancy_regex_compiler.specs.declared.emitter.Scope.{Scope}
-use Rattle.fancy_regex_compiler.specs.declared.task.Step.{Step}
 use Rattle.fancy_regex_compiler.proofs.NodeLemmas.{info_known}
 
 module _ (groups : List InfoTree) (scope : Scope) where
@@ -90,22 +87,3 @@ pub body_less : (groups : List InfoTree) (scope called : Scope) (k : ℕ) (x : I
 unfolding call_work
 body_less groups scope called k x more at =
     ap (λ n. call_work groups n k) more ∙ ap (λ o. 2 + body_work (call_work groups called.calls_left) o) at
-
--- what is left of a step, against more
-pub less_work : (r : Result Step CompileError) (groups : List InfoTree) (m : List InfoTree → ℕ) (n : ℕ) → m groups < n →
-    IfOk r (λ step. (any : List InfoTree) → tasks_work any (listed step.tasks) ≤ m any) → IfOk r (λ step. tasks_work groups (listed step.tasks) < n)
-less_work r groups m n less h =
-    IfOk-weaker r (λ step. (any : List InfoTree) → tasks_work any (listed step.tasks) ≤ m any) (λ step. tasks_work groups (listed step.tasks) < n)
-    (λ step k. omega (arith, k groups, less)) h
-
-pub less_call_work : (r : Result Step CompileError) (groups : List InfoTree) (m n : ℕ) → m < n →
-    IfOk r (λ step. tasks_work groups (listed step.tasks) ≤ m) → IfOk r (λ step. tasks_work groups (listed step.tasks) < n)
-less_call_work r groups m n less h =
-    IfOk-weaker r (λ step. tasks_work groups (listed step.tasks) ≤ m) (λ step. tasks_work groups (listed step.tasks) < n) (λ step k. omega (arith, k, less)) h
-
--- the same, against one more
-pub one_more_work : (r : Result Step CompileError) (m : List InfoTree → ℕ) → IfOk r (λ step. (any : List InfoTree) → tasks_work any (listed step.tasks) ≤ 1 + m any) →
-    IfOk r (λ step. (any : List InfoTree) → tasks_work any (listed step.tasks) ≤ 2 + m any)
-one_more_work r m h =
-    IfOk-weaker r (λ step. (any : List InfoTree) → tasks_work any (listed step.tasks) ≤ 1 + m any) (λ step. (any : List InfoTree) → tasks_work any (listed step.tasks) ≤ 2 + m any)
-    (λ step k any. omega (arith, k any)) h

@@ -1,9 +1,9 @@
 -- The pattern of a node, by what the analysis says of it and of its children.
-use Rattle.std.specs.Prelude.{ℕ, zero, suc, ◌*◌, length, Bool, true, false, not, ◌&&◌, ◌==◌, List, [], ◌∷◌, ◌++◌, slice_index, slice_get, Option, Some, None, map, if◌then◌else◌}
+use Rattle.std.specs.Prelude.{ℕ, zero, suc, ◌*◌, length, Bool, true, false, not, ◌&&◌, ◌==◌, List, [], ◌∷◌, ◌++◌, slice_index, slice_get, Option, Some, None, if◌then◌else◌}
 use Rattle.fancy_regex_tree.specs.Tree as tree
 use Rattle.fancy_regex_tree.specs.Tree.{Tree, Trees, no_trees, more_trees}
 use Rattle.fancy_regex_meaning.specs.Ways.{is_at_call_limit, max_open_calls_per_group}
-use Rattle.fancy_regex_desugar.specs.CorePatterns.{any, literal, class, CorePattern, nothing, read, general_newline, check, continue, keep_out, fail, cat, alt, group, ahead, never, back, atomic, tail, backref, exists, conditional, absent}
+use Rattle.fancy_regex_desugar.specs.CorePatterns.{any, literal, class, CorePattern, nothing, read, general_newline, check, continue, keep_out, fail, cat, group, back, atomic, tail, backref, exists, conditional, absent}
 use Rattle.fancy_regex_desugar.specs.Delegates.{is_delegated, may_explode}
 use Rattle.fancy_regex_desugar.specs.Unfolded.{Written, cat_all, alt_all, fronts, behinds, first_way_of, repeated, look, pat_for}
 use Rattle.fancy_regex_info.specs.Infos.{NodeProperties, InfoTree, InfoTrees, known, no_infos, more_infos, properties_in}

@@ -8,7 +8,7 @@ use Rattle.fancy_regex_tree.specs.declared.expr.BacktrackingControlVerb.{Backtra
 use Rattle.fancy_regex_class.specs.Classes.{class_text, is_read}
 use Rattle.fancy_regex_class.specs.Matchers.{RefusesText}
 use Rattle.fancy_regex_meaning.specs.Sizes.{size, target}
-use Rattle.fancy_regex_info.specs.Infos.{InfoTree, known, info_of, expected_info}
+use Rattle.fancy_regex_info.specs.Infos.{InfoTree, info_of, expected_info}
 use Rattle.fancy_regex_analysis.specs.NodeErrors.{some_node, is_invalid_node, is_no_group}
 use Rattle.fancy_regex_analysis.specs.UnsupportedParts.{is_fixed_length, is_unsupported, unsupported_feature_in}
 use Rattle.fancy_regex_analysis.specs.EmittedParts.{in_look_around, some_emitted, emitted_calls, IsWhole, SomeEmittedPart}
@@ -19,20 +19,21 @@ use Rattle.fancy_regex_info.specs.declared.error.CompileError.TheVariants.{Inner
 use Rattle.fancy_regex_info.specs.declared.info.Info.{Info}
 use Rattle.fancy_regex_compiler.specs.Known.{tree_in}
 
--- what a function takes, and of what it answers lists
+-- The type that a function takes, and the type of the items that it lists: so the types are named here that are private to the
+-- analysis.
 abbrev pub TakenBy : {A B : Type 0} → (A → B) → Type 0
 TakenBy {A} f = A
 
 abbrev pub ListedBy : {A B C : Type 0} → (A → B → List C) → Type 0
 ListedBy {C = C} f = C
 
--- what a part stands inside of
+-- what a part of the pattern stands inside of: nothing, a look-around or an absent operator
 abbrev pub Inside : Type 0
 Inside = TakenBy in_look_around
 
--- a call that is written out
-abbrev pub Call : Type 0
-Call = ListedBy emitted_calls
+-- a subroutine call that instructions are emitted for, with what it stands inside of
+abbrev pub EmittedCall : Type 0
+EmittedCall = ListedBy emitted_calls
 
 -- want of memory, or too many instructions
 abbrev pub IsMemoryOrTooComplex : CompileError → Type 0
@@ -182,26 +183,26 @@ pub record IsAnalyzed (tree_context : TreeContext) (infos : List InfoTree) : Typ
 
 -- The tree is written out as a part of the whole, inside of what keeps no start or lets nothing be absent where this is said;
 -- after a place it is steady.
-pub record ExpandedPart (tree_context : TreeContext) (keeps absents behind : Bool) (x : InfoTree) (t : Tree) : Type 0 where
+pub record ExpandedPart (tree_context : TreeContext) (keeps absents steps_back : Bool) (x : InfoTree) (t : Tree) : Type 0 where
   pub inside : Inside
   pub enclosed : keeps ≡ false → KeepsNone inside
   pub excluded : absents ≡ false → NoneAbsent inside
   pub first : ℕ
   pub is : x ≡ expected_info tree_context.groups tree_context.reads first t
   pub parts : (test : Inside → Tree → Bool) → some_emitted test inside t ≡ true → SomeEmittedPart tree_context.groups tree_context.root test
-  pub calls : (call : Call) (body : Tree) → Contains (emitted_calls inside t) call → target tree_context.groups call.group ≡ Some body →
+  pub calls : (call : EmittedCall) (body : Tree) → Contains (emitted_calls inside t) call → target tree_context.groups call.group ≡ Some body →
       IsWhole tree_context.groups tree_context.root call.inside body
-  pub steady : behind ≡ true → is_fixed_length (size tree_context.groups) t ≡ true
+  pub steady : steps_back ≡ true → is_fixed_length (size tree_context.groups) t ≡ true
 
 abbrev pub IsExpandedPart : TreeContext → Bool → Bool → Bool → InfoTree → Type 0
-IsExpandedPart tree_context keeps absents behind x = ExpandedPart tree_context keeps absents behind x (tree_in x)
+IsExpandedPart tree_context keeps absents steps_back x = ExpandedPart tree_context keeps absents steps_back x (tree_in x)
 
 abbrev pub AreExpandedParts : TreeContext → Bool → Bool → Bool → List Info → Type 0
-AreExpandedParts tree_context keeps absents behind xs = (k : ℕ) (x : Info) → slice_get xs k ≡ Some x → IsExpandedPart tree_context keeps absents behind (info_of x)
+AreExpandedParts tree_context keeps absents steps_back xs = (k : ℕ) (x : Info) → slice_get xs k ≡ Some x → IsExpandedPart tree_context keeps absents steps_back (info_of x)
 
 -- the tree, which stands as such a part
-pub record IsExpandedBody (tree_context : TreeContext) (keeps absents behind : Bool) (t : Tree) (x : InfoTree) : Type 0 where
-  pub part : IsExpandedPart tree_context keeps absents behind x
+pub record IsExpandedBody (tree_context : TreeContext) (keeps absents steps_back : Bool) (t : Tree) (x : InfoTree) : Type 0 where
+  pub part : IsExpandedPart tree_context keeps absents steps_back x
   pub is : tree_in x ≡ t
 
 -- a repeat with these counts, whose child stands where it is run at all

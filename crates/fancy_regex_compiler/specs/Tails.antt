@@ -20,7 +20,7 @@ pub record IsPlainFrom (parts : List Info) (first : ℕ) : Type 0 where
 pub record SplitsRow (parts : List Info) (first : ℕ) : Type 0 where
   pub from : ℕ
   pub last : IsPlainFrom parts from
-  pub behind : from ≤ first
+  pub not_before : from ≤ first
   pub inside : first ≤ length parts
   pub other : (k : ℕ) (x : Info) → from ≤ k → k < first → slice_get parts k ≡ Some x → may_explode (tree_in (info_of x)) ≡ false
   pub many : (x : Info) → slice_get parts first ≡ Some x → may_explode (tree_in (info_of x)) ≡ true

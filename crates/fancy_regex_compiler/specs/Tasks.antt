@@ -1,5 +1,5 @@
 -- What is left to emit: tasks on a stack, the next one at the end.
-use Rattle.std.specs.Prelude.{◌≡◌, ℕ, zero, suc, ◌+◌, ◌-◌, ◌≤◌, Bool, false, List, [], ◌∷◌, length, map, take, drop, slice_get, Option, Some, None}
+use Rattle.std.specs.Prelude.{◌≡◌, ℕ, zero, suc, ◌+◌, ◌-◌, ◌≤◌, ◌<◌, Bool, false, List, [], ◌∷◌, length, map, take, drop, slice_get, Option, Some, None, Result, IfOk, OnOk, IfErr}
 use Rattle.fancy_regex_tree.specs.declared.expr.Expr.{Expr}
 use Rattle.fancy_regex_tree.specs.Tree as tree
 use Rattle.fancy_regex_tree.specs.Tree.{Tree, tree_of}
@@ -7,13 +7,14 @@ use Rattle.fancy_regex_desugar.specs.CorePatterns.{CorePattern}
 use Rattle.fancy_regex_desugar.specs.ProgramSizes.{room}
 use Rattle.fancy_regex_desugar.specs.Unfolded.{cat_all, alt_all, body_of}
 use Rattle.fancy_regex_info.specs.Infos.{InfoTree, InfoTrees, known, no_infos, more_infos, infos, info_of}
+use Rattle.fancy_regex_info.specs.declared.error.CompileError.{CompileError}
 use Rattle.fancy_regex_info.specs.declared.info.Info.{Info}
 use Rattle.fancy_regex_program.specs.Ops as op
 use Rattle.fancy_regex_program.specs.Code.{slots_in, is_uncounted, loop_entry, loop_head}
-use Rattle.fancy_regex_compiler.specs.Extents.{extent}
+use Rattle.fancy_regex_compiler.specs.Extents.{extent, IsFull}
 use Rattle.fancy_regex_compiler.specs.Known.{plain_row, info_call, info_whole}
 use Rattle.fancy_regex_compiler.specs.Tails.{row_trees}
-use Rattle.fancy_regex_compiler.specs.Refusals.{TreeContext, IsAnalyzed, IsExpandedPart, AreExpandedParts, IsExpandedBody}
+use Rattle.fancy_regex_compiler.specs.Refusals.{TreeContext, IsAnalyzed, IsExpandedPart, AreExpandedParts, IsExpandedBody, IsReasonWhere, IsMemoryOrTooComplex}
 use Rattle.fancy_regex_program.specs.Shapes.{IsAllowed}
 use Rattle.fancy_regex_compiler.specs.Writing.{Draft, draft_of, with_op, closed_draft, patched, ended, with_pat, infos_of, part, side}
 use Rattle.fancy_regex_compiler.specs.declared.closing.Closing.{Closing}
@@ -21,6 +22,7 @@ use Rattle.fancy_regex_compiler.specs.declared.closing.Closing.TheVariants as cl
 use Rattle.fancy_regex_compiler.specs.declared.emitter.CompileContext.{CompileContext}
 use Rattle.fancy_regex_compiler.specs.declared.emitter.Emitter.{Emitter}
 use Rattle.fancy_regex_compiler.specs.declared.emitter.Scope.{Scope}
+use Rattle.fancy_regex_compiler.specs.declared.program_builder.ProgramBuilder.{ProgramBuilder}
 use Rattle.fancy_regex_compiler.specs.declared.task.Task.{Task}
 use Rattle.fancy_regex_compiler.specs.declared.task.Task.TheVariants as task
 use Rattle.fancy_regex_compiler.specs.declared.task.Tasks.{Tasks}
@@ -38,7 +40,7 @@ progress e slot = record { draft = draft_of e.body; slot = slot; opened = e.open
 
 -- with the end of a construct after it
 abbrev pub closed_by : Closing → Draft → Draft
-closed_by (closing.Group kept start end) d = with_op (op.save end) (with_op (op.copy kept start) (closed_draft d))
+closed_by (closing.Group saved_start start end) d = with_op (op.save end) (with_op (op.copy saved_start start) (closed_draft d))
 closed_by (closing.PositiveLookAround slot) d = with_op (op.restore slot) (closed_draft d)
 closed_by (closing.NegativeLookAround slot split first) d =
     let e = with_op (op.fail_negative slot) (closed_draft d) in
@@ -85,14 +87,14 @@ abbrev pub opened_after : Task → List ℕ → List ℕ
 opened_after task.EndCall opened = take (length opened - 1) opened
 opened_after _ opened = opened
 
-abbrev pub opened_behind : List Task → List ℕ → List ℕ
-opened_behind [] opened = opened
-opened_behind (t ∷ ts) opened = opened_after t (opened_behind ts opened)
+abbrev pub opened_after_all : List Task → List ℕ → List ℕ
+opened_after_all [] opened = opened
+opened_after_all (t ∷ ts) opened = opened_after t (opened_after_all ts opened)
 
 module _ (context : CompileContext) where
   -- the patterns of nodes, by the targets that are open there
   abbrev pub node_pattern : Info → Bool → Scope → List ℕ → CorePattern
-  node_pattern info behind scope opened = side behind (part context scope opened info)
+  node_pattern info steps_back scope opened = side steps_back (part context scope opened info)
 
   -- the same of a body of which only the first way matters, or with `for_any` only whether there is one
   abbrev pub body_pattern : Bool → Expr → Info → Scope → List ℕ → CorePattern
@@ -110,7 +112,7 @@ module _ (context : CompileContext) where
   whole_pattern info scope opened = info_whole (info_call (infos_of context) scope.calls_left opened) (info_of info)
 
   abbrev pub branches_pattern : List Info → Bool → Scope → List ℕ → CorePattern
-  branches_pattern branches behind scope opened = alt_all (map (λ x. side behind (part context scope opened x)) branches)
+  branches_pattern branches steps_back scope opened = alt_all (map (λ x. side steps_back (part context scope opened x)) branches)
 
   -- with the program of a pattern after it
   abbrev pub past_pattern : CorePattern → Progress → Progress
@@ -131,13 +133,13 @@ module _ (context : CompileContext) where
 
   -- what a task comes to
   abbrev pub past : Task → Progress → Progress
-  past (task.Node info behind scope) s = past_pattern (node_pattern info.now behind scope s.opened) s
+  past (task.Node info steps_back scope) s = past_pattern (node_pattern info.now steps_back scope s.opened) s
   past (task.Body body for_any info scope) s = past_pattern (body_pattern for_any body.now info.now scope s.opened) s
   past (task.Whole info scope) s = past_pattern (whole_pattern info.now scope s.opened) s
   past (task.Tail parts scope) s = past_pattern (tail_pattern parts.now scope s.opened) s
   past (task.Row parts scope) s = past_pattern (row_pattern parts.now scope s.opened) s
-  past (task.Branches branches behind scope) s = past_pattern (branches_pattern branches.now behind scope s.opened) s
-  past (task.Otherwise split first branches behind scope) s = past_others split first (branches_pattern branches.now behind scope s.opened) s
+  past (task.Branches branches steps_back scope) s = past_pattern (branches_pattern branches.now steps_back scope s.opened) s
+  past (task.Otherwise split first branches steps_back scope) s = past_others split first (branches_pattern branches.now steps_back scope s.opened) s
   past (task.Tested slot split first x y scope) s =
       past_others split first (node_pattern y.now false scope s.opened)
       (past_pattern (node_pattern x.now false scope s.opened)
@@ -152,13 +154,13 @@ module _ (context : CompileContext) where
 
   -- the room of a task, and of a stack of them
   abbrev pub task_room : Task → List ℕ → ℕ
-  task_room (task.Node info behind scope) opened = room (node_pattern info.now behind scope opened)
+  task_room (task.Node info steps_back scope) opened = room (node_pattern info.now steps_back scope opened)
   task_room (task.Body body for_any info scope) opened = room (body_pattern for_any body.now info.now scope opened)
   task_room (task.Whole info scope) opened = room (whole_pattern info.now scope opened)
   task_room (task.Tail parts scope) opened = room (tail_pattern parts.now scope opened)
   task_room (task.Row parts scope) opened = room (row_pattern parts.now scope opened)
-  task_room (task.Branches branches behind scope) opened = room (branches_pattern branches.now behind scope opened)
-  task_room (task.Otherwise split first branches behind scope) opened = 1 + room (branches_pattern branches.now behind scope opened)
+  task_room (task.Branches branches steps_back scope) opened = room (branches_pattern branches.now steps_back scope opened)
+  task_room (task.Otherwise split first branches steps_back scope) opened = 1 + room (branches_pattern branches.now steps_back scope opened)
   task_room (task.Tested slot split first x y scope) opened =
       2 + (room (node_pattern x.now false scope opened) + room (node_pattern y.now false scope opened))
   task_room (task.Close c) opened = closing_room c
@@ -166,18 +168,18 @@ module _ (context : CompileContext) where
 
   abbrev pub tasks_room : List Task → List ℕ → ℕ
   tasks_room [] opened = 0
-  tasks_room (t ∷ ts) opened = task_room t (opened_behind ts opened) + tasks_room ts opened
+  tasks_room (t ∷ ts) opened = task_room t (opened_after_all ts opened) + tasks_room ts opened
 
   -- The compiler lets through what is left to emit.
   abbrev pub IsAllowedTask : Task → List ℕ → Type 0
-  IsAllowedTask (task.Node info behind scope) opened = IsAllowed context.unicode scope.may_keep (node_pattern info.now behind scope opened)
+  IsAllowedTask (task.Node info steps_back scope) opened = IsAllowed context.unicode scope.may_keep (node_pattern info.now steps_back scope opened)
   IsAllowedTask (task.Body body for_any info scope) opened = IsAllowed context.unicode scope.may_keep (body_pattern for_any body.now info.now scope opened)
   IsAllowedTask (task.Whole info scope) opened = IsAllowed context.unicode scope.may_keep (whole_pattern info.now scope opened)
   IsAllowedTask (task.Tail parts scope) opened = IsAllowed context.unicode scope.may_keep (tail_pattern parts.now scope opened)
   IsAllowedTask (task.Row parts scope) opened = IsAllowed context.unicode scope.may_keep (row_pattern parts.now scope opened)
-  IsAllowedTask (task.Branches branches behind scope) opened = IsAllowed context.unicode scope.may_keep (branches_pattern branches.now behind scope opened)
-  IsAllowedTask (task.Otherwise split first branches behind scope) opened =
-      IsAllowed context.unicode scope.may_keep (branches_pattern branches.now behind scope opened)
+  IsAllowedTask (task.Branches branches steps_back scope) opened = IsAllowed context.unicode scope.may_keep (branches_pattern branches.now steps_back scope opened)
+  IsAllowedTask (task.Otherwise split first branches steps_back scope) opened =
+      IsAllowed context.unicode scope.may_keep (branches_pattern branches.now steps_back scope opened)
   IsAllowedTask (task.Tested slot split first x y scope) opened =
       IsAllowed context.unicode scope.may_keep (node_pattern x.now false scope opened)
       × IsAllowed context.unicode scope.may_keep (node_pattern y.now false scope opened)
@@ -186,18 +188,18 @@ module _ (context : CompileContext) where
 
   abbrev pub AreAllowedTasks : List Task → List ℕ → Type 0
   AreAllowedTasks [] opened = Unit {0}
-  AreAllowedTasks (t ∷ ts) opened = IsAllowedTask t (opened_behind ts opened) × AreAllowedTasks ts opened
+  AreAllowedTasks (t ∷ ts) opened = IsAllowedTask t (opened_after_all ts opened) × AreAllowedTasks ts opened
 
 -- the nodes of what is left to emit stand in a whole tree that is clear
 abbrev pub IsExpandedTask : TreeContext → Task → Type 0
-IsExpandedTask tree_context (task.Node info behind scope) = IsExpandedPart tree_context scope.may_keep scope.may_be_absent behind (info_of info.now)
+IsExpandedTask tree_context (task.Node info steps_back scope) = IsExpandedPart tree_context scope.may_keep scope.may_be_absent steps_back (info_of info.now)
 IsExpandedTask tree_context (task.Body body for_any info scope) = IsExpandedBody tree_context scope.may_keep scope.may_be_absent false (tree_of body.now) (info_of info.now)
 IsExpandedTask tree_context (task.Whole info scope) = IsExpandedPart tree_context scope.may_keep scope.may_be_absent false (info_of info.now)
 IsExpandedTask tree_context (task.Tail parts scope) = AreExpandedParts tree_context scope.may_keep scope.may_be_absent false parts.now
 IsExpandedTask tree_context (task.Row parts scope) = AreExpandedParts tree_context scope.may_keep scope.may_be_absent false parts.now
-IsExpandedTask tree_context (task.Branches branches behind scope) = AreExpandedParts tree_context scope.may_keep scope.may_be_absent behind branches.now
-IsExpandedTask tree_context (task.Otherwise split first branches behind scope) =
-    AreExpandedParts tree_context scope.may_keep scope.may_be_absent behind branches.now
+IsExpandedTask tree_context (task.Branches branches steps_back scope) = AreExpandedParts tree_context scope.may_keep scope.may_be_absent steps_back branches.now
+IsExpandedTask tree_context (task.Otherwise split first branches steps_back scope) =
+    AreExpandedParts tree_context scope.may_keep scope.may_be_absent steps_back branches.now
 IsExpandedTask tree_context (task.Tested slot split first x y scope) =
     IsExpandedPart tree_context scope.may_keep scope.may_be_absent false (info_of x.now)
     × IsExpandedPart tree_context scope.may_keep scope.may_be_absent false (info_of y.now)
@@ -258,13 +260,13 @@ abbrev pub infos_work : List InfoTree → Scope → List Info → ℕ
 infos_work groups scope xs = row_work (call_work groups scope.calls_left) (infos (map info_of xs))
 
 abbrev pub task_work : List InfoTree → Task → ℕ
-task_work groups (task.Node info behind scope) = info_work groups scope info.now
+task_work groups (task.Node info steps_back scope) = info_work groups scope info.now
 task_work groups (task.Body body for_any info scope) = 1 + info_work groups scope info.now
 task_work groups (task.Whole info scope) = 10 + info_work groups scope info.now
 task_work groups (task.Tail parts scope) = 2 + infos_work groups scope parts.now
 task_work groups (task.Row parts scope) = infos_work groups scope parts.now
-task_work groups (task.Branches branches behind scope) = infos_work groups scope branches.now
-task_work groups (task.Otherwise split first branches behind scope) = 2 + infos_work groups scope branches.now
+task_work groups (task.Branches branches steps_back scope) = infos_work groups scope branches.now
+task_work groups (task.Otherwise split first branches steps_back scope) = 2 + infos_work groups scope branches.now
 task_work groups (task.Tested slot split first x y scope) = 8 + (info_work groups scope x.now + info_work groups scope y.now)
 task_work groups (task.Close c) = 1
 task_work groups task.EndCall = 1
@@ -272,3 +274,41 @@ task_work groups task.EndCall = 1
 abbrev pub tasks_work : List InfoTree → List Task → ℕ
 tasks_work groups [] = 0
 tasks_work groups (t ∷ ts) = task_work groups t + tasks_work groups ts
+
+-- What emitting gives: a step that leads to the end and leaves less work, or an error. Too many instructions are an error only
+-- where the cap is below what the program may need; any other error has a reason in the tree.
+pub record Emits (context : CompileContext) (old new : Emitter) (slot : ℕ) (result : Result Step CompileError) (end : Progress) (Allowed : Type 0) (most : ℕ)
+    (Stand : TreeContext → Type 0) (all_work : ℕ) : Type 0 where
+  pub cap : new.body.cap ≡ old.body.cap
+  pub leads : IfOk result (λ step. Leads context old new slot step.slot (listed step.tasks) end Allowed most Stand)
+  pub work : IfOk result (λ step. tasks_work (infos_of context) (listed step.tasks) < all_work)
+  pub full : IfErr result (IsFull old.body most)
+  pub refused : IfErr result (IsReasonWhere context.unicode (infos_of context) Stand)
+
+-- emitting what a task has of its own
+abbrev pub EmitsTask : CompileContext → Task → Emitter → Emitter → ℕ → Result Step CompileError → Type 0
+EmitsTask context t old new slot result =
+    Emits context old new slot result (past context t (progress old slot)) (IsAllowedTask context t old.opened.items) (task_room context t old.opened.items)
+    (λ tree_context. IsExpandedTask tree_context t) (task_work (infos_of context) t)
+
+-- emitting the first part of a pattern; it may keep its start or not, stands so in the tree, and is so much work
+abbrev pub EmitsPattern : CompileContext → CorePattern → Bool → (TreeContext → Type 0) → ℕ → Emitter → Emitter → ℕ → Result Step CompileError → Type 0
+EmitsPattern context p keeps Stand all_work old new slot result =
+    Emits context old new slot result (past_pattern context p (progress old slot)) (IsAllowed context.unicode keeps p) (room p) Stand all_work
+
+-- Beginning a construct, whatever is fixed for the compilation: a step that leads to its pattern, after two instructions at most.
+-- The only errors are want of memory and too many instructions.
+pub record Begins (old new : Emitter) (slot : ℕ) (result : Result Step CompileError) (keeps : Bool) (pattern : CompileContext → CorePattern)
+    (Stand : TreeContext → Type 0) (all_work : List InfoTree → ℕ) : Type 0 where
+  pub cap : new.body.cap ≡ old.body.cap
+  pub leads : IfOk result (λ step. (context : CompileContext) → LeadsTo context (pattern context) keeps Stand old new slot step)
+  pub work : IfOk result (λ step. (groups : List InfoTree) → tasks_work groups (listed step.tasks) < all_work groups)
+  pub full : IfErr result (IsFull old.body 2)
+  pub refused : IfErr result IsMemoryOrTooComplex
+
+-- Writing the end of a construct.
+pub record Closes {A : Type 0} (c : Closing) (old new : ProgramBuilder) (result : Result A CompileError) : Type 0 where
+  pub cap : new.cap ≡ old.cap
+  pub draft : OnOk result (draft_of new ≡ closed_by c (draft_of old))
+  pub full : IfErr result (IsFull old (closing_room c))
+  pub refused : IfErr result IsMemoryOrTooComplex

@@ -71,24 +71,12 @@ pub record Wrote (unicode whole : Bool) (old new : Emitter) (slot after : ℕ) (
   pub slots : after ≡ slot + slots_in p
   pub opened : new.opened.items ≡ old.opened.items
 
--- The same, with what waits after it.
-pub record WroteClosed (unicode whole : Bool) (old new : Emitter) (slot after : ℕ) (p : CorePattern) : Type 0 where
-  pub draft : draft_of new.body ≡ closed_draft (with_pat unicode whole p slot (draft_of old.body))
-  pub slots : after ≡ slot + slots_in p
-  pub opened : new.opened.items ≡ old.opened.items
-
 -- A branch with a jump after it to that place; the text that waited before it is an operation already.
 abbrev pub with_choice : Bool → Bool → ℕ → CorePattern → ℕ → Draft → Draft
 with_choice unicode whole end p slot d =
     let first = with_op (split 0 0) d in
     let all = with_op (jump end) (closed_draft (with_pat unicode whole p slot first)) in
     patched (length d.ops) (split (length first.ops) (length all.ops)) all
-
--- A branch was written, and its jump leads nowhere yet.
-pub record WroteChoice (unicode whole : Bool) (old new : Emitter) (slot after : ℕ) (p : CorePattern) : Type 0 where
-  pub draft : draft_of new.body ≡ with_choice unicode whole 0 p slot (draft_of old.body)
-  pub slots : after ≡ slot + slots_in p
-  pub opened : new.opened.items ≡ old.opened.items
 
 -- The instruction is all that the node without children is.
 pub record IsInsn (unicode : Bool) (insn : Insn) (t : Tree) : Type 0 where
@@ -110,4 +98,4 @@ part context scope opened info = info_written (info_call (infos_of context) scop
 
 -- what it is from here, or from as far back as it is long
 abbrev pub side : Bool → Written → CorePattern
-side behind u = if behind then u.behind else u.front
+side steps_back u = if steps_back then u.behind else u.front

@@ -1,6 +1,6 @@
 //! The classes of a program. Each is read once, however often it is written: its instructions share a matcher.
 
-ghost use Rattle.std.specs.Prelude.{◌≡◌, chars, string_bytes, true, false, IfOk, IfErr, IfSome, IsTrue};
+ghost use Rattle.std.specs.Prelude.{◌≡◌, chars, string_bytes, false, IfOk, IfErr, IfSome, IsTrue};
 ghost use Rattle.fancy_regex_class.specs.Classes.{is_class};
 ghost use Rattle.fancy_regex_class.specs.Matchers.{IsMatcherOf};
 ghost use Rattle.fancy_regex_analysis.specs.AnalysisErrors.{is_too_complex};

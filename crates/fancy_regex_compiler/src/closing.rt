@@ -1,14 +1,11 @@
 //! The ends of constructs: what is written after their parts, and what is patched in front of them then.
 
-ghost use Rattle.std.specs.Prelude.{◌≡◌, ◌≤◌, ◌<◌, ◌+◌, true, OnOk, IfOk, IfErr};
+ghost use Rattle.std.specs.Prelude.{◌≡◌, ◌≤◌, ◌<◌, ◌+◌, true, IfOk};
 ghost use Rattle.fancy_regex_program.specs.Code.{split_by, loop_entry, loop_head};
-ghost use Rattle.fancy_regex_compiler.specs.Extents.{IsFull};
 ghost use Rattle.fancy_regex_program.specs.Machine.{unset};
 ghost use Rattle.fancy_regex_program.specs.Ops as op;
 ghost use Rattle.fancy_regex_program.specs.Ops.{op_of};
-ghost use Rattle.fancy_regex_compiler.specs.Refusals.{IsMemoryOrTooComplex};
-ghost use Rattle.fancy_regex_compiler.specs.Tasks.{closed_by, closing_room};
-ghost use Rattle.fancy_regex_compiler.specs.Writing.{draft_of};
+ghost use Rattle.fancy_regex_compiler.specs.Tasks.{Closes};
 ghost use Rattle.fancy_regex_compiler.specs.declared.closing.Closing.TheVariants as ends;
 
 use crate::program_builder::ProgramBuilder;
@@ -22,7 +19,7 @@ pub(crate) enum Closing {
     /// A capture group.
     Group {
         /// The slot in which its start was saved.
-        kept: usize,
+        saved_start: usize,
         /// The group's first slot.
         start: usize,
         /// The group's second slot.
@@ -94,13 +91,14 @@ pub(crate) enum Closing {
 
 /// Writes the end of a construct.
 pub(crate) fn close(body: &mut ProgramBuilder, closing: Closing) -> Result<(), CompileError>
-    ensures cap { body.new.cap ≡ body.old.cap }
-    ensures draft { OnOk result (draft_of body.new ≡ closed_by closing (draft_of body.old)) }
-    ensures full { IfErr result (IsFull body.old (closing_room closing)) }
-    ensures refused { IfErr result IsMemoryOrTooComplex }
+    ensures { Closes closing body.old body.new result }
 {
     match closing {
-        Closing::Group { kept, start, end } => close_group(body, kept, start, end),
+        Closing::Group {
+            saved_start,
+            start,
+            end,
+        } => close_group(body, saved_start, start, end),
         Closing::PositiveLookAround { slot } => body.flush_and_push(Insn::Restore(slot)),
         Closing::NegativeLookAround { slot, split, first } => {
             close_negative_look_around(body, slot, split, first)
@@ -128,16 +126,16 @@ pub(crate) fn close(body: &mut ProgramBuilder, closing: Closing) -> Result<(), C
 /// Sets the slots of a group.
 fn close_group(
     body: &mut ProgramBuilder,
-    kept: usize,
+    saved_start: usize,
     start: usize,
     end: usize,
 ) -> Result<(), CompileError>
-    ensures cap { body.new.cap ≡ body.old.cap }
-    ensures draft { OnOk result (draft_of body.new ≡ closed_by (ends.Group kept start end) (draft_of body.old)) }
-    ensures full { IfErr result (IsFull body.old 2) }
-    ensures refused { IfErr result IsMemoryOrTooComplex }
+    ensures { Closes (ends.Group saved_start start end) body.old body.new result }
 {
-    body.flush_and_push(Insn::SaveCaptureGroupStart { kept, slot: start })?;
+    body.flush_and_push(Insn::SaveCaptureGroupStart {
+        kept: saved_start,
+        slot: start,
+    })?;
     body.push_insn(Insn::Save(end))?;
     Ok(())
 }
@@ -149,10 +147,7 @@ fn close_negative_look_around(
     split: usize,
     first: usize,
 ) -> Result<(), CompileError>
-    ensures cap { body.new.cap ≡ body.old.cap }
-    ensures draft { OnOk result (draft_of body.new ≡ closed_by (ends.NegativeLookAround slot split first) (draft_of body.old)) }
-    ensures full { IfErr result (IsFull body.old 2) }
-    ensures refused { IfErr result IsMemoryOrTooComplex }
+    ensures { Closes (ends.NegativeLookAround slot split first) body.old body.new result }
 {
     body.flush_and_push(Insn::FailNegativeLookAround(slot))?;
     let second = body.len();
@@ -168,10 +163,7 @@ fn close_bounded_repeat(
     greedy: bool,
     slot: usize,
 ) -> Result<(), CompileError>
-    ensures cap { body.new.cap ≡ body.old.cap }
-    ensures draft { OnOk result (draft_of body.new ≡ closed_by (ends.BoundedRepeat head bounds greedy slot) (draft_of body.old)) }
-    ensures full { IfErr result (IsFull body.old 2) }
-    ensures refused { IfErr result IsMemoryOrTooComplex }
+    ensures { Closes (ends.BoundedRepeat head bounds greedy slot) body.old body.new result }
 {
     body.flush_and_push(Insn::Jmp(head))?;
     let (lo, hi) = bounds;
@@ -207,10 +199,7 @@ fn close_unbounded_repeat(
     greedy: bool,
     slots: (usize, usize),
 ) -> Result<(), CompileError>
-    ensures cap { body.new.cap ≡ body.old.cap }
-    ensures draft { OnOk result (draft_of body.new ≡ closed_by (ends.UnboundedRepeat head lo greedy slots.0 slots.1) (draft_of body.old)) }
-    ensures full { IfErr result (IsFull body.old 2) }
-    ensures refused { IfErr result IsMemoryOrTooComplex }
+    ensures { Closes (ends.UnboundedRepeat head lo greedy slots.0 slots.1) body.old body.new result }
 {
     body.flush()?;
     let uncounted = is_uncounted(&body.insns, lo, head);
@@ -239,7 +228,8 @@ fn opening(
     requires few { uncounted ≡ true → repeat.lo ≤ 1 }
     requires inside { uncounted ≡ true → head < unset }
     ensures entry { IfOk result (λ insns. op_of insns.0 ≡ loop_entry uncounted repeat.lo head repeat.repeat) }
-    ensures head { IfOk result (λ insns. op_of insns.1 ≡ loop_head uncounted repeat.lo greedy (head + 1) repeat.next repeat.repeat repeat.check) }
+    ensures head { IfOk result (λ insns.
+        op_of insns.1 ≡ loop_head uncounted repeat.lo greedy (head + 1) repeat.next repeat.repeat repeat.check) }
 {
     if uncounted {
         Ok(uncounted_opening(repeat, head, greedy))
@@ -290,10 +280,7 @@ fn close_absent(
     start: usize,
     limit: usize,
 ) -> Result<(), CompileError>
-    ensures cap { body.new.cap ≡ body.old.cap }
-    ensures draft { OnOk result (draft_of body.new ≡ closed_by (ends.AbsentRepeater scan start limit) (draft_of body.old)) }
-    ensures full { IfErr result (IsFull body.old 2) }
-    ensures refused { IfErr result IsMemoryOrTooComplex }
+    ensures { Closes (ends.AbsentRepeater scan start limit) body.old body.new result }
 {
     let limits = absent_step(body.alloc, AbsentRepeater::Limit { limit })?;
     body.flush_and_push(limits)?;
@@ -307,10 +294,7 @@ fn close_absent(
 
 /// Lets the jump after the first of some alternatives lead here.
 fn close_alternatives(body: &mut ProgramBuilder, jump: usize) -> Result<(), CompileError>
-    ensures cap { body.new.cap ≡ body.old.cap }
-    ensures draft { OnOk result (draft_of body.new ≡ closed_by (ends.Alternatives jump) (draft_of body.old)) }
-    ensures full { IfErr result (IsFull body.old 0) }
-    ensures refused { IfErr result IsMemoryOrTooComplex }
+    ensures { Closes (ends.Alternatives jump) body.old body.new result }
 {
     body.flush()?;
     let end = body.len();
@@ -320,10 +304,7 @@ fn close_alternatives(body: &mut ProgramBuilder, jump: usize) -> Result<(), Comp
 
 /// Lets the instruction in front of the end of a whole pattern lead here.
 fn close_tail(body: &mut ProgramBuilder, begin: usize) -> Result<(), CompileError>
-    ensures cap { body.new.cap ≡ body.old.cap }
-    ensures draft { OnOk result (draft_of body.new ≡ closed_by (ends.Tail begin) (draft_of body.old)) }
-    ensures full { IfErr result (IsFull body.old 0) }
-    ensures refused { IfErr result IsMemoryOrTooComplex }
+    ensures { Closes (ends.Tail begin) body.old body.new result }
 {
     body.flush()?;
     let end = body.len();

@@ -1,7 +1,8 @@
 //! Instructions of the nodes of an analyzed tree. What is left to emit stands on a stack of tasks, so nothing recurses. Each
-//! function takes the first free slot and returns the next one; the errors are those of `compile`.
+//! function takes the first free slot and returns the next one; the errors are those of `compile`. What emitting gives is said once,
+//! in `specs/Tasks.antt`: `EmitsTask` for a task, `EmitsPattern` for a pattern, `Begins` for a construct.
 
-ghost use Rattle.std.specs.Prelude.{◌≡◌, Bool, ◌≤◌, ◌<◌, ◌+◌, ℕ, List, [], ◌∷◌, ◌++◌, length, false, true, slice_get, IfOk, IfErr, OnOk, Some, None};
+ghost use Rattle.std.specs.Prelude.{◌≡◌, ◌<◌, ◌+◌, ℕ, List, [], ◌∷◌, ◌++◌, length, false, true, slice_get, IfOk, IfErr, Some, None};
 ghost use Rattle.fancy_regex_meaning.specs.Ways.{is_at_call_limit as is_full_of};
 ghost use Rattle.fancy_regex_desugar.specs.CorePatterns as pat;
 ghost use Rattle.fancy_regex_desugar.specs.ProgramSizes.{room};
@@ -10,16 +11,16 @@ ghost use Rattle.fancy_regex_tree.specs.Tree.{tree_of};
 ghost use Rattle.fancy_regex_analysis.specs.AnalysisErrors.{is_too_complex};
 ghost use Rattle.fancy_regex_info.specs.Infos.{InfoTree, info_of};
 ghost use Rattle.fancy_regex_info.specs.declared.info.Info.TheViews.{out-Info};
-ghost use Rattle.fancy_regex_compiler.specs.Extents.{IsFull, extent};
+ghost use Rattle.fancy_regex_compiler.specs.Extents.{IsFull, Appends};
 ghost use Rattle.fancy_regex_compiler.specs.Known.{info_call};
 ghost use Rattle.fancy_regex_program.specs.Machine.{unset};
 ghost use Rattle.fancy_regex_program.specs.Ops as op;
-ghost use Rattle.fancy_regex_program.specs.Ops.{end_atomic, op_of};
-ghost use Rattle.fancy_regex_compiler.specs.Refusals.{IsMemoryOrTooComplex, IsReasonWhere, IsExpandedPart, AreExpandedParts, IsExpandedBody, IsExpandedRepeat, IsExpandedAbsent};
+ghost use Rattle.fancy_regex_program.specs.Ops.{op_of};
+ghost use Rattle.fancy_regex_compiler.specs.Refusals.{IsReasonWhere, IsExpandedPart, IsExpandedBody, IsExpandedRepeat, IsExpandedAbsent};
 ghost use Rattle.fancy_regex_compiler.specs.Refusals.{IsExpandedConditional, IsExpandedTarget, looks_behind};
 ghost use Rattle.fancy_regex_program.specs.Shapes.{IsAllowed};
-ghost use Rattle.fancy_regex_compiler.specs.Tasks.{listed, node_pattern, body_pattern, row_pattern, whole_pattern, tail_pattern, branches_pattern, past_pattern, past_others, progress, task_room, IsExpandedTask};
-ghost use Rattle.fancy_regex_compiler.specs.Tasks.{Leads, LeadsTo, LeadsOn, call_work, info_work, infos_work, task_work, tasks_work};
+ghost use Rattle.fancy_regex_compiler.specs.Tasks.{listed, node_pattern, body_pattern, whole_pattern, LeadsOn, EmitsTask, EmitsPattern, Begins};
+ghost use Rattle.fancy_regex_compiler.specs.Tasks.{call_work, info_work, infos_work, task_work, tasks_work};
 ghost use Rattle.fancy_regex_compiler.specs.Writing.{Wrote, added, draft_of, with_op, closed_draft, infos_of, part};
 ghost use Rattle.fancy_regex_compiler.specs.declared.emitter.CompileContext.{CompileContext as TheContext};
 ghost use Rattle.fancy_regex_compiler.specs.declared.emitter.Emitter.{Emitter as TheEmitter};
@@ -40,7 +41,7 @@ use std::slice;
 use std::sync::Arc;
 
 /// How often one group may be inlined inside of itself.
-pub(crate) const OPEN_CALLS_OF_ONE: usize = 19;
+pub(crate) const MAX_OPEN_CALLS_PER_GROUP: usize = 19;
 
 /// Emits a whole pattern; `slot` is the first free slot. Returns the first free slot after it.
 pub(crate) fn emit<'i, 'e>(
@@ -71,12 +72,12 @@ pub(crate) fn emit<'i, 'e>(
 }
 
 /// The task of a node that does not go back first.
-fn node<'i, 'e>(info: &'i Info<'e>, scope: Scope) -> Task<'i, 'e>
+fn node_task<'i, 'e>(info: &'i Info<'e>, scope: Scope) -> Task<'i, 'e>
     ensures { result ≡ the_task.Node info.entry false scope }
 {
     Task::Node {
         info,
-        behind: false,
+        steps_back: false,
         scope,
     }
 }
@@ -110,19 +111,14 @@ fn emit_task<'i, 'e>(
     task: Task<'i, 'e>,
     slot: usize,
 ) -> Result<Step<'i, 'e>, CompileError>
-    ensures cap { emitter.new.body.cap ≡ emitter.old.body.cap }
-    ensures full { IfErr result (IsFull emitter.old.body (task_room context.now task.entry emitter.old.opened.items)) }
-    ensures leads { IfOk result (LeadsOn context.now task.entry emitter.old emitter.new slot) }
-    ensures refused { IfErr result (IsReasonWhere context.now.unicode (infos_of context.now)
-        (λ tree_context. IsExpandedTask tree_context task.entry)) }
-    ensures work { IfOk result (λ step. tasks_work (infos_of context.now) (listed step.tasks) < task_work (infos_of context.now) task.entry) }
+    ensures { EmitsTask context.now task.entry emitter.old emitter.new slot result }
 {
     match task {
         Task::Node {
             info,
-            behind,
+            steps_back,
             scope,
-        } => emit_ahead_or_behind(context, emitter, info, behind, scope, slot),
+        } => emit_node_task(context, emitter, info, steps_back, scope, slot),
         Task::Body {
             body,
             for_any,
@@ -130,31 +126,31 @@ fn emit_task<'i, 'e>(
             scope,
         } => emit_body(context, emitter, body, for_any, info, scope, slot),
         Task::Whole { info, scope } => {
-            let tasks = whole(context.alloc, info, scope)?;
+            let tasks = whole_tasks(context.alloc, info, scope)?;
             Ok(leads_to(slot, tasks))
         }
         Task::Tail { parts, scope } => emit_tail(context, emitter, parts, scope, slot),
-        Task::Row { parts, scope } => Ok(leads_to(slot, row(parts, scope))),
+        Task::Row { parts, scope } => Ok(leads_to(slot, row_tasks(parts, scope))),
         Task::Branches {
             branches,
-            behind,
+            steps_back,
             scope,
-        } => emit_branches(emitter, branches, behind, scope, slot),
+        } => emit_branches(emitter, branches, steps_back, scope, slot),
         Task::Otherwise {
             split,
             first,
             branches,
-            behind,
+            steps_back,
             scope,
-        } => emit_otherwise(emitter, (split, first), branches, behind, scope, slot),
+        } => emit_otherwise(emitter, (split, first), branches, steps_back, scope, slot),
         Task::Tested {
-            slot: kept,
+            slot: height_slot,
             split,
             first,
             yes,
             no,
             scope,
-        } => emit_tested(emitter, kept, (split, first), (yes, no), scope, slot),
+        } => emit_tested(emitter, height_slot, (split, first), (yes, no), scope, slot),
         Task::Close(closing) => {
             close(&mut emitter.body, closing)?;
             Ok(leads_to(slot, Tasks::Nothing))
@@ -167,16 +163,15 @@ fn emit_task<'i, 'e>(
 }
 
 /// The parts of a whole pattern: those of a concatenation before its tail, and that tail; or its root. The error is want of memory.
-fn whole<'i, 'e>(
+fn whole_tasks<'i, 'e>(
     alloc: Global,
     info: &'i Info<'e>,
     scope: Scope,
 ) -> Result<Tasks<'i, 'e>, AllocError>
-    ensures leads { IfOk result (λ tasks. (context : TheContext) (e : TheEmitter) (slot : ℕ) → Leads context e e slot slot (listed tasks)
-        (past_pattern context (whole_pattern context info.now scope e.opened.items) (progress e slot))
-        (IsAllowed context.unicode scope.may_keep (whole_pattern context info.now scope e.opened.items)) (room (whole_pattern context info.now scope e.opened.items))
-        (λ tree_context. IsExpandedPart tree_context scope.may_keep scope.may_be_absent false (info_of info.now))) }
-    ensures work { IfOk result (λ tasks. (groups : List InfoTree) → tasks_work groups (listed tasks) < 10 + info_work groups scope info.now) }
+    ensures leads { IfOk result (λ tasks. (context : TheContext) (emitter : TheEmitter) (slot : ℕ) →
+        LeadsOn context (the_task.Whole info.entry scope) emitter emitter slot (record { slot = slot; tasks = tasks })) }
+    ensures work { IfOk result (λ tasks. (groups : List InfoTree) →
+        tasks_work groups (listed tasks) < task_work groups (the_task.Whole info.entry scope)) }
 {
     match info.expr {
         Expr::Concat(_) => {
@@ -187,7 +182,7 @@ fn whole<'i, 'e>(
                 then: Task::Tail { parts: last, scope },
             })
         }
-        _ => Ok(Tasks::One(node(info, scope))),
+        _ => Ok(Tasks::One(node_task(info, scope))),
     }
 }
 
@@ -199,14 +194,7 @@ fn emit_tail<'i, 'e>(
     scope: Scope,
     slot: usize,
 ) -> Result<Step<'i, 'e>, CompileError>
-    ensures cap { emitter.new.body.cap ≡ emitter.old.body.cap }
-    ensures full { IfErr result (IsFull emitter.old.body (room (tail_pattern context.now parts.now scope emitter.old.opened.items))) }
-    ensures leads { IfOk result (LeadsTo context.now
-        (tail_pattern context.now parts.now scope emitter.old.opened.items) scope.may_keep
-        (λ tree_context. AreExpandedParts tree_context scope.may_keep scope.may_be_absent false parts.now) emitter.old emitter.new slot) }
-    ensures refused { IfErr result (IsReasonWhere context.now.unicode (infos_of context.now)
-        (λ tree_context. AreExpandedParts tree_context scope.may_keep scope.may_be_absent false parts.now)) }
-    ensures work { IfOk result (λ step. (groups : List InfoTree) → tasks_work groups (listed step.tasks) ≤ 1 + infos_work groups scope parts.now) }
+    ensures { EmitsTask context.now (the_task.Tail parts.entry scope) emitter.old emitter.new slot result }
 {
     let row = Task::Row { parts, scope };
     match emitter
@@ -230,11 +218,8 @@ fn emit_tail<'i, 'e>(
 /// Appends the instruction that begins a delegated tail, whose end is set later. Returns its index.
 fn begin_tail(body: &mut ProgramBuilder, part: Arc<Delegate>) -> Result<usize, CompileError>
     ensures begin { IfOk result (λ begin. begin ≡ length (closed_draft (draft_of body.old)).ops) }
-    ensures draft { OnOk result (draft_of body.new ≡ with_op (op_of (the_insn.DelegateTail part 0)) (closed_draft (draft_of body.old))) }
-    ensures cap { body.new.cap ≡ body.old.cap }
-    ensures long { OnOk result (extent (draft_of body.new) ≡ extent (draft_of body.old) + 1) }
-    ensures full { IfErr result (IsFull body.old 1) }
-    ensures refused { IfErr result IsMemoryOrTooComplex }
+    ensures appends { Appends (with_op (op_of (the_insn.DelegateTail part 0)) (closed_draft (draft_of body.old))) 1
+        body.old body.new result }
 {
     body.flush()?;
     let begin = body.len();
@@ -243,16 +228,14 @@ fn begin_tail(body: &mut ProgramBuilder, part: Arc<Delegate>) -> Result<usize, C
 }
 
 /// The first part of a concatenation, and the others.
-fn row<'i, 'e>(parts: &'i [Info<'e>], scope: Scope) -> Tasks<'i, 'e>
-    ensures leads { (context : TheContext) (e : TheEmitter) (slot : ℕ) → Leads context e e slot slot (listed result)
-        (past_pattern context (row_pattern context parts.now scope e.opened.items) (progress e slot))
-        (IsAllowed context.unicode scope.may_keep (row_pattern context parts.now scope e.opened.items)) (room (row_pattern context parts.now scope e.opened.items))
-        (λ tree_context. AreExpandedParts tree_context scope.may_keep scope.may_be_absent false parts.now) }
+fn row_tasks<'i, 'e>(parts: &'i [Info<'e>], scope: Scope) -> Tasks<'i, 'e>
+    ensures leads { (context : TheContext) (emitter : TheEmitter) (slot : ℕ) →
+        LeadsOn context (the_task.Row parts.entry scope) emitter emitter slot (record { slot = slot; tasks = result }) }
     ensures work { (groups : List InfoTree) → tasks_work groups (listed result) < infos_work groups scope parts.now }
 {
     match parts.split_first() {
         Some((info, parts)) => Tasks::Two {
-            first: node(info, scope),
+            first: node_task(info, scope),
             then: Task::Row { parts, scope },
         },
         None => Tasks::Nothing,
@@ -263,17 +246,12 @@ fn row<'i, 'e>(parts: &'i [Info<'e>], scope: Scope) -> Tasks<'i, 'e>
 fn emit_branches<'i, 'e>(
     emitter: &mut Emitter,
     branches: &'i [Info<'e>],
-    behind: bool,
+    steps_back: bool,
     scope: Scope,
     slot: usize,
 ) -> Result<Step<'i, 'e>, CompileError>
-    ensures cap { emitter.new.body.cap ≡ emitter.old.body.cap }
-    ensures full { IfErr result (λ e. (context : TheContext) → IsFull emitter.old.body (room (branches_pattern context branches.now behind scope emitter.old.opened.items)) e) }
-    ensures leads { IfOk result (λ step. (context : TheContext) → LeadsTo context
-        (branches_pattern context branches.now behind scope emitter.old.opened.items) scope.may_keep
-        (λ tree_context. AreExpandedParts tree_context scope.may_keep scope.may_be_absent behind branches.now) emitter.old emitter.new slot step) }
-    ensures refused { IfErr result IsMemoryOrTooComplex }
-    ensures work { IfOk result (λ step. (groups : List InfoTree) → tasks_work groups (listed step.tasks) < infos_work groups scope branches.now) }
+    ensures { (context : TheContext) → EmitsTask context
+        (the_task.Branches branches.entry steps_back scope) emitter.old emitter.new slot result }
 {
     let Some((info, others)) = branches.split_first() else {
         emitter.body.flush_and_push(Insn::Fail)?;
@@ -281,7 +259,7 @@ fn emit_branches<'i, 'e>(
     };
     let branch = Task::Node {
         info,
-        behind,
+        steps_back,
         scope,
     };
     if others.is_empty() {
@@ -293,7 +271,7 @@ fn emit_branches<'i, 'e>(
         split,
         first,
         branches: others,
-        behind,
+        steps_back,
         scope,
     };
     Ok(leads_to(
@@ -309,11 +287,7 @@ fn emit_branches<'i, 'e>(
 fn begin_choice(body: &mut ProgramBuilder) -> Result<(usize, usize), CompileError>
     ensures split { IfOk result (λ begins. begins.0 ≡ length (closed_draft (draft_of body.old)).ops) }
     ensures first { IfOk result (λ begins. begins.1 ≡ length (draft_of body.new).ops) }
-    ensures draft { OnOk result (draft_of body.new ≡ with_op (op.split 0 0) (closed_draft (draft_of body.old))) }
-    ensures cap { body.new.cap ≡ body.old.cap }
-    ensures long { OnOk result (extent (draft_of body.new) ≡ extent (draft_of body.old) + 1) }
-    ensures full { IfErr result (IsFull body.old 1) }
-    ensures refused { IfErr result IsMemoryOrTooComplex }
+    ensures appends { Appends (with_op (op.split 0 0) (closed_draft (draft_of body.old))) 1 body.old body.new result }
 {
     body.flush()?;
     let split = body.len();
@@ -329,11 +303,7 @@ fn begin_atomic_choice(
 ) -> Result<(usize, usize), CompileError>
     ensures split { IfOk result (λ begins. begins.0 ≡ length (added (op.begin_atomic slot) (draft_of body.old)).ops) }
     ensures first { IfOk result (λ begins. begins.1 ≡ length (draft_of body.new).ops) }
-    ensures draft { OnOk result (draft_of body.new ≡ with_op (op.split 0 0) (added (op.begin_atomic slot) (draft_of body.old))) }
-    ensures cap { body.new.cap ≡ body.old.cap }
-    ensures long { OnOk result (extent (draft_of body.new) ≡ extent (draft_of body.old) + 2) }
-    ensures full { IfErr result (IsFull body.old 2) }
-    ensures refused { IfErr result IsMemoryOrTooComplex }
+    ensures appends { Appends (with_op (op.split 0 0) (added (op.begin_atomic slot) (draft_of body.old))) 2 body.old body.new result }
 {
     body.flush_and_push(Insn::BeginAtomic(slot))?;
     let split = body.len();
@@ -345,11 +315,7 @@ fn begin_atomic_choice(
 /// the latter.
 fn begin_loop(body: &mut ProgramBuilder, begin: Insn) -> Result<usize, CompileError>
     ensures head { IfOk result (λ head. head ≡ length (added (op_of begin) (draft_of body.old)).ops) }
-    ensures draft { OnOk result (draft_of body.new ≡ with_op op.fail (added (op_of begin) (draft_of body.old))) }
-    ensures cap { body.new.cap ≡ body.old.cap }
-    ensures long { OnOk result (extent (draft_of body.new) ≡ extent (draft_of body.old) + 2) }
-    ensures full { IfErr result (IsFull body.old 2) }
-    ensures refused { IfErr result IsMemoryOrTooComplex }
+    ensures appends { Appends (with_op op.fail (added (op_of begin) (draft_of body.old))) 2 body.old body.new result }
 {
     body.flush_and_push(begin)?;
     let head = body.len();
@@ -362,19 +328,12 @@ fn emit_otherwise<'i, 'e>(
     emitter: &mut Emitter,
     begins: (usize, usize),
     branches: &'i [Info<'e>],
-    behind: bool,
+    steps_back: bool,
     scope: Scope,
     slot: usize,
 ) -> Result<Step<'i, 'e>, CompileError>
-    ensures cap { emitter.new.body.cap ≡ emitter.old.body.cap }
-    ensures full { IfErr result (IsFull emitter.old.body 1) }
-    ensures leads { IfOk result (λ step. (context : TheContext) → Leads context emitter.old emitter.new slot step.slot (listed step.tasks)
-        (past_others context begins.0 begins.1 (branches_pattern context branches.now behind scope emitter.old.opened.items) (progress emitter.old slot))
-        (IsAllowed context.unicode scope.may_keep (branches_pattern context branches.now behind scope emitter.old.opened.items))
-        (1 + room (branches_pattern context branches.now behind scope emitter.old.opened.items))
-        (λ tree_context. AreExpandedParts tree_context scope.may_keep scope.may_be_absent behind branches.now)) }
-    ensures refused { IfErr result IsMemoryOrTooComplex }
-    ensures work { IfOk result (λ step. (groups : List InfoTree) → tasks_work groups (listed step.tasks) ≤ 1 + infos_work groups scope branches.now) }
+    ensures { (context : TheContext) → EmitsTask context
+        (the_task.Otherwise begins.0 begins.1 branches.entry steps_back scope) emitter.old emitter.new slot result }
 {
     emitter.body.flush()?;
     let jump = emitter.body.len();
@@ -384,7 +343,7 @@ fn emit_otherwise<'i, 'e>(
     emitter.body.patch(split, Insn::Split(first, second));
     let others = Task::Branches {
         branches,
-        behind,
+        steps_back,
         scope,
     };
     Ok(leads_to(
@@ -399,65 +358,46 @@ fn emit_otherwise<'i, 'e>(
 /// Ends the condition of a conditional, and goes on with what is matched where it matches.
 fn emit_tested<'i, 'e>(
     emitter: &mut Emitter,
-    kept: usize,
+    height_slot: usize,
     begins: (usize, usize),
     branches: (&'i Info<'e>, &'i Info<'e>),
     scope: Scope,
     slot: usize,
 ) -> Result<Step<'i, 'e>, CompileError>
-    ensures cap { emitter.new.body.cap ≡ emitter.old.body.cap }
-    ensures full { IfErr result (IsFull emitter.old.body 1) }
-    ensures leads { IfOk result (λ step. (context : TheContext) → Leads context emitter.old emitter.new slot step.slot (listed step.tasks)
-        (past_others context begins.0 begins.1 (node_pattern context branches.entry.1.now false scope emitter.old.opened.items)
-        (past_pattern context (node_pattern context branches.entry.0.now false scope emitter.old.opened.items)
-        (record { draft = with_op (end_atomic kept) (closed_draft (draft_of emitter.old.body)); slot = slot; opened = emitter.old.opened.items })))
-        (IsAllowed context.unicode scope.may_keep (node_pattern context branches.entry.0.now false scope emitter.old.opened.items)
-        × IsAllowed context.unicode scope.may_keep (node_pattern context branches.entry.1.now false scope emitter.old.opened.items))
-        (2 + (room (node_pattern context branches.entry.0.now false scope emitter.old.opened.items) + room (node_pattern context branches.entry.1.now false scope emitter.old.opened.items)))
-        (λ tree_context. IsExpandedPart tree_context scope.may_keep scope.may_be_absent false (info_of branches.entry.0.now)
-        × IsExpandedPart tree_context scope.may_keep scope.may_be_absent false (info_of branches.entry.1.now))) }
-    ensures refused { IfErr result IsMemoryOrTooComplex }
-    ensures work { IfOk result (λ step. (groups : List InfoTree) → tasks_work groups (listed step.tasks) ≤
-        7 + (info_work groups scope branches.entry.0.now + info_work groups scope branches.entry.1.now)) }
+    ensures { (context : TheContext) → EmitsTask context
+        (the_task.Tested height_slot begins.0 begins.1 branches.entry.0 branches.entry.1 scope) emitter.old emitter.new slot result }
 {
-    emitter.body.flush_and_push(Insn::EndAtomic(kept))?;
+    emitter.body.flush_and_push(Insn::EndAtomic(height_slot))?;
     let (split, first) = begins;
     let (yes, no) = branches;
     let otherwise = Task::Otherwise {
         split,
         first,
         branches: slice::from_ref(no),
-        behind: false,
+        steps_back: false,
         scope,
     };
     Ok(leads_to(
         slot,
         Tasks::Two {
-            first: node(yes, scope),
+            first: node_task(yes, scope),
             then: otherwise,
         },
     ))
 }
 
-/// Emits a node; with `behind` it first goes back by its own length.
-fn emit_ahead_or_behind<'i, 'e>(
+/// Emits a node; with `steps_back` it first goes back by its own length.
+fn emit_node_task<'i, 'e>(
     context: &CompileContext<'_, 'i, 'e>,
     emitter: &mut Emitter,
     info: &'i Info<'e>,
-    behind: bool,
+    steps_back: bool,
     scope: Scope,
     slot: usize,
 ) -> Result<Step<'i, 'e>, CompileError>
-    ensures cap { emitter.new.body.cap ≡ emitter.old.body.cap }
-    ensures full { IfErr result (IsFull emitter.old.body (room (node_pattern context.now info.now behind scope emitter.old.opened.items))) }
-    ensures leads { IfOk result (LeadsTo context.now
-        (node_pattern context.now info.now behind scope emitter.old.opened.items) scope.may_keep
-        (λ tree_context. IsExpandedPart tree_context scope.may_keep scope.may_be_absent behind (info_of info.now)) emitter.old emitter.new slot) }
-    ensures refused { IfErr result (IsReasonWhere context.now.unicode (infos_of context.now)
-        (λ tree_context. IsExpandedPart tree_context scope.may_keep scope.may_be_absent behind (info_of info.now))) }
-    ensures work { IfOk result (λ step. tasks_work (infos_of context.now) (listed step.tasks) < info_work (infos_of context.now) scope info.now) }
+    ensures { EmitsTask context.now (the_task.Node info.entry steps_back scope) emitter.old emitter.new slot result }
 {
-    if behind {
+    if steps_back {
         emit_look_behind_body(context, emitter, info, scope, slot)
     } else {
         emit_node(context, emitter, info, scope, slot)
@@ -473,14 +413,7 @@ fn emit_look_behind_body<'i, 'e>(
     scope: Scope,
     slot: usize,
 ) -> Result<Step<'i, 'e>, CompileError>
-    ensures cap { emitter.new.body.cap ≡ emitter.old.body.cap }
-    ensures full { IfErr result (IsFull emitter.old.body (room (node_pattern context.now info.now true scope emitter.old.opened.items))) }
-    ensures leads { IfOk result (LeadsTo context.now
-        (node_pattern context.now info.now true scope emitter.old.opened.items) scope.may_keep
-        (λ tree_context. IsExpandedPart tree_context scope.may_keep scope.may_be_absent true (info_of info.now)) emitter.old emitter.new slot) }
-    ensures refused { IfErr result (IsReasonWhere context.now.unicode (infos_of context.now)
-        (λ tree_context. IsExpandedPart tree_context scope.may_keep scope.may_be_absent true (info_of info.now))) }
-    ensures work { IfOk result (λ step. tasks_work (infos_of context.now) (listed step.tasks) < info_work (infos_of context.now) scope info.now) }
+    ensures { EmitsTask context.now (the_task.Node info.entry true scope) emitter.old emitter.new slot result }
 {
     if info.const_size {
         emitter.body.flush_and_push(Insn::GoBack(info.min_size))?;
@@ -491,7 +424,7 @@ fn emit_look_behind_body<'i, 'e>(
             slot,
             Tasks::One(Task::Branches {
                 branches: &info.children,
-                behind: true,
+                steps_back: true,
                 scope,
             }),
         )),
@@ -507,14 +440,7 @@ fn emit_node<'i, 'e>(
     scope: Scope,
     slot: usize,
 ) -> Result<Step<'i, 'e>, CompileError>
-    ensures cap { emitter.new.body.cap ≡ emitter.old.body.cap }
-    ensures full { IfErr result (IsFull emitter.old.body (room (node_pattern context.now info.now false scope emitter.old.opened.items))) }
-    ensures leads { IfOk result (LeadsTo context.now
-        (node_pattern context.now info.now false scope emitter.old.opened.items) scope.may_keep
-        (λ tree_context. IsExpandedPart tree_context scope.may_keep scope.may_be_absent false (info_of info.now)) emitter.old emitter.new slot) }
-    ensures refused { IfErr result (IsReasonWhere context.now.unicode (infos_of context.now)
-        (λ tree_context. IsExpandedPart tree_context scope.may_keep scope.may_be_absent false (info_of info.now))) }
-    ensures work { IfOk result (λ step. tasks_work (infos_of context.now) (listed step.tasks) < info_work (infos_of context.now) scope info.now) }
+    ensures { EmitsTask context.now (the_task.Node info.entry false scope) emitter.old emitter.new slot result }
 {
     match info.expr {
         Expr::Empty => Ok(leads_to(slot, Tasks::Nothing)),
@@ -529,7 +455,7 @@ fn emit_node<'i, 'e>(
             slot,
             Tasks::One(Task::Branches {
                 branches: &info.children,
-                behind: false,
+                steps_back: false,
                 scope,
             }),
         )),
@@ -590,41 +516,38 @@ fn emit_group<'i, 'e>(
     scope: Scope,
     slot: usize,
 ) -> Result<Step<'i, 'e>, CompileError>
-    ensures cap { emitter.new.body.cap ≡ emitter.old.body.cap }
-    ensures full { IfErr result (IsFull emitter.old.body 2) }
-    ensures leads { IfOk result (λ step. (context : TheContext) → LeadsTo context
-        (pat.group number (node_pattern context child.now false scope emitter.old.opened.items)) scope.may_keep
-        (λ tree_context. IsExpandedPart tree_context scope.may_keep scope.may_be_absent false (info_of child.now)) emitter.old emitter.new slot step) }
-    ensures refused { IfErr result IsMemoryOrTooComplex }
-    ensures work { IfOk result (λ step. (groups : List InfoTree) → tasks_work groups (listed step.tasks) ≤ 1 + info_work groups scope child.now) }
+    ensures { Begins emitter.old emitter.new slot result scope.may_keep
+        (λ (context : TheContext). pat.group number (node_pattern context child.now false scope emitter.old.opened.items))
+        (λ tree_context. IsExpandedPart tree_context scope.may_keep scope.may_be_absent false (info_of child.now))
+        (λ groups. 2 + info_work groups scope child.now) }
 {
     let inside = past_slots(slot, 1)?;
     let start = first_slot(number)?;
     let end = past_slots(start, 1)?;
     emitter.body.flush_and_push(Insn::Save(slot))?;
     let closing = Closing::Group {
-        kept: slot,
+        saved_start: slot,
         start,
         end,
     };
-    Ok(around(child, false, scope, closing, inside))
+    Ok(enclosed_node(child, false, scope, closing, inside))
 }
 
 /// A step to the part of a construct, and then to its end.
-fn around<'i, 'e>(
+fn enclosed_node<'i, 'e>(
     info: &'i Info<'e>,
-    behind: bool,
+    steps_back: bool,
     scope: Scope,
     closing: Closing,
     slot: usize,
 ) -> Step<'i, 'e>
-    ensures tasks { listed result.tasks ≡ the_task.Close closing ∷ the_task.Node info.entry behind scope ∷ [] }
+    ensures tasks { listed result.tasks ≡ the_task.Close closing ∷ the_task.Node info.entry steps_back scope ∷ [] }
     ensures slot { result.slot ≡ slot }
-    ensures work { (groups : List InfoTree) → tasks_work groups (listed result.tasks) ≤ 1 + info_work groups scope info.now }
+    ensures work { (groups : List InfoTree) → tasks_work groups (listed result.tasks) < 2 + info_work groups scope info.now }
 {
     let first = Task::Node {
         info,
-        behind,
+        steps_back,
         scope,
     };
     let then = Task::Close(closing);
@@ -636,7 +559,7 @@ fn around<'i, 'e>(
 
 /// A step to the body of a construct, of which only the first way matters, or with `for_any` only whether there is one, and then to the
 /// end of the construct.
-fn around_body<'i, 'e>(
+fn enclosed_body<'i, 'e>(
     body: &'e Expr,
     for_any: bool,
     info: &'i Info<'e>,
@@ -646,7 +569,7 @@ fn around_body<'i, 'e>(
 ) -> Step<'i, 'e>
     ensures tasks { listed result.tasks ≡ the_task.Close closing ∷ the_task.Body body.entry for_any info.entry scope ∷ [] }
     ensures slot { result.slot ≡ slot }
-    ensures work { (groups : List InfoTree) → tasks_work groups (listed result.tasks) ≤ 2 + info_work groups scope info.now }
+    ensures work { (groups : List InfoTree) → tasks_work groups (listed result.tasks) < 3 + info_work groups scope info.now }
 {
     let first = Task::Body {
         body,
@@ -671,14 +594,7 @@ fn emit_body<'i, 'e>(
     scope: Scope,
     slot: usize,
 ) -> Result<Step<'i, 'e>, CompileError>
-    ensures cap { emitter.new.body.cap ≡ emitter.old.body.cap }
-    ensures full { IfErr result (IsFull emitter.old.body (room (body_pattern context.now for_any body.now info.now scope emitter.old.opened.items))) }
-    ensures leads { IfOk result (LeadsTo context.now
-        (body_pattern context.now for_any body.now info.now scope emitter.old.opened.items) scope.may_keep
-        (λ tree_context. IsExpandedBody tree_context scope.may_keep scope.may_be_absent false (tree_of body.now) (info_of info.now)) emitter.old emitter.new slot) }
-    ensures refused { IfErr result (IsReasonWhere context.now.unicode (infos_of context.now)
-        (λ tree_context. IsExpandedBody tree_context scope.may_keep scope.may_be_absent false (tree_of body.now) (info_of info.now))) }
-    ensures work { IfOk result (λ step. (groups : List InfoTree) → tasks_work groups (listed step.tasks) ≤ info_work groups scope info.now) }
+    ensures { EmitsTask context.now (the_task.Body body.entry for_any info.entry scope) emitter.old emitter.new slot result }
 {
     match emitter
         .parts
@@ -688,7 +604,7 @@ fn emit_body<'i, 'e>(
             emitter.body.flush_and_push(Insn::Delegate(part))?;
             Ok(leads_to(slot, Tasks::Nothing))
         }
-        None => Ok(leads_to(slot, Tasks::One(node(info, scope)))),
+        None => Ok(leads_to(slot, Tasks::One(node_task(info, scope)))),
     }
 }
 
@@ -700,18 +616,15 @@ fn emit_atomic<'i, 'e>(
     scope: Scope,
     slot: usize,
 ) -> Result<Step<'i, 'e>, CompileError>
-    ensures cap { emitter.new.body.cap ≡ emitter.old.body.cap }
-    ensures full { IfErr result (IsFull emitter.old.body 2) }
-    ensures leads { IfOk result (λ step. (context : TheContext) → LeadsTo context
-        (pat.atomic (body_pattern context false body.now child.now scope emitter.old.opened.items)) scope.may_keep
-        (λ tree_context. IsExpandedBody tree_context scope.may_keep scope.may_be_absent false (tree_of body.now) (info_of child.now)) emitter.old emitter.new slot step) }
-    ensures refused { IfErr result IsMemoryOrTooComplex }
-    ensures work { IfOk result (λ step. (groups : List InfoTree) → tasks_work groups (listed step.tasks) ≤ 2 + info_work groups scope child.now) }
+    ensures { Begins emitter.old emitter.new slot result scope.may_keep
+        (λ (context : TheContext). pat.atomic (body_pattern context false body.now child.now scope emitter.old.opened.items))
+        (λ tree_context. IsExpandedBody tree_context scope.may_keep scope.may_be_absent false (tree_of body.now) (info_of child.now))
+        (λ groups. 3 + info_work groups scope child.now) }
 {
     let inside = past_slots(slot, 1)?;
     emitter.body.flush_and_push(Insn::BeginAtomic(slot))?;
     let closing = Closing::AtomicGroup { slot };
-    Ok(around_body(body, false, child, scope, closing, inside))
+    Ok(enclosed_body(body, false, child, scope, closing, inside))
 }
 
 /// Begins a look-around.
@@ -723,13 +636,10 @@ fn emit_look_around<'i, 'e>(
     scope: Scope,
     slot: usize,
 ) -> Result<Step<'i, 'e>, CompileError>
-    ensures cap { emitter.new.body.cap ≡ emitter.old.body.cap }
-    ensures full { IfErr result (IsFull emitter.old.body 2) }
-    ensures leads { IfOk result (λ step. (context : TheContext) → LeadsTo context
-        (look (tree_of body.now) how (part context scope emitter.old.opened.items child.now)) scope.may_keep
-        (λ tree_context. IsExpandedBody tree_context false scope.may_be_absent (looks_behind how) (tree_of body.now) (info_of child.now)) emitter.old emitter.new slot step) }
-    ensures refused { IfErr result IsMemoryOrTooComplex }
-    ensures work { IfOk result (λ step. (groups : List InfoTree) → tasks_work groups (listed step.tasks) ≤ 2 + info_work groups scope child.now) }
+    ensures { Begins emitter.old emitter.new slot result scope.may_keep
+        (λ (context : TheContext). look (tree_of body.now) how (part context scope emitter.old.opened.items child.now))
+        (λ tree_context. IsExpandedBody tree_context false scope.may_be_absent (looks_behind how) (tree_of body.now) (info_of child.now))
+        (λ groups. 3 + info_work groups scope child.now) }
 {
     match how {
         LookAround::LookAhead => emit_positive_look_ahead(emitter, body, child, scope, slot),
@@ -747,13 +657,10 @@ fn emit_positive_look_ahead<'i, 'e>(
     scope: Scope,
     slot: usize,
 ) -> Result<Step<'i, 'e>, CompileError>
-    ensures cap { emitter.new.body.cap ≡ emitter.old.body.cap }
-    ensures full { IfErr result (IsFull emitter.old.body 2) }
-    ensures leads { IfOk result (λ step. (context : TheContext) → LeadsTo context
-        (pat.ahead (body_pattern context true body.now info.now scope emitter.old.opened.items)) scope.may_keep
-        (λ tree_context. IsExpandedBody tree_context false scope.may_be_absent false (tree_of body.now) (info_of info.now)) emitter.old emitter.new slot step) }
-    ensures refused { IfErr result IsMemoryOrTooComplex }
-    ensures work { IfOk result (λ step. (groups : List InfoTree) → tasks_work groups (listed step.tasks) ≤ 2 + info_work groups scope info.now) }
+    ensures { Begins emitter.old emitter.new slot result scope.may_keep
+        (λ (context : TheContext). pat.ahead (body_pattern context true body.now info.now scope emitter.old.opened.items))
+        (λ tree_context. IsExpandedBody tree_context false scope.may_be_absent false (tree_of body.now) (info_of info.now))
+        (λ groups. 3 + info_work groups scope info.now) }
 {
     let inside = past_slots(slot, 1)?;
     emitter.body.flush_and_push(Insn::Save(slot))?;
@@ -762,7 +669,7 @@ fn emit_positive_look_ahead<'i, 'e>(
         may_keep: false,
         ..scope
     };
-    Ok(around_body(body, true, info, looking, closing, inside))
+    Ok(enclosed_body(body, true, info, looking, closing, inside))
 }
 
 /// Begins a positive look-behind.
@@ -772,13 +679,10 @@ fn emit_positive_look_behind<'i, 'e>(
     scope: Scope,
     slot: usize,
 ) -> Result<Step<'i, 'e>, CompileError>
-    ensures cap { emitter.new.body.cap ≡ emitter.old.body.cap }
-    ensures full { IfErr result (IsFull emitter.old.body 2) }
-    ensures leads { IfOk result (λ step. (context : TheContext) → LeadsTo context
-        (pat.ahead (node_pattern context info.now true scope emitter.old.opened.items)) scope.may_keep
-        (λ tree_context. IsExpandedPart tree_context false scope.may_be_absent true (info_of info.now)) emitter.old emitter.new slot step) }
-    ensures refused { IfErr result IsMemoryOrTooComplex }
-    ensures work { IfOk result (λ step. (groups : List InfoTree) → tasks_work groups (listed step.tasks) ≤ 1 + info_work groups scope info.now) }
+    ensures { Begins emitter.old emitter.new slot result scope.may_keep
+        (λ (context : TheContext). pat.ahead (node_pattern context info.now true scope emitter.old.opened.items))
+        (λ tree_context. IsExpandedPart tree_context false scope.may_be_absent true (info_of info.now))
+        (λ groups. 2 + info_work groups scope info.now) }
 {
     let inside = past_slots(slot, 1)?;
     emitter.body.flush_and_push(Insn::Save(slot))?;
@@ -786,7 +690,7 @@ fn emit_positive_look_behind<'i, 'e>(
         may_keep: false,
         ..scope
     };
-    Ok(around(
+    Ok(enclosed_node(
         info,
         true,
         looking,
@@ -803,13 +707,10 @@ fn emit_negative_look_ahead<'i, 'e>(
     scope: Scope,
     slot: usize,
 ) -> Result<Step<'i, 'e>, CompileError>
-    ensures cap { emitter.new.body.cap ≡ emitter.old.body.cap }
-    ensures full { IfErr result (IsFull emitter.old.body 2) }
-    ensures leads { IfOk result (λ step. (context : TheContext) → LeadsTo context
-        (pat.never (body_pattern context true body.now info.now scope emitter.old.opened.items)) scope.may_keep
-        (λ tree_context. IsExpandedBody tree_context false scope.may_be_absent false (tree_of body.now) (info_of info.now)) emitter.old emitter.new slot step) }
-    ensures refused { IfErr result IsMemoryOrTooComplex }
-    ensures work { IfOk result (λ step. (groups : List InfoTree) → tasks_work groups (listed step.tasks) ≤ 2 + info_work groups scope info.now) }
+    ensures { Begins emitter.old emitter.new slot result scope.may_keep
+        (λ (context : TheContext). pat.never (body_pattern context true body.now info.now scope emitter.old.opened.items))
+        (λ tree_context. IsExpandedBody tree_context false scope.may_be_absent false (tree_of body.now) (info_of info.now))
+        (λ groups. 3 + info_work groups scope info.now) }
 {
     let inside = past_slots(slot, 1)?;
     let begins = begin_atomic_choice(&mut emitter.body, slot)?;
@@ -819,7 +720,7 @@ fn emit_negative_look_ahead<'i, 'e>(
         may_keep: false,
         ..scope
     };
-    Ok(around_body(body, true, info, looking, closing, inside))
+    Ok(enclosed_body(body, true, info, looking, closing, inside))
 }
 
 /// Begins a negative look-behind.
@@ -829,13 +730,10 @@ fn emit_negative_look_behind<'i, 'e>(
     scope: Scope,
     slot: usize,
 ) -> Result<Step<'i, 'e>, CompileError>
-    ensures cap { emitter.new.body.cap ≡ emitter.old.body.cap }
-    ensures full { IfErr result (IsFull emitter.old.body 2) }
-    ensures leads { IfOk result (λ step. (context : TheContext) → LeadsTo context
-        (pat.never (node_pattern context info.now true scope emitter.old.opened.items)) scope.may_keep
-        (λ tree_context. IsExpandedPart tree_context false scope.may_be_absent true (info_of info.now)) emitter.old emitter.new slot step) }
-    ensures refused { IfErr result IsMemoryOrTooComplex }
-    ensures work { IfOk result (λ step. (groups : List InfoTree) → tasks_work groups (listed step.tasks) ≤ 1 + info_work groups scope info.now) }
+    ensures { Begins emitter.old emitter.new slot result scope.may_keep
+        (λ (context : TheContext). pat.never (node_pattern context info.now true scope emitter.old.opened.items))
+        (λ tree_context. IsExpandedPart tree_context false scope.may_be_absent true (info_of info.now))
+        (λ groups. 2 + info_work groups scope info.now) }
 {
     let inside = past_slots(slot, 1)?;
     let begins = begin_atomic_choice(&mut emitter.body, slot)?;
@@ -845,7 +743,7 @@ fn emit_negative_look_behind<'i, 'e>(
         may_keep: false,
         ..scope
     };
-    Ok(around(info, true, looking, closing, inside))
+    Ok(enclosed_node(info, true, looking, closing, inside))
 }
 
 /// Begins a quantifier; the greatest count `usize::MAX` is no bound. A body that is repeated zero times is left out. The error
@@ -858,15 +756,10 @@ fn emit_repeat<'i, 'e>(
     scope: Scope,
     slot: usize,
 ) -> Result<Step<'i, 'e>, CompileError>
-    ensures cap { emitter.new.body.cap ≡ emitter.old.body.cap }
-    ensures full { IfErr result (λ e. (context : TheContext) →
-        IsFull emitter.old.body (room (repeated (node_pattern context child.now false scope emitter.old.opened.items) bounds.0 bounds.1 greedy)) e) }
-    ensures leads { IfOk result (λ step. (context : TheContext) → LeadsTo context
+    ensures { (context : TheContext) → EmitsPattern context
         (repeated (node_pattern context child.now false scope emitter.old.opened.items) bounds.0 bounds.1 greedy) scope.may_keep
-        (λ tree_context. IsExpandedRepeat tree_context scope.may_keep scope.may_be_absent bounds.0 bounds.1 (info_of child.now)) emitter.old emitter.new slot step) }
-    ensures refused { IfErr result (λ e. (unicode : Bool) (groups : List InfoTree) → IsReasonWhere unicode groups
-        (λ tree_context. IsExpandedRepeat tree_context scope.may_keep scope.may_be_absent bounds.0 bounds.1 (info_of child.now)) e) }
-    ensures work { IfOk result (λ step. (groups : List InfoTree) → tasks_work groups (listed step.tasks) ≤ 1 + info_work groups scope child.now) }
+        (λ tree_context. IsExpandedRepeat tree_context scope.may_keep scope.may_be_absent bounds.0 bounds.1 (info_of child.now))
+        (2 + info_work (infos_of context) scope child.now) emitter.old emitter.new slot result }
 {
     let (lo, hi) = bounds;
     if lo > hi {
@@ -894,13 +787,11 @@ fn emit_bounded_repeat<'i, 'e>(
     scope: Scope,
     slot: usize,
 ) -> Result<Step<'i, 'e>, CompileError>
-    ensures cap { emitter.new.body.cap ≡ emitter.old.body.cap }
-    ensures full { IfErr result (IsFull emitter.old.body 2) }
-    ensures leads { IfOk result (λ step. (context : TheContext) → LeadsTo context
-        (pat.repeat (node_pattern context child.now false scope emitter.old.opened.items) bounds.0 (Some bounds.1) greedy) scope.may_keep
-        (λ tree_context. IsExpandedPart tree_context scope.may_keep scope.may_be_absent false (info_of child.now)) emitter.old emitter.new slot step) }
-    ensures refused { IfErr result IsMemoryOrTooComplex }
-    ensures work { IfOk result (λ step. (groups : List InfoTree) → tasks_work groups (listed step.tasks) ≤ 1 + info_work groups scope child.now) }
+    ensures { Begins emitter.old emitter.new slot result scope.may_keep
+        (λ (context : TheContext).
+        pat.repeat (node_pattern context child.now false scope emitter.old.opened.items) bounds.0 (Some bounds.1) greedy)
+        (λ tree_context. IsExpandedPart tree_context scope.may_keep scope.may_be_absent false (info_of child.now))
+        (λ groups. 2 + info_work groups scope child.now) }
 {
     let inside = past_slots(slot, 1)?;
     let head = begin_loop(&mut emitter.body, Insn::BeginRepeat(slot))?;
@@ -910,7 +801,7 @@ fn emit_bounded_repeat<'i, 'e>(
         greedy,
         slot,
     };
-    Ok(around(child, false, scope, closing, inside))
+    Ok(enclosed_node(child, false, scope, closing, inside))
 }
 
 /// Begins an unbounded repeat.
@@ -923,13 +814,10 @@ fn emit_unbounded_repeat<'i, 'e>(
     slot: usize,
 ) -> Result<Step<'i, 'e>, CompileError>
     requires { lo < unset }
-    ensures cap { emitter.new.body.cap ≡ emitter.old.body.cap }
-    ensures full { IfErr result (IsFull emitter.old.body 2) }
-    ensures leads { IfOk result (λ step. (context : TheContext) → LeadsTo context
-        (pat.repeat (node_pattern context child.now false scope emitter.old.opened.items) lo None greedy) scope.may_keep
-        (λ tree_context. IsExpandedPart tree_context scope.may_keep scope.may_be_absent false (info_of child.now)) emitter.old emitter.new slot step) }
-    ensures refused { IfErr result IsMemoryOrTooComplex }
-    ensures work { IfOk result (λ step. (groups : List InfoTree) → tasks_work groups (listed step.tasks) ≤ 1 + info_work groups scope child.now) }
+    ensures { Begins emitter.old emitter.new slot result scope.may_keep
+        (λ (context : TheContext). pat.repeat (node_pattern context child.now false scope emitter.old.opened.items) lo None greedy)
+        (λ tree_context. IsExpandedPart tree_context scope.may_keep scope.may_be_absent false (info_of child.now))
+        (λ groups. 2 + info_work groups scope child.now) }
 {
     let check = past_slots(slot, 1)?;
     let inside = past_slots(slot, 2)?;
@@ -941,7 +829,7 @@ fn emit_unbounded_repeat<'i, 'e>(
         slot,
         check,
     };
-    Ok(around(child, false, scope, closing, inside))
+    Ok(enclosed_node(child, false, scope, closing, inside))
 }
 
 /// Begins a conditional, whose condition has this body: the first branch if it matches, the second if it does not.
@@ -953,16 +841,14 @@ fn emit_conditional<'i, 'e>(
     scope: Scope,
     slot: usize,
 ) -> Result<Step<'i, 'e>, CompileError>
-    ensures cap { emitter.new.body.cap ≡ emitter.old.body.cap }
-    ensures full { IfErr result (IsFull emitter.old.body 2) }
-    ensures leads { IfOk result (λ step. (context : TheContext) → LeadsTo context
-        (pat.conditional (body_pattern context false body.now condition.now scope emitter.old.opened.items) (node_pattern context branches.entry.0.now false scope emitter.old.opened.items)
-        (node_pattern context branches.entry.1.now false scope emitter.old.opened.items)) scope.may_keep
-        (λ tree_context. IsExpandedConditional tree_context scope.may_keep scope.may_be_absent (tree_of body.now) (info_of condition.now) (info_of branches.entry.0.now) (info_of branches.entry.1.now))
-        emitter.old emitter.new slot step) }
-    ensures refused { IfErr result IsMemoryOrTooComplex }
-    ensures work { IfOk result (λ step. (groups : List InfoTree) → tasks_work groups (listed step.tasks) ≤
-        9 + (info_work groups scope condition.now + (info_work groups scope branches.entry.0.now + info_work groups scope branches.entry.1.now))) }
+    ensures { Begins emitter.old emitter.new slot result scope.may_keep
+        (λ (context : TheContext). pat.conditional (body_pattern context false body.now condition.now scope emitter.old.opened.items)
+        (node_pattern context branches.entry.0.now false scope emitter.old.opened.items)
+        (node_pattern context branches.entry.1.now false scope emitter.old.opened.items))
+        (λ tree_context. IsExpandedConditional tree_context scope.may_keep scope.may_be_absent (tree_of body.now) (info_of condition.now)
+        (info_of branches.entry.0.now) (info_of branches.entry.1.now))
+        (λ groups. 10 + (info_work groups scope condition.now
+        + (info_work groups scope branches.entry.0.now + info_work groups scope branches.entry.1.now))) }
 {
     let (yes, no) = branches;
     let inside = past_slots(slot, 1)?;
@@ -999,14 +885,10 @@ fn emit_call<'i, 'e>(
     scope: Scope,
     slot: usize,
 ) -> Result<Step<'i, 'e>, CompileError>
-    ensures cap { emitter.new.body.cap ≡ emitter.old.body.cap }
-    ensures full { IfErr result (IsFull emitter.old.body (room (info_call (infos_of context.now) scope.calls_left emitter.old.opened.items target))) }
-    ensures leads { IfOk result (LeadsTo context.now
+    ensures { EmitsPattern context.now
         (info_call (infos_of context.now) scope.calls_left emitter.old.opened.items target) scope.may_keep
-        (λ tree_context. IsExpandedTarget tree_context scope.may_keep scope.may_be_absent (infos_of context.now) target) emitter.old emitter.new slot) }
-    ensures refused { IfErr result (IsReasonWhere context.now.unicode (infos_of context.now)
-        (λ tree_context. IsExpandedTarget tree_context scope.may_keep scope.may_be_absent (infos_of context.now) target)) }
-    ensures work { IfOk result (λ step. tasks_work (infos_of context.now) (listed step.tasks) ≤ call_work (infos_of context.now) scope.calls_left target) }
+        (λ tree_context. IsExpandedTarget tree_context scope.may_keep scope.may_be_absent (infos_of context.now) target)
+        (1 + call_work (infos_of context.now) scope.calls_left target) emitter.old emitter.new slot result }
 {
     if target >= context.groups.len() {
         return Err(CompileError::SubroutineCallTargetNotFound(format!(in context.alloc;
@@ -1026,7 +908,7 @@ fn emit_call<'i, 'e>(
     Ok(leads_to(
         slot,
         Tasks::Two {
-            first: node(body, called),
+            first: node_task(body, called),
             then: Task::EndCall,
         },
     ))
@@ -1036,7 +918,7 @@ fn emit_call<'i, 'e>(
 fn is_at_call_limit(opened: &[usize], target: usize) -> bool
     ensures { result ≡ is_full_of opened.now target }
 {
-    opened.iter().filter(|k| **k == target).count() >= OPEN_CALLS_OF_ONE
+    opened.iter().filter(|k| **k == target).count() >= MAX_OPEN_CALLS_PER_GROUP
 }
 
 /// Begins an absent repeater. The error is `FeatureNotYetSupported` inside of another one.
@@ -1047,14 +929,10 @@ fn emit_absent<'i, 'e>(
     scope: Scope,
     slot: usize,
 ) -> Result<Step<'i, 'e>, CompileError>
-    ensures cap { emitter.new.body.cap ≡ emitter.old.body.cap }
-    ensures full { IfErr result (IsFull emitter.old.body 2) }
-    ensures leads { IfOk result (λ step. (context : TheContext) → LeadsTo context
+    ensures { (context : TheContext) → EmitsPattern context
         (pat.absent (node_pattern context child.now false scope emitter.old.opened.items)) scope.may_keep
-        (λ tree_context. IsExpandedAbsent tree_context scope.may_be_absent (info_of child.now)) emitter.old emitter.new slot step) }
-    ensures refused { IfErr result (λ e. (unicode : Bool) (groups : List InfoTree) → IsReasonWhere unicode groups
-        (λ tree_context. IsExpandedAbsent tree_context scope.may_be_absent (info_of child.now)) e) }
-    ensures work { IfOk result (λ step. (groups : List InfoTree) → tasks_work groups (listed step.tasks) ≤ 1 + info_work groups scope child.now) }
+        (λ tree_context. IsExpandedAbsent tree_context scope.may_be_absent (info_of child.now))
+        (2 + info_work (infos_of context) scope child.now) emitter.old emitter.new slot result }
 {
     if !scope.may_be_absent {
         return Err(not_supported(context.alloc, "absent operator"));
@@ -1073,5 +951,5 @@ fn emit_absent<'i, 'e>(
         start: slot,
         limit,
     };
-    Ok(around(child, false, within, closing, inside))
+    Ok(enclosed_node(child, false, within, closing, inside))
 }

@@ -1,19 +1,18 @@
 //! Instructions of the nodes without children.
 
-ghost use Rattle.std.specs.Prelude.{◌≡◌, ◌*◌, ℕ, List, slice_index, chars, ◌&&◌, not, true, false, IfOk, IfErr, IsTrue, None, length};
+ghost use Rattle.std.specs.Prelude.{◌≡◌, ◌*◌, ℕ, List, slice_index, chars, ◌&&◌, not, true, false, IfOk, IfErr, None, length};
 ghost use Rattle.fancy_regex_tree.specs.Tree as tree;
 ghost use Rattle.fancy_regex_tree.specs.Tree.{tree_of};
 ghost use Rattle.fancy_regex_analysis.specs.AnalysisErrors.{is_too_complex};
 ghost use Rattle.fancy_regex_desugar.specs.CorePatterns.{CorePattern, keep_out, read, literal};
-ghost use Rattle.fancy_regex_desugar.specs.ProgramSizes.{room};
 ghost use Rattle.fancy_regex_desugar.specs.Unfolded.{Written};
-ghost use Rattle.fancy_regex_compiler.specs.Extents.{IsFull};
+ghost use Rattle.fancy_regex_compiler.specs.Extents.{Writes};
 ghost use Rattle.fancy_regex_compiler.specs.Known.{front_of};
 ghost use Rattle.fancy_regex_program.specs.Ops as op;
 ghost use Rattle.fancy_regex_program.specs.Ops.{op_of};
 ghost use Rattle.fancy_regex_compiler.specs.Refusals.{IsMissing, IsMissingAs, IsMemoryOrTooComplex, IsNoVerb, IsNoGroup, IsNoSingle, IsNoLeaf};
 ghost use Rattle.fancy_regex_program.specs.Shapes.{IsAllowed};
-ghost use Rattle.fancy_regex_compiler.specs.Writing.{Wrote, IsInsn};
+ghost use Rattle.fancy_regex_compiler.specs.Writing.{IsInsn};
 
 use crate::class_table::ClassTable;
 use crate::emitter::{CompileContext, Emitter, Scope, first_slot};
@@ -31,12 +30,10 @@ pub(crate) fn emit_leaf(
     leaf: &Expr,
     scope: Scope,
 ) -> Result<(), CompileError>
-    ensures cap { emitter.new.body.cap ≡ emitter.old.body.cap }
-    ensures full { IfErr result (λ e. (call : ℕ → CorePattern) (n : ℕ) (us : List Written) →
-        IsFull emitter.old.body (room (front_of call n (tree_of leaf.now) us)) e) }
-    ensures wrote { IfOk result (λ _. (call : ℕ → CorePattern) (n slot : ℕ) (us : List Written) →
-        Wrote context.now.unicode context.now.whole emitter.old emitter.new slot slot (front_of call n (tree_of leaf.now) us)) }
-    ensures allowed { IfOk result (λ _. (call : ℕ → CorePattern) (n : ℕ) (us : List Written) → IsAllowed context.now.unicode scope.may_keep (front_of call n (tree_of leaf.now) us)) }
+    ensures writes { (call : ℕ → CorePattern) (n : ℕ) (us : List Written) →
+        Writes context.now emitter.old emitter.new result (front_of call n (tree_of leaf.now) us) }
+    ensures allowed { IfOk result (λ _. (call : ℕ → CorePattern) (n : ℕ) (us : List Written) →
+        IsAllowed context.now.unicode scope.may_keep (front_of call n (tree_of leaf.now) us)) }
     ensures refused { IfErr result (IsNoLeaf context.now.unicode (length context.now.groups.now.items) scope.may_keep (tree_of leaf.now)) }
 {
     match leaf {
@@ -70,9 +67,7 @@ fn emit_literal(
     first: char,
     casei: bool,
 ) -> Result<(), CompileError>
-    ensures cap { emitter.new.body.cap ≡ emitter.old.body.cap }
-    ensures full { IfErr result (IsFull emitter.old.body (room (read (literal first casei)))) }
-    ensures wrote { IfOk result (λ _. (slot : ℕ) → Wrote context.now.unicode context.now.whole emitter.old emitter.new slot slot (read (literal first casei))) }
+    ensures writes { Writes context.now emitter.old emitter.new result (read (literal first casei)) }
     ensures refused { IfErr result IsMemoryOrTooComplex }
 {
     if casei {
@@ -91,9 +86,7 @@ fn emit_keep_out(
     emitter: &mut Emitter,
     scope: Scope,
 ) -> Result<(), CompileError>
-    ensures cap { emitter.new.body.cap ≡ emitter.old.body.cap }
-    ensures full { IfErr result (IsFull emitter.old.body (room keep_out)) }
-    ensures wrote { IfOk result (λ _. (slot : ℕ) → Wrote context.now.unicode context.now.whole emitter.old emitter.new slot slot keep_out) }
+    ensures writes { Writes context.now emitter.old emitter.new result keep_out }
     ensures allowed { IfOk result (λ _. scope.may_keep ≡ true) }
     ensures refused { IfErr result (IsNoLeaf context.now.unicode (length context.now.groups.now.items) scope.may_keep tree.keep_out) }
 {
@@ -185,7 +178,8 @@ fn exists_of(
     ensures level { IfOk result (λ insn. level ≡ None) }
     ensures op { IfOk result (λ insn. op_of insn ≡ op.exists (2 * group)) }
     ensures full { IfErr result (λ e. is_too_complex e ≡ false) }
-    ensures refused { IfErr result (IsNoSingle context.now.unicode (length context.now.groups.now.items) (tree.backref_exists group level)) }
+    ensures refused { IfErr result (IsNoSingle context.now.unicode (length context.now.groups.now.items)
+        (tree.backref_exists group level)) }
 {
     match level {
         None => {

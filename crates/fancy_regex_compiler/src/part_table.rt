@@ -90,7 +90,8 @@ impl PartTable {
         parts: &[Info<'_>],
         unicode: bool,
     ) -> Result<Option<Arc<Delegate>>, CompileError>
-        ensures value { IfOk result (λ found. IsDelegateIfAny unicode false (concat (row_trees parts.now)) (option_map (λ d. d.value) found)) }
+        ensures value { IfOk result (λ found.
+            IsDelegateIfAny unicode false (concat (row_trees parts.now)) (option_map (λ d. d.value) found)) }
         ensures full { IfErr result (λ e. is_too_complex e ≡ false) }
         ensures refused { IfErr result (IsPartCause unicode false (concat (row_trees parts.now))) }
     {

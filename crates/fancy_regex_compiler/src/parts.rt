@@ -4,7 +4,6 @@
 ghost use Rattle.std.specs.Prelude.{◌≡◌, true, false, count_by, map, IfOk, IfErr};
 ghost use Rattle.fancy_regex_tree.specs.Tree.{tree_of};
 ghost use Rattle.fancy_regex_tree.specs.Traversal.{tree_at};
-ghost use Rattle.fancy_regex_info.specs.Analysis.{analysis};
 ghost use Rattle.fancy_regex_info.specs.Infos.{info_of, properties_in};
 ghost use Rattle.fancy_regex_desugar.specs.Delegates as delegates;
 ghost use Rattle.fancy_regex_analysis.specs.AnalysisErrors.{is_too_complex};

@@ -8,12 +8,12 @@ use fancy_regex_tree::Expr;
 /// A part of a program that is still to be emitted.
 #[derive(Clone, Copy)]
 pub(crate) enum Task<'i, 'e> {
-    /// A node; with `behind` it first goes back by its own length.
+    /// A node; with `steps_back` it first goes back by its own length.
     Node {
         /// The node.
         info: &'i Info<'e>,
         /// Whether it goes back first.
-        behind: bool,
+        steps_back: bool,
         /// Its context.
         scope: Scope,
     },
@@ -49,12 +49,12 @@ pub(crate) enum Task<'i, 'e> {
         /// Their context.
         scope: Scope,
     },
-    /// The branches of an alternation; with `behind` each first goes back by its own length.
+    /// The branches of an alternation; with `steps_back` each first goes back by its own length.
     Branches {
         /// The branches.
         branches: &'i [Info<'e>],
         /// Whether each goes back first.
-        behind: bool,
+        steps_back: bool,
         /// Their context.
         scope: Scope,
     },
@@ -67,7 +67,7 @@ pub(crate) enum Task<'i, 'e> {
         /// The other branches.
         branches: &'i [Info<'e>],
         /// Whether each goes back first.
-        behind: bool,
+        steps_back: bool,
         /// Their context.
         scope: Scope,
     },

@@ -1,9 +1,9 @@
 //! Appending instructions to a program. The errors are `PatternTooComplex` where the cap is reached, and `Memory`.
 
-ghost use Rattle.std.specs.Prelude.{◌≡◌, ◌≤◌, ◌+◌, false, length, [], OnOk, IfErr};
+ghost use Rattle.std.specs.Prelude.{◌≡◌, ◌≤◌, false, length, [], OnOk, IfErr};
 ghost use Rattle.fancy_regex_analysis.specs.AnalysisErrors.{is_too_complex};
 ghost use Rattle.fancy_regex_program.specs.Caps.{cap_of};
-ghost use Rattle.fancy_regex_compiler.specs.Extents.{extent, IsFull};
+ghost use Rattle.fancy_regex_compiler.specs.Extents.{extent, Appends};
 ghost use Rattle.fancy_regex_program.specs.Ops.{op_of, ops_of};
 ghost use Rattle.fancy_regex_compiler.specs.Refusals.{IsMemoryOrTooComplex};
 ghost use Rattle.fancy_regex_compiler.specs.Writing.{draft_of, with_op, with_char, closed_draft, added, patched, ended, ends_at};
@@ -39,11 +39,7 @@ impl ProgramBuilder {
 
     /// Appends an instruction before the pending literal text.
     pub fn push_insn(&mut self, insn: Insn) -> Result<(), CompileError>
-        ensures draft { OnOk result (draft_of self.new ≡ with_op (op_of insn) (draft_of self.old)) }
-        ensures cap { self.new.cap ≡ self.old.cap }
-        ensures long { OnOk result (extent (draft_of self.new) ≡ extent (draft_of self.old) + 1) }
-        ensures full { IfErr result (IsFull self.old 1) }
-        ensures refused { IfErr result IsMemoryOrTooComplex }
+        ensures { Appends (with_op (op_of insn) (draft_of self.old)) 1 self.old self.new result }
     {
         if self.insns.len() >= self.cap {
             return Err(CompileError::PatternTooComplex);
@@ -65,11 +61,7 @@ impl ProgramBuilder {
 
     /// Makes the pending literal text an instruction, if there is some.
     pub fn flush(&mut self) -> Result<(), CompileError>
-        ensures draft { OnOk result (draft_of self.new ≡ closed_draft (draft_of self.old)) }
-        ensures cap { self.new.cap ≡ self.old.cap }
-        ensures long { OnOk result (extent (draft_of self.new) ≡ extent (draft_of self.old)) }
-        ensures full { IfErr result (IsFull self.old 0) }
-        ensures refused { IfErr result IsMemoryOrTooComplex }
+        ensures { Appends (closed_draft (draft_of self.old)) 0 self.old self.new result }
     {
         if self.pending_literal.is_empty() {
             return Ok(());
@@ -82,11 +74,7 @@ impl ProgramBuilder {
 
     /// Appends an instruction after the pending literal text.
     pub fn flush_and_push(&mut self, insn: Insn) -> Result<(), CompileError>
-        ensures draft { OnOk result (draft_of self.new ≡ added (op_of insn) (draft_of self.old)) }
-        ensures cap { self.new.cap ≡ self.old.cap }
-        ensures long { OnOk result (extent (draft_of self.new) ≡ extent (draft_of self.old) + 1) }
-        ensures full { IfErr result (IsFull self.old 1) }
-        ensures refused { IfErr result IsMemoryOrTooComplex }
+        ensures { Appends (added (op_of insn) (draft_of self.old)) 1 self.old self.new result }
     {
         self.flush()?;
         self.push_insn(insn)?;

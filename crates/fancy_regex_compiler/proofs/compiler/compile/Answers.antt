@@ -10,7 +10,7 @@ use Rattle.fancy_regex_compiler.proofs.CapLemmas.{past_more}
 use Rattle.fancy_regex_compiler.proofs.ClassLemmas.{classes_are_read}
 use Rattle.fancy_regex_compiler.proofs.KnownLemmas.{count_is, start_is}
 use Rattle.fancy_regex_compiler.proofs.LengthLemmas.{made_short}
-use Rattle.fancy_regex_compiler.proofs.WholeLemmas.{made_from, pat_gathered}
+use Rattle.fancy_regex_compiler.proofs.WholeLemmas.{made_from, pat_gathered, clear_is_writable}
 use Rattle.fancy_regex_desugar.specs.ProgramSizes.{room}
 use Rattle.fancy_regex_desugar.proofs.ProgramSizeProofs.{pattern_size_is_bounded}
 use Rattle.fancy_regex_analysis.proofs.PartErrorLemmas.{gives}
@@ -19,7 +19,7 @@ use Rattle.fancy_regex_program.specs.Shapes.{IsAllowed}
 use Rattle.fancy_regex_compiler.specs.Refusals.{IsClear, IsRefusal}
 use Rattle.fancy_regex_info.specs.Analysis.{analysis}
 use Rattle.fancy_regex_info.specs.declared.error.CompileError.{CompileError}
-use Rattle.fancy_regex_compiler.proofs.RefusalLemmas.{hands}
+use Rattle.fancy_regex_compiler.proofs.RefusalLemmas.{passed_on}
 use Rattle.fancy_regex_compiler.proofs.TreeContextLemmas.{told_of, refusal}
 use Rattle.fancy_regex_compiler.proofs.compiler.compile.Goals as goal
 
@@ -81,11 +81,14 @@ returns-in_err-prog-clause-refused c =
     let u = c.args.options.now.unicode in
     let P = λ (e : CompileError). (explicit : Bool) (t : Tree) → x ≡ analysis explicit t → IsClear (pattern_in explicit t).groups t →
     IsRefusal c.args.options.now.bytes_mode u (pattern_in explicit t).groups t e in
-    hands c.from_residual-in_err-prog.result c.in_err-prog.field-0.0 P c.from_residual-in_err-prog.ensures.1
+    passed_on c.from_residual-in_err-prog.result c.in_err-prog.field-0.0 P c.from_residual-in_err-prog.ensures.1
     (λ explicit t is clear.
     let starts : n ≡ (pattern_in explicit t).first_group = c.start_group-whole.ensures ∙ ap (λ y. (properties_in y).start) is ∙ start_is explicit t in
     let whole : not (n == 0) ≡ not explicit = whole_is n explicit t starts in
     let gathered : map info_at gs ≡ groups_in (not explicit) x =
     c.in_ok-add_groups.ensures ∙ ap (λ xs. map info_at xs ++ groups_in (not (n == 0)) x) c.new-groups.ensures.items ∙ ap (λ b. groups_in b x) whole in
     refusal c.args.options.now.bytes_mode u (pattern_in explicit t).groups t c.in_err-prog.field-0.0
-    (told_of u explicit t (map info_at gs) x c.in_err-prog.field-0.0 is gathered clear c.in_err-prog.ensures.refused))
+    (told_of u explicit t (map info_at gs) x c.in_err-prog.field-0.0 is gathered clear
+    (c.in_err-prog.ensures.refused
+    (clear_is_writable u (not (n == 0)) explicit t (map info_at gs) x (length gs)
+    (c.in_ok-add_groups.ensures ∙ ap (λ xs. map info_at xs ++ groups_in (not (n == 0)) x) c.new-groups.ensures.items) whole is clear (sym (length-map gs info_at))))))

@@ -1,13 +1,16 @@
-use Rattle.std.proofs.Common.{◌≡◌, ◌+◌, ap, sym, subst, map, length, true, false}
+use Rattle.std.proofs.Common.{◌≡◌, ◌+◌, ◌∙◌, ap, sym, subst, map, length, true, false, true≢false}
 use Rattle.fancy_regex_desugar.specs.ProgramSizes.{room}
 use Rattle.fancy_regex_analysis.specs.AnalysisErrors.{is_too_complex}
 use Rattle.fancy_regex_info.specs.Infos.{info_of}
 use Rattle.fancy_regex_info.specs.declared.error.CompileError.{CompileError}
 use Rattle.fancy_regex_program.specs.Caps.{IsPastCap, IsWithinCap}
+use Rattle.fancy_regex_program.specs.Ops.{ops_of}
+use Rattle.fancy_regex_program.specs.ValidPrograms.{IsValidProgram}
 use Rattle.fancy_regex_compiler.specs.Known.{pat_with}
 use Rattle.fancy_regex_compiler.specs.Writing.{info_at}
 use Rattle.fancy_regex_compiler.specs.Refusals.{IsReasonWhere, IsExpandedPart}
 use Rattle.fancy_regex_compiler.proofs.CapLemmas.{within, past, handed}
+use Rattle.fancy_regex_compiler.proofs.WholeLemmas.{whole_is_valid}
 use Rattle.fancy_regex_compiler.proofs.compiler.compile_groups.Goals as goal
 
 pub returns-clause-cap : goal.returns-clause-cap
@@ -26,5 +29,17 @@ pub returns-in-Err-clause-refused : goal.returns-in-Err-clause-refused
 returns-in-Err-clause-refused c =
     let infos = map info_at c.args.groups.now.items in
     let Reason = IsReasonWhere c.args.options.now.unicode infos (λ tree_context. IsExpandedPart tree_context true true false (info_of c.args.info.now)) in
+    λ _.
     subst Reason (sym c.capped_error.ensures)
     (handed Reason (λ tree_context analyzed part. tt) c.args.options.now.max_prog_size c.in-Err.error c.in-Err.ensures.refused)
+
+-- The program of a pattern that can be written is valid.
+pub returns-then-not-is_valid_program-clause-refused : goal.returns-then-not-is_valid_program-clause-refused
+returns-then-not-is_valid_program-clause-refused c = λ writable.
+    let program = c.in-Ok.written in
+    let pattern = pat_with (map info_at c.args.groups.now.items) (info_of c.args.info.now) in
+    let valid : IsValidProgram (ops_of program.0.items) program.1 =
+    whole_is_valid c.args.options.now.unicode c.args.whole c.args.options.now.anchored (length c.args.groups.now.items) pattern program.0.items program.1
+    c.in-Ok.ensures.wrote c.in-Ok.ensures.allowed writable in
+    let complete = rw c.deref.ensures.value at c.is_valid_program.ensures.complete in
+    λ tree_context analyzed part. true≢false (sym (complete valid) ∙ c.if-not-is_valid_program.true)

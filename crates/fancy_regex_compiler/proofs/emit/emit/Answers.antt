@@ -1,13 +1,13 @@
-use Rattle.std.proofs.Common.{rules, ◌≡◌, ℕ, ◌+◌, ◌<◌, ◌≤◌, List, [], ◌∷◌, ◌++◌, false, refl, sym, ap, ◌∙◌, subst, arith}
+use Rattle.std.proofs.Common.{rules, ◌≡◌, ◌+◌, List, [], ◌∷◌, ◌++◌, false, refl, sym, ap, ◌∙◌, subst, arith}
 use Rattle.fancy_regex_desugar.specs.ProgramSizes.{room}
 use Rattle.fancy_regex_info.specs.Infos.{info_of}
 use Rattle.fancy_regex_compiler.specs.Refusals.{TreeContext, IsExpandedPart, IsReasonWhere}
 use Rattle.fancy_regex_program.specs.Shapes.{IsAllowed}
 use Rattle.fancy_regex_compiler.specs.Tasks.{Leads, whole_pattern, past_pattern, progress, listed, tasks_work, AreAllowedTasks, AreExpandedTasks}
-use Rattle.fancy_regex_compiler.specs.Writing.{draft_of, infos_of}
+use Rattle.fancy_regex_compiler.specs.Writing.{infos_of}
 use Rattle.fancy_regex_compiler.specs.declared.task.Task.{Task}
 use Rattle.fancy_regex_compiler.specs.declared.task.Task.TheVariants as task
-use Rattle.fancy_regex_compiler.proofs.RefusalLemmas.{hands}
+use Rattle.fancy_regex_compiler.proofs.RefusalLemmas.{passed_on}
 use Rattle.fancy_regex_compiler.proofs.RoomLemmas.{late}
 use Rattle.fancy_regex_compiler.proofs.StepLemmas.{leads_begin, leads_on, leads_there, last_room, expanded_second, work_both}
 use Rattle.fancy_regex_compiler.proofs.emit.emit.Goals as goal
@@ -74,7 +74,7 @@ returns-in_err-step-clause-refused c =
     let gs = infos_of c.args.context.now in
     let r = c.from_residual-in_err-step in
     let e = c.in_err-step.field-0.0 in
-    hands r.result e (IsReasonWhere c.args.context.now.unicode gs (λ tree_context. IsExpandedPart tree_context c.args.scope.may_keep c.args.scope.may_be_absent false (info_of c.args.info.now)))
+    passed_on r.result e (IsReasonWhere c.args.context.now.unicode gs (λ tree_context. IsExpandedPart tree_context c.args.scope.may_keep c.args.scope.may_be_absent false (info_of c.args.info.now)))
     r.ensures.1
     (λ tree_context s h.
     let all : AreExpandedTasks tree_context (c.pop.new.self.items ++ c.in-Some.task ∷ []) =

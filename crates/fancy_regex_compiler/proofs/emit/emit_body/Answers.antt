@@ -6,7 +6,7 @@ use Rattle.fancy_regex_tree.specs.Tree.{Tree, tree_of}
 use Rattle.fancy_regex_desugar.specs.Delegates.{is_delegated}
 use Rattle.fancy_regex_info.specs.Infos.{info_of}
 use Rattle.fancy_regex_program.specs.Parts.{IsDelegateOf, IsDelegateIfAny}
-use Rattle.fancy_regex_compiler.specs.Refusals.{IsReasonWhere, IsExpandedBody}
+use Rattle.fancy_regex_compiler.specs.Refusals.{IsExpandedBody}
 use Rattle.fancy_regex_compiler.specs.Tasks.{listed, node_pattern, tasks_work}
 use Rattle.fancy_regex_compiler.specs.Writing.{infos_of}
 use Rattle.fancy_regex_program.specs.declared.delegate.Delegate.{Delegate}
@@ -15,9 +15,8 @@ use Rattle.fancy_regex_compiler.specs.declared.task.Step.{Step}
 use Rattle.fancy_regex_compiler.specs.declared.task.Task.{Task}
 use Rattle.fancy_regex_compiler.specs.declared.task.Tasks.TheVariants as tasks
 use Rattle.fancy_regex_compiler.proofs.DelegateSteps.{leads_delegate, leads_written, delegated_room}
+use Rattle.fancy_regex_compiler.proofs.OutcomeLemmas.{never_full, emits_error, emits_want}
 use Rattle.fancy_regex_compiler.proofs.PartLemmas.{part_reason}
-use Rattle.fancy_regex_compiler.proofs.RefusalLemmas.{hands}
-use Rattle.fancy_regex_compiler.proofs.RoomLemmas.{late}
 use Rattle.fancy_regex_compiler.proofs.emit.emit_body.Goals as goal
 
 -- what is known of the part that is there, or is not
@@ -29,41 +28,47 @@ none_is : (u for_any : Bool) (t : Tree) {o : Option (Arc Delegate Global)} → o
     IsDelegateIfAny u for_any t (option_map (λ (x : Arc Delegate Global). x.value) o) → is_delegated for_any t ≡ false
 none_is u for_any t is h = subst (λ o. IsDelegateIfAny u for_any t (option_map (λ (x : Arc Delegate Global). x.value) o)) is h
 
-pub returns-in_ok-flush_and_push-in-Some-clause-leads : goal.returns-in_ok-flush_and_push-in-Some-clause-leads
-returns-in_ok-flush_and_push-in-Some-clause-leads c =
-    let context = c.args.context.now in
-    let old = c.args.emitter.now in
-    let new : Emitter = record { body = c.flush_and_push.new.self; classes = old.classes; opened = old.opened; parts = c.delegate.new.self } in
-    leads_delegate context old new c.args.slot c.args.for_any (tree_of c.args.body.now) (node_pattern context c.args.info.now false c.args.scope old.opened.items) c.in-Some.part (delegate_is c.args.context.now.unicode c.args.for_any (tree_of c.args.body.now) c.in-Some.is c.in_ok-part.ensures.value)
-    c.in_ok-flush_and_push-in-Some.ensures.draft refl c.args.scope.may_keep
-    (λ tree_context. IsExpandedBody tree_context c.args.scope.may_keep c.args.scope.may_be_absent false (tree_of c.args.body.now) (info_of c.args.info.now))
-    c.leads_to.result c.leads_to.ensures
+pub returns-in_ok-flush_and_push-in-Some : goal.returns-in_ok-flush_and_push-in-Some
+returns-in_ok-flush_and_push-in-Some c = record {
+  cap = c.in_ok-flush_and_push-in-Some.ensures.cap;
+  leads =
+      let context = c.args.context.now in
+      let old = c.args.emitter.now in
+      let new : Emitter = record { body = c.flush_and_push.new.self; classes = old.classes; opened = old.opened; parts = c.delegate.new.self } in
+      leads_delegate context old new c.args.slot c.args.for_any (tree_of c.args.body.now) (node_pattern context c.args.info.now false c.args.scope old.opened.items) c.in-Some.part (delegate_is c.args.context.now.unicode c.args.for_any (tree_of c.args.body.now) c.in-Some.is c.in_ok-part.ensures.value)
+      c.in_ok-flush_and_push-in-Some.ensures.draft refl c.args.scope.may_keep
+      (λ tree_context. IsExpandedBody tree_context c.args.scope.may_keep c.args.scope.may_be_absent false (tree_of c.args.body.now) (info_of c.args.info.now))
+      c.leads_to.result c.leads_to.ensures;
+  work = let this = ap (λ (s : Step). tasks_work (infos_of c.args.context.now) (listed s.tasks)) c.leads_to.ensures in omega (arith, this);
+  full = tt;
+  refused = tt;
+}
 
-pub returns-in_err-flush_and_push-in-Some-clause-full : goal.returns-in_err-flush_and_push-in-Some-clause-full
-returns-in_err-flush_and_push-in-Some-clause-full c =
+pub returns-in_err-flush_and_push-in-Some : goal.returns-in_err-flush_and_push-in-Some
+returns-in_err-flush_and_push-in-Some c =
     let context = c.args.context.now in
     let rooms = delegated_room c.args.for_any (tree_of c.args.body.now) (node_pattern context c.args.info.now false c.args.scope c.args.emitter.now.opened.items) (delegate_is c.args.context.now.unicode c.args.for_any (tree_of c.args.body.now) c.in-Some.is c.in_ok-part.ensures.value).delegated in
-    late c.from_residual-in_err-flush_and_push-in-Some.result c.in_err-flush_and_push-in-Some.field-0.0 _ _ c.from_residual-in_err-flush_and_push-in-Some.ensures.1
-    c.in_err-flush_and_push-in-Some.ensures.full (λ lt. omega (arith, lt, rooms))
+    let e = c.in_err-flush_and_push-in-Some in
+    emits_want c.from_residual-in_err-flush_and_push-in-Some.result e.field-0.0 c.from_residual-in_err-flush_and_push-in-Some.ensures.1 e.ensures.cap
+    (λ too. let lt = e.ensures.full too in omega (arith, lt, rooms)) e.ensures.refused
 
-pub returns-in-None-clause-leads : goal.returns-in-None-clause-leads
-returns-in-None-clause-leads c =
-    let h = leads_written c.args.context.now c.args.emitter.now c.args.slot c.args.for_any c.args.body c.args.info c.args.scope c.leads_to-in-None.result (none_is c.args.context.now.unicode c.args.for_any (tree_of c.args.body.now) c.in-None.is c.in_ok-part.ensures.value)
-    (c.leads_to-in-None.ensures ∙ ap (λ (t : Task). let s : Step = record { slot = c.args.slot; tasks = tasks.One t } in s) c.node.ensures) in
-    record { ends = h.ends; allowed = h.allowed; fits = h.fits; stands = h.stands }
+pub returns-in-None : goal.returns-in-None
+returns-in-None c =
+    let step_is = c.leads_to-in-None.ensures ∙ ap (λ (t : Task). let s : Step = record { slot = c.args.slot; tasks = tasks.One t } in s) c.node_task.ensures in
+    let h = leads_written c.args.context.now c.args.emitter.now c.args.slot c.args.for_any c.args.body c.args.info c.args.scope c.leads_to-in-None.result
+    (none_is c.args.context.now.unicode c.args.for_any (tree_of c.args.body.now) c.in-None.is c.in_ok-part.ensures.value) step_is in
+    record {
+      cap = refl;
+      leads = record { ends = h.ends; allowed = h.allowed; fits = h.fits; stands = h.stands };
+      work = let this = ap (λ (s : Step). tasks_work (infos_of c.args.context.now) (listed s.tasks)) step_is in omega (arith, this);
+      full = tt;
+      refused = tt;
+    }
 
-pub returns-in-None-clause-work : goal.returns-in-None-clause-work
-returns-in-None-clause-work c groups =
-    let this = ap (λ (s : Step). tasks_work groups (listed s.tasks))
-    (c.leads_to-in-None.ensures ∙ ap (λ (t : Task). let s : Step = record { slot = c.args.slot; tasks = tasks.One t } in s) c.node.ensures) in
-    omega (arith, this)
-
-pub returns-in_err-part-clause-refused : goal.returns-in_err-part-clause-refused
-returns-in_err-part-clause-refused c =
+pub returns-in_err-part : goal.returns-in_err-part
+returns-in_err-part c =
     let context = c.args.context.now in
-    let gs = infos_of context in
     let t = tree_of c.args.body.now in
-    let r = c.from_residual in
-    let e = c.in_err-part.field-0.0 in
-    hands r.result e (IsReasonWhere context.unicode gs (λ tree_context. IsExpandedBody tree_context c.args.scope.may_keep c.args.scope.may_be_absent false t (info_of c.args.info.now))) r.ensures.1
-    (λ tree_context s h. part_reason tree_context c.args.scope.may_keep c.args.scope.may_be_absent false context.unicode gs c.args.for_any t (info_of c.args.info.now) e s h c.in_err-part.ensures.refused)
+    let e = c.in_err-part in
+    emits_error c.from_residual.result e.field-0.0 c.from_residual.ensures.1 refl (never_full e.field-0.0 e.ensures.full)
+    (λ tree_context s h. part_reason tree_context c.args.scope.may_keep c.args.scope.may_be_absent false context.unicode (infos_of context) c.args.for_any t (info_of c.args.info.now) e.field-0.0 s h e.ensures.refused)

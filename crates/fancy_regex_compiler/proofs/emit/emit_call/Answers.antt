@@ -11,15 +11,16 @@ use Rattle.fancy_regex_compiler.specs.declared.emitter.Emitter.{Emitter}
 use Rattle.fancy_regex_compiler.specs.declared.emitter.Scope.{Scope}
 use Rattle.fancy_regex_compiler.specs.declared.task.Step.{Step}
 use Rattle.fancy_regex_compiler.proofs.BranchSteps.{leads_call, leads_fail}
-use Rattle.fancy_regex_compiler.proofs.RoomLemmas.{late, room_fail}
+use Rattle.fancy_regex_compiler.proofs.OutcomeLemmas.{emits_want}
+use Rattle.fancy_regex_compiler.proofs.RoomLemmas.{room_fail}
 use Rattle.fancy_regex_compiler.proofs.RowLemmas.{call_full, call_none}
 use Rattle.fancy_regex_compiler.proofs.StepLemmas.{with_node}
 use Rattle.fancy_regex_compiler.proofs.WorkLemmas.{body_less}
 use Rattle.fancy_regex_compiler.proofs.emit.emit_call.Goals as goal
 use Rattle.fancy_regex_compiler.proofs.emit.emit_call.Goals.{then-is_at_call_limit-via-then-is_at_call_limit, then-is_at_call_limit-via-else-is_at_call_limit+then-scope-eq0}
 
-pub returns-then-is_at_call_limit-clause-leads : goal.returns-then-is_at_call_limit-clause-leads
-returns-then-is_at_call_limit-clause-leads c =
+pub returns-then-is_at_call_limit : goal.returns-then-is_at_call_limit
+returns-then-is_at_call_limit c =
     let context = c.args.context.now in
     let groups = infos_of context in
     let opened = c.args.emitter.now.opened.items in
@@ -29,12 +30,19 @@ returns-then-is_at_call_limit-clause-leads c =
       | then-is_at_call_limit-via-then-is_at_call_limit w ↦ call_full groups m opened k (ap (λ l. is_at_call_limit l k) (sym c.deref.ensures.value) ∙ sym c.is_at_call_limit.ensures ∙ w.if-is_at_call_limit.true)
       | then-is_at_call_limit-via-else-is_at_call_limit+then-scope-eq0 w ↦ call_none groups m opened k w.if-scope-eq0.true
     ] in
-    leads_fail context c.args.emitter.now c.flush_and_push.new.self c.args.slot c.args.scope.may_keep _
-    (λ tree_context. IsExpandedTarget tree_context c.args.scope.may_keep c.args.scope.may_be_absent groups k) c.leads_to.result fails c.leads_to.ensures
-    c.in_ok-flush_and_push.ensures.draft c.in_ok-flush_and_push.ensures.long
+    record {
+      cap = c.in_ok-flush_and_push.ensures.cap;
+      leads =
+          leads_fail context c.args.emitter.now c.flush_and_push.new.self c.args.slot c.args.scope.may_keep _
+          (λ tree_context. IsExpandedTarget tree_context c.args.scope.may_keep c.args.scope.may_be_absent groups k) c.leads_to.result fails c.leads_to.ensures
+          c.in_ok-flush_and_push.ensures.draft c.in_ok-flush_and_push.ensures.long;
+      work = let this = ap (λ (s : Step). tasks_work groups (listed s.tasks)) c.leads_to.ensures in omega (arith, this);
+      full = tt;
+      refused = tt;
+    }
 
-pub returns-in_err-flush_and_push-clause-full : goal.returns-in_err-flush_and_push-clause-full
-returns-in_err-flush_and_push-clause-full c =
+pub returns-in_err-flush_and_push : goal.returns-in_err-flush_and_push
+returns-in_err-flush_and_push c =
     let groups = infos_of c.args.context.now in
     let opened = c.args.emitter.now.opened.items in
     let m = c.args.scope.calls_left in
@@ -43,37 +51,41 @@ returns-in_err-flush_and_push-clause-full c =
       | then-is_at_call_limit-via-then-is_at_call_limit w ↦ call_full groups m opened k (ap (λ l. is_at_call_limit l k) (sym c.deref.ensures.value) ∙ sym c.is_at_call_limit.ensures ∙ w.if-is_at_call_limit.true)
       | then-is_at_call_limit-via-else-is_at_call_limit+then-scope-eq0 w ↦ call_none groups m opened k w.if-scope-eq0.true
     ] in
-    late c.from_residual-in_err-flush_and_push.result c.in_err-flush_and_push.field-0.0 _ _ c.from_residual-in_err-flush_and_push.ensures.1 c.in_err-flush_and_push.ensures.full
-    (λ lt. omega (arith, lt, ap room fails, room_fail))
+    let e = c.in_err-flush_and_push in
+    emits_want c.from_residual-in_err-flush_and_push.result e.field-0.0 c.from_residual-in_err-flush_and_push.ensures.1 e.ensures.cap
+    (λ too. let lt = e.ensures.full too in omega (arith, lt, ap room fails, room_fail)) e.ensures.refused
 
-pub returns-clause-leads : goal.returns-clause-leads
-returns-clause-leads c =
-    let context = c.args.context.now in
-    let groups = context.groups.now.items in
-    let k = c.args.target in
-    let x = c.index-body.result.now in
-    let old = c.args.emitter.now in
-    let new : Emitter = record { body = old.body; classes = old.classes; opened = c.push.new.self; parts = old.parts } in
-    let p = info_call (infos_of context) c.args.scope.calls_left old.opened.items k in
-    let called : Scope = record { calls_left = c.args.scope.calls_left - 1; may_keep = c.args.scope.may_keep; may_be_absent = c.args.scope.may_be_absent } in
-    let some = c.if-scope-eq0.false in
-    let more : c.args.scope.calls_left ≡ suc (c.args.scope.calls_left - 1) = omega (arith, some) in
-    let at = slice_get-map info_at groups k ∙ ap (option_map info_at) (slice_get_read groups c.len.result k x (omega (arith, c.len.ensures, context.groups.now.ok.0)) c.if-target-len.false c.index-body.ensures) in
-    let free = ap (λ xs. is_at_call_limit xs k) (sym c.deref.ensures.value) ∙ sym c.is_at_call_limit.ensures ∙ c.if-is_at_call_limit.false in
-    subst (λ r. LeadsTo context p c.args.scope.may_keep
-    (λ (tree_context : TreeContext). IsExpandedTarget tree_context c.args.scope.may_keep c.args.scope.may_be_absent (infos_of context) k) old new c.args.slot r)
-    (sym (with_node _ _ _ _ _ c.leads_to-2.ensures c.node.ensures))
-    (leads_call context old new c.args.slot (c.args.scope.calls_left - 1) k c.args.scope called x more refl refl refl at free refl c.in_ok-push.ensures.items)
-
-pub returns-clause-work : goal.returns-clause-work
-returns-clause-work c =
-    let context = c.args.context.now in
-    let groups = context.groups.now.items in
-    let k = c.args.target in
-    let x = c.index-body.result.now in
-    let called : Scope = record { calls_left = c.args.scope.calls_left - 1; may_keep = c.args.scope.may_keep; may_be_absent = c.args.scope.may_be_absent } in
-    let some = c.if-scope-eq0.false in
-    let more : c.args.scope.calls_left ≡ suc (c.args.scope.calls_left - 1) = omega (arith, some) in
-    let at = slice_get-map info_at groups k ∙ ap (option_map info_at) (slice_get_read groups c.len.result k x (omega (arith, c.len.ensures, context.groups.now.ok.0)) c.if-target-len.false c.index-body.ensures) in
-    let this = ap (λ (s : Step). tasks_work (infos_of context) (listed s.tasks)) (with_node _ _ _ _ _ c.leads_to-2.ensures c.node.ensures) in
-    omega (arith, this, body_less (infos_of context) c.args.scope called k x.now more at)
+pub returns : goal.returns
+returns c = record {
+  cap = refl;
+  leads =
+      let context = c.args.context.now in
+      let groups = context.groups.now.items in
+      let k = c.args.target in
+      let x = c.index-body.result.now in
+      let old = c.args.emitter.now in
+      let new : Emitter = record { body = old.body; classes = old.classes; opened = c.push.new.self; parts = old.parts } in
+      let p = info_call (infos_of context) c.args.scope.calls_left old.opened.items k in
+      let called : Scope = record { calls_left = c.args.scope.calls_left - 1; may_keep = c.args.scope.may_keep; may_be_absent = c.args.scope.may_be_absent } in
+      let some = c.if-scope-eq0.false in
+      let more : c.args.scope.calls_left ≡ suc (c.args.scope.calls_left - 1) = omega (arith, some) in
+      let at = slice_get-map info_at groups k ∙ ap (option_map info_at) (slice_get_read groups c.len.result k x (omega (arith, c.len.ensures, context.groups.now.ok.0)) c.if-target-len.false c.index-body.ensures) in
+      let free = ap (λ xs. is_at_call_limit xs k) (sym c.deref.ensures.value) ∙ sym c.is_at_call_limit.ensures ∙ c.if-is_at_call_limit.false in
+      subst (λ r. LeadsTo context p c.args.scope.may_keep
+      (λ (tree_context : TreeContext). IsExpandedTarget tree_context c.args.scope.may_keep c.args.scope.may_be_absent (infos_of context) k) old new c.args.slot r)
+      (sym (with_node _ _ _ _ _ c.leads_to-2.ensures c.node_task.ensures))
+      (leads_call context old new c.args.slot (c.args.scope.calls_left - 1) k c.args.scope called x more refl refl refl at free refl c.in_ok-push.ensures.items);
+  work =
+      let context = c.args.context.now in
+      let groups = context.groups.now.items in
+      let k = c.args.target in
+      let x = c.index-body.result.now in
+      let called : Scope = record { calls_left = c.args.scope.calls_left - 1; may_keep = c.args.scope.may_keep; may_be_absent = c.args.scope.may_be_absent } in
+      let some = c.if-scope-eq0.false in
+      let more : c.args.scope.calls_left ≡ suc (c.args.scope.calls_left - 1) = omega (arith, some) in
+      let at = slice_get-map info_at groups k ∙ ap (option_map info_at) (slice_get_read groups c.len.result k x (omega (arith, c.len.ensures, context.groups.now.ok.0)) c.if-target-len.false c.index-body.ensures) in
+      let this = ap (λ (s : Step). tasks_work (infos_of context) (listed s.tasks)) (with_node _ _ _ _ _ c.leads_to-2.ensures c.node_task.ensures) in
+      omega (arith, this, body_less (infos_of context) c.args.scope called k x.now more at);
+  full = tt;
+  refused = tt;
+}

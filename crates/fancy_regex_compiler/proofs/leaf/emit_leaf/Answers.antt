@@ -1,38 +1,90 @@
-use Rattle.std.proofs.Common.{ℕ, List, length, sym, ap, ◌∙◌, subst, arith, chars}
+use Rattle.std.proofs.Common.{length, refl, sym, ap, ◌∙◌, subst, arith, chars}
 use Rattle.std.specs.Prelude.{slice_index}
 use Rattle.fancy_regex_tree.specs.Tree.{tree_of}
 use Rattle.fancy_regex_desugar.specs.CorePatterns.{read, literal}
 use Rattle.fancy_regex_compiler.specs.Known.{front_of}
 use Rattle.fancy_regex_compiler.specs.Refusals.{IsNoLeaf}
 use Rattle.fancy_regex_program.specs.Shapes.{IsAllowed}
-use Rattle.fancy_regex_compiler.specs.Writing.{Wrote}
+use Rattle.fancy_regex_compiler.specs.Writing.{Wrote, draft_of}
 use Rattle.fancy_regex_compiler.proofs.TreeLemmas.{tree_literal, tree_keep_out}
 use Rattle.fancy_regex_desugar.specs.ProgramSizes.{room}
-use Rattle.fancy_regex_analysis.proofs.PartErrorLemmas.{gives}
-use Rattle.fancy_regex_desugar.specs.CorePatterns.{CorePattern}
-use Rattle.fancy_regex_desugar.specs.Unfolded.{Written}
 use Rattle.fancy_regex_compiler.specs.Extents.{IsFull}
 use Rattle.fancy_regex_compiler.proofs.KindLemmas.{no_leaf}
 use Rattle.fancy_regex_compiler.proofs.LeafLemmas.{unkept_leaf}
-use Rattle.fancy_regex_compiler.proofs.RefusalLemmas.{hands}
+use Rattle.fancy_regex_compiler.proofs.OutcomeLemmas.{writes_error}
+use Rattle.fancy_regex_compiler.proofs.RefusalLemmas.{passed_on}
 use Rattle.fancy_regex_compiler.proofs.RoomLemmas.{room_leaf}
 use Rattle.fancy_regex_compiler.proofs.leaf.emit_leaf.Goals as goal
 
-pub returns-in_ok-emit_literal-in-Literal-clause-wrote : goal.returns-in_ok-emit_literal-in-Literal-clause-wrote
+pub returns-in_ok-emit_literal-in-Literal-clause-writes : goal.returns-in_ok-emit_literal-in-Literal-clause-writes
 unfolding front_of
-returns-in_ok-emit_literal-in-Literal-clause-wrote c call n slot us =
+returns-in_ok-emit_literal-in-Literal-clause-writes c call n us =
     let is = ap tree_of c.in-Literal.is ∙ tree_literal c.in-Literal.val c.in-Literal.casei in
     let char = c.first_character.ensures ∙ ap (λ t. slice_index (chars t) 0) c.deref.ensures in
-    subst (λ t. Wrote c.args.context.now.unicode c.args.context.now.whole c.args.emitter.now c.emit_literal.new.emitter slot slot (front_of call n t us)) (sym is)
-    (subst (λ k. Wrote c.args.context.now.unicode c.args.context.now.whole c.args.emitter.now c.emit_literal.new.emitter slot slot (read (literal k c.in-Literal.casei))) char
-    (c.in_ok-emit_literal-in-Literal.ensures.wrote slot))
+    let writes = c.in_ok-emit_literal-in-Literal.ensures.writes in
+    let u = c.args.context.now.unicode in
+    let w = c.args.context.now.whole in
+    record {
+      cap = writes.cap;
+      wrote = λ slot.
+          subst (λ t. Wrote u w c.args.emitter.now c.emit_literal.new.emitter slot slot (front_of call n t us)) (sym is)
+          (subst (λ k. Wrote u w c.args.emitter.now c.emit_literal.new.emitter slot slot (read (literal k c.in-Literal.casei))) char (writes.wrote slot));
+      full = tt;
+    }
 
-pub returns-in_ok-emit_keep_out-in-KeepOut-clause-wrote : goal.returns-in_ok-emit_keep_out-in-KeepOut-clause-wrote
+pub returns-in_ok-emit_keep_out-in-KeepOut-clause-writes : goal.returns-in_ok-emit_keep_out-in-KeepOut-clause-writes
 unfolding front_of
-returns-in_ok-emit_keep_out-in-KeepOut-clause-wrote c call n slot us =
+returns-in_ok-emit_keep_out-in-KeepOut-clause-writes c call n us =
     let is = ap tree_of c.in-KeepOut.is ∙ tree_keep_out in
-    subst (λ t. Wrote c.args.context.now.unicode c.args.context.now.whole c.args.emitter.now c.emit_keep_out.new.emitter slot slot (front_of call n t us)) (sym is)
-    (c.in_ok-emit_keep_out-in-KeepOut.ensures.wrote slot)
+    let writes = c.in_ok-emit_keep_out-in-KeepOut.ensures.writes in
+    record {
+      cap = writes.cap;
+      wrote = λ slot.
+          subst (λ t. Wrote c.args.context.now.unicode c.args.context.now.whole c.args.emitter.now c.emit_keep_out.new.emitter slot slot (front_of call n t us)) (sym is)
+          (writes.wrote slot);
+      full = tt;
+    }
+
+pub returns-in_err-emit_literal-in-Literal-clause-writes : goal.returns-in_err-emit_literal-in-Literal-clause-writes
+unfolding front_of
+returns-in_err-emit_literal-in-Literal-clause-writes c call n us =
+    let is = ap tree_of c.in-Literal.is ∙ tree_literal c.in-Literal.val c.in-Literal.casei in
+    let char = c.first_character.ensures ∙ ap (λ t. slice_index (chars t) 0) c.deref.ensures in
+    let e = c.in_err-emit_literal-in-Literal in
+    writes_error c.from_residual.result e.field-0.0 c.from_residual.ensures.1 e.ensures.writes.cap
+    (subst (λ t. IsFull c.args.emitter.now.body (room (front_of call n t us)) e.field-0.0) (sym is)
+    (subst (λ k. IsFull c.args.emitter.now.body (room (read (literal k c.in-Literal.casei))) e.field-0.0) char e.ensures.writes.full))
+
+pub returns-in_err-emit_keep_out-in-KeepOut-clause-writes : goal.returns-in_err-emit_keep_out-in-KeepOut-clause-writes
+unfolding front_of
+returns-in_err-emit_keep_out-in-KeepOut-clause-writes c call n us =
+    let is = ap tree_of c.in-KeepOut.is ∙ tree_keep_out in
+    let e = c.in_err-emit_keep_out-in-KeepOut in
+    let r = c.from_residual-in_err-emit_keep_out-in-KeepOut in
+    writes_error r.result e.field-0.0 r.ensures.1 e.ensures.writes.cap
+    (subst (λ t. IsFull c.args.emitter.now.body (room (front_of call n t us)) e.field-0.0) (sym is) e.ensures.writes.full)
+
+pub returns-in_ok-flush_and_push-in_default-clause-writes : goal.returns-in_ok-flush_and_push-in_default-clause-writes
+returns-in_ok-flush_and_push-in_default-clause-writes c call n us =
+    let is = c.in_ok-insn-in_default.ensures.insn in
+    let after = c.in_ok-flush_and_push-in_default.ensures in
+    record {
+      cap = after.cap;
+      wrote = λ slot. record {
+        draft = after.draft ∙ sym (is.draft c.args.context.now.whole call n slot us (draft_of c.args.emitter.now.body));
+        slots = let none = is.slots call n us in omega (arith, none);
+        opened = refl;
+      };
+      full = tt;
+    }
+
+pub returns-in_err-flush_and_push-in_default-clause-writes : goal.returns-in_err-flush_and_push-in_default-clause-writes
+returns-in_err-flush_and_push-in_default-clause-writes c call n us =
+    let e = c.in_err-flush_and_push-in_default in
+    let r = c.from_residual-in_err-flush_and_push-in_default in
+    let t = tree_of c.args.leaf.now in
+    writes_error r.result e.field-0.0 r.ensures.1 e.ensures.cap
+    (λ too. let lt = e.ensures.full too in omega (arith, lt, room_leaf c.args.context.now.unicode c.in_ok-insn-in_default.insn t c.in_ok-insn-in_default.ensures.insn call n us))
 
 pub returns-in_ok-emit_literal-in-Literal-clause-allowed : goal.returns-in_ok-emit_literal-in-Literal-clause-allowed
 unfolding front_of
@@ -40,47 +92,11 @@ returns-in_ok-emit_literal-in-Literal-clause-allowed c call n us =
     let is = ap tree_of c.in-Literal.is ∙ tree_literal c.in-Literal.val c.in-Literal.casei in
     subst (λ t. IsAllowed c.args.context.now.unicode c.args.scope.may_keep (front_of call n t us)) (sym is) tt
 
-pub returns-in_err-emit_literal-in-Literal-clause-full : goal.returns-in_err-emit_literal-in-Literal-clause-full
-unfolding front_of
-returns-in_err-emit_literal-in-Literal-clause-full c =
-    let is = ap tree_of c.in-Literal.is ∙ tree_literal c.in-Literal.val c.in-Literal.casei in
-    let char = c.first_character.ensures ∙ ap (λ t. slice_index (chars t) 0) c.deref.ensures in
-    let r = c.from_residual in
-    let e = c.in_err-emit_literal-in-Literal in
-    gives r.result e.field-0.0
-    (λ f. (call : ℕ → CorePattern) (n : ℕ) (us : List Written) → IsFull c.args.emitter.now.body (room (front_of call n (tree_of c.args.leaf.now) us)) f)
-    r.ensures.1
-    (λ call n us. subst (λ t. IsFull c.args.emitter.now.body (room (front_of call n t us)) e.field-0.0) (sym is)
-    (subst (λ k. IsFull c.args.emitter.now.body (room (read (literal k c.in-Literal.casei))) e.field-0.0) char e.ensures.full))
-
 pub returns-in_ok-emit_keep_out-in-KeepOut-clause-allowed : goal.returns-in_ok-emit_keep_out-in-KeepOut-clause-allowed
 unfolding front_of
 returns-in_ok-emit_keep_out-in-KeepOut-clause-allowed c call n us =
     let is = ap tree_of c.in-KeepOut.is ∙ tree_keep_out in
     subst (λ t. IsAllowed c.args.context.now.unicode c.args.scope.may_keep (front_of call n t us)) (sym is) c.in_ok-emit_keep_out-in-KeepOut.ensures.allowed
-
-pub returns-in_err-emit_keep_out-in-KeepOut-clause-full : goal.returns-in_err-emit_keep_out-in-KeepOut-clause-full
-unfolding front_of
-returns-in_err-emit_keep_out-in-KeepOut-clause-full c =
-    let is = ap tree_of c.in-KeepOut.is ∙ tree_keep_out in
-    let r = c.from_residual-in_err-emit_keep_out-in-KeepOut in
-    let e = c.in_err-emit_keep_out-in-KeepOut in
-    gives r.result e.field-0.0
-    (λ f. (call : ℕ → CorePattern) (n : ℕ) (us : List Written) → IsFull c.args.emitter.now.body (room (front_of call n (tree_of c.args.leaf.now) us)) f)
-    r.ensures.1
-    (λ call n us. subst (λ t. IsFull c.args.emitter.now.body (room (front_of call n t us)) e.field-0.0) (sym is) e.ensures.full)
-
-pub returns-in_err-flush_and_push-in_default-clause-full : goal.returns-in_err-flush_and_push-in_default-clause-full
-returns-in_err-flush_and_push-in_default-clause-full c =
-    let r = c.from_residual-in_err-flush_and_push-in_default in
-    let e = c.in_err-flush_and_push-in_default in
-    let t = tree_of c.args.leaf.now in
-    gives r.result e.field-0.0
-    (λ f. (call : ℕ → CorePattern) (n : ℕ) (us : List Written) → IsFull c.args.emitter.now.body (room (front_of call n t us)) f)
-    r.ensures.1
-    (λ call n us too.
-    let lt = e.ensures.full too in
-    omega (arith, lt, room_leaf c.args.context.now.unicode c.in_ok-insn-in_default.insn t c.in_ok-insn-in_default.ensures.insn call n us))
 
 pub returns-in_err-insn-in_default-clause-refused : goal.returns-in_err-insn-in_default-clause-refused
 returns-in_err-insn-in_default-clause-refused c =
@@ -89,7 +105,7 @@ returns-in_err-insn-in_default-clause-refused c =
     let t = tree_of c.args.leaf.now in
     let r = c.from_residual-in_err-insn-in_default in
     let e = c.in_err-insn-in_default in
-    hands r.result e.field-0.0 (IsNoLeaf u count c.args.scope.may_keep t) r.ensures.1
+    passed_on r.result e.field-0.0 (IsNoLeaf u count c.args.scope.may_keep t) r.ensures.1
     (unkept_leaf u count c.args.scope.may_keep t e.field-0.0
     (no_leaf c.args.leaf.now (record { literal = c.in_default.not-Literal; keep = c.in_default.not-KeepOut })) e.ensures.refused)
 
@@ -99,5 +115,5 @@ returns-in_err-emit_keep_out-in-KeepOut-clause-refused c =
     let count = length c.args.context.now.groups.now.items in
     let r = c.from_residual-in_err-emit_keep_out-in-KeepOut in
     let e = c.in_err-emit_keep_out-in-KeepOut in
-    hands r.result e.field-0.0 (IsNoLeaf u count c.args.scope.may_keep (tree_of c.args.leaf.now)) r.ensures.1
+    passed_on r.result e.field-0.0 (IsNoLeaf u count c.args.scope.may_keep (tree_of c.args.leaf.now)) r.ensures.1
     (subst (λ x. IsNoLeaf u count c.args.scope.may_keep x e.field-0.0) (sym (ap tree_of c.in-KeepOut.is ∙ tree_keep_out)) e.ensures.refused)

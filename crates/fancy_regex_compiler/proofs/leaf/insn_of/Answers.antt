@@ -9,7 +9,7 @@ use Rattle.fancy_regex_program.specs.declared.insn.Insn.TheVariants as insn
 use Rattle.fancy_regex_compiler.proofs.TreeLemmas.{tree_any, tree_assertion, tree_newline, tree_delegate, tree_backref, tree_continue, tree_exists, tree_verb}
 use Rattle.fancy_regex_compiler.proofs.LeafLemmas.{unfit_leaf, class_refused, leaf_any, leaf_assertion, leaf_newline, leaf_continue, leaf_verb, leaf_backref, leaf_exists, leaf_class}
 use Rattle.fancy_regex_compiler.proofs.KindLemmas.{no_single}
-use Rattle.fancy_regex_compiler.proofs.RefusalLemmas.{hands}
+use Rattle.fancy_regex_compiler.proofs.RefusalLemmas.{passed_on}
 use Rattle.fancy_regex_compiler.proofs.leaf.insn_of.Goals as goal
 
 pub returns-in-Any-clause-insn : goal.returns-in-Any-clause-insn
@@ -73,7 +73,7 @@ returns-in_err-insn-in-BacktrackingControlVerb-clause-refused c =
     let v = c.in-BacktrackingControlVerb.verb in
     let r = c.from_residual-in_err-insn-in-BacktrackingControlVerb in
     let e = c.in_err-insn-in-BacktrackingControlVerb in
-    hands r.result e.field-0.0 (IsNoSingle u count t) r.ensures.1
+    passed_on r.result e.field-0.0 (IsNoSingle u count t) r.ensures.1
     (unfit_leaf u count t e.field-0.0
     (subst (λ x. IsUnfit x e.field-0.0) (sym (ap tree_of c.in-BacktrackingControlVerb.is ∙ tree_verb v)) e.ensures.refused))
 
@@ -101,5 +101,5 @@ returns-in_err-matcher-in-Delegate-clause-refused c =
     let casei = c.in-Delegate.casei in
     let e = c.in_err-matcher-in-Delegate in
     let refused : IsNoClass u (chars (string_bytes inner)) casei e.field-0.0 = rw c.deref.ensures at e.ensures.refused in
-    hands c.from_residual.result e.field-0.0 (IsNoSingle u count t) c.from_residual.ensures.1
+    passed_on c.from_residual.result e.field-0.0 (IsNoSingle u count t) c.from_residual.ensures.1
     (class_refused u count t (chars (string_bytes inner)) casei e.field-0.0 (ap tree_of c.in-Delegate.is ∙ tree_delegate inner casei) refused)

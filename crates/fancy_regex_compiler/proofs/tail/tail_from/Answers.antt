@@ -1,4 +1,4 @@
-use Rattle.std.proofs.Common.{◌≡◌, ℕ, ◌+◌, ◌<◌, Bool, true, false, List, length, get_or, Some, refl, sym, ap, ◌∙◌, subst, arith}
+use Rattle.std.proofs.Common.{◌≡◌, ℕ, ◌+◌, Bool, true, false, List, get_or, Some, refl, sym, ap, ◌∙◌, subst, arith}
 use Rattle.std.specs.Prelude.{slice_get, nat_lt}
 use Rattle.std.proofs.lemmas.Bool.Decides.{nat_tests}
 use Rattle.std.proofs.lemmas.Option.{same_Some, slice_get-get_or}
@@ -30,7 +30,7 @@ returns-then-branch c =
     record {
       from = c.plain_from-first.result;
       last = c.plain_from-first.ensures;
-      behind = c.loop-first.invariant.behind;
+      not_before = c.loop-first.invariant.not_before;
       inside = c.loop-first.invariant.inside;
       other = c.loop-first.invariant.other;
       many = λ x at. subst (λ y. may_explode (tree_in (info_of y)) ≡ true) (same_Some r x (sym here ∙ at))
@@ -44,7 +44,7 @@ loop-first-preserved c =
     let r = get_or parts first c.index-parts-first.result in
     let here : slice_get parts first ≡ Some r = slice_get-get_or parts first c.index-parts-first.result c.loop-first-test.true in
     record {
-      behind = omega (arith, c.loop-first.invariant.behind);
+      not_before = omega (arith, c.loop-first.invariant.not_before);
       inside = omega (arith, c.loop-first-test.true);
       other = one_more parts c.plain_from-first.result first r here c.loop-first.invariant.other
           (ap may_explode (ap tree_in (info_known r)) ∙ sym c.in_ok-may_explode.ensures ∙ c.if-branch.false);
@@ -56,7 +56,7 @@ returns c =
     record {
       from = c.plain_from-first.result;
       last = c.plain_from-first.ensures;
-      behind = c.loop-first.invariant.behind;
+      not_before = c.loop-first.invariant.not_before;
       inside = c.loop-first.invariant.inside;
       other = c.loop-first.invariant.other;
       many = λ x at. absurd (none-some x (sym (slice_get_past parts c.loop-first.first c.loop-first-test.false) ∙ at));

@@ -8,7 +8,7 @@ use Rattle.fancy_regex_compiler.proofs.tail.tail_from.Given as goal
 
 abbrev pub invariant-loop-first : goal.invariant-loop-first
 invariant-loop-first l = record {
-  behind : l.initial.first ≤ l.first;
+  not_before : l.initial.first ≤ l.first;
   inside : l.first ≤ length l.parts;
   other : (k : ℕ) (x : Info) → l.initial.first ≤ k → k < l.first → slice_get l.parts k ≡ Some x → may_explode (tree_in (info_of x)) ≡ false;
 }

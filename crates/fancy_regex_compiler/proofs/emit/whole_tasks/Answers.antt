@@ -1,4 +1,4 @@
-use Rattle.std.proofs.Common.{◌≡◌, ◌+◌, false, List, [], ◌∷◌, map, take, drop, refl, sym, ap, ◌∙◌, subst, arith}
+use Rattle.std.proofs.Common.{◌≡◌, false, [], ◌∷◌, map, take, drop, refl, sym, ap, ◌∙◌, subst, arith}
 use Rattle.fancy_regex_tree.specs.Tree.{tree_of, trees}
 use Rattle.fancy_regex_desugar.specs.ProgramSizes.{room}
 use Rattle.fancy_regex_info.specs.Infos.{info_of}
@@ -15,7 +15,7 @@ use Rattle.fancy_regex_compiler.proofs.StepLemmas.{leads_one}
 use Rattle.fancy_regex_compiler.proofs.TailSteps.{whole_row, whole_single, no_concat, leads_whole, expanded_take, expanded_drop}
 use Rattle.fancy_regex_compiler.proofs.TreeLemmas.{tree_concat}
 use Rattle.fancy_regex_compiler.proofs.WorkLemmas.{split_work, row_less}
-use Rattle.fancy_regex_compiler.proofs.emit.whole.Goals as goal
+use Rattle.fancy_regex_compiler.proofs.emit.whole_tasks.Goals as goal
 
 pub returns-in_ok-begin-in-Concat-clause-leads : goal.returns-in_ok-begin-in-Concat-clause-leads
 returns-in_ok-begin-in-Concat-clause-leads c context e slot =
@@ -53,7 +53,7 @@ returns-in_default c = record {
       let q = whole_pattern context i scope e.opened.items in
       let S = λ (tree_context : TreeContext). IsExpandedPart tree_context scope.may_keep scope.may_be_absent false (info_of i) in
       let is : q ≡ p = whole_single (info_call (infos_of context) scope.calls_left e.opened.items) i (no_concat (out-Info i).expr.now c.in_default.not-Concat) in
-      subst (λ t. Leads context e e slot slot (t ∷ []) (past_pattern context q (progress e slot)) (IsAllowed context.unicode scope.may_keep q) (room q) S) (sym c.node.ensures)
+      subst (λ t. Leads context e e slot slot (t ∷ []) (past_pattern context q (progress e slot)) (IsAllowed context.unicode scope.may_keep q) (room q) S) (sym c.node_task.ensures)
       (leads_one context e slot scope.may_keep p q (task.Node c.args.info false scope) S is refl (λ h. h) refl (omega arith) (λ tree_context s stand. stand));
-  work = λ groups. let this = ap (task_work groups) c.node.ensures in omega (arith, this);
+  work = λ groups. let this = ap (task_work groups) c.node_task.ensures in omega (arith, this);
 }
