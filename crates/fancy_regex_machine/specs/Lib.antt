@@ -1,15 +1,8 @@
-pub mod Haystacks
-pub mod RunConfigs
 pub mod Steps
 pub mod Advances
 pub mod Endings
-pub mod Runs
-pub mod LookBehindStarts
-pub mod CharLoops
-pub mod Walks
-pub mod Ahead
-pub mod Stretches
 pub mod RunArguments
 pub mod MachineLimits
 pub mod SearchAnswers
-pub mod Doubled
+pub mod RunAnswers
+pub mod Threads

@@ -1,57 +1,43 @@
 //! The instructions of absent repeaters, `(?~body)`: they find how far the text goes without a match of the body.
 
-ghost use Rattle.std.specs.Prelude.{◌≡◌, ◌+◌, ◌^◌, ◌<◌, ℕ, length, Some, IfOk, slice_index};
-ghost use Rattle.fancy_regex_program.specs.Machine as machine;
-ghost use Rattle.fancy_regex_program.specs.Machine.{act, by_limit, begun, looked, looks, scans, offers};
+ghost use Rattle.std.specs.Prelude.{◌+◌, ◌^◌, ◌<◌, length, Some, IfOk, slice_index};
+ghost use Rattle.fancy_regex_program.specs.Machine.{by_limit, begun, looked, looks, scans, offers};
 ghost use Rattle.fancy_regex_program.specs.Ops.{part_of};
-ghost use Rattle.fancy_regex_machine.specs.RunConfigs.{run_parameters_of};
-ghost use Rattle.fancy_regex_machine.specs.Haystacks.{setting_of_haystack};
-ghost use Rattle.fancy_regex_machine.specs.Steps.{thread_of, IsNotStuck, Does, DoesPart};
+ghost use Rattle.fancy_regex_prefilter.specs.RunContexts.{setting_of_run};
+ghost use Rattle.fancy_regex_machine.specs.Steps.{IsNotStuck};
+ghost use Rattle.fancy_regex_machine.specs.Threads.{current, move_of, Makes, MakesPart, IsRunnable, KeepsSlotCount};
 
-use crate::haystack::Haystack;
-use crate::run_config::RunConfig;
-use crate::sight::{match_any, position_before};
-use crate::step::{Cursor, Next};
+use crate::step::StepOutcome;
+use crate::thread::CurrentThread;
+use fancy_regex_prefilter::cursor::Cursor;
+use fancy_regex_prefilter::matching::{match_any, position_before};
+use fancy_regex_prefilter::run_context::RunContext;
 use fancy_regex_program::AbsentRepeater;
 use fancy_regex_slots::slots::{Slots, UNSET};
 use std::alloc::AllocError;
 
 /// Executes one instruction of an absent repeater; `bound` is the lowest end of a body match so far. The error is want of
 /// memory.
-pub(crate) fn do_part(
+pub(crate) fn step_absent_repeater(
     part: AbsentRepeater,
-    config: &RunConfig,
-    slots: &mut Slots,
-    cursor: &mut Cursor,
+    run: &RunContext<'_>,
+    thread: &mut CurrentThread,
     bound: &mut usize,
-) -> Result<Next, AllocError>
-    requires pc { cursor.old.pc + 2 < 2 ^ 64 }
-    requires moving { IsNotStuck (act (run_parameters_of config.now) (Some (part_of part)) (length slots.old.stack) (thread_of cursor.old slots.old)) }
-    ensures { IfOk result (λ next. DoesPart
-        (act (run_parameters_of config.now) (Some (part_of part)) (length slots.old.stack) (thread_of cursor.old slots.old))
-        slots.old.stack next cursor.new slots.new bound.old bound.new) }
+) -> Result<StepOutcome, AllocError>
+    requires pc { thread.old.cursor.pc + 2 < 2 ^ 64 }
+    requires runnable { IsRunnable (part_of part) thread.old }
+    ensures told { IfOk result (λ next. IsNotStuck (move_of run.now (Some (part_of part)) thread.old)
+        → MakesPart (move_of run.now (Some (part_of part)) thread.old) thread.old next thread.new bound.old bound.new) }
+    ensures slots { IfOk result (λ _. KeepsSlotCount thread.old.slots thread.new.slots) }
 {
     match part {
-        AbsentRepeater::Begin { start, limit } => begin(start, limit, slots, cursor, bound),
-        AbsentRepeater::Scan { limit, end } => scan(
-            limit,
-            end,
-            &config.haystack,
-            slots,
-            cursor,
-            bound,
-        ),
+        AbsentRepeater::Begin { start, limit } => begin(start, limit, thread, bound),
+        AbsentRepeater::Scan { limit, end } => scan(limit, end, run, thread, bound),
         AbsentRepeater::Limit { limit: _ } => {
-            *bound = (*bound).min(cursor.position);
-            Ok(Next::Fail)
+            *bound = (*bound).min(thread.cursor.position);
+            Ok(StepOutcome::Fail)
         }
-        AbsentRepeater::End { start, limit } => offer_end(
-            start,
-            limit,
-            &config.haystack,
-            slots,
-            cursor,
-        ),
+        AbsentRepeater::End { start, limit } => offer_end(start, limit, run, thread),
     }
 }
 
@@ -59,41 +45,43 @@ pub(crate) fn do_part(
 fn begin(
     start: usize,
     limit: usize,
-    slots: &mut Slots,
-    cursor: &mut Cursor,
+    thread: &mut CurrentThread,
     bound: &mut usize,
-) -> Result<Next, AllocError>
-    requires pc { cursor.old.pc + 2 < 2 ^ 64 }
-    requires start { start < length slots.old.slots }
-    requires limit { limit < length slots.old.slots }
-    ensures { IfOk result (λ next. DoesPart (by_limit (begun start limit (thread_of cursor.old slots.old)))
-        slots.old.stack next cursor.new slots.new bound.old bound.new) }
+) -> Result<StepOutcome, AllocError>
+    requires pc { thread.old.cursor.pc + 2 < 2 ^ 64 }
+    requires start { start < length thread.old.slots.slots }
+    requires limit { limit < length thread.old.slots.slots }
+    ensures told { IfOk result (λ next. MakesPart (by_limit (begun start limit (current thread.old)))
+        thread.old next thread.new bound.old bound.new) }
+    ensures slots { IfOk result (λ _. KeepsSlotCount thread.old.slots thread.new.slots) }
 {
-    slots.save(start, cursor.position)?;
-    slots.save(limit, *bound)?;
-    slots.push(cursor.pc + 1, cursor.position)?;
-    cursor.pc += 2;
+    thread.slots.save(start, thread.cursor.position)?;
+    thread.slots.save(limit, *bound)?;
+    thread
+        .slots
+        .push(thread.cursor.pc + 1, thread.cursor.position)?;
+    thread.cursor.pc += 2;
     *bound = UNSET;
-    Ok(Next::Go)
+    Ok(StepOutcome::Go)
 }
 
 /// Moves the scan for body matches to the next character, or ends it at the end of the text.
 fn scan(
     limit: usize,
     end: usize,
-    haystack: &Haystack,
-    slots: &mut Slots,
-    cursor: &mut Cursor,
+    run: &RunContext<'_>,
+    thread: &mut CurrentThread,
     bound: &mut usize,
-) -> Result<Next, AllocError>
-    requires pc { cursor.old.pc + 2 < 2 ^ 64 }
-    requires slot { limit < length slots.old.slots }
-    ensures { IfOk result (λ next. DoesPart (scans (setting_of_haystack haystack.now) end limit (thread_of cursor.old slots.old))
-        slots.old.stack next cursor.new slots.new bound.old bound.new) }
+) -> Result<StepOutcome, AllocError>
+    requires pc { thread.old.cursor.pc + 2 < 2 ^ 64 }
+    requires slot { limit < length thread.old.slots.slots }
+    ensures told { IfOk result (λ next. MakesPart (scans (setting_of_run run.now) end limit (current thread.old))
+        thread.old next thread.new bound.old bound.new) }
+    ensures slots { IfOk result (λ _. KeepsSlotCount thread.old.slots thread.new.slots) }
 {
-    match match_any(haystack, true, false, cursor.position) {
-        Some(next) => look(next, limit, end, slots, cursor, bound),
-        None => end_scan(limit, end, slots, cursor, bound),
+    match match_any(run, true, false, thread.cursor.position) {
+        Some(next) => look(next, limit, end, thread, bound),
+        None => end_scan(limit, end, thread, bound),
     }
 }
 
@@ -102,75 +90,76 @@ fn look(
     next: usize,
     limit: usize,
     end: usize,
-    slots: &mut Slots,
-    cursor: &mut Cursor,
+    thread: &mut CurrentThread,
     bound: &mut usize,
-) -> Result<Next, AllocError>
-    requires pc { cursor.old.pc + 2 < 2 ^ 64 }
-    requires slot { limit < length slots.old.slots }
-    ensures { IfOk result (λ then. DoesPart (by_limit (looks end limit (thread_of cursor.old slots.old) next))
-        slots.old.stack then cursor.new slots.new bound.old bound.new) }
+) -> Result<StepOutcome, AllocError>
+    requires pc { thread.old.cursor.pc + 2 < 2 ^ 64 }
+    requires slot { limit < length thread.old.slots.slots }
+    ensures told { IfOk result (λ then. MakesPart (by_limit (looks end limit (current thread.old) next))
+        thread.old then thread.new bound.old bound.new) }
+    ensures slots { IfOk result (λ _. KeepsSlotCount thread.old.slots thread.new.slots) }
 {
     if *bound <= next {
-        return end_scan(limit, end, slots, cursor, bound);
+        return end_scan(limit, end, thread, bound);
     }
-    slots.push(cursor.pc, next)?;
-    cursor.pc += 1;
-    cursor.position = next;
-    Ok(Next::Go)
+    thread.slots.push(thread.cursor.pc, next)?;
+    thread.cursor.pc += 1;
+    thread.cursor.position = next;
+    Ok(StepOutcome::Go)
 }
 
 /// Ends the scan: saves the limit to the slot and restores the outer limit from it.
 fn end_scan(
     limit: usize,
     end: usize,
-    slots: &mut Slots,
-    cursor: &mut Cursor,
+    thread: &mut CurrentThread,
     bound: &mut usize,
-) -> Result<Next, AllocError>
-    requires slot { limit < length slots.old.slots }
-    ensures { IfOk result (λ next. DoesPart (by_limit (looked end limit (thread_of cursor.old slots.old)))
-        slots.old.stack next cursor.new slots.new bound.old bound.new) }
+) -> Result<StepOutcome, AllocError>
+    requires slot { limit < length thread.old.slots.slots }
+    ensures told { IfOk result (λ next. MakesPart (by_limit (looked end limit (current thread.old)))
+        thread.old next thread.new bound.old bound.new) }
+    ensures slots { IfOk result (λ _. KeepsSlotCount thread.old.slots thread.new.slots) }
 {
-    let outer = slots.get(limit);
-    slots.save(limit, *bound)?;
+    let outer = thread.slots.get(limit);
+    thread.slots.save(limit, *bound)?;
     *bound = outer;
-    cursor.pc = end;
-    Ok(Next::Go)
+    thread.cursor.pc = end;
+    Ok(StepOutcome::Go)
 }
 
 /// Ends the absent repeater here if this is before the limit, and later one character earlier, down to its start.
 fn offer_end(
     start: usize,
     limit: usize,
-    haystack: &Haystack,
-    slots: &mut Slots,
-    cursor: &mut Cursor,
-) -> Result<Next, AllocError>
-    requires pc { cursor.old.pc + 2 < 2 ^ 64 }
-    requires start { start < length slots.old.slots }
-    requires limit { limit < length slots.old.slots }
-    ensures { IfOk result (λ next. Does
-        (offers (setting_of_haystack haystack.now) (slice_index slots.old.slots start) (slice_index slots.old.slots limit) (thread_of cursor.old slots.old))
-        slots.old.stack next cursor.new slots.new) }
+    run: &RunContext<'_>,
+    thread: &mut CurrentThread,
+) -> Result<StepOutcome, AllocError>
+    requires pc { thread.old.cursor.pc + 2 < 2 ^ 64 }
+    requires start { start < length thread.old.slots.slots }
+    requires limit { limit < length thread.old.slots.slots }
+    ensures told { IfOk result (λ next. Makes
+        (offers (setting_of_run run.now) (slice_index thread.old.slots.slots start)
+        (slice_index thread.old.slots.slots limit) (current thread.old))
+        thread.old next thread.new) }
+    ensures slots { IfOk result (λ _. KeepsSlotCount thread.old.slots thread.new.slots) }
 {
-    let before = if slots.get(start) < cursor.position {
-        position_before(haystack.text, 1, cursor.position)
+    let before = if thread.slots.get(start) < thread.cursor.position {
+        position_before(run.text, 1, thread.cursor.position)
     } else {
         None
     };
-    if cursor.position < slots.get(limit) {
+    if thread.cursor.position < thread.slots.get(limit) {
         if let Some(earlier) = before {
-            slots.push(cursor.pc, earlier)?;
+            thread.slots.push(thread.cursor.pc, earlier)?;
         }
-        cursor.pc += 1;
-        return Ok(Next::Go);
+        thread.cursor.pc += 1;
+        return Ok(StepOutcome::Go);
     }
     match before {
         Some(earlier) => {
-            cursor.position = earlier;
-            Ok(Next::Go)
+            thread.cursor.position = earlier;
+            Ok(StepOutcome::Go)
         }
-        None => Ok(Next::Fail),
+        None => Ok(StepOutcome::Fail),
     }
 }

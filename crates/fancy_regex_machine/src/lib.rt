@@ -5,29 +5,15 @@
 
 mod absent;
 mod advance;
-mod ahead;
-mod assertion;
-mod backref;
+mod alternative_loops;
 mod char_loops;
-mod doubled;
 mod error;
 mod failing_places;
-mod failing_starts;
-mod first_tests;
-mod haystack;
-mod look_behind_starts;
 mod memory;
-mod newline;
-mod rounds;
-mod run_config;
 mod run_loop;
 mod search;
-mod sight;
-mod slot_check;
-mod start;
 mod step;
-mod stretches;
-mod walks;
+mod thread;
 
 pub use error::RuntimeError;
 pub use memory::RunMemory;

@@ -1,6 +1,8 @@
 //! The memory that runs share.
 
+use crate::thread::CurrentThread;
 use fancy_regex_linear::SearchMemory;
+use fancy_regex_prefilter::cursor::Cursor;
 use fancy_regex_slots::slots::Slots;
 use std::alloc::Global;
 
@@ -9,8 +11,8 @@ use std::alloc::Global;
 /// is dropped.
 #[derive(Drop)]
 pub struct RunMemory {
-    /// The slots of the thread that runs, and the backtrack stack.
-    pub(crate) slots: Slots,
+    /// The thread that runs, and the backtrack stack.
+    pub(crate) thread: CurrentThread,
     /// What the searches of delegated parts need.
     pub(crate) delegates: SearchMemory,
 }
@@ -19,7 +21,10 @@ impl RunMemory {
     /// The memory of no run so far. It allocates nothing.
     pub fn new(alloc: Global) -> RunMemory {
         RunMemory {
-            slots: Slots::empty(alloc),
+            thread: CurrentThread {
+                cursor: Cursor { pc: 0, position: 0 },
+                slots: Slots::empty(alloc),
+            },
             delegates: SearchMemory::new(alloc),
         }
     }

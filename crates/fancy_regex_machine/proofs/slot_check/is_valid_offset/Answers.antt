@@ -1,5 +1,0 @@
-use Rattle.fancy_regex_machine.proofs.BoundaryLemmas.{place_by_test}
-use Rattle.fancy_regex_machine.proofs.slot_check.is_valid_offset.Goals as goal
-
-pub returns : goal.returns
-returns c = place_by_test c.args.text.now c.args.cursor c.is_char_boundary.result c.is_char_boundary.ensures.test

@@ -1,0 +1,16 @@
+pub mod AheadLemmas
+pub mod BackrefLemmas
+pub mod BoundaryLemmas
+pub mod CharLoops
+pub mod RepeatedCharacterLemmas
+pub mod FailingPlaces
+pub mod FailingStarts
+pub mod FirstTestLemmas
+pub mod LookBehindStarts
+pub mod NewlineLemmas
+pub mod StartLemmas
+pub mod LeadingLoopLemmas
+pub mod TextLemmas
+pub mod WalkLemmas
+pub mod Exec
+pub mod RunLemmas

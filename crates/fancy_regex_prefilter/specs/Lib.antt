@@ -1,0 +1,9 @@
+pub mod RunContexts
+pub mod Runs
+pub mod LookBehindStarts
+pub mod CharLoops
+pub mod Walks
+pub mod Ahead
+pub mod LeadingLoops
+pub mod RepeatedCharacters
+pub mod Passing

@@ -1,0 +1,122 @@
+//! Evaluation of the zero-width assertions.
+
+ghost use Rattle.std.specs.Prelude.{◌≡◌, drop};
+ghost use Rattle.fancy_regex_meaning.specs.Positions as places;
+ghost use Rattle.fancy_regex_meaning.specs.Ways as ways;
+ghost use Rattle.fancy_regex_prefilter.specs.RunContexts.{setting_of_run};
+
+use crate::matching::{char_at, char_before};
+use crate::run_context::RunContext;
+use fancy_regex_class::is_word;
+use fancy_regex_tree::Assertion;
+
+/// Whether the assertion holds at the byte offset `position`.
+pub fn holds(run: &RunContext<'_>, assertion: Assertion, position: usize) -> bool
+    ensures { result ≡ ways.holds (setting_of_run run.now) assertion position }
+{
+    let text = run.text.as_bytes();
+    match assertion {
+        Assertion::StartText => position == 0 && !run.input.no_start_text,
+        Assertion::EndText => position == text.len() && !run.input.no_end_text,
+        Assertion::EndTextIgnoreTrailingNewlines { crlf } => are_newlines(text, crlf, position),
+        Assertion::StartLine { crlf } => is_line_start(text, crlf, position),
+        Assertion::StartLineOniguruma { crlf } => {
+            is_line_start(text, crlf, position)
+                && !(position == text.len() && is_after_byte(text, b'\n', position))
+        }
+        Assertion::EndLine { crlf } => is_line_end(text, crlf, position),
+        Assertion::LeftWordBoundary => {
+            !is_after_word(run, position) && is_before_word(run, position)
+        }
+        Assertion::LeftWordHalfBoundary => !is_after_word(run, position),
+        Assertion::RightWordBoundary => {
+            is_after_word(run, position) && !is_before_word(run, position)
+        }
+        Assertion::RightWordHalfBoundary => !is_before_word(run, position),
+        Assertion::WordBoundary => is_after_word(run, position) != is_before_word(run, position),
+        Assertion::NotWordBoundary => {
+            is_after_word(run, position) == is_before_word(run, position)
+        }
+    }
+}
+
+/// Whether the byte before `position` is this one.
+#[tactic(auto, unfolding(regex_hir::specs::Text::byte_before))]
+fn is_after_byte(text: &[u8], byte: u8, position: usize) -> bool
+    ensures { result ≡ places.is_after_byte text.now byte position }
+{
+    position > 0 && is_before_byte(text, byte, position - 1)
+}
+
+/// Whether the byte at `position` is this one.
+pub(crate) fn is_before_byte(text: &[u8], byte: u8, position: usize) -> bool
+    ensures { result ≡ places.is_before_byte text.now byte position }
+{
+    match text.get(position) {
+        Some(found) => *found == byte,
+        None => false,
+    }
+}
+
+/// Whether a line starts at `position`; with `crlf` a line ends with `\n`, `\r` or `\r\n`.
+fn is_line_start(text: &[u8], crlf: bool, position: usize) -> bool
+    ensures { result ≡ places.is_line_start text.now crlf position }
+{
+    position == 0
+        || is_after_byte(text, b'\n', position)
+        || (crlf && is_after_byte(text, b'\r', position) && !is_before_byte(text, b'\n', position))
+}
+
+/// Whether a line ends at `position`.
+fn is_line_end(text: &[u8], crlf: bool, position: usize) -> bool
+    ensures { result ≡ places.is_line_end text.now crlf position }
+{
+    if position == text.len() {
+        return true;
+    }
+    if crlf {
+        is_before_byte(text, b'\r', position)
+            || (is_before_byte(text, b'\n', position) && !is_after_byte(text, b'\r', position))
+    } else {
+        is_before_byte(text, b'\n', position)
+    }
+}
+
+/// Whether the rest of the text from `position` on consists of newlines.
+fn are_newlines(text: &[u8], crlf: bool, position: usize) -> bool
+    ensures { result ≡ places.are_newlines crlf (drop position text.now) }
+{
+    let mut at = position;
+    while at < text.len() {
+        if text[at] == b'\n' {
+            at += 1;
+        } else if crlf && text[at] == b'\r' && is_before_byte(text, b'\n', at + 1) {
+            at += 2;
+        } else {
+            return false;
+        }
+    }
+    true
+}
+
+/// Whether the character before `position` is a word character.
+#[inline(always)]
+fn is_after_word(run: &RunContext<'_>, position: usize) -> bool
+    ensures { result ≡ ways.is_after_word (setting_of_run run.now) position }
+{
+    match char_before(run.text, position) {
+        Some(c) => is_word(c, run.unicode),
+        None => false,
+    }
+}
+
+/// Whether the character at `position` is a word character.
+#[inline(always)]
+fn is_before_word(run: &RunContext<'_>, position: usize) -> bool
+    ensures { result ≡ ways.is_before_word (setting_of_run run.now) position }
+{
+    match char_at(run.text, position) {
+        Some(c) => is_word(c, run.unicode),
+        None => false,
+    }
+}
