@@ -1,192 +1,132 @@
-//! `RegexInput`: a haystack with the configuration of a search. Its start and its range always lie on character boundaries,
-//! except for a start past the end of the haystack, which finds nothing.
+//! `SearchConfig`: the configuration of a search, apart from its haystack. It holds the `RunInput` that goes to the engines, and
+//! each setter keeps that up to date. Contracts see what the setters set: the record `Config`.
 
-ghost use Rattle.std.specs.Prelude.{◌≡◌, ◌≤◌, max, length, nat_lt, ⊤, IsCharBoundary};
-ghost use Rattle.fancy_regex_input.specs.SearchInputs.{whole, FitsText};
+ghost use Rattle.std.specs.Prelude.{◌≡◌, false};
+ghost use Rattle.fancy_regex_input.specs.SearchInputs.{whole_up_to, effective_start, run_input_of};
 
-use crate::input::Input;
-use std::alloc::AllocError;
-use std::ops::Range;
+use fancy_regex_class::{RunInput, Span};
+use std::marker::Model;
 
 /// The configuration of a search, apart from its haystack. All offsets are in bytes from the start of the haystack.
-#[derive(Clone, Copy, Debug, PartialEq, Eq)]
+#[derive(Clone, Debug, PartialEq, Eq, Drop)]
 pub struct SearchConfig {
     /// The offset at which the search starts, unless the range starts later.
-    pub start: usize,
-    /// The start of the range in which the whole match has to lie.
-    pub range_start: usize,
-    /// The end of that range, exclusive.
-    pub range_end: usize,
-    /// The match has to start at the start of the search.
-    pub anchored: bool,
-    /// `^` and `\A` match at the start of the haystack.
-    pub start_text: bool,
-    /// `$` and `\z` match at the end of the haystack.
-    pub end_text: bool,
-    /// `\G` matches at the start of the search.
-    pub continues: bool,
+    start: usize,
+    /// The input of the search: its first start is the later of `start` and the start of the range.
+    input: RunInput,
 }
 
-/// A haystack with the configuration of a search in it. Each setter changes only what it names.
-#[derive(Drop)]
-pub struct RegexInput<S: Input> {
-    /// The searched text.
-    haystack: S,
-    /// The configuration of the search.
-    config: SearchConfig,
-    pub ghost fits: { FitsText (S.text haystack) config },
+impl Model for SearchConfig {
+    ghost use Rattle.fancy_regex_input.specs.Configs.{Config};
+
+    ghost Value = { Config };
+
+    ghost use Rattle.fancy_regex_input.specs.ConfigViews.{config_of, IsUpToDate, inside_of, inside_same};
+
+    ghost view = { config_of };
+
+    ghost invariant = { IsUpToDate };
+
+    ghost inverse = { inside_of };
+
+    ghost inverse_ok = { inside_same };
 }
 
-impl<S: Input> RegexInput<S> {
-    /// The whole haystack, searched from its start: unanchored, and `^`, `$` and `\G` match as usual.
-    pub fn new(haystack: S) -> RegexInput<S>
-        ensures haystack { result.haystack ≡ haystack }
-        ensures config { result.config ≡ whole (S.text haystack) }
+impl SearchConfig {
+    /// The configuration of a search of a whole haystack of this length from its start: unanchored, and `^`, `$` and `\G` match
+    /// as usual.
+    pub(crate) fn whole(length: usize) -> SearchConfig
+        ensures { result ≡ whole_up_to length }
     {
-        let end = haystack.len();
-        let _bytes = haystack.as_bytes();
-        let config = SearchConfig {
+        SearchConfig {
             start: 0,
-            range_start: 0,
-            range_end: end,
-            anchored: false,
-            start_text: true,
-            end_text: true,
-            continues: true,
-        };
-        RegexInput { haystack, config }
+            input: RunInput {
+                first: 0,
+                continue_at: Some(0),
+                range: Span {
+                    start: 0,
+                    end: length,
+                },
+                anchored: false,
+                no_start_text: false,
+                no_end_text: false,
+            },
+        }
     }
 
-    /// The haystack.
-    pub fn haystack(&self) -> S
-        ensures { result ≡ self.now.haystack }
+    /// The same configuration.
+    pub fn copied(&self) -> SearchConfig
+        ensures { result ≡ self.now }
     {
-        self.haystack
+        SearchConfig {
+            start: self.start,
+            input: self.input,
+        }
     }
 
-    /// The configuration of the search.
-    pub fn config(&self) -> SearchConfig
-        ensures { result ≡ self.now.config }
-    {
-        self.config
-    }
-
-    /// The byte offset at which the search starts, unless the range starts later.
+    /// The offset at which the search starts, unless the range starts later.
     pub fn start(&self) -> usize
-        ensures { result ≡ self.now.config.start }
+        ensures { result ≡ self.now.start }
     {
-        self.config.start
+        self.start
     }
 
-    /// The range in which the whole match has to lie, in bytes.
-    pub fn get_range(&self) -> Range<usize>
-        ensures { (result.start ≡ self.now.config.range_start) × (result.end ≡ self.now.config.range_end) }
+    /// The input of the search, as both engines take it.
+    pub fn run_input(&self) -> &RunInput
+        ensures { result.now ≡ run_input_of self.now (effective_start self.now) false }
     {
-        self.config.range_start..self.config.range_end
+        &self.input
     }
 
-    /// The byte offset at which the search really starts: the later of `start` and the start of the range.
-    pub fn effective_start(&self) -> usize
-        ensures { result ≡ max (self.now.config.start) (self.now.config.range_start) }
+    /// Starts the search at this offset.
+    pub(crate) fn set_start(&mut self, start: usize)
+        ensures { self.new ≡ record (self.old) { start = start } }
     {
-        self.config.start.max(self.config.range_start)
+        let first = start.max(self.input.range.start);
+        self.start = start;
+        self.input.first = first;
+        if self.input.continue_at.is_some() {
+            self.input.continue_at = Some(first);
+        }
     }
 
-    /// Whether the search starts after the end of its range, so that it finds nothing.
-    pub fn is_done(&self) -> bool
-        ensures { result ≡ nat_lt (self.now.config.range_end) (max (self.now.config.start) (self.now.config.range_start)) }
+    /// Limits the search to the range from one offset to another.
+    pub(crate) fn set_range(&mut self, start: usize, end: usize)
+        ensures { self.new ≡ record (self.old) { range_start = start; range_end = end } }
     {
-        self.config.range_end < self.effective_start()
-    }
-
-    /// Starts the search at this byte offset: a character boundary, or an offset past the end of the haystack, where nothing
-    /// is found.
-    pub fn from_pos(mut self, start: usize) -> RegexInput<S>
-        requires { start ≤ length (S.text self.haystack) → IsCharBoundary (S.text self.haystack) start }
-        ensures haystack { result.haystack ≡ self.haystack }
-        ensures config { result.config ≡ record (self.config) { start = start } }
-    {
-        self.config.start = start;
-        self
-    }
-
-    /// Limits the search to this byte range, from one character boundary of the haystack to another.
-    pub fn range(mut self, range: Range<usize>) -> RegexInput<S>
-        requires ordered { range.start ≤ range.end }
-        requires starts { IsCharBoundary (S.text self.haystack) range.start }
-        requires ends { IsCharBoundary (S.text self.haystack) range.end }
-        ensures haystack { result.haystack ≡ self.haystack }
-        ensures config { result.config ≡ record (self.config) { range_start = range.start; range_end = range.end } }
-    {
-        self.config.range_start = range.start;
-        self.config.range_end = range.end;
-        self
+        let first = self.start.max(start);
+        self.input.range = Span { start, end };
+        self.input.first = first;
+        if self.input.continue_at.is_some() {
+            self.input.continue_at = Some(first);
+        }
     }
 
     /// Whether `^` and `\A` match at the start of the haystack.
-    pub fn start_text(mut self, yes: bool) -> RegexInput<S>
-        ensures haystack { result.haystack ≡ self.haystack }
-        ensures config { result.config ≡ record (self.config) { start_text = yes } }
+    pub(crate) fn set_start_text(&mut self, yes: bool)
+        ensures { self.new ≡ record (self.old) { start_text = yes } }
     {
-        self.config.start_text = yes;
-        self
+        self.input.no_start_text = !yes;
     }
 
     /// Whether `$` and `\z` match at the end of the haystack.
-    pub fn end_text(mut self, yes: bool) -> RegexInput<S>
-        ensures haystack { result.haystack ≡ self.haystack }
-        ensures config { result.config ≡ record (self.config) { end_text = yes } }
+    pub(crate) fn set_end_text(&mut self, yes: bool)
+        ensures { self.new ≡ record (self.old) { end_text = yes } }
     {
-        self.config.end_text = yes;
-        self
+        self.input.no_end_text = !yes;
     }
 
     /// Whether `\G` matches at the start of the search; otherwise it never matches.
-    pub fn continue_from_previous_match_end(mut self, yes: bool) -> RegexInput<S>
-        ensures haystack { result.haystack ≡ self.haystack }
-        ensures config { result.config ≡ record (self.config) { continues = yes } }
+    pub(crate) fn set_continues(&mut self, yes: bool)
+        ensures { self.new ≡ record (self.old) { continues = yes } }
     {
-        self.config.continues = yes;
-        self
+        self.input.continue_at = if yes { Some(self.input.first) } else { None };
     }
 
-    /// Whether the match has to start at the start of the search; otherwise it may start later.
-    pub fn anchored(mut self, yes: bool) -> RegexInput<S>
-        ensures haystack { result.haystack ≡ self.haystack }
-        ensures config { result.config ≡ record (self.config) { anchored = yes } }
+    /// Whether the match has to start at the start of the search.
+    pub(crate) fn set_anchored(&mut self, yes: bool)
+        ensures { self.new ≡ record (self.old) { anchored = yes } }
     {
-        self.config.anchored = yes;
-        self
-    }
-
-    /// Changes the start of the search to this byte offset: a character boundary, or an offset past the end of the haystack,
-    /// where nothing is found.
-    pub fn set_start(&mut self, start: usize)
-        requires { start ≤ length (S.text self.old.haystack) → IsCharBoundary (S.text self.old.haystack) start }
-        ensures haystack { self.new.haystack ≡ self.old.haystack }
-        ensures config { self.new.config ≡ record (self.old.config) { start = start } }
-    {
-        self.config.start = start;
-    }
-}
-
-impl<S: Input> Clone for RegexInput<S> {
-    ghost is_clone = { λ input copy. (copy.haystack ≡ input.haystack) × (copy.config ≡ input.config) };
-
-    ghost is_infallible = { λ _. ⊤ };
-
-    fn clone(&self) -> Result<RegexInput<S>, AllocError> {
-        Ok(RegexInput {
-            haystack: self.haystack,
-            config: self.config,
-        })
-    }
-}
-
-impl<S: Input> From<S> for RegexInput<S> {
-    ghost from_gives = { λ s input. (input.haystack ≡ s) × (input.config ≡ whole (S.text s)) };
-
-    fn from(haystack: S) -> RegexInput<S> {
-        RegexInput::new(haystack)
+        self.input.anchored = yes;
     }
 }

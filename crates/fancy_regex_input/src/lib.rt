@@ -6,8 +6,10 @@ mod boundaries;
 mod config;
 mod input;
 mod matched;
+mod regex_input;
 
 pub use boundaries::{next_boundary, previous_boundary};
-pub use config::{RegexInput, SearchConfig};
+pub use config::SearchConfig;
 pub use input::Input;
 pub use matched::Match;
+pub use regex_input::RegexInput;

@@ -9,20 +9,21 @@ use Rattle.fancy_regex_tree.specs.Tree.{Tree}
 use Rattle.fancy_regex_meaning.specs.Groups.{Pattern, pattern_of}
 use Rattle.fancy_regex_meaning.specs.Positions.{boundaries}
 use Rattle.fancy_regex_meaning.specs.WayLaws.{Each}
-use Rattle.fancy_regex_meaning.specs.Searches.{Match, Search, match_at, match_of, is_admitted, start_way, starts, first_some, first_match, search_from}
+use Rattle.fancy_regex_meaning.specs.Searches.{Match, Search, match_at, match_of, is_admitted, start_way, starts, first_some, first_match}
 use Rattle.fancy_regex_meaning.specs.Ways.{Pairs, MatchState, Setting}
 use Rattle.fancy_regex_meaning.proofs.BoundaryLemmas.{IsCharBoundary-of_test}
 use Rattle.fancy_regex_meaning.proofs.EachLemmas.{Each-weaker, Each-filter, Each-cond, boundaries_pass}
 use Rattle.fancy_regex_meaning.proofs.MatchStartProofs.{chosen_holds, found_in_list, first_in_list, matches_are_spans}
 use Rattle.fancy_regex_meaning.proofs.WayProofs.{Keeps, ways_go_well}
 use Rattle.fancy_regex_meaning.proofs.SearchProofs.{matches_are_admitted, matches_cut_well}
-use Rattle.fancy_regex_class.specs.RunInputs.{group_slots, match_slots}
+use Rattle.fancy_regex_class.specs.RunInputs.{setting_for, group_slots, match_slots}
+use Rattle.fancy_regex_class.specs.declared.input.RunInput.{RunInput}
 use Rattle.fancy_regex_input.specs.SearchInputs.{FitsText}
 use Rattle.fancy_regex_input.specs.declared.config.SearchConfig.{SearchConfig}
-use Rattle.fancy_regex_meta.specs.MetaMatches.{meta_pattern, meta_match_from}
-use Rattle.fancy_regex_meta.specs.MemberSearches.{member_setting, member_search, meta_match_at}
+use Rattle.fancy_regex_meta.specs.MetaMatches.{meta_pattern, meta_match_for}
+use Rattle.fancy_regex_meta.specs.Strategies.{search_of}
 use Rattle.fancy_regex_meta.specs.MatchOffsets.{EndsSecond, IsMatchWithin}
-use Rattle.fancy_regex_meta.specs.FoundParts.{wanted_groups, wanted_parts, parts_in, found_parts}
+use Rattle.fancy_regex_meta.specs.FoundParts.{wanted_parts, parts_in, found_parts}
 use Rattle.fancy_regex_meta.specs.declared.found.FoundMatch.{FoundMatch}
 use Rattle.fancy_regex_meta.specs.declared.found.MatchDetail.{MatchDetail}
 use Rattle.fancy_regex_meta.specs.declared.found.MatchDetail.TheVariants.{Span, Groups}
@@ -120,18 +121,18 @@ first_fits text a fits inside =
     (cases_lt a.start a.range_start)
 
 -- the offsets of a match's groups begin with its span
-parts-same : (t : Tree) (wanted : MatchDetail) (o : Option Match) → ((m : Match) → o ≡ Some m → length m.pairs ≡ length (pattern_of t).groups) →
-    option_map (parts_in wanted) (option_map (match_slots (pattern_of t)) o) ≡ option_map (wanted_parts wanted (pattern_of t)) o
-parts-same t wanted None many = refl
-parts-same t wanted (Some m) many =
+parts-same : (t : Tree) (o : Option Match) → ((m : Match) → o ≡ Some m → length m.pairs ≡ length (pattern_of t).groups) →
+    option_map parts_in (option_map (match_slots (pattern_of t)) o) ≡ option_map (wanted_parts Groups (pattern_of t)) o
+parts-same t None many = refl
+parts-same t (Some m) many =
     let begins = places_begin t m (many m refl) in
-    λ i. Some (begins.first i, (begins.second i, wanted_groups wanted (pattern_of t) m))
+    λ i. Some (begins.first i, (begins.second i, match_slots (pattern_of t) m))
 
 -- those of the match of a search
-pub first-parts : (t : Tree) (wanted : MatchDetail) (s : Setting) (find : Search) → IsUtf8 s.text → IsCharBoundary s.text find.first → find.stop ≤ length s.text →
-    option_map (parts_in wanted) (option_map (match_slots (pattern_of t)) (first_match s (pattern_of t) find)) ≡ option_map (wanted_parts wanted (pattern_of t)) (first_match s (pattern_of t) find)
-first-parts t wanted s find utf8 h inside =
-    parts-same t wanted (first_match s (pattern_of t) find) (λ m e. (first_lies s (pattern_of t) find utf8 h inside m e).many)
+pub first-parts : (t : Tree) (s : Setting) (find : Search) → IsUtf8 s.text → IsCharBoundary s.text find.first → find.stop ≤ length s.text →
+    option_map parts_in (option_map (match_slots (pattern_of t)) (first_match s (pattern_of t) find)) ≡ option_map (wanted_parts Groups (pattern_of t)) (first_match s (pattern_of t) find)
+first-parts t s find utf8 h inside =
+    parts-same t (first_match s (pattern_of t) find) (λ m e. (first_lies s (pattern_of t) find utf8 h inside m e).many)
 
 -- parts have codes, so that equations between them have one proof
 pub coded_parts : Coded (ℕ × (ℕ × List ℕ))
@@ -143,32 +144,33 @@ ends_second t Groups x m e many =
     ap (λ (p : ℕ × (ℕ × List ℕ)). slice_index p.1.1 1) e ∙ (places_begin t m many).second ∙ sym (ap (λ (p : ℕ × (ℕ × List ℕ)). p.1.0) e)
 
 -- What is found where a match lies is within the range.
-lies_within : (s : Setting) (t : Tree) (find : Search) (wanted : MatchDetail) (a : SearchConfig) (x : FoundMatch) (m : Match) → found_parts x ≡ wanted_parts wanted (pattern_of t) m →
-    Lies s (pattern_of t) find m → find.first ≡ max a.start a.range_start → find.stop ≡ a.range_end → IsMatchWithin wanted s.text a x
-lies_within s t find wanted a x m e lies first stop =
+lies_within : (s : Setting) (t : Tree) (find : Search) (wanted : MatchDetail) (x : FoundMatch) (m : Match) → found_parts x ≡ wanted_parts wanted (pattern_of t) m →
+    Lies s (pattern_of t) find m → IsMatchWithin wanted s.text find.first find.stop x
+lies_within s t find wanted x m e lies =
     let start : x.start ≡ m.start = ap (λ (p : ℕ × (ℕ × List ℕ)). p.0) e in
     let end : x.end ≡ m.end = ap (λ (p : ℕ × (ℕ × List ℕ)). p.1.0) e in
     record {
-      after = omega (arith, start, first, lies.after);
+      after = omega (arith, start, lies.after);
       cuts = record {
         ordered = omega (arith, start, end, lies.ordered);
         starts = subst (IsCharBoundary s.text) (sym start) lies.starts_well;
         ends = subst (IsCharBoundary s.text) (sym end) lies.ends_well;
       };
-      inside = omega (arith, end, stop, lies.inside);
+      inside = omega (arith, end, lies.inside);
       second = ends_second t wanted x m e lies.many;
     }
 
 -- what a search has found lies where it was looked for
-pub found_within : (s : MetaRegex) (text : List ℕ) (a : SearchConfig) (continue_disabled : Bool) (wanted : MatchDetail) (found : Option FoundMatch) →
-    IsUtf8 text → IsCharBoundary text (max a.start a.range_start) → a.range_end ≤ length text →
-    option_map found_parts found ≡ option_map (wanted_parts wanted (meta_pattern s)) (meta_match_from s text a (max a.start a.range_start) continue_disabled) →
-    IfSome found (IsMatchWithin wanted text a)
-unfolding search_from
-found_within s text a continue_disabled wanted None utf8 h inside e = tt
-found_within s text a continue_disabled wanted (Some x) utf8 h inside e =
-    let f = some-of (wanted_parts wanted (meta_pattern s)) (meta_match_from s text a (max a.start a.range_start) continue_disabled) (found_parts x) e in
-    lies_within _ (tree_in s.options (string_bytes s.pattern)) _ wanted a x f.0 f.2 (first_lies _ (meta_pattern s) _ utf8 h inside f.0 f.1) refl refl
+pub found_within : (s : MetaRegex) (text : List ℕ) (input : RunInput) (wanted : MatchDetail) (found : Option FoundMatch) →
+    IsUtf8 text → IsCharBoundary text input.first → input.range.end ≤ length text →
+    option_map found_parts found ≡ option_map (wanted_parts wanted (meta_pattern s)) (meta_match_for s text input) →
+    IfSome found (IsMatchWithin wanted text input.first input.range.end)
+found_within s text input wanted None utf8 h inside e = tt
+found_within s text input wanted (Some x) utf8 h inside e =
+    let f = some-of (wanted_parts wanted (meta_pattern s)) (meta_match_for s text input) (found_parts x) e in
+    let setting = setting_for s.options.unicode_mode text input in
+    let find = search_of s.options input in
+    lies_within setting (tree_in s.options (string_bytes s.pattern)) find wanted x f.0 f.2 (first_lies setting (meta_pattern s) find utf8 h inside f.0 f.1)
 
 nat_lt-no : (a b : ℕ) → b ≤ a → nat_lt a b ≡ false
 nat_lt-no a b h = search rules
@@ -189,16 +191,3 @@ pub anchored_match : (s : Setting) (pattern : Pattern) (find : Search) → find.
 unfolding first_match
 anchored_match s pattern find anchored inside =
     tries_one (match_at s pattern find) find.first (boundaries s.text find.first find.stop) (nat_lt find.stop find.first) find.anchored (nat_lt-no find.stop find.first inside) anchored
-
--- the match that starts at an offset lies after it
-pub found_at_within : (s : MetaRegex) (text : List ℕ) (a : SearchConfig) (continue_at : Option ℕ) (p : ℕ) (wanted : MatchDetail) (found : Option FoundMatch) →
-    IsUtf8 text → IsCharBoundary text p → p ≤ a.range_end → a.range_end ≤ length text →
-    option_map found_parts found ≡ option_map (wanted_parts wanted (meta_pattern s)) (meta_match_at s text a continue_at p) →
-    IfSome found (IsMatchWithin wanted text (record a { start = p; range_start = p }))
-found_at_within s text a continue_at p wanted None utf8 h before inside e = tt
-found_at_within s text a continue_at p wanted (Some x) utf8 h before inside e =
-    let f = some-of (wanted_parts wanted (meta_pattern s)) (meta_match_at s text a continue_at p) (found_parts x) e in
-    let setting = member_setting s text a continue_at in
-    let find = member_search s a p in
-    let lies = first_lies setting (meta_pattern s) find utf8 h inside f.0 (anchored_match setting (meta_pattern s) find refl before ∙ f.1) in
-    lies_within setting (tree_in s.options (string_bytes s.pattern)) find wanted (record a { start = p; range_start = p }) x f.0 f.2 lies (omega arith) refl

@@ -98,11 +98,11 @@ program-limits o t text input seek can unicode longest whole StackOverflow u l h
 program-limits o t text input seek can unicode longest whole Memory u l h = tt
 
 -- and one that the machine passes
-pub program-passed : (prog : Prog) (seek : Option (List Bool)) (o : RegexOptions) (text : List ℕ) (input : RunInput) (e : RuntimeError) →
-    MachinePassesLimit prog text input (run_options_of o seek) e → IsStrategyError (Program prog seek) o text input (from_runtime_error e)
-program-passed prog seek o text input BacktrackLimitExceeded h = h
-program-passed prog seek o text input StackOverflow h = h
-program-passed prog seek o text input Memory h = tt
+pub program-passed : (prog : Prog) (run : RunOptions) (o : RegexOptions) (text : List ℕ) (input : RunInput) (e : RuntimeError) →
+    MachinePassesLimit prog text input (run_options_of o run.seek) e → IsStrategyError (Program prog run) o text input (from_runtime_error e)
+program-passed prog run o text input BacktrackLimitExceeded h = h
+program-passed prog run o text input StackOverflow h = h
+program-passed prog run o text input Memory h = tt
 
 -- where a run answers, the machine stays within the limits
 pub program-stays : (prog : Prog) (text : List ℕ) (input : RunInput) (options : RunOptions) (count : ℕ) (found : Option (Vec ℕ Global)) →

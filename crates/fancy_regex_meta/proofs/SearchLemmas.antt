@@ -1,20 +1,23 @@
 -- A search of the code as a search of the definitions.
-use Rattle.std.proofs.Common.{◌≡◌, ◌<◌, ℕ, Bool, true, false, not, ◌&&◌, List, Some, None, refl, ap, ◌∙◌, rules, nat_lt, if◌then◌else◌}
+use Rattle.std.proofs.Common.{◌≡◌, ◌<◌, ℕ, Bool, true, false, not, ◌&&◌, List, Some, None, refl, ap, subst, ◌∙◌, rules, nat_lt, if◌then◌else◌}
 use Rattle.std.specs.Prelude.{◌||◌}
-use Rattle.fancy_regex_meaning.specs.Groups.{Pattern}
+use Rattle.fancy_regex_tree.specs.Tree.{Tree}
+use Rattle.fancy_regex_meaning.specs.Groups.{Pattern, pattern_of}
+use Rattle.fancy_regex_meaning.specs.Choices.{choices}
 use Rattle.fancy_regex_meaning.specs.Ways.{Setting}
 use Rattle.fancy_regex_meaning.specs.Searches.{Search, first_match, search_from}
 use Rattle.fancy_regex_class.specs.RunInputs.{setting_for}
 use Rattle.fancy_regex_class.specs.declared.input.RunInput.{RunInput}
-use Rattle.fancy_regex_input.specs.SearchInputs.{input_of}
+use Rattle.fancy_regex_input.specs.SearchInputs.{input_of, effective_start, run_input_of}
 use Rattle.fancy_regex_input.specs.declared.config.SearchConfig.{SearchConfig}
 use Rattle.fancy_regex_meta.specs.Patterns.{options_in, setting_in}
-use Rattle.fancy_regex_meta.specs.Strategies.{search_of, run_input_of, run_options_of}
+use Rattle.fancy_regex_meta.specs.Strategies.{Executes, RunsUnder, search_of, run_options_of}
 use Rattle.fancy_regex_meta.specs.PatternMatches.{match_from}
+use Rattle.fancy_regex_meta.specs.MetaMatches.{meta_pattern, meta_match_for, meta_match_from}
 use Rattle.fancy_regex_machine.specs.declared.error.RuntimeError.TheVariants.{BacktrackLimitExceeded, StackOverflow, Memory}
 use Rattle.fancy_regex_machine.proofs.LimitLemmas.{MachinePassesLimit-prop}
 use Rattle.fancy_regex_linear.specs.Find.{attempted}
-use Rattle.fancy_regex_meta.specs.SearchLimits.{setting_from, search_at, IsSearchError, IsStrategyError, effective_start, meta_starts_tried}
+use Rattle.fancy_regex_meta.specs.SearchLimits.{setting_from, search_at, IsSearchError, IsStrategyError, StrategyStaysInLimits, IsRunError, IsMetaSearchError, starts_tried, meta_uses_easy, meta_tree, meta_starts_tried, run_tried}
 use Rattle.fancy_regex_meta.specs.declared.error.Error.{Error}
 use Rattle.fancy_regex_meta.specs.declared.error.Error.TheVariants as told
 use Rattle.fancy_regex_meta.specs.declared.meta_regex.MetaRegex.{MetaRegex}
@@ -52,10 +55,28 @@ run-input-same F o text a q continue_disabled input e =
     ap (λ x. F (setting_for o.unicode_mode text x) (search_of o x)) e
     ∙ ap (λ k. F (record (setting_in o text a) { continue_at = k }) (search_at o a q)) (continues-same a.continues continue_disabled q)
 
--- past the range no start is attempted
-pub none-attempted : (s : MetaRegex) (text : List ℕ) (a : SearchConfig) (continue_disabled : Bool) → a.range_end < effective_start a → meta_starts_tried s text a continue_disabled ≡ 0
+-- A search with the input of a configuration finds the match of the configured search, within its range, fails with its errors,
+-- and tries its starts.
+module _ (s : MetaRegex) (text : List ℕ) (a : SearchConfig) (continue_disabled : Bool) where
+  pub match-same : meta_match_for s text (run_input_of a (effective_start a) continue_disabled) ≡ meta_match_from s text a (effective_start a) continue_disabled
+  match-same = input-same s.options (meta_pattern s) text a (effective_start a) continue_disabled _ refl
+
+  pub error-same : (e : Error) → IsRunError s text (run_input_of a (effective_start a) continue_disabled) e → IsMetaSearchError s text a continue_disabled e
+  error-same e h =
+      let same = run-input-same (λ setting find. choices setting (pattern_of (meta_tree s)) find) s.options text a (effective_start a) continue_disabled _ refl in
+      (subst (λ n. IsSearchError (meta_uses_easy s) s.options.backtrack_limit n e) same h.0, h.1)
+
+  pub tried-same : run_tried s.options text (run_input_of a (effective_start a) continue_disabled) (meta_tree s) ≡ meta_starts_tried s text a continue_disabled
+  tried-same = run-input-same (starts_tried (meta_tree s)) s.options text a (effective_start a) continue_disabled _ refl
+
+-- past the range nothing is found, and no start is attempted
+pub no-match : (setting : Setting) (pattern : Pattern) (find : Search) → find.stop < find.first → first_match setting pattern find ≡ None
+unfolding first_match
+no-match setting pattern find h = rw (nat_lt-yes find.stop find.first h) refl
+
+pub none-tried : (s : MetaRegex) (text : List ℕ) (input : RunInput) → input.range.end < input.first → run_tried s.options text input (meta_tree s) ≡ 0
 unfolding attempted
-none-attempted s text a continue_disabled h = rw (nat_lt-yes a.range_end (effective_start a) h) refl
+none-tried s text input h = rw (nat_lt-yes input.range.end input.first h) refl
 
 -- an error of a search is one in one way
 pub IsSearchError-prop : (served : Bool) (limit choices : ℕ) (e : Error) → IsProp (IsSearchError served limit choices e)
@@ -66,5 +87,15 @@ IsSearchError-prop served limit choices _ = hlevel (le_prop, Bool-set)
 
 pub IsStrategyError-prop : (strategy : Strategy) (o : RegexOptions) (text : List ℕ) (input : RunInput) (e : Error) → IsProp (IsStrategyError strategy o text input e)
 IsStrategyError-prop (Easy easy) o text input (told.RuntimeError error) = hlevel le_prop
-IsStrategyError-prop (Program prog seek) o text input (told.RuntimeError error) = MachinePassesLimit-prop prog text input (run_options_of o seek) error
+IsStrategyError-prop (Program prog run) o text input (told.RuntimeError error) = MachinePassesLimit-prop prog text input (run_options_of o run.seek) error
 IsStrategyError-prop strategy o text input _ = hlevel le_prop
+
+-- that an answer stays within the limits is so in one way
+pub StrategyStaysInLimits-prop : (strategy : Strategy) (o : RegexOptions) (text : List ℕ) (input : RunInput) → IsProp (StrategyStaysInLimits strategy o text input)
+StrategyStaysInLimits-prop (Easy easy) o text input = hlevel le_prop
+StrategyStaysInLimits-prop (Program prog run) o text input = hlevel le_prop
+
+-- what executes a tree runs under its options
+pub executes-under : (strategy : Strategy) (o : RegexOptions) (t : Tree) → Executes strategy o t → RunsUnder strategy o
+executes-under (Easy easy) o t does = tt
+executes-under (Program prog run) o t does = does.5

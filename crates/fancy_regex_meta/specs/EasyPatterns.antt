@@ -24,4 +24,4 @@ pattern_uses_easy o text = uses_easy o (tree_in o text)
 -- the strategy is the linear-time matcher
 abbrev pub is_easy_strategy : Strategy → Bool
 is_easy_strategy (Easy easy) = true
-is_easy_strategy (Program prog seek) = false
+is_easy_strategy (Program prog run) = false

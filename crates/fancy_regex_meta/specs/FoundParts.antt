@@ -20,9 +20,9 @@ wanted_groups wanted pattern m = if_groups wanted (match_slots pattern m)
 abbrev pub wanted_parts : MatchDetail → Pattern → Match → ℕ × (ℕ × List ℕ)
 wanted_parts wanted pattern m = (m.start, (m.end, wanted_groups wanted pattern m))
 
--- the same of offsets that begin with the span
-abbrev pub parts_in : MatchDetail → List ℕ → ℕ × (ℕ × List ℕ)
-parts_in wanted slots = (slice_index slots 0, (slice_index slots 1, if_groups wanted slots))
+-- the same of the offsets of all groups, which begin with the span
+abbrev pub parts_in : List ℕ → ℕ × (ℕ × List ℕ)
+parts_in slots = (slice_index slots 0, (slice_index slots 1, slots))
 
 -- the same of what a search found
 abbrev pub found_parts : FoundMatch → ℕ × (ℕ × List ℕ)

@@ -1,6 +1,5 @@
 -- Start and end offsets of a match in a text.
-use Rattle.std.specs.Prelude.{◌≡◌, ℕ, ◌≤◌, List, max, slice_index, IsCharBoundary}
-use Rattle.fancy_regex_input.specs.declared.config.SearchConfig.{SearchConfig}
+use Rattle.std.specs.Prelude.{◌≡◌, ℕ, ◌≤◌, List, slice_index, IsCharBoundary}
 use Rattle.fancy_regex_meta.specs.declared.found.FoundMatch.{FoundMatch}
 use Rattle.fancy_regex_meta.specs.declared.found.MatchDetail.{MatchDetail}
 use Rattle.fancy_regex_meta.specs.declared.found.MatchDetail.TheVariants.{Span, Groups}
@@ -16,9 +15,9 @@ abbrev pub EndsSecond : MatchDetail → FoundMatch → Type 0
 EndsSecond Span x = Unit {0}
 EndsSecond Groups x = slice_index x.groups.items 1 ≡ x.end
 
--- What was found lies in the range of the search, at or after its start.
-pub record IsMatchWithin (wanted : MatchDetail) (text : List ℕ) (config : SearchConfig) (x : FoundMatch) : Type 0 where
-  pub after : max config.start config.range_start ≤ x.start
+-- What was found lies between the first start of the search and the end of its range.
+pub record IsMatchWithin (wanted : MatchDetail) (text : List ℕ) (first end : ℕ) (x : FoundMatch) : Type 0 where
+  pub after : first ≤ x.start
   pub cuts : AreBoundaries text x.start x.end
-  pub inside : x.end ≤ config.range_end
+  pub inside : x.end ≤ end
   pub second : EndsSecond wanted x

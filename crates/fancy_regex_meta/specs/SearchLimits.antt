@@ -1,5 +1,5 @@
 -- Which errors a search may return, within which limits it answers, and how often the linear-time matcher looks at the haystack.
-use Rattle.std.specs.Prelude.{◌≡◌, ℕ, ◌+◌, ◌-◌, ◌*◌, ◌<◌, ◌≤◌, Bool, true, false, not, ◌||◌, List, Some, None, max, string_bytes, if◌then◌else◌}
+use Rattle.std.specs.Prelude.{◌≡◌, ℕ, ◌+◌, ◌-◌, ◌*◌, ◌<◌, ◌≤◌, Bool, false, not, ◌||◌, List, Some, None, string_bytes, if◌then◌else◌}
 use Rattle.fancy_regex_tree.specs.Tree.{Tree}
 use Rattle.fancy_regex_meaning.specs.Groups.{pattern_of}
 use Rattle.fancy_regex_meaning.specs.Ways.{Setting}
@@ -16,9 +16,11 @@ use Rattle.fancy_regex_machine.specs.RunArguments.{machine_ending}
 use Rattle.fancy_regex_machine.specs.declared.error.RuntimeError.{RuntimeError}
 use Rattle.fancy_regex_machine.specs.declared.error.RuntimeError.TheVariants.{BacktrackLimitExceeded, StackOverflow, Memory}
 use Rattle.fancy_regex_machine.specs.declared.search.RunOptions.{RunOptions}
+use Rattle.fancy_regex_input.specs.SearchInputs.{run_input_of}
+pub use Rattle.fancy_regex_input.specs.SearchInputs.{effective_start}
 use Rattle.fancy_regex_input.specs.declared.config.SearchConfig.{SearchConfig}
 use Rattle.fancy_regex_meta.specs.Patterns.{tree_in, options_in, setting_in}
-use Rattle.fancy_regex_meta.specs.Strategies.{search_of, run_input_of, run_options_of}
+use Rattle.fancy_regex_meta.specs.Strategies.{search_of, run_options_of}
 use Rattle.fancy_regex_meta.specs.EasyPatterns.{pattern_uses_easy}
 use Rattle.fancy_regex_meta.specs.declared.options.RegexOptions.{RegexOptions}
 use Rattle.fancy_regex_meta.specs.declared.strategy.Strategy.{Strategy}
@@ -44,7 +46,7 @@ IsSearchError served limit choices _ = ⊥
 -- limit and the kept seek table. The linear-time matcher has no limit.
 abbrev pub StrategyPassesLimit : Strategy → RegexOptions → List ℕ → RunInput → RuntimeError → Type 0
 StrategyPassesLimit (Easy easy) o text input error = ⊥
-StrategyPassesLimit (Program prog seek) o text input error = MachinePassesLimit prog text input (run_options_of o seek) error
+StrategyPassesLimit (Program prog run) o text input error = MachinePassesLimit prog text input (run_options_of o run.seek) error
 
 -- an error of a search that reports a limit only where the kept program passes it
 abbrev pub IsStrategyError : Strategy → RegexOptions → List ℕ → RunInput → Error → Type 0
@@ -61,7 +63,7 @@ MachineStaysInLimits prog text input options = (n : ℕ) (e : Ending) → machin
 -- and input with the options' limit. The linear-time matcher has no limit.
 abbrev pub StrategyStaysInLimits : Strategy → RegexOptions → List ℕ → RunInput → Type 0
 StrategyStaysInLimits (Easy easy) o text input = Unit {0}
-StrategyStaysInLimits (Program prog seek) o text input = MachineStaysInLimits prog text input (run_options_of o seek)
+StrategyStaysInLimits (Program prog run) o text input = MachineStaysInLimits prog text input (run_options_of o run.seek)
 
 -- the weight of a tree: the looks per position that the linear-time matcher needs at most
 abbrev pub weight_of : Tree → ℕ
@@ -95,10 +97,6 @@ meta_tree s = tree_in s.options (string_bytes s.pattern)
 abbrev pub meta_uses_easy : MetaRegex → Bool
 meta_uses_easy s = pattern_uses_easy s.options (string_bytes s.pattern)
 
--- the offset at which a search starts
-abbrev pub effective_start : SearchConfig → ℕ
-effective_start config = max config.start config.range_start
-
 -- the number of choices of a search, where `\G` may be disabled
 abbrev pub meta_choices : MetaRegex → List ℕ → SearchConfig → Bool → ℕ
 meta_choices s text config continue_disabled =
@@ -112,6 +110,22 @@ meta_starts_tried s text config continue_disabled =
 -- the most looks of the linear-time matcher: the weight of the tree for each position of the range
 abbrev pub max_looks : MetaRegex → SearchConfig → ℕ
 max_looks s config = weight_of (meta_tree s) * (config.range_end - effective_start config + 1)
+
+-- the most looks of the linear-time matcher in a search with this input: the weight of the tree for each position that it may reach
+abbrev pub run_looks : MetaRegex → RunInput → ℕ
+run_looks s input = weight_of (meta_tree s) * (input.range.end - input.first + 1)
+
+-- The error is one that a search with this input may return: a limit only where the choices exceed it, and only where the kept
+-- program passes it on this input.
+abbrev pub IsRunError : MetaRegex → List ℕ → RunInput → Error → Type 0
+IsRunError s text input e =
+    IsSearchError (meta_uses_easy s) s.options.backtrack_limit (run_choices s.options text input (meta_tree s)) e
+    × IsStrategyError s.strategy s.options text input e
+
+-- Where a search with this input answers, its run stays within the limits. A search whose first start is past the end of its range
+-- runs nothing.
+abbrev pub RunStaysInLimits : MetaRegex → List ℕ → RunInput → Type 0
+RunStaysInLimits s text input = input.first ≤ input.range.end → StrategyStaysInLimits s.strategy s.options text input
 
 -- The error is one that a search may return: a limit only where the choices exceed it, and only where the kept program passes
 -- it on this input.

@@ -2,9 +2,7 @@
 
 ghost use Rattle.std.specs.Prelude.{◌≡◌, [], option_map, slice_index};
 ghost use Rattle.fancy_regex_meta.specs.FoundParts.{found_parts, parts_in};
-ghost use Rattle.fancy_regex_meta.specs.declared.found.MatchDetail.TheVariants.{Groups};
 
-use fancy_regex_linear::SearchMemory;
 use std::alloc::Global;
 
 /// Which byte offsets of a match a search is asked for.
@@ -44,7 +42,7 @@ pub(crate) fn found_span(alloc: Global, span: Option<(usize, usize)>) -> Option<
 
 /// The match with these offsets of its groups, which begin with its span.
 pub(crate) fn found_groups(slots: Option<Vec<usize>>) -> Option<FoundMatch>
-    ensures { option_map found_parts result ≡ option_map (parts_in Groups) (option_map (λ v. v.items) slots) }
+    ensures { option_map found_parts result ≡ option_map parts_in (option_map (λ v. v.items) slots) }
 {
     match slots {
         Some(groups) => Some(FoundMatch {
@@ -53,26 +51,6 @@ pub(crate) fn found_groups(slots: Option<Vec<usize>>) -> Option<FoundMatch>
             groups,
         }),
         None => None,
-    }
-}
-
-/// What is wanted of the match with these offsets of its groups. The memory takes them back where they are not wanted.
-pub(crate) fn found_in(
-    alloc: Global,
-    slots: Option<Vec<usize>>,
-    wanted: MatchDetail,
-    memory: &mut SearchMemory,
-) -> Option<FoundMatch>
-    ensures { option_map found_parts result ≡ option_map (parts_in wanted) (option_map (λ v. v.items) slots) }
-{
-    match wanted {
-        MatchDetail::Groups => found_groups(slots),
-        MatchDetail::Span => {
-            let groups = slots?;
-            let span = (offset(&groups, 0), offset(&groups, 1));
-            memory.give_back(groups);
-            found_span(alloc, Some(span))
-        }
     }
 }
 

@@ -1,10 +1,9 @@
 //! A compiled pattern: its text, its options, the names and the number of its groups, and what executes it.
 
-ghost use Rattle.std.specs.Prelude.{◌≡◌, ◌≤◌, ◌+◌, ◌-◌, ◌^◌, true, false, min, max, not, ◌&&◌, Some, None, length, IfOk, IfErr, IfSome, option_map, string_bytes, if◌then◌else◌, IsCharBoundary};
+ghost use Rattle.std.specs.Prelude.{◌≡◌, ◌≤◌, ◌+◌, ◌-◌, ◌^◌, true, false, min, length, IfOk, IfErr, IfSome, option_map, string_bytes, IsCharBoundary};
 ghost use Rattle.fancy_regex_tree.specs.Tree.{tree_of};
 ghost use Rattle.fancy_regex_meaning.specs.Groups.{pattern_of};
-ghost use Rattle.fancy_regex_input.specs.SearchInputs.{FitsText};
-ghost use Rattle.fancy_regex_meta.specs.Strategies.{Executes, StrategyKeepsCap, run_input_of};
+ghost use Rattle.fancy_regex_meta.specs.Strategies.{Executes, StrategyKeepsCap};
 ghost use Rattle.fancy_regex_meta.specs.GroupNames.{AreGroupNumbersOf};
 ghost use Rattle.fancy_regex_meta.specs.Refusals.{IsAccepted, RefusesTree, Refuses, Accepts};
 ghost use Rattle.fancy_regex_meta.specs.PatternMatches.{IsCompiledFrom, names_in};
@@ -16,9 +15,8 @@ use crate::memory::MetaMemory;
 use crate::options::RegexOptions;
 use crate::strategy::Strategy;
 use fancy_regex_analysis::analyze;
-use fancy_regex_class::{RunInput, Span, Steps};
+use fancy_regex_class::{RunInput, Steps};
 use fancy_regex_info::AnalyzeContext;
-use fancy_regex_input::SearchConfig;
 use fancy_regex_meaning::laws_of_groups;
 use fancy_regex_tree::{ExprTree, NamedGroups};
 use std::alloc::Global;
@@ -52,8 +50,10 @@ fn choose_strategy(
     ensures runs { IfOk result (λ r. Executes r.1 options.now (tree_of tree.now.expr)) }
     ensures served { IfOk result (λ r. is_easy_strategy r.1 ≡ uses_easy options.now (tree_of tree.now.expr)) }
     ensures cap { IfOk result (λ r. StrategyKeepsCap options.now.max_prog_size r.1) }
-    ensures accepted { IfOk result (λ _. IsAccepted options.now tree.now.named_backref_only tree.now.contains_subroutines (tree_of tree.now.expr)) }
-    ensures refused { IfErr result (λ e. RefusesTree options.now tree.now.named_backref_only tree.now.contains_subroutines (tree_of tree.now.expr) e) }
+    ensures accepted { IfOk result (λ _. IsAccepted options.now tree.now.named_backref_only tree.now.contains_subroutines
+        (tree_of tree.now.expr)) }
+    ensures refused { IfErr result (λ e. RefusesTree options.now tree.now.named_backref_only tree.now.contains_subroutines
+        (tree_of tree.now.expr) e) }
 {
     laws_of_groups();
     let context = AnalyzeContext {
@@ -65,31 +65,11 @@ fn choose_strategy(
     Ok((info.end_group(), strategy))
 }
 
-/// The input of the matcher, for a search from a byte offset; if the flag is set, `\G` never matches.
-fn run_input(config: SearchConfig, first: usize, continue_disabled: bool) -> RunInput
-    ensures { result ≡ run_input_of config first continue_disabled }
-{
-    let continues = config.continues && !continue_disabled;
-    RunInput {
-        first,
-        continue_at: if continues { Some(first) } else { None },
-        range: Span {
-            start: config.range_start,
-            end: config.range_end,
-        },
-        anchored: config.anchored,
-        no_start_text: !config.start_text,
-        no_end_text: !config.end_text,
-    }
-}
-
 impl MetaRegex {
     ghost use Rattle.fancy_regex_meta.specs.MatchOffsets.{IsMatchWithin};
     ghost use Rattle.fancy_regex_meta.specs.FoundParts.{found_parts, wanted_parts};
-    ghost use Rattle.fancy_regex_meta.specs.declared.found.MatchDetail.TheVariants.{Groups};
-    ghost use Rattle.fancy_regex_meta.specs.SearchLimits.{IsMetaSearchError, MetaStaysInLimits, meta_uses_easy, meta_starts_tried, max_looks};
-    ghost use Rattle.fancy_regex_meta.specs.MetaMatches.{meta_pattern, meta_match_from};
-    ghost use Rattle.fancy_regex_meta.specs.MemberSearches.{meta_match_at, IsMemberError, MemberStaysInLimits};
+    ghost use Rattle.fancy_regex_meta.specs.SearchLimits.{IsRunError, RunStaysInLimits, meta_tree, meta_uses_easy, run_tried, run_looks};
+    ghost use Rattle.fancy_regex_meta.specs.MetaMatches.{meta_pattern, meta_match_for};
     ghost use Rattle.fancy_regex_meta.specs.Caps.{MetaKeepsCap};
 
     /// Parses and compiles a pattern. If it needs a program, that has at most `max_prog_size` instructions. `ParseError` if the
@@ -142,79 +122,37 @@ impl MetaRegex {
         self.groups
     }
 
-    /// The first match, with the byte offsets that are wanted; `None` if there is no match. If the flag is set, `\G` never
-    /// matches. The counter is raised by one for each look of the linear-time matcher at the haystack, also if memory runs out.
-    /// What is allocated for the search, but for its answer, stays in `memory`; what earlier searches left there changes no
-    /// answer. Errors: `RuntimeError` if a program exceeds a limit, or `Memory`.
+    /// The first match of a search with this input, with the byte offsets that are wanted; `None` if there is no match. The counter
+    /// is raised by one for each look of the linear-time matcher at the haystack, also if memory runs out. What is allocated for
+    /// the search, but for its answer, stays in `memory`; what earlier searches left there changes no answer. Errors:
+    /// `RuntimeError` if a program exceeds a limit, or `Memory`.
     pub fn search(
         &self,
         alloc: Global,
         text: &str,
-        config: SearchConfig,
-        continue_disabled: bool,
+        input: &RunInput,
         wanted: MatchDetail,
         steps: &mut Steps,
         memory: &mut MetaMemory,
     ) -> Result<Option<FoundMatch>>
-        requires { FitsText text.now config }
+        requires first { input.now.first ≤ input.now.range.end → IsCharBoundary text.now input.now.first }
+        requires range { input.now.range.end ≤ length text.now }
         ensures answer { IfOk result (λ found. option_map found_parts found
-            ≡ option_map (wanted_parts wanted (meta_pattern self.now)) (meta_match_from self.now text.now config (max config.start config.range_start) continue_disabled)) }
-        ensures within { IfOk result (λ found. IfSome found (IsMatchWithin wanted text.now config)) }
-        ensures limits { IfErr result (λ e. IsMetaSearchError self.now text.now config continue_disabled e) }
-        ensures stays { IfOk result (λ _. MetaStaysInLimits self.now text.now config continue_disabled) }
-        ensures looks_most { meta_uses_easy self.now ≡ true → steps.new ≤ steps.old + max_looks self.now config }
-        ensures looks_least { IfOk result (λ _. meta_uses_easy self.now ≡ true → min (steps.old + meta_starts_tried self.now text.now config continue_disabled) (2 ^ 64 - 1) ≤ steps.new) }
+            ≡ option_map (wanted_parts wanted (meta_pattern self.now)) (meta_match_for self.now text.now input.now)) }
+        ensures within { IfOk result (λ found. IfSome found
+            (IsMatchWithin wanted text.now input.now.first input.now.range.end)) }
+        ensures limits { IfErr result (λ e. IsRunError self.now text.now input.now e) }
+        ensures stays { IfOk result (λ _. RunStaysInLimits self.now text.now input.now) }
+        ensures looks_most { meta_uses_easy self.now ≡ true → steps.new ≤ steps.old + run_looks self.now input.now }
+        ensures looks_least { IfOk result (λ _. meta_uses_easy self.now ≡ true
+            → min (steps.old + run_tried self.now.options text.now input.now (meta_tree self.now)) (2 ^ 64 - 1) ≤ steps.new) }
         ensures looks_none { meta_uses_easy self.now ≡ false → steps.new ≡ steps.old }
         ensures counts { steps.old ≤ steps.new }
     {
-        let first = config.start.max(config.range_start);
-        if config.range_end < first {
+        if input.range.end < input.first {
             return Ok(None);
         }
-        let input = run_input(config, first, continue_disabled);
         self.strategy
-            .search(alloc, text, &input, &self.options, wanted, steps, memory)
-    }
-
-    /// The match that starts at `position`, with the byte offsets of its groups; `None` if no match starts there. `\G` matches at
-    /// `continue_at` alone, and nowhere if that is `None`. `memory` is used as by `search`. Errors: `RuntimeError` if a program exceeds a limit, or `Memory`.
-    pub fn search_at(
-        &self,
-        alloc: Global,
-        text: &str,
-        config: SearchConfig,
-        continue_at: Option<usize>,
-        position: usize,
-        memory: &mut MetaMemory,
-    ) -> Result<Option<FoundMatch>>
-        requires range { config.range_end ≤ length text.now }
-        requires boundary { IsCharBoundary text.now position }
-        requires inside { position ≤ config.range_end }
-        ensures answer { IfOk result (λ found. option_map found_parts found
-            ≡ option_map (wanted_parts Groups (meta_pattern self.now)) (meta_match_at self.now text.now config continue_at position)) }
-        ensures within { IfOk result (λ found. IfSome found (IsMatchWithin Groups text.now (record config { start = position; range_start = position }))) }
-        ensures limits { IfErr result (λ e. IsMemberError self.now text.now config continue_at position e) }
-        ensures stays { IfOk result (λ _. MemberStaysInLimits self.now text.now config continue_at position) }
-    {
-        let input = RunInput {
-            first: position,
-            continue_at,
-            range: Span {
-                start: config.range_start,
-                end: config.range_end,
-            },
-            anchored: true,
-            no_start_text: !config.start_text,
-            no_end_text: !config.end_text,
-        };
-        self.strategy.search(
-            alloc,
-            text,
-            &input,
-            &self.options,
-            MatchDetail::Groups,
-            &mut Steps::new(),
-            memory,
-        )
+            .search(alloc, text, input, wanted, steps, memory)
     }
 }

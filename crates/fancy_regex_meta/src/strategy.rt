@@ -15,11 +15,12 @@ ghost use Rattle.fancy_regex_info.specs.declared.options.BytesMode.TheVariants.{
 ghost use Rattle.fancy_regex_info.specs.declared.info.Info.{out-Info};
 ghost use Rattle.fancy_regex_class.specs.RunInputs.{setting_for};
 ghost use Rattle.fancy_regex_linear.specs.Refusals.{IsTaken, IsCause};
-ghost use Rattle.fancy_regex_linear.specs.Runner.{IsEasyOf};
+ghost use Rattle.fancy_regex_linear.specs.EasyPatterns.{IsEasyOf};
+ghost use Rattle.fancy_regex_meta.specs.declared.options.RegexOptions.{RegexOptions};
 ghost use Rattle.fancy_regex_meta.specs.Refusals.{compile_options_of, IsCompileRefusal};
 
 use crate::error::Result;
-use crate::found::{FoundMatch, MatchDetail, found_groups, found_in, found_span};
+use crate::found::{FoundMatch, MatchDetail, found_groups, found_span};
 use crate::memory::MetaMemory;
 use crate::options::RegexOptions;
 use crate::seek::seek_table;
@@ -40,8 +41,9 @@ pub enum Strategy {
     Program {
         /// The program.
         prog: Prog,
-        /// The seek table: for each byte, whether a match may start with it; `None` tries each start offset.
-        seek: Option<[bool; 256]>,
+        /// The options of its runs, with the seek table: for each byte, whether a match may start with it; `None` tries each start
+        /// offset.
+        run_options: RunOptions,
     },
 }
 
@@ -65,7 +67,7 @@ fn compile_options(options: &RegexOptions, calls: bool) -> CompileOptions
 
 impl Strategy {
     ghost use Rattle.fancy_regex_program.specs.Programs.{RefersToGroups};
-    ghost use Rattle.fancy_regex_meta.specs.Strategies.{Executes, StrategyKeepsCap, is_whole, search_of};
+    ghost use Rattle.fancy_regex_meta.specs.Strategies.{Executes, RunsUnder, StrategyKeepsCap, is_whole, search_of};
     ghost use Rattle.fancy_regex_meta.specs.EasyPatterns.{uses_easy, is_easy_strategy};
     ghost use Rattle.fancy_regex_meta.specs.FoundParts.{found_parts, wanted_parts};
     ghost use Rattle.fancy_regex_meta.specs.SearchLimits.{IsSearchError, IsStrategyError, StrategyStaysInLimits, weight_of, run_choices, run_tried};
@@ -81,7 +83,8 @@ impl Strategy {
     ) -> std::result::Result<Strategy, CompileError>
         ensures runs { IfOk result (λ strategy. (t : Tree) → info_of info.now ≡ analysis false t → RefersToGroups false t
             → IsInOrder t → Executes strategy options.now t) }
-        ensures served { IfOk result (λ strategy. (t : Tree) → info_of info.now ≡ analysis false t → is_easy_strategy strategy ≡ uses_easy options.now t) }
+        ensures served { IfOk result (λ strategy. (t : Tree) → info_of info.now ≡ analysis false t → is_easy_strategy strategy
+            ≡ uses_easy options.now t) }
         ensures taken { IfOk result (λ _. (t : Tree) → info_of info.now ≡ analysis false t → uses_easy options.now t ≡ true
             → IsTaken (compile_options_of options.now calls) (pattern_of t)) }
         ensures refused { IfErr result (λ cause. (t : Tree) → info_of info.now ≡ analysis false t → uses_easy options.now t ≡ true
@@ -98,19 +101,24 @@ impl Strategy {
         if info.hard || options.find_not_empty {
             let prog = compile(alloc, info, &compile_options(options, calls))?;
             let seek = seek_table(alloc, info.expr, options)?;
-            return Ok(Strategy::Program { prog, seek });
+            let run_options = RunOptions {
+                backtrack_limit: options.backtrack_limit,
+                find_not_empty: options.find_not_empty,
+                seek,
+            };
+            return Ok(Strategy::Program { prog, run_options });
         }
         Ok(Strategy::Easy(Easy::new(alloc, info, &compile_options(options, calls))?))
     }
 
-    /// The first match, with the byte offsets that are wanted; `None` if there is no match. The counter is raised by one for each look of the linear-time matcher at the
-    /// haystack. What is allocated for the search stays in the memory. Errors: `RuntimeError` at a limit of the program, or `Memory`.
+    /// The first match, with the byte offsets that are wanted; `None` if there is no match. The counter is raised by one for each
+    /// look of the linear-time matcher at the haystack. What is allocated for the search stays in the memory. Errors:
+    /// `RuntimeError` at a limit of the program, or `Memory`.
     pub fn search(
         &self,
         alloc: Global,
         text: &str,
         input: &RunInput,
-        options: &RegexOptions,
         wanted: MatchDetail,
         steps: &mut Steps,
         memory: &mut MetaMemory,
@@ -118,40 +126,41 @@ impl Strategy {
         requires first { IsCharBoundary text.now input.now.first }
         requires range { input.now.range.end ≤ length text.now }
         requires whole { is_whole self.now ≡ true }
-        ensures answer { IfOk result (λ found. (t : Tree) → Executes self.now options.now t
+        ensures answer { IfOk result (λ found. (o : RegexOptions) (t : Tree) → Executes self.now o t
             → option_map found_parts found ≡ option_map (wanted_parts wanted (pattern_of t))
-            (first_match (setting_for options.now.unicode_mode text.now input.now) (pattern_of t) (search_of options.now input.now))) }
-        ensures limits { IfErr result (λ e. (t : Tree) → Executes self.now options.now t
-            → IsSearchError (is_easy_strategy self.now) options.now.backtrack_limit (run_choices options.now text.now input.now t) e) }
-        ensures passed { IfErr result (λ e. (t : Tree) → Executes self.now options.now t
-            → IsStrategyError self.now options.now text.now input.now e) }
-        ensures stays { IfOk result (λ _. StrategyStaysInLimits self.now options.now text.now input.now) }
-        ensures looks_most { (t : Tree) → Executes self.now options.now t → is_easy_strategy self.now ≡ true
+            (first_match (setting_for o.unicode_mode text.now input.now) (pattern_of t) (search_of o input.now))) }
+        ensures limits { IfErr result (λ e. (o : RegexOptions) (t : Tree) → Executes self.now o t
+            → IsSearchError (is_easy_strategy self.now) o.backtrack_limit (run_choices o text.now input.now t) e) }
+        ensures passed { IfErr result (λ e. (o : RegexOptions) (t : Tree) → Executes self.now o t
+            → IsStrategyError self.now o text.now input.now e) }
+        ensures stays { IfOk result (λ _. (o : RegexOptions) → RunsUnder self.now o → StrategyStaysInLimits self.now o text.now input.now) }
+        ensures looks_most { (o : RegexOptions) (t : Tree) → Executes self.now o t → is_easy_strategy self.now ≡ true
             → steps.new ≤ steps.old + weight_of t * (input.now.range.end - input.now.first + 1) }
-        ensures looks_least { IfOk result (λ _. (t : Tree) → Executes self.now options.now t → is_easy_strategy self.now ≡ true
-            → min (steps.old + run_tried options.now text.now input.now t) (2 ^ 64 - 1) ≤ steps.new) }
+        ensures looks_least { IfOk result (λ _. (o : RegexOptions) (t : Tree) → Executes self.now o t → is_easy_strategy self.now ≡ true
+            → min (steps.old + run_tried o text.now input.now t) (2 ^ 64 - 1) ≤ steps.new) }
         ensures looks_none { is_easy_strategy self.now ≡ false → steps.new ≡ steps.old }
         ensures counts { steps.old ≤ steps.new }
     {
         match self {
-            Strategy::Easy(easy) => {
-                let slots = easy.search_in(alloc, text, input, steps, &mut memory.easy)?;
-                Ok(found_in(alloc, slots, wanted, &mut memory.easy))
-            }
-            Strategy::Program { prog, seek } => {
-                let options = RunOptions {
-                    backtrack_limit: options.backtrack_limit,
-                    find_not_empty: options.find_not_empty,
-                    seek: *seek,
-                };
+            Strategy::Easy(easy) => match wanted {
+                MatchDetail::Span => {
+                    let found = easy.find_span_in(text, input, steps, &mut memory.easy)?;
+                    Ok(found_span(alloc, found))
+                }
+                MatchDetail::Groups => {
+                    let found = easy.search_in(alloc, text, input, steps, &mut memory.easy)?;
+                    Ok(found_groups(found))
+                }
+            },
+            Strategy::Program { prog, run_options } => {
                 let memory = &mut memory.program;
                 match wanted {
                     MatchDetail::Span => {
-                        let span = run_spans_in(alloc, prog, text, input, &options, memory)?;
+                        let span = run_spans_in(alloc, prog, text, input, run_options, memory)?;
                         Ok(found_span(alloc, span))
                     }
                     MatchDetail::Groups => {
-                        let slots = run_in(alloc, prog, text, input, &options, memory)?;
+                        let slots = run_in(alloc, prog, text, input, run_options, memory)?;
                         Ok(found_groups(slots))
                     }
                 }

@@ -21,18 +21,18 @@ use Rattle.fancy_regex_meta.specs.declared.meta_regex.MetaRegex.{MetaRegex}
 use Rattle.fancy_regex_meta.specs.FoundParts.{wanted_groups}
 use Rattle.fancy_regex_meta.specs.declared.found.MatchDetail.{MatchDetail}
 use Rattle.fancy_regex_meta.specs.declared.found.MatchDetail.TheVariants.{Span, Groups}
-use Rattle.fancy_regex_search.specs.Replacements.{Shown, shown, AnswersBy, IsReplacedByCalls, FailsInTurn, here, later, AnswersInTurn, AnswersText, still_replaced, is_spent, limit_of, IsReplacedBy, by_calls, by_text, IsReplacedLeaving, left_by_calls, left_by_text, IsReplaceError, of_search, of_search_by_text, of_call, of_memory, IsReplaceErrorLeaving, search_failed, search_failed_by_text, call_failed, memory_ran_out}
+use Rattle.fancy_regex_search.specs.Replacements.{CapturesView, captures_view, AnswersBy, IsReplacedByCalls, FailsInTurn, here, later, AnswersInTurn, AnswersText, still_replaced, is_spent, limit_of, IsReplacedBy, by_calls, by_text, IsReplacedLeaving, left_by_calls, left_by_text, IsReplaceError, of_search, of_search_by_text, of_call, of_memory, IsReplaceErrorLeaving, search_failed, search_failed_by_text, call_failed, memory_ran_out}
 
 -- What is still to be replaced from an offset on, after a text that is out, completes the replacement of all of these matches.
-pub record Completes {S : Type 0} (Calls : S → Shown → Result (List ℕ) Error → S → Type 0) (r : MetaRegex) (text : List ℕ) (ms : List Match) (first : S) (p : ℕ) (left : List Match) (s : S) (out : List ℕ) : Type 0 where
+pub record Completes {S : Type 0} (Calls : S → CapturesView → Result (List ℕ) Error → S → Type 0) (r : MetaRegex) (text : List ℕ) (ms : List Match) (first : S) (p : ℕ) (left : List Match) (s : S) (out : List ℕ) : Type 0 where
   pub replaces : (more : List ℕ) (last : S) → IsReplacedByCalls Calls r text p left s more last → IsReplacedByCalls Calls r text 0 ms first (out ++ more) last
-  pub fails : (e : Error) (last : S) → FailsInTurn Calls s (map (shown r text) left) e last → FailsInTurn Calls first (map (shown r text) ms) e last
+  pub fails : (e : Error) (last : S) → FailsInTurn Calls s (map (captures_view r text) left) e last → FailsInTurn Calls first (map (captures_view r text) ms) e last
 
-module _ {S : Type 0} (Calls : S → Shown → Result (List ℕ) Error → S → Type 0) (r : MetaRegex) (text : List ℕ) (ms : List Match) (first : S) where
+module _ {S : Type 0} (Calls : S → CapturesView → Result (List ℕ) Error → S → Type 0) (r : MetaRegex) (text : List ℕ) (ms : List Match) (first : S) where
   pub completes_first : Completes Calls r text ms first 0 ms first []
   completes_first = record { replaces = λ more last h. h; fails = λ e last h. h }
 
-  pub completes_next : (p : ℕ) (m : Match) (left : List Match) (s next : S) (out w : List ℕ) → Completes Calls r text ms first p (m ∷ left) s out → Calls s (shown r text m) (Ok w) next →
+  pub completes_next : (p : ℕ) (m : Match) (left : List Match) (s next : S) (out w : List ℕ) → Completes Calls r text ms first p (m ∷ left) s out → Calls s (captures_view r text m) (Ok w) next →
       Completes Calls r text ms first m.end left next ((out ++ slice_range text p m.start) ++ w)
   completes_next p m left s next out w so call = record {
     replaces = λ more last h.
@@ -40,7 +40,7 @@ module _ {S : Type 0} (Calls : S → Shown → Result (List ℕ) Error → S →
         let e : ((out ++ gap) ++ w) ++ more ≡ out ++ (gap ++ (w ++ more)) = simp append_assoc in
         subst (λ (all : List ℕ). IsReplacedByCalls Calls r text 0 ms first all last) (sym e)
         (so.replaces (gap ++ (w ++ more)) last (w ∷ h.0, (next, call, h.1), ap (λ (x : List ℕ). gap ++ (w ++ x)) h.2));
-    fails = λ e last h. so.fails e last (later s next last (shown r text m) (map (shown r text) left) w e call h);
+    fails = λ e last h. so.fails e last (later s next last (captures_view r text m) (map (captures_view r text) left) w e call h);
   }
 
   pub completes_last : (p : ℕ) (s : S) (out : List ℕ) → Completes Calls r text ms first p [] s out → IsReplacedByCalls Calls r text 0 ms first (out ++ drop p text) s
@@ -79,26 +79,26 @@ still_all zero ms = refl
 still_all (suc n) ms = refl
 
 -- One call for each of these matches has answered, and what the iteration comes to from here it comes to after them.
-pub record Progress {S : Type 0} (Calls : S → Shown → Result (List ℕ) Error → S → Type 0) (r : MetaRegex) (text : List ℕ) (ms : List Match) (first : S)
+pub record Progress {S : Type 0} (Calls : S → CapturesView → Result (List ℕ) Error → S → Type 0) (r : MetaRegex) (text : List ℕ) (ms : List Match) (first : S)
     (config : SearchConfig) (state : IterState) (left : List Match) (s : S) : Type 0 where
   pub done : List Match
   pub answers : List (List ℕ)
   pub is : ms ≡ done ++ left
-  pub turns : AnswersInTurn Calls first (map (shown r text) done) answers s
+  pub turns : AnswersInTurn Calls first (map (captures_view r text) done) answers s
   pub comes : (items : List Match) (q : ℕ) (o : Bool) → ComesTo r text (whole text) items state.last config.start state.continue_disabled q o →
       ComesTo r text (whole text) (done ++ items) None 0 false q o
   pub kept : ((more rest : List Match) → left ≡ more ++ rest → StaysAfter r text (whole text) (done ++ more)) → ReplacementStays r text ms
 
-one_more : {S : Type 0} (Calls : S → Shown → Result (List ℕ) Error → S → Type 0) (s : S) (ms : List Shown) (ws : List (List ℕ)) (mid : S) (m : Shown) (w : List ℕ) (next : S) →
+one_more : {S : Type 0} (Calls : S → CapturesView → Result (List ℕ) Error → S → Type 0) (s : S) (ms : List CapturesView) (ws : List (List ℕ)) (mid : S) (m : CapturesView) (w : List ℕ) (next : S) →
     AnswersInTurn Calls s ms ws mid → Calls mid m (Ok w) next → AnswersInTurn Calls s (ms ++ (m ∷ [])) (ws ++ (w ∷ [])) next
 one_more Calls s [] [] mid m w next turns call = (next, subst (λ x. Calls x m (Ok w) next) turns call, refl)
 one_more Calls s [] (v ∷ ws) mid m w next turns call = absurd turns
 one_more Calls s (n ∷ ms) [] mid m w next turns call = absurd turns
 one_more Calls s (n ∷ ms) (v ∷ ws) mid m w next turns call = (turns.0, turns.1, one_more Calls turns.0 ms ws mid m w next turns.2 call)
 
-shown_more : (r : MetaRegex) (text : List ℕ) (ms : List Match) (m : Match) → map (shown r text) (ms ++ (m ∷ [])) ≡ map (shown r text) ms ++ (shown r text m ∷ [])
-shown_more r text [] m = refl
-shown_more r text (n ∷ ms) m = ap (λ (xs : List Shown). shown r text n ∷ xs) (shown_more r text ms m)
+views_more : (r : MetaRegex) (text : List ℕ) (ms : List Match) (m : Match) → map (captures_view r text) (ms ++ (m ∷ [])) ≡ map (captures_view r text) ms ++ (captures_view r text m ∷ [])
+views_more r text [] m = refl
+views_more r text (n ∷ ms) m = ap (λ (xs : List CapturesView). captures_view r text n ∷ xs) (views_more r text ms m)
 
 -- the first of two equal lists, and what is after it
 first_same : (m n : Match) (xs ys : List Match) → m ∷ xs ≡ n ∷ ys → m ≡ n
@@ -119,7 +119,7 @@ after_last : (P : List Match → Type 0) (done left : List Match) → P done →
 after_last P done left so none [] rest is = subst P (sym (append-nil done)) so
 after_last P done left so none (k ∷ more) rest is = absurd (never_empty k (more ++ rest) (sym is ∙ none))
 
-module _ {S : Type 0} (Calls : S → Shown → Result (List ℕ) Error → S → Type 0) (r : MetaRegex) (text : List ℕ) (ms : List Match) (first : S) where
+module _ {S : Type 0} (Calls : S → CapturesView → Result (List ℕ) Error → S → Type 0) (r : MetaRegex) (text : List ℕ) (ms : List Match) (first : S) where
   -- the search after what is done stays within the limits
   stays_here : (config : SearchConfig) (state : IterState) (left : List Match) (s : S) → config ≡ record (whole text) { start = config.start } → SkipsStayInLimits r text config state →
       (so : Progress Calls r text ms first config state left s) → StaysAfter r text (whole text) so.done
@@ -155,14 +155,14 @@ module _ {S : Type 0} (Calls : S → Shown → Result (List ℕ) Error → S →
 
   -- past a match for which a call has answered
   pub progress_next : (config new : SearchConfig) (state after : IterState) (m : Match) (left : List Match) (s next : S) (w : List ℕ) → config ≡ record (whole text) { start = config.start } →
-      PassesItem r text config state m new after → SkipsStayInLimits r text config state → Calls s (shown r text m) (Ok w) next →
+      PassesItem r text config state m new after → SkipsStayInLimits r text config state → Calls s (captures_view r text m) (Ok w) next →
       Progress Calls r text ms first config state (m ∷ left) s → Progress Calls r text ms first new after left next
   progress_next config new state after m left s next w is passes stays call so = record {
     done = so.done ++ (m ∷ []);
     answers = so.answers ++ (w ∷ []);
     is = so.is ∙ sym (append_assoc so.done (m ∷ []) left);
-    turns = subst (λ (xs : List Shown). AnswersInTurn Calls first xs (so.answers ++ (w ∷ [])) next) (sym (shown_more r text so.done m))
-        (one_more Calls first (map (shown r text) so.done) so.answers s (shown r text m) w next so.turns call);
+    turns = subst (λ (xs : List CapturesView). AnswersInTurn Calls first xs (so.answers ++ (w ∷ [])) next) (sym (views_more r text so.done m))
+        (one_more Calls first (map (captures_view r text) so.done) so.answers s (captures_view r text m) w next so.turns call);
     comes = λ items q o h.
         let here = passes items q o (comes_to r text (whole text) config items after.last new.start after.continue_disabled q o is h) in
         let there = so.comes (m ∷ items) q o (comes_from r text (whole text) config (m ∷ items) state.last config.start state.continue_disabled q o is here) in
@@ -187,16 +187,16 @@ module _ {S : Type 0} (Calls : S → Shown → Result (List ℕ) Error → S →
   pub progress_ran_out : (config : SearchConfig) (state : IterState) (left : List Match) (s : S) → Progress Calls r text ms first config state left s → IsReplaceErrorLeaving Calls r text ms first Memory s None
   progress_ran_out config state left s so = memory_ran_out None so.done left so.answers refl so.is so.turns
 
-module _ {S : Type 0} (Calls : S → Shown → Result (List ℕ) Error → S → Type 0) (r : MetaRegex) (text t : List ℕ) (Holds : S → Type 0)
-    (same : (s : S) (m : Shown) (w : List ℕ) (next : S) → Holds s → Calls s m (Ok w) next → (w ≡ t) × Holds next) where
+module _ {S : Type 0} (Calls : S → CapturesView → Result (List ℕ) Error → S → Type 0) (r : MetaRegex) (text t : List ℕ) (Holds : S → Type 0)
+    (same : (s : S) (m : CapturesView) (w : List ℕ) (next : S) → Holds s → Calls s m (Ok w) next → (w ≡ t) × Holds next) where
   -- calls that always answer one text replace by it
-  replaced_by_text : (p : ℕ) (ms : List Match) (s : S) (answers : List (List ℕ)) (last : S) → Holds s → AnswersInTurn Calls s (map (shown r text) ms) answers last →
+  replaced_by_text : (p : ℕ) (ms : List Match) (s : S) (answers : List (List ℕ)) (last : S) → Holds s → AnswersInTurn Calls s (map (captures_view r text) ms) answers last →
       alternately (pieces_from text p ms) answers ≡ replaced_from text (λ _. t) p ms
   replaced_by_text p [] s [] last holds turns = refl
   replaced_by_text p [] s (w ∷ ws) last holds turns = absurd turns
   replaced_by_text p (m ∷ ms) s [] last holds turns = absurd turns
   replaced_by_text p (m ∷ ms) s (w ∷ ws) last holds turns =
-      let one = same s (shown r text m) w turns.0 holds turns.1 in
+      let one = same s (captures_view r text m) w turns.0 holds turns.1 in
       let rest = replaced_by_text m.end ms turns.0 ws last one.1 turns.2 in
       ap (λ (x : List ℕ). slice_range text p m.start ++ (w ++ x)) rest ∙ ap (λ (x : List ℕ). slice_range text p m.start ++ (x ++ replaced_from text (λ _. t) m.end ms)) one.0
       ∙ (simp append_assoc)
@@ -205,23 +205,23 @@ module _ {S : Type 0} (Calls : S → Shown → Result (List ℕ) Error → S →
   text_replaced ms s out last holds h = h.2 ∙ replaced_by_text 0 ms s h.0 last holds h.1
 
 -- calls that fail for want of memory alone
-fails_for_memory : {S : Type 0} (Calls : S → Shown → Result (List ℕ) Error → S → Type 0) (only : (s : S) (m : Shown) (e : Error) (next : S) → Calls s m (Err e) next → e ≡ Memory)
-    (s : S) (ms : List Shown) (e : Error) (last : S) → FailsInTurn Calls s ms e last → e ≡ Memory
+fails_for_memory : {S : Type 0} (Calls : S → CapturesView → Result (List ℕ) Error → S → Type 0) (only : (s : S) (m : CapturesView) (e : Error) (next : S) → Calls s m (Err e) next → e ≡ Memory)
+    (s : S) (ms : List CapturesView) (e : Error) (last : S) → FailsInTurn Calls s ms e last → e ≡ Memory
 fails_for_memory Calls only _ _ e _ (here s last m ms _ call) = only s m e last call
 fails_for_memory Calls only _ _ e _ (later s next last m ms w _ call h) = fails_for_memory Calls only next ms e last h
 
 -- an error of a replacement by calls that fail for want of memory alone is one of any replacement with one text for all matches
-text_fails : {S T : Type 0} (Calls : S → Shown → Result (List ℕ) Error → S → Type 0) (Others : T → Shown → Result (List ℕ) Error → T → Type 0)
-    (only : (s : S) (m : Shown) (e : Error) (next : S) → Calls s m (Err e) next → e ≡ Memory) (r : MetaRegex) (text : List ℕ) (ms : List Match) (s last : S) (t : T) (fixed : Option (List ℕ)) (shown_text : List ℕ) (e : Error) →
+text_fails : {S T : Type 0} (Calls : S → CapturesView → Result (List ℕ) Error → S → Type 0) (Others : T → CapturesView → Result (List ℕ) Error → T → Type 0)
+    (only : (s : S) (m : CapturesView) (e : Error) (next : S) → Calls s m (Err e) next → e ≡ Memory) (r : MetaRegex) (text : List ℕ) (ms : List Match) (s last : S) (t : T) (fixed : Option (List ℕ)) (shown_text : List ℕ) (e : Error) →
     IsReplaceErrorLeaving Calls r text ms s e last fixed → IsReplaceErrorLeaving Others r text ms t e t (Some shown_text)
 text_fails Calls Others only r text ms s last t _ shown_text e (search_failed fixed done rest answers is following turns) = search_failed_by_text shown_text done rest is following refl
 text_fails Calls Others only r text ms s last t _ shown_text e (search_failed_by_text fixed done rest is following same) = search_failed_by_text shown_text done rest is following refl
 text_fails Calls Others only r text ms s last t _ shown_text e (call_failed fixed h) =
-    memory_ran_out (Some shown_text) [] ms [] (fails_for_memory Calls only s (map (shown r text) ms) e last h) refl refl
+    memory_ran_out (Some shown_text) [] ms [] (fails_for_memory Calls only s (map (captures_view r text) ms) e last h) refl refl
 text_fails Calls Others only r text ms s last t _ shown_text e (memory_ran_out fixed done rest answers is split turns) = memory_ran_out (Some shown_text) [] ms [] is refl refl
 
 -- an error of a replacement by calls, whatever the replacer says of its text
-pub calls_fail : {S : Type 0} (Calls : S → Shown → Result (List ℕ) Error → S → Type 0) (r : MetaRegex) (text : List ℕ) (ms : List Match) (s last : S) (fixed told : Option (List ℕ)) (e : Error) →
+pub calls_fail : {S : Type 0} (Calls : S → CapturesView → Result (List ℕ) Error → S → Type 0) (r : MetaRegex) (text : List ℕ) (ms : List Match) (s last : S) (fixed told : Option (List ℕ)) (e : Error) →
     fixed ≡ None → IsReplaceErrorLeaving Calls r text ms s e last fixed → IsReplaceErrorLeaving Calls r text ms s e last told
 calls_fail Calls r text ms s last _ told e none (search_failed fixed done rest answers is following turns) = search_failed told done rest answers is following turns
 calls_fail Calls r text ms s last _ told e none (search_failed_by_text t done rest is following same) = absurd (some_none t none)
@@ -229,13 +229,13 @@ calls_fail Calls r text ms s last _ told e none (call_failed fixed h) = call_fai
 calls_fail Calls r text ms s last _ told e none (memory_ran_out fixed done rest answers is split turns) = memory_ran_out told done rest answers is split turns
 
 -- what a replacement returns, whatever state it leaves
-pub replaced_whatever_is_left : {S : Type 0} (Calls : S → Shown → Result (List ℕ) Error → S → Type 0) (r : MetaRegex) (text : List ℕ) (ms : List Match) (s : S) (out : List ℕ) (last : S) (fixed : Option (List ℕ)) →
+pub replaced_whatever_is_left : {S : Type 0} (Calls : S → CapturesView → Result (List ℕ) Error → S → Type 0) (r : MetaRegex) (text : List ℕ) (ms : List Match) (s : S) (out : List ℕ) (last : S) (fixed : Option (List ℕ)) →
     IsReplacedLeaving Calls r text ms s out last fixed → IsReplacedBy Calls r text ms s out fixed
 replaced_whatever_is_left Calls r text ms s out last _ (left_by_calls fixed h) = by_calls fixed last h
 replaced_whatever_is_left Calls r text ms s out last _ (left_by_text t is same) = by_text t is
 
 -- the error of a replacement, whatever state it leaves
-pub fails_whatever_is_left : {S : Type 0} (Calls : S → Shown → Result (List ℕ) Error → S → Type 0) (r : MetaRegex) (text : List ℕ) (ms : List Match) (s : S) (e : Error) (last : S) (fixed : Option (List ℕ)) →
+pub fails_whatever_is_left : {S : Type 0} (Calls : S → CapturesView → Result (List ℕ) Error → S → Type 0) (r : MetaRegex) (text : List ℕ) (ms : List Match) (s : S) (e : Error) (last : S) (fixed : Option (List ℕ)) →
     IsReplaceErrorLeaving Calls r text ms s e last fixed → IsReplaceError Calls r text ms s fixed e
 fails_whatever_is_left Calls r text ms s e last _ (search_failed fixed done rest answers is following turns) = of_search fixed done rest answers last e is following turns
 fails_whatever_is_left Calls r text ms s e last _ (search_failed_by_text t done rest is following same) = of_search_by_text t done rest e is following
@@ -248,26 +248,26 @@ pub fixed_text_replaced : {S : Type 0} (text_of : S → List ℕ) (r : MetaRegex
 fixed_text_replaced text_of r text t ms s out last holds h =
     text_replaced (AnswersText text_of) r text t (λ x. text_of x ≡ t) (λ x m w next is call. (call.0 ∙ is, ap text_of call.1 ∙ is)) ms s out last holds h
 
-pub fixed_text_fails : {S T : Type 0} (text_of : S → List ℕ) (Others : T → Shown → Result (List ℕ) Error → T → Type 0) (r : MetaRegex) (text : List ℕ) (ms : List Match) (s last : S) (t : T) (shown_text : List ℕ) (e : Error) →
+pub fixed_text_fails : {S T : Type 0} (text_of : S → List ℕ) (Others : T → CapturesView → Result (List ℕ) Error → T → Type 0) (r : MetaRegex) (text : List ℕ) (ms : List Match) (s last : S) (t : T) (shown_text : List ℕ) (e : Error) →
     IsReplaceErrorLeaving (AnswersText text_of) r text ms s e last None → IsReplaceErrorLeaving Others r text ms t e t (Some shown_text)
 fixed_text_fails text_of Others r text ms s last t shown_text e h = text_fails (AnswersText text_of) Others (λ x m d next call. call.0) r text ms s last t None shown_text e h
 
--- what is shown of a match
+-- the capture groups of a match
 shown_same : (r r' : MetaRegex) (text text' slots : List ℕ) (m : Match) → r' ≡ r → text' ≡ text → slots ≡ match_slots (meta_pattern r) m →
-    ◌≡◌ {A = Shown} (record { regex = r'; text = text'; slots = slots }) (shown r text m)
+    ◌≡◌ {A = CapturesView} (record { regex = r'; text = text'; slots = slots }) (captures_view r text m)
 shown_same r r' text text' slots m a b e = λ i. record { regex = a i; text = b i; slots = e i }
 
 -- a call that answered what was found of a match answers for the match
-pub call_shown : {S : Type 0} (Calls : S → Shown → Result (List ℕ) Error → S → Type 0) (wanted : MatchDetail) (r r' : MetaRegex) (text text' slots : List ℕ) (m : Match) (s next : S)
+pub call_viewed : {S : Type 0} (Calls : S → CapturesView → Result (List ℕ) Error → S → Type 0) (wanted : MatchDetail) (r r' : MetaRegex) (text text' slots : List ℕ) (m : Match) (s next : S)
     (result : Result (List ℕ) Error) → AnswersBy wanted Calls → r' ≡ r → text' ≡ text → slots ≡ wanted_groups wanted (meta_pattern r) m →
-    Calls s (record { regex = r'; text = text'; slots = slots }) result next → Calls s (shown r text m) result next
-call_shown Calls Groups r r' text text' slots m s next result alike a b e call = subst (λ (x : Shown). Calls s x result next) (shown_same r r' text text' slots m a b e) call
-call_shown Calls Span r r' text text' slots m s next result alike a b e call = alike s (record { regex = r'; text = text'; slots = slots }) (shown r text m) result next call
+    Calls s (record { regex = r'; text = text'; slots = slots }) result next → Calls s (captures_view r text m) result next
+call_viewed Calls Groups r r' text text' slots m s next result alike a b e call = subst (λ (x : CapturesView). Calls s x result next) (shown_same r r' text text' slots m a b e) call
+call_viewed Calls Span r r' text text' slots m s next result alike a b e call = alike s (record { regex = r'; text = text'; slots = slots }) (captures_view r text m) result next call
 
 -- One turn of a replacement: the text before the next match is out, and the answer for it.
-pub completes_gap : {S : Type 0} (Calls : S → Shown → Result (List ℕ) Error → S → Type 0) (r : MetaRegex) (text : List ℕ) (ms : List Match) (first : S) (p p' : ℕ) (left left' : Option ℕ)
+pub completes_gap : {S : Type 0} (Calls : S → CapturesView → Result (List ℕ) Error → S → Type 0) (r : MetaRegex) (text : List ℕ) (ms : List Match) (first : S) (p p' : ℕ) (left left' : Option ℕ)
     (before after : List Match) (s next : S) (out out' gap w : List ℕ) (m : Match) → is_spent left ≡ false → left' ≡ option_map (λ n. n - 1) left →
-    before ≡ m ∷ after → gap ≡ slice_range text p m.start → p' ≡ m.end → Calls s (shown r text m) (Ok w) next → out' ≡ (out ++ gap) ++ w →
+    before ≡ m ∷ after → gap ≡ slice_range text p m.start → p' ≡ m.end → Calls s (captures_view r text m) (Ok w) next → out' ≡ (out ++ gap) ++ w →
     Completes Calls r text ms first p (still_replaced left before) s out →
     (still_replaced left before ≡ [] → ⊥) × Completes Calls r text ms first p' (still_replaced left' after) next out'
 completes_gap {S} Calls r text ms first p p' left left' before after s next out out' gap w m unspent less is cut end call wrote so =
@@ -279,11 +279,11 @@ completes_gap {S} Calls r text ms first p p' left left' before after s next out 
     )
 
 -- one turn of a replacement: the call has answered for the match that the iteration returned
-pub progress_gap : {S : Type 0} (Calls : S → Shown → Result (List ℕ) Error → S → Type 0) (r : MetaRegex) (text : List ℕ) (ms : List Match) (first : S) (config new : SearchConfig)
+pub progress_gap : {S : Type 0} (Calls : S → CapturesView → Result (List ℕ) Error → S → Type 0) (r : MetaRegex) (text : List ℕ) (ms : List Match) (first : S) (config new : SearchConfig)
     (state after : IterState) (left left' : Option ℕ) (before others : List Match) (s next : S) (w : List ℕ) (m : Match) → before ≡ m ∷ others → is_spent left ≡ false →
     left' ≡ option_map (λ n. n - 1) left →
     config ≡ record (whole text) { start = config.start } → (n : Match) × (before ≡ n ∷ others) × PassesItem r text config state n new after →
-    SkipsStayInLimits r text config state → Calls s (shown r text m) (Ok w) next →
+    SkipsStayInLimits r text config state → Calls s (captures_view r text m) (Ok w) next →
     Progress Calls r text ms first config state (still_replaced left before) s → Progress Calls r text ms first new after (still_replaced left' others) next
 progress_gap {S} Calls r text ms first config new state after left left' before others s next w m is unspent less moved returns stays call so =
     let split : still_replaced left before ≡ m ∷ still_replaced left' others = still_more left left' before m others unspent less is in
@@ -293,7 +293,7 @@ progress_gap {S} Calls r text ms first config new state after left left' before 
     (subst (λ (xs : List Match). Progress Calls r text ms first config state xs s) split so)
 
 -- before the first call of a replacement with this limit
-pub completes_init : {S : Type 0} (Calls : S → Shown → Result (List ℕ) Error → S → Type 0) (r : MetaRegex) (text : List ℕ) (limit : ℕ) (first : S) (p : ℕ)
+pub completes_init : {S : Type 0} (Calls : S → CapturesView → Result (List ℕ) Error → S → Type 0) (r : MetaRegex) (text : List ℕ) (limit : ℕ) (first : S) (p : ℕ)
     (left : Option ℕ) (before all : List Match) (out : List ℕ) → left ≡ limit_of limit → before ≡ all → p ≡ 0 → out ≡ [] →
     Completes Calls r text (counted limit all) first p (still_replaced left before) first out
 completes_init {S} Calls r text limit first p left before all out l b begins empty =
@@ -304,7 +304,7 @@ completes_init {S} Calls r text limit first p left before all out l b begins emp
     (completes_first Calls r text (counted limit all) first)))
 
 -- before the first search of a replacement with this limit
-pub progress_init : {S : Type 0} (Calls : S → Shown → Result (List ℕ) Error → S → Type 0) (r : MetaRegex) (text : List ℕ) (limit : ℕ) (first : S) (config : SearchConfig) (state : IterState)
+pub progress_init : {S : Type 0} (Calls : S → CapturesView → Result (List ℕ) Error → S → Type 0) (r : MetaRegex) (text : List ℕ) (limit : ℕ) (first : S) (config : SearchConfig) (state : IterState)
     (left : Option ℕ) (before all : List Match) → config ≡ whole text → state.last ≡ None → state.continue_disabled ≡ false → left ≡ limit_of limit → before ≡ all →
     Progress Calls r text (counted limit all) first config state (still_replaced left before) first
 progress_init {S} Calls r text limit first config state left before all is last flag l b =

@@ -19,7 +19,7 @@ use Rattle.fancy_regex_search.specs.RemainingMatches.{remaining_matches, remaini
 use Rattle.fancy_regex_search.specs.IterationSteps.{IsStep}
 use Rattle.fancy_regex_search.specs.IterationSearches.{continue_disabled_after}
 use Rattle.fancy_regex_search.specs.declared.match_iter.IterState.{IterState}
-use Rattle.fancy_regex_search.specs.declared.match_iter.Step.TheVariants.{Item, Skip, End, Fault}
+use Rattle.fancy_regex_search.specs.declared.match_iter.Step.TheVariants.{Item, Skip, End, Failed}
 use Rattle.fancy_regex_search.proofs.IterationLemmas.{passed, item_passed, skip_passed, long_next, empty_next, long_off, empty_off}
 use Rattle.fancy_regex_search.specs.IterationLimits.{SkipsStayInLimits}
 use Rattle.fancy_regex_search.proofs.LimitLemmas.{past_stays, none_stays, long_stays, empty_stays, skip_stays}
@@ -94,9 +94,9 @@ module _ (s : MetaRegex) (text : List ℕ) (a : SearchConfig) (before : IterStat
     found_none_step after over flag inside none stays = none_step after over flag (left-none s text a before going inside none) none (none_stays s text a before stays none)
 
     module _ (inside : max a.start a.range_start ≤ a.range_end) (fits : a.range_end ≤ length text) where
-      pub fault_step : (e : Error) (new : SearchConfig) (after : IterState) (p : ℕ) → IsMetaSearchError s text a before.continue_disabled e → after.is_done ≡ true →
-          new ≡ record a { start = p } → p ≡ position_after text a.range_end → a.range_end < p → IsStep s text a before wanted (Fault e) new after
-      fault_step e new after p error over is at onward =
+      pub failed_step : (e : Error) (new : SearchConfig) (after : IterState) (p : ℕ) → IsMetaSearchError s text a before.continue_disabled e → after.is_done ≡ true →
+          new ≡ record a { start = p } → p ≡ position_after text a.range_end → a.range_end < p → IsStep s text a before wanted (Failed e) new after
+      failed_step e new after p error over is at onward =
           let start : new.start ≡ p = ap (λ (x : SearchConfig). x.start) is in
           let within : a.start ≤ length text = omega arith in
           record {
@@ -114,7 +114,7 @@ module _ (s : MetaRegex) (text : List ℕ) (a : SearchConfig) (before : IterStat
           }
 
       module _ (more : ItemsNeedNoMore) (m : Match) (x : FoundMatch) (found : meta_match_from s text a (max a.start a.range_start) before.continue_disabled ≡ Some m)
-          (parts : IsFoundOf wanted (meta_pattern s) x m) (whole : IsMatchWithin wanted text a x) (new : SearchConfig) (after : IterState) (on : after.is_done ≡ false)
+          (parts : IsFoundOf wanted (meta_pattern s) x m) (whole : IsMatchWithin wanted text (max a.start a.range_start) a.range_end x) (new : SearchConfig) (after : IterState) (on : after.is_done ≡ false)
           (end : after.last ≡ Some m.end) (stays : MetaStaysInLimits s text a before.continue_disabled) where
         -- the step past a match, by what is left after it
         item_step : (p : ℕ) → new ≡ record a { start = p } → a.start < p → p ≡ next_start text m.start m.end →
@@ -140,7 +140,7 @@ module _ (s : MetaRegex) (text : List ℕ) (a : SearchConfig) (before : IterStat
 
         pub long_step : (p : ℕ) → m.start < m.end → new ≡ record a { start = p } → p ≡ m.end → after.continue_disabled ≡ false → IsStep s text a before wanted (Item x) new after
         long_step p less is at flag =
-            let start : max a.start a.range_start ≤ m.start = rw (← parts.0) whole.following in
+            let start : max a.start a.range_start ≤ m.start = rw (← parts.0) whole.after in
             let later : a.start < p = omega arith in
             let here : new ≡ record a { start = m.end } = is ∙ ap (λ (k : ℕ). record a { start = k }) at in
             item_step p is later (at ∙ long_next text m.start m.end less)
@@ -154,7 +154,7 @@ module _ (s : MetaRegex) (text : List ℕ) (a : SearchConfig) (before : IterStat
 
           later : a.start < p
           later =
-              let start : max a.start a.range_start ≤ m.start = rw (← parts.0) whole.following in
+              let start : max a.start a.range_start ≤ m.start = rw (← parts.0) whole.after in
               let ordered : m.start ≤ m.end = rw (← parts.0, ← parts.1) whole.cuts.ordered in
               omega (arith, at)
 

@@ -12,7 +12,7 @@ use Rattle.fancy_regex_template.specs.declared.syntax.TemplateSyntax.TheVariants
 use Rattle.fancy_regex_meta.specs.declared.error.Error.{Error}
 use Rattle.fancy_regex_meta.specs.declared.meta_regex.MetaRegex.{MetaRegex}
 use Rattle.fancy_regex_search.specs.GroupLookup.{meta_group_names}
-use Rattle.fancy_regex_search.specs.Replacements.{Shown, IsAnswerOfText}
+use Rattle.fancy_regex_search.specs.Replacements.{CapturesView, IsAnswerOfText}
 
 -- the group participated in the match
 abbrev pub has_participated : List ℕ → List ℕ → ℕ → Bool
@@ -38,7 +38,7 @@ abbrev pub expanded : TemplateSyntax → MetaRegex → List ℕ → List ℕ →
 expanded syntax s text slots template = encode_utf8_all (expansion syntax (texts_of s text slots) (chars template))
 
 -- How a replacer that is a template answers.
-abbrev pub AnswersTemplate : {S : Type 0} → (S → List ℕ) → S → Shown → Result (List ℕ) Error → S → Type 0
+abbrev pub AnswersTemplate : {S : Type 0} → (S → List ℕ) → S → CapturesView → Result (List ℕ) Error → S → Type 0
 AnswersTemplate template_of s m result next = IsAnswerOfText (expanded Dollar m.regex m.text m.slots (template_of s)) result × (next ≡ s)
 
 abbrev pub is_sign : ℕ → Bool

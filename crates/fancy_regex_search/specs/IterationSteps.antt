@@ -4,6 +4,7 @@ use Rattle.std.specs.declared.result.Result.{Result}
 use Rattle.fancy_regex_meaning.specs.Groups.{Pattern}
 use Rattle.fancy_regex_meaning.specs.Positions.{position_after}
 use Rattle.fancy_regex_meaning.specs.Searches.{Match}
+use Rattle.fancy_regex_input.specs.SearchInputs.{effective_start}
 use Rattle.fancy_regex_input.specs.declared.config.SearchConfig.{SearchConfig}
 use Rattle.fancy_regex_meta.specs.MatchOffsets.{IsMatchWithin}
 use Rattle.fancy_regex_meta.specs.declared.found.MatchDetail.{MatchDetail}
@@ -16,51 +17,51 @@ use Rattle.fancy_regex_search.specs.IterationLimits.{SkipsStayInLimits}
 use Rattle.fancy_regex_search.specs.CaptureSpans.{IsFoundOf}
 use Rattle.fancy_regex_search.specs.declared.match_iter.IterState.{IterState}
 use Rattle.fancy_regex_search.specs.declared.match_iter.Step.{Step}
-use Rattle.fancy_regex_search.specs.declared.match_iter.Step.TheVariants.{Item, Skip, End, Fault}
+use Rattle.fancy_regex_search.specs.declared.match_iter.Step.TheVariants.{Item, Skip, End, Failed}
 
 -- The result of the step, by the matches that remained before and remain after it.
 abbrev pub StepGives : MatchDetail → Pattern → List Match → Step → List Match → Type 0
 StepGives wanted pattern before (Item x) after = (m : Match) × (before ≡ m ∷ after) × IsFoundOf wanted pattern x m
 StepGives wanted pattern before Skip after = before ≡ after
 StepGives wanted pattern before End after = (before ≡ []) × (after ≡ [])
-StepGives wanted pattern before (Fault e) after = after ≡ []
+StepGives wanted pattern before (Failed e) after = after ≡ []
 
 -- The start of the next search after a step.
 abbrev pub StepMoves : MatchDetail → List ℕ → SearchConfig → Step → SearchConfig → Type 0
-StepMoves wanted text old (Item x) new = IsMatchWithin wanted text old x × (new.start ≡ next_start text x.start x.end)
+StepMoves wanted text old (Item x) new = IsMatchWithin wanted text (effective_start old) old.range_end x × (new.start ≡ next_start text x.start x.end)
 StepMoves wanted text old Skip new = Unit {0}
 StepMoves wanted text old End new = new ≡ old
-StepMoves wanted text old (Fault e) new = new.start ≡ position_after text old.range_end
+StepMoves wanted text old (Failed e) new = new.start ≡ position_after text old.range_end
 
 -- Fewer searches remain after a step, unless it ended the iteration.
 abbrev pub StepDecreases : ℕ → Step → ℕ → Type 0
 StepDecreases before End after = Unit {0}
 StepDecreases before (Item x) after = after < before
 StepDecreases before Skip after = after < before
-StepDecreases before (Fault e) after = after < before
+StepDecreases before (Failed e) after = after < before
 
--- A step without a match and a fault end the iteration. One that returns an item does not.
+-- A step without a match and one that failed end the iteration. One that returns an item does not.
 abbrev pub StepEnds : Step → IterState → Type 0
 StepEnds (Item x) state = state.is_done ≡ false
 StepEnds Skip state = Unit {0}
 StepEnds End state = state.is_done ≡ true
-StepEnds (Fault e) state = state.is_done ≡ true
+StepEnds (Failed e) state = state.is_done ≡ true
 
 -- For a compiled pattern, a text, and the configuration and the state before a step.
 module _ (s : MetaRegex) (text : List ℕ) (old : SearchConfig) (before : IterState) where
-  -- A fault of a step is an error of its search, which starts in the range.
+  -- The error of a failed step is one of its search, which starts in the range.
   abbrev pub StepFails : Step → Type 0
   StepFails (Item x) = Unit {0}
   StepFails Skip = Unit {0}
   StepFails End = Unit {0}
-  StepFails (Fault e) = (max old.start old.range_start ≤ old.range_end) × IsMetaSearchError s text old before.continue_disabled e
+  StepFails (Failed e) = (max old.start old.range_start ≤ old.range_end) × IsMetaSearchError s text old before.continue_disabled e
 
   -- Every search of the iteration after the step is one of the iteration before it.
   abbrev pub StepPasses : Step → SearchConfig → IterState → Type 0
   StepPasses (Item x) new after = KeepsSearches s text old before.continue_disabled new after.continue_disabled
   StepPasses Skip new after = KeepsSearches s text old before.continue_disabled new after.continue_disabled
   StepPasses End new after = Unit {0}
-  StepPasses (Fault e) new after = Unit {0}
+  StepPasses (Failed e) new after = Unit {0}
 
   -- What a step leaves: the end of an item as the last end; after a skip an iteration that goes on; and an iteration that was
   -- over, or whose search found nothing.
@@ -69,14 +70,14 @@ module _ (s : MetaRegex) (text : List ℕ) (old : SearchConfig) (before : IterSt
   StepLeaves Skip new after = (before.is_done ≡ false) × (after.is_done ≡ false) × KeepsSkips s text old before new after
   StepLeaves End new after = (after.continue_disabled ≡ before.continue_disabled)
       × (before.is_done ≡ false → meta_match_from s text old (max old.start old.range_start) before.continue_disabled ≡ None)
-  StepLeaves (Fault e) new after = Unit {0}
+  StepLeaves (Failed e) new after = Unit {0}
 
   -- The match of an item is the first that remained before the step.
   abbrev pub StepReturns : Step → SearchConfig → IterState → Type 0
   StepReturns (Item x) new after = (m : Match) × (remaining_matches s text old before ≡ m ∷ remaining_matches s text new after) × PassesItem s text old before m new after
   StepReturns Skip new after = Unit {0}
   StepReturns End new after = Unit {0}
-  StepReturns (Fault e) new after = Unit {0}
+  StepReturns (Failed e) new after = Unit {0}
 
   -- A step that finds something, or nothing, makes a search that stays within the limits; so does each one that comes after it
   -- by skipping alone, where those of the state after a skip do.
@@ -84,7 +85,7 @@ module _ (s : MetaRegex) (text : List ℕ) (old : SearchConfig) (before : IterSt
   StepStays (Item x) new after = SkipsStayInLimits s text old before
   StepStays Skip new after = SkipsStayInLimits s text new after → SkipsStayInLimits s text old before
   StepStays End new after = before.is_done ≡ false → SkipsStayInLimits s text old before
-  StepStays (Fault e) new after = Unit {0}
+  StepStays (Failed e) new after = Unit {0}
 
   -- One search of an iteration: its result, and the configuration and the state after it.
   pub record IsStep (wanted : MatchDetail) (result : Step) (new : SearchConfig) (after : IterState) : Type 0 where

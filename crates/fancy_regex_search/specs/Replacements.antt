@@ -14,37 +14,37 @@ use Rattle.fancy_regex_meta.specs.declared.found.MatchDetail.TheVariants.{Span, 
 use Rattle.fancy_regex_input.specs.SearchInputs.{whole}
 use Rattle.fancy_regex_search.specs.IterationErrors.{IsErrorAfter}
 
--- What a replacer is shown of a match: the regex, the haystack, and the start and end offsets of each group.
-pub record Shown : Type 0 where
+-- The capture groups that a replacer is called with: the regex, the haystack, and the start and end offsets of each group.
+pub record CapturesView : Type 0 where
   pub regex : MetaRegex
   pub text : List ℕ
   pub slots : List ℕ
 
--- what it is shown of this match of a regex in a text
-abbrev pub shown : MetaRegex → List ℕ → Match → Shown
-shown s text m = record { regex = s; text = text; slots = match_slots (meta_pattern s) m }
+-- those of this match of a regex in a text
+abbrev pub captures_view : MetaRegex → List ℕ → Match → CapturesView
+captures_view s text m = record { regex = s; text = text; slots = match_slots (meta_pattern s) m }
 
--- Where the groups of a match are not wanted, a call answers the same whatever it is shown.
-abbrev pub AnswersBy : {S : Type 0} → MatchDetail → (S → Shown → Result (List ℕ) Error → S → Type 0) → Type 0
+-- Where the groups of a match are not wanted, the answer of a call does not depend on them.
+abbrev pub AnswersBy : {S : Type 0} → MatchDetail → (S → CapturesView → Result (List ℕ) Error → S → Type 0) → Type 0
 AnswersBy Groups Calls = Unit {0}
-AnswersBy {S} Span Calls = (s : S) (m n : Shown) (result : Result (List ℕ) Error) (next : S) → Calls s m result next → Calls s n result next
+AnswersBy {S} Span Calls = (s : S) (m n : CapturesView) (result : Result (List ℕ) Error) (next : S) → Calls s m result next → Calls s n result next
 
 -- One call for each match, in order, may answer these texts and leave this state.
-abbrev pub AnswersInTurn : {S : Type 0} → (S → Shown → Result (List ℕ) Error → S → Type 0) → S → List Shown → List (List ℕ) → S → Type 0
+abbrev pub AnswersInTurn : {S : Type 0} → (S → CapturesView → Result (List ℕ) Error → S → Type 0) → S → List CapturesView → List (List ℕ) → S → Type 0
 AnswersInTurn Calls s [] [] last = last ≡ s
 AnswersInTurn Calls s [] (w ∷ ws) last = ⊥
 AnswersInTurn Calls s (m ∷ ms) [] last = ⊥
 AnswersInTurn {S} Calls s (m ∷ ms) (w ∷ ws) last = (next : S) × Calls s m (Ok w) next × AnswersInTurn Calls next ms ws last
 
 -- Calls for the first of these matches, in order, answer texts, and the one after them this error; they leave this state.
-pub data FailsInTurn {S : Type 0} (Calls : S → Shown → Result (List ℕ) Error → S → Type 0) : S → List Shown → Error → S → Type 0 where
-  here : (s last : S) (m : Shown) (ms : List Shown) (e : Error) → Calls s m (Err e) last → FailsInTurn Calls s (m ∷ ms) e last
-  later : (s next last : S) (m : Shown) (ms : List Shown) (w : List ℕ) (e : Error) → Calls s m (Ok w) next → FailsInTurn Calls next ms e last → FailsInTurn Calls s (m ∷ ms) e last
+pub data FailsInTurn {S : Type 0} (Calls : S → CapturesView → Result (List ℕ) Error → S → Type 0) : S → List CapturesView → Error → S → Type 0 where
+  here : (s last : S) (m : CapturesView) (ms : List CapturesView) (e : Error) → Calls s m (Err e) last → FailsInTurn Calls s (m ∷ ms) e last
+  later : (s next last : S) (m : CapturesView) (ms : List CapturesView) (w : List ℕ) (e : Error) → Calls s m (Ok w) next → FailsInTurn Calls next ms e last → FailsInTurn Calls s (m ∷ ms) e last
 
 -- From an offset on, the text between matches and the answers of one call for each match, in turn, and then the rest.
-abbrev pub IsReplacedByCalls : {S : Type 0} → (S → Shown → Result (List ℕ) Error → S → Type 0) → MetaRegex → List ℕ → ℕ → List Match → S → List ℕ → S → Type 0
+abbrev pub IsReplacedByCalls : {S : Type 0} → (S → CapturesView → Result (List ℕ) Error → S → Type 0) → MetaRegex → List ℕ → ℕ → List Match → S → List ℕ → S → Type 0
 IsReplacedByCalls Calls r text from ms s out last =
-    (answers : List (List ℕ)) × AnswersInTurn Calls s (map (shown r text) ms) answers last × (out ≡ alternately (pieces_from text from ms) answers)
+    (answers : List (List ℕ)) × AnswersInTurn Calls s (map (captures_view r text) ms) answers last × (out ≡ alternately (pieces_from text from ms) answers)
 
 -- the matches that are still to be replaced: all of them, or at most so many
 abbrev pub still_replaced : Option ℕ → List Match → List Match
@@ -62,7 +62,7 @@ limit_of zero = None
 limit_of (suc n) = Some (suc n)
 
 -- What a replacement returns: by calls, or, for a replacer with one text for all matches, by that text.
-pub data IsReplacedBy {S : Type 0} (Calls : S → Shown → Result (List ℕ) Error → S → Type 0) (r : MetaRegex) (text : List ℕ) (ms : List Match) (s : S) (out : List ℕ) : Option (List ℕ) → Type 0 where
+pub data IsReplacedBy {S : Type 0} (Calls : S → CapturesView → Result (List ℕ) Error → S → Type 0) (r : MetaRegex) (text : List ℕ) (ms : List Match) (s : S) (out : List ℕ) : Option (List ℕ) → Type 0 where
   by_calls : (fixed : Option (List ℕ)) (last : S) → IsReplacedByCalls Calls r text 0 ms s out last → IsReplacedBy Calls r text ms s out fixed
   by_text : (t : List ℕ) → out ≡ replaced_from text (λ _. t) 0 ms → IsReplacedBy Calls r text ms s out (Some t)
 
@@ -81,30 +81,30 @@ IsAnswerOfText t (Err e) = e ≡ Memory
 -- The error of a replacement: that of a search right after some of the matches that are replaced, for each of which one call
 -- answered, in order; that of a call, after the calls before it; or want of memory. A replacer with one text for all matches
 -- need not have been called.
-pub data IsReplaceError {S : Type 0} (Calls : S → Shown → Result (List ℕ) Error → S → Type 0) (r : MetaRegex) (text : List ℕ) (ms : List Match) (s : S) : Option (List ℕ) → Error → Type 0 where
+pub data IsReplaceError {S : Type 0} (Calls : S → CapturesView → Result (List ℕ) Error → S → Type 0) (r : MetaRegex) (text : List ℕ) (ms : List Match) (s : S) : Option (List ℕ) → Error → Type 0 where
   of_search : (fixed : Option (List ℕ)) (done rest : List Match) (answers : List (List ℕ)) (last : S) (e : Error) → ms ≡ done ++ rest → IsErrorAfter r text (whole text) done e →
-      AnswersInTurn Calls s (map (shown r text) done) answers last → IsReplaceError Calls r text ms s fixed e
+      AnswersInTurn Calls s (map (captures_view r text) done) answers last → IsReplaceError Calls r text ms s fixed e
   of_search_by_text : (t : List ℕ) (done rest : List Match) (e : Error) → ms ≡ done ++ rest → IsErrorAfter r text (whole text) done e → IsReplaceError Calls r text ms s (Some t) e
-  of_call : (fixed : Option (List ℕ)) (e : Error) (last : S) → FailsInTurn Calls s (map (shown r text) ms) e last → IsReplaceError Calls r text ms s fixed e
+  of_call : (fixed : Option (List ℕ)) (e : Error) (last : S) → FailsInTurn Calls s (map (captures_view r text) ms) e last → IsReplaceError Calls r text ms s fixed e
   of_memory : (fixed : Option (List ℕ)) → IsReplaceError Calls r text ms s fixed Memory
 
 -- What a replacement returns, and the state that it leaves the replacer in: that after one call for each match, or, for a replacer
 -- with one text for all matches, the one before.
-pub data IsReplacedLeaving {S : Type 0} (Calls : S → Shown → Result (List ℕ) Error → S → Type 0) (r : MetaRegex) (text : List ℕ) (ms : List Match) (s : S) (out : List ℕ) (last : S) : Option (List ℕ) → Type 0 where
+pub data IsReplacedLeaving {S : Type 0} (Calls : S → CapturesView → Result (List ℕ) Error → S → Type 0) (r : MetaRegex) (text : List ℕ) (ms : List Match) (s : S) (out : List ℕ) (last : S) : Option (List ℕ) → Type 0 where
   left_by_calls : (fixed : Option (List ℕ)) → IsReplacedByCalls Calls r text 0 ms s out last → IsReplacedLeaving Calls r text ms s out last fixed
   left_by_text : (t : List ℕ) → out ≡ replaced_from text (λ _. t) 0 ms → last ≡ s → IsReplacedLeaving Calls r text ms s out last (Some t)
 
 -- The error of a replacement, and the state that it leaves the replacer in: that of a search right after some of the matches that
 -- are replaced, or want of memory, after one call for each of these, in order, each of which answered; or that of a call, after
 -- the calls before it. A replacer with one text for all matches is left as it was.
-pub data IsReplaceErrorLeaving {S : Type 0} (Calls : S → Shown → Result (List ℕ) Error → S → Type 0) (r : MetaRegex) (text : List ℕ) (ms : List Match) (s : S) (e : Error) (last : S) : Option (List ℕ) → Type 0 where
+pub data IsReplaceErrorLeaving {S : Type 0} (Calls : S → CapturesView → Result (List ℕ) Error → S → Type 0) (r : MetaRegex) (text : List ℕ) (ms : List Match) (s : S) (e : Error) (last : S) : Option (List ℕ) → Type 0 where
   search_failed : (fixed : Option (List ℕ)) (done rest : List Match) (answers : List (List ℕ)) → ms ≡ done ++ rest → IsErrorAfter r text (whole text) done e →
-      AnswersInTurn Calls s (map (shown r text) done) answers last → IsReplaceErrorLeaving Calls r text ms s e last fixed
+      AnswersInTurn Calls s (map (captures_view r text) done) answers last → IsReplaceErrorLeaving Calls r text ms s e last fixed
   search_failed_by_text : (t : List ℕ) (done rest : List Match) → ms ≡ done ++ rest → IsErrorAfter r text (whole text) done e → last ≡ s → IsReplaceErrorLeaving Calls r text ms s e last (Some t)
-  call_failed : (fixed : Option (List ℕ)) → FailsInTurn Calls s (map (shown r text) ms) e last → IsReplaceErrorLeaving Calls r text ms s e last fixed
+  call_failed : (fixed : Option (List ℕ)) → FailsInTurn Calls s (map (captures_view r text) ms) e last → IsReplaceErrorLeaving Calls r text ms s e last fixed
   memory_ran_out : (fixed : Option (List ℕ)) (done rest : List Match) (answers : List (List ℕ)) → e ≡ Memory → ms ≡ done ++ rest →
-      AnswersInTurn Calls s (map (shown r text) done) answers last → IsReplaceErrorLeaving Calls r text ms s e last fixed
+      AnswersInTurn Calls s (map (captures_view r text) done) answers last → IsReplaceErrorLeaving Calls r text ms s e last fixed
 
 -- How a replacer that has the same text for each match answers.
-abbrev pub AnswersText : {S : Type 0} → (S → List ℕ) → S → Shown → Result (List ℕ) Error → S → Type 0
+abbrev pub AnswersText : {S : Type 0} → (S → List ℕ) → S → CapturesView → Result (List ℕ) Error → S → Type 0
 AnswersText text_of s m result next = IsAnswerOfText (text_of s) result × (next ≡ s)

@@ -3,7 +3,7 @@ use Rattle.std.specs.Prelude.{◌≡◌, ℕ, zero, suc, ◌+◌, Bool, false, �
 use Rattle.fancy_regex_tree.specs.Numbering.{Names, last_named}
 use Rattle.fancy_regex_text.specs.declared.fault.ParseError.TheVariants.{GeneralParseError}
 use Rattle.fancy_regex_info.specs.declared.error.CompileError.TheVariants.{NamedBackrefOnly, InvalidBackref, InvalidGroupNameBackref}
-use Rattle.fancy_regex_template.specs.Faults.{Fault, Groups, begins_nothing, named_backref_only, invalid_backref, invalid_group_name_backref}
+use Rattle.fancy_regex_template.specs.Faults.{TemplateFault, Groups, begins_nothing, named_backref_only, invalid_backref, invalid_group_name_backref}
 use Rattle.fancy_regex_meta.specs.GroupNames.{name_at}
 use Rattle.fancy_regex_meta.specs.MetaMatches.{meta_pattern}
 use Rattle.fancy_regex_meta.specs.declared.error.Error.{Error}
@@ -24,7 +24,7 @@ groups_of s = record {
 }
 
 -- the error that tells a fault of a template
-abbrev pub IsErrorOfFault : Fault → Error → Type 0
+abbrev pub IsErrorOfFault : TemplateFault → Error → Type 0
 IsErrorOfFault begins_nothing (told.ParseError place (GeneralParseError text)) = (place ≡ 0) × (string_bytes text ≡ codes "parse error in template while expanding")
 IsErrorOfFault named_backref_only (told.CompileError NamedBackrefOnly) = Unit {0}
 IsErrorOfFault (invalid_backref n) (told.CompileError (InvalidBackref number)) = number ≡ n

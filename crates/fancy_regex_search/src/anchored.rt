@@ -9,8 +9,9 @@ ghost use Rattle.fancy_regex_search.specs.CaptureSpans.{AreGroupsOf, IsResultFor
 
 use crate::captures::Captures;
 use crate::regex::Regex;
+use fancy_regex_class::{RunInput, Steps};
 use fancy_regex_input::{Input, SearchConfig};
-use fancy_regex_meta::{MetaMemory, Result};
+use fancy_regex_meta::{MatchDetail, MetaMemory, Result};
 use std::alloc::Global;
 
 /// A match that was asked for at one offset.
@@ -25,32 +26,40 @@ pub struct AnchoredMatch<'r, S: Input> {
 }
 
 /// The match that starts at `position`; `None` if no match starts there. `\G` matches at `continue_at` alone, and nowhere if
-/// that is `None`. The memory is that of earlier searches, and changes no answer. `RuntimeError` if the search exceeds a limit; `Memory` if memory runs out.
+/// that is `None`. The memory is that of earlier searches, and changes no answer. `RuntimeError` if the search exceeds a limit;
+/// `Memory` if memory runs out.
 pub fn match_at<'r, S: Input>(
     alloc: Global,
     regex: &'r Regex,
     haystack: S,
-    config: SearchConfig,
+    config: &SearchConfig,
     continue_at: Option<usize>,
     position: usize,
     memory: &mut MetaMemory,
 ) -> Result<Option<AnchoredMatch<'r, S>>>
-    requires fits { FitsText (S.text haystack) config }
+    requires fits { FitsText (S.text haystack) config.now }
     requires boundary { IsCharBoundary (S.text haystack) position }
-    requires inside { position ≤ config.range_end }
-    ensures answer { IfOk result (λ found. IsResultFor (λ x m. (AreGroupsOf (meta_pattern regex.entry.now.meta) x.captures.slots.items m) × ((x.start, x.end) ≡ span_in m))
-        found (meta_match_at regex.entry.now.meta (S.text haystack) config continue_at position)) }
+    requires inside { position ≤ config.now.range_end }
+    ensures answer { IfOk result (λ found. IsResultFor (λ x m.
+        (AreGroupsOf (meta_pattern regex.entry.now.meta) x.captures.slots.items m) × ((x.start, x.end) ≡ span_in m))
+        found (meta_match_at regex.entry.now.meta (S.text haystack) config.now continue_at position)) }
     ensures cuts { IfOk result (λ found. IfSome found (λ x. AreBoundaries (S.text haystack) x.start x.end)) }
     ensures of { IfOk result (λ found. IfSome found (λ x. (x.captures.haystack ≡ haystack) × (x.captures.regex.now ≡ regex.entry.now))) }
-    ensures limits { IfErr result (λ e. IsMemberError regex.entry.now.meta (S.text haystack) config continue_at position e) }
-    ensures stays { IfOk result (λ _. MemberStaysInLimits regex.entry.now.meta (S.text haystack) config continue_at position) }
+    ensures limits { IfErr result (λ e. IsMemberError regex.entry.now.meta (S.text haystack) config.now continue_at position e) }
+    ensures stays { IfOk result (λ _. MemberStaysInLimits regex.entry.now.meta (S.text haystack) config.now continue_at position) }
 {
-    let found = regex.meta.search_at(
+    let input = RunInput {
+        first: position,
+        continue_at,
+        anchored: true,
+        ..*config.run_input()
+    };
+    let found = regex.meta.search(
         alloc,
         haystack.as_str(),
-        config,
-        continue_at,
-        position,
+        &input,
+        MatchDetail::Groups,
+        &mut Steps::new(),
         memory,
     )?;
     match found {

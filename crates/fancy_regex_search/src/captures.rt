@@ -47,7 +47,8 @@ impl<'r, S: Input> Captures<'r, S> {
 
     /// The match of the last group with this name. `None` if that group did not participate, or if no group has the name.
     pub fn name(&self, name: &str) -> Option<S::Match>
-        ensures span { IsSpanOf (S.text self.now.haystack) self.now.slots.items (meta_last_group self.now.regex.now.meta name.now) (option_map S.span result) }
+        ensures span { IsSpanOf (S.text self.now.haystack) self.now.slots.items (meta_last_group self.now.regex.now.meta name.now)
+            (option_map S.span result) }
         ensures text { IfSome result (λ m. S.match_text m ≡ S.text self.now.haystack) }
     {
         self.get(self.group_named(name)?)
@@ -89,7 +90,8 @@ impl<'r, S: Input> Captures<'r, S> {
 impl<'r, 't> Captures<'r, &'t str> {
     /// The groups, as templates read their texts.
     pub(crate) fn texts(&self) -> CaptureTexts<'_>
-        ensures { (result.regex.now ≡ self.now.regex.now) × (result.haystack.now ≡ self.now.haystack.now) × (result.slots.now ≡ self.now.slots.items) }
+        ensures { (result.regex.now ≡ self.now.regex.now) × (result.haystack.now ≡ self.now.haystack.now)
+            × (result.slots.now ≡ self.now.slots.items) }
     {
         CaptureTexts {
             regex: self.regex,
@@ -101,7 +103,8 @@ impl<'r, 't> Captures<'r, &'t str> {
     /// The text that the group with this number matched. The group must have participated: `get` returns `Some` for it.
     pub fn group_text(&self, i: usize) -> &'t str
         requires { Participated self.now.haystack.now self.now.slots.items i }
-        ensures { result.now ≡ slice_range self.now.haystack.now (slice_index self.now.slots.items (2 * i)) (slice_index self.now.slots.items (2 * i + 1)) }
+        ensures { result.now ≡ slice_range self.now.haystack.now (slice_index self.now.slots.items (2 * i))
+            (slice_index self.now.slots.items (2 * i + 1)) }
     {
         &self.haystack[self.slots[2 * i]..self.slots[2 * i + 1]]
     }

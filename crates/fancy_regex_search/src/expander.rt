@@ -59,7 +59,8 @@ impl Expander {
     /// `ParseError` at 0 for a sign that begins nothing. `Memory` if memory runs out.
     pub fn check(&self, alloc: Global, template: &str, regex: &Regex) -> Result<()>
         ensures accepted { OnOk result (first_fault (groups_of regex.now.meta) (parts self.now.syntax (chars template.now)) ≡ None) }
-        ensures refused { IfErr result (λ e. e ≢ Memory → (fault : _) × (first_fault (groups_of regex.now.meta) (parts self.now.syntax (chars template.now))
+        ensures refused { IfErr result (λ e. e ≢ Memory → (fault : _)
+            × (first_fault (groups_of regex.now.meta) (parts self.now.syntax (chars template.now))
             ≡ Some fault) × IsErrorOfFault fault e) }
     {
         match check_template(self.syntax, template, &RegexGroups { regex }) {

@@ -7,7 +7,7 @@ ghost use Rattle.fancy_regex_meta.specs.MetaMatches.{meta_pattern};
 use crate::match_iter::MatchIter;
 use crate::regex::Regex;
 use fancy_regex_input::RegexInput;
-use fancy_regex_meta::{Result, MatchDetail};
+use fancy_regex_meta::{MatchDetail, Result};
 use std::alloc::Global;
 
 /// A match and the text between the previous match and it.
@@ -39,8 +39,14 @@ impl<'r, 'h> GapIter<'r, 'h> {
     ghost use Rattle.fancy_regex_search.specs.Pieces.{YieldsGap};
 
     /// The iteration before its first search.
-    pub fn new(alloc: Global, regex: &'r Regex, text: &'h str, wanted: MatchDetail) -> GapIter<'r, 'h>
-        ensures left { remaining_matches result.match_iter.regex.now.meta result.match_iter.input.haystack.now result.match_iter.input.config
+    pub fn new(
+        alloc: Global,
+        regex: &'r Regex,
+        text: &'h str,
+        wanted: MatchDetail,
+    ) -> GapIter<'r, 'h>
+        ensures left { remaining_matches result.match_iter.regex.now.meta result.match_iter.input.haystack.now
+            result.match_iter.input.config
             result.match_iter.state ≡ all_matches regex.entry.now.meta text.entry.now (whole text.entry.now) }
         ensures input { (result.match_iter.input.haystack ≡ text.entry) × (result.match_iter.input.config ≡ whole text.entry.now) }
         ensures regex { result.match_iter.regex ≡ regex.entry }
@@ -57,24 +63,33 @@ impl<'r, 'h> GapIter<'r, 'h> {
 
     /// The next match and the text before it. `None` after the last match and after an error.
     pub fn next_gap(&mut self) -> Option<Result<Gap<'h>>>
-        ensures gives { YieldsGap (λ gap. gap.text.now) (λ gap. gap.groups.items) self.old.match_iter.wanted (meta_pattern self.old.match_iter.regex.now.meta)
+        ensures gives { YieldsGap (λ gap. gap.text.now) (λ gap. gap.groups.items) self.old.match_iter.wanted
+            (meta_pattern self.old.match_iter.regex.now.meta)
             self.old.match_iter.input.haystack.now self.old.last_end
-            (remaining_matches self.old.match_iter.regex.now.meta self.old.match_iter.input.haystack.now self.old.match_iter.input.config self.old.match_iter.state) result self.new.last_end
-            (remaining_matches self.new.match_iter.regex.now.meta self.new.match_iter.input.haystack.now self.new.match_iter.input.config self.new.match_iter.state) }
-        ensures nears { IfSome result (λ _. remaining_searches self.new.match_iter.input.haystack.now self.new.match_iter.input.config self.new.match_iter.state
+            (remaining_matches self.old.match_iter.regex.now.meta self.old.match_iter.input.haystack.now
+            self.old.match_iter.input.config self.old.match_iter.state) result self.new.last_end
+            (remaining_matches self.new.match_iter.regex.now.meta self.new.match_iter.input.haystack.now
+            self.new.match_iter.input.config self.new.match_iter.state) }
+        ensures nears { IfSome result (λ _. remaining_searches self.new.match_iter.input.haystack.now
+            self.new.match_iter.input.config self.new.match_iter.state
             < remaining_searches self.old.match_iter.input.haystack.now self.old.match_iter.input.config self.old.match_iter.state) }
         ensures haystack { self.new.match_iter.input.haystack ≡ self.old.match_iter.input.haystack }
         ensures regex { self.new.match_iter.regex ≡ self.old.match_iter.regex }
         ensures wanted { self.new.match_iter.wanted ≡ self.old.match_iter.wanted }
-        ensures config { self.new.match_iter.input.config ≡ record (self.old.match_iter.input.config) { start = self.new.match_iter.input.config.start } }
-        ensures fails { IfSome result (λ item. IfErr item (λ e. IsItemError self.old.match_iter.regex.now.meta self.old.match_iter.input.haystack.now
+        ensures config { self.new.match_iter.input.config ≡ record
+            (self.old.match_iter.input.config) { start = self.new.match_iter.input.config.start } }
+        ensures fails { IfSome result (λ item. IfErr item (λ e. IsItemError self.old.match_iter.regex.now.meta
+            self.old.match_iter.input.haystack.now
             self.old.match_iter.input.config
             self.old.match_iter.state e)) }
-        ensures stays { NextStays self.old.match_iter.regex.now.meta self.old.match_iter.input.haystack.now self.old.match_iter.input.config self.old.match_iter.state result }
-        ensures passes { IfSome result (λ item. IfOk item (λ _. KeepsSearches self.old.match_iter.regex.now.meta self.old.match_iter.input.haystack.now
+        ensures stays { NextStays self.old.match_iter.regex.now.meta self.old.match_iter.input.haystack.now
+            self.old.match_iter.input.config self.old.match_iter.state result }
+        ensures passes { IfSome result (λ item. IfOk item (λ _. KeepsSearches self.old.match_iter.regex.now.meta
+            self.old.match_iter.input.haystack.now
             self.old.match_iter.input.config
             self.old.match_iter.state.continue_disabled self.new.match_iter.input.config self.new.match_iter.state.continue_disabled)) }
-        ensures returns { NextReturns self.old.match_iter.regex.now.meta self.old.match_iter.input.haystack.now self.old.match_iter.input.config self.old.match_iter.state result
+        ensures returns { NextReturns self.old.match_iter.regex.now.meta self.old.match_iter.input.haystack.now
+            self.old.match_iter.input.config self.old.match_iter.state result
             self.new.match_iter.input.config self.new.match_iter.state }
         ensures ends { NextEnds result self.new.match_iter.state }
     {

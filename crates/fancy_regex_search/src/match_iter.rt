@@ -1,18 +1,19 @@
 //! The searches after the iterators over matches: each search starts where the previous match ended. An empty match at the
 //! end of the previous match is skipped, and after an error the iteration is over.
 
-ghost use Rattle.std.specs.Prelude.{◌≡◌, ◌≤◌, ◌<◌, max, option_map, None, Some, true, false, MatchOption, MatchResult, IfSome, IfNone, IfOk, IfErr};
+ghost use Rattle.std.specs.Prelude.{◌≡◌, ◌≤◌, ◌<◌, option_map, None, Some, true, false, MatchOption, MatchResult, IfSome, IfNone, IfOk, IfErr};
+ghost use Rattle.fancy_regex_input.specs.SearchInputs.{effective_start};
 ghost use Rattle.fancy_regex_meta.specs.MetaMatches.{meta_pattern, meta_match_from};
 ghost use Rattle.fancy_regex_meta.specs.MatchOffsets.{IsMatchWithin};
 ghost use Rattle.fancy_regex_meta.specs.FoundParts.{found_parts, wanted_parts};
 ghost use Rattle.fancy_regex_meta.specs.SearchLimits.{MetaStaysInLimits};
 
-use crate::group_spans::find_match_in;
+use crate::group_spans::find_match;
 use crate::regex::Regex;
 use fancy_regex_class::Steps;
 use fancy_regex_input::{Input, RegexInput};
 use fancy_regex_meaning::laws_of_items;
-use fancy_regex_meta::{Error, FoundMatch, MetaMemory, Result, MatchDetail};
+use fancy_regex_meta::{Error, FoundMatch, MatchDetail, MetaMemory, Result};
 use std::alloc::Global;
 
 /// The state that an iteration keeps between its searches.
@@ -53,7 +54,7 @@ enum Step {
     /// No further match.
     End,
     /// The search failed; the iteration is over.
-    Fault(Error),
+    Failed(Error),
 }
 
 impl<'r, S: Input> MatchIter<'r, S> {
@@ -96,7 +97,8 @@ impl<'r, S: Input> MatchIter<'r, S> {
 
     /// Makes one search and moves the start of the next one.
     fn step(&mut self) -> Step
-        ensures step { IsStep self.old.regex.now.meta (S.text self.old.input.haystack) self.old.input.config self.old.state self.old.wanted result
+        ensures step { IsStep self.old.regex.now.meta (S.text self.old.input.haystack) self.old.input.config self.old.state
+            self.old.wanted result
             self.new.input.config self.new.state }
         ensures haystack { self.new.input.haystack ≡ self.old.input.haystack }
         ensures regex { self.new.regex ≡ self.old.regex }
@@ -105,18 +107,15 @@ impl<'r, S: Input> MatchIter<'r, S> {
         if self.state.is_done {
             return Step::End;
         }
-        let config = self.input.config();
-        let place = config.start.max(config.range_start);
-        if place > config.range_end {
+        let range_end = self.input.get_range().end;
+        if self.input.effective_start() > range_end {
             self.state.is_done = true;
             return Step::End;
         }
-        let haystack = self.input.haystack();
-        let found = find_match_in(
+        let found = find_match(
             self.alloc,
             self.regex,
-            haystack,
-            config,
+            &self.input,
             self.state.continue_disabled,
             self.wanted,
             &mut Steps::new(),
@@ -127,9 +126,9 @@ impl<'r, S: Input> MatchIter<'r, S> {
             Ok(None) => self.end_without_match(),
             Err(error) => {
                 self.state.is_done = true;
-                let next = haystack.advance_position(config.range_end);
+                let next = self.input.haystack().advance_position(range_end);
                 self.input.set_start(next);
-                Step::Fault(error)
+                Step::Failed(error)
             }
         }
     }
@@ -137,12 +136,15 @@ impl<'r, S: Input> MatchIter<'r, S> {
     /// Ends the iteration after a search without a match.
     fn end_without_match(&mut self) -> Step
         requires going { self.old.state.is_done ≡ false }
-        requires inside { max self.old.input.config.start self.old.input.config.range_start ≤ self.old.input.config.range_end }
+        requires inside { effective_start self.old.input.config ≤ self.old.input.config.range_end }
         requires found { None
-            ≡ option_map (wanted_parts self.old.wanted (meta_pattern self.old.regex.now.meta)) (meta_match_from self.old.regex.now.meta (S.text self.old.input.haystack) self.old.input.config
-            (max self.old.input.config.start self.old.input.config.range_start) self.old.state.continue_disabled) }
-        requires stays { MetaStaysInLimits self.old.regex.now.meta (S.text self.old.input.haystack) self.old.input.config self.old.state.continue_disabled }
-        ensures step { IsStep self.old.regex.now.meta (S.text self.old.input.haystack) self.old.input.config self.old.state self.old.wanted result
+            ≡ option_map (wanted_parts self.old.wanted (meta_pattern self.old.regex.now.meta))
+            (meta_match_from self.old.regex.now.meta (S.text self.old.input.haystack) self.old.input.config
+            (effective_start self.old.input.config) self.old.state.continue_disabled) }
+        requires stays { MetaStaysInLimits self.old.regex.now.meta
+            (S.text self.old.input.haystack) self.old.input.config self.old.state.continue_disabled }
+        ensures step { IsStep self.old.regex.now.meta (S.text self.old.input.haystack) self.old.input.config self.old.state
+            self.old.wanted result
             self.new.input.config self.new.state }
         ensures haystack { self.new.input.haystack ≡ self.old.input.haystack }
         ensures regex { self.new.regex ≡ self.old.regex }
@@ -156,11 +158,15 @@ impl<'r, S: Input> MatchIter<'r, S> {
     fn step_past_match(&mut self, found: FoundMatch) -> Step
         requires going { self.old.state.is_done ≡ false }
         requires found { Some (found_parts found)
-            ≡ option_map (wanted_parts self.old.wanted (meta_pattern self.old.regex.now.meta)) (meta_match_from self.old.regex.now.meta (S.text self.old.input.haystack) self.old.input.config
-            (max self.old.input.config.start self.old.input.config.range_start) self.old.state.continue_disabled) }
-        requires within { IsMatchWithin self.old.wanted (S.text self.old.input.haystack) self.old.input.config found }
-        requires stays { MetaStaysInLimits self.old.regex.now.meta (S.text self.old.input.haystack) self.old.input.config self.old.state.continue_disabled }
-        ensures step { IsStep self.old.regex.now.meta (S.text self.old.input.haystack) self.old.input.config self.old.state self.old.wanted result
+            ≡ option_map (wanted_parts self.old.wanted (meta_pattern self.old.regex.now.meta))
+            (meta_match_from self.old.regex.now.meta (S.text self.old.input.haystack) self.old.input.config
+            (effective_start self.old.input.config) self.old.state.continue_disabled) }
+        requires within { IsMatchWithin self.old.wanted (S.text self.old.input.haystack)
+            (effective_start self.old.input.config) self.old.input.config.range_end found }
+        requires stays { MetaStaysInLimits self.old.regex.now.meta
+            (S.text self.old.input.haystack) self.old.input.config self.old.state.continue_disabled }
+        ensures step { IsStep self.old.regex.now.meta (S.text self.old.input.haystack) self.old.input.config self.old.state
+            self.old.wanted result
             self.new.input.config self.new.state }
         ensures haystack { self.new.input.haystack ≡ self.old.input.haystack }
         ensures regex { self.new.regex ≡ self.old.regex }
@@ -190,8 +196,10 @@ impl<'r, S: Input> MatchIter<'r, S> {
         ensures gives { Yields (IsFoundOf self.old.wanted (meta_pattern self.old.regex.now.meta))
             (remaining_matches self.old.regex.now.meta (S.text self.old.input.haystack) self.old.input.config self.old.state) result
             (remaining_matches self.new.regex.now.meta (S.text self.new.input.haystack) self.new.input.config self.new.state) }
-        ensures within { IfSome result (λ item. IfOk item (IsMatchWithin self.old.wanted (S.text self.old.input.haystack) self.old.input.config)) }
-        ensures moves { NextMoves (λ x. (x.start, x.end)) (S.text self.old.input.haystack) self.old.input.config result self.new.input.config }
+        ensures within { IfSome result (λ item. IfOk item (IsMatchWithin self.old.wanted (S.text self.old.input.haystack)
+            (effective_start self.old.input.config) self.old.input.config.range_end)) }
+        ensures moves { NextMoves (λ x. (x.start, x.end)) (S.text self.old.input.haystack) self.old.input.config result
+            self.new.input.config }
         ensures nears { IfSome result (λ _. remaining_searches (S.text self.new.input.haystack) self.new.input.config self.new.state
             < remaining_searches (S.text self.old.input.haystack) self.old.input.config self.old.state) }
         ensures grows { self.old.input.config.start ≤ self.new.input.config.start }
@@ -199,15 +207,19 @@ impl<'r, S: Input> MatchIter<'r, S> {
         ensures regex { self.new.regex ≡ self.old.regex }
         ensures wanted { self.new.wanted ≡ self.old.wanted }
         ensures config { self.new.input.config ≡ record (self.old.input.config) { start = self.new.input.config.start } }
-        ensures fails { IfSome result (λ item. IfErr item (λ e. IsItemError self.old.regex.now.meta (S.text self.old.input.haystack) self.old.input.config
+        ensures fails { IfSome result (λ item. IfErr item (λ e. IsItemError self.old.regex.now.meta
+            (S.text self.old.input.haystack) self.old.input.config
             self.old.state e)) }
         ensures stays { NextStays self.old.regex.now.meta (S.text self.old.input.haystack) self.old.input.config self.old.state result }
-        ensures passes { IfSome result (λ item. IfOk item (λ v. KeepsSearches self.old.regex.now.meta (S.text self.old.input.haystack) self.old.input.config
+        ensures passes { IfSome result (λ item. IfOk item (λ v. KeepsSearches self.old.regex.now.meta
+            (S.text self.old.input.haystack) self.old.input.config
             self.old.state.continue_disabled self.new.input.config self.new.state.continue_disabled)) }
-        ensures returns { NextReturns self.old.regex.now.meta (S.text self.old.input.haystack) self.old.input.config self.old.state result self.new.input.config self.new.state }
+        ensures returns { NextReturns self.old.regex.now.meta (S.text self.old.input.haystack) self.old.input.config self.old.state
+            result self.new.input.config self.new.state }
         ensures ends { NextEnds result self.new.state }
         ensures keeps { NextKeeps (λ x. x.end) result self.new.state }
-        ensures left { IfNone result (IsLeftByNone self.old.regex.now.meta (S.text self.old.input.haystack) self.old.input.config self.old.state
+        ensures left { IfNone result (IsLeftByNone self.old.regex.now.meta
+            (S.text self.old.input.haystack) self.old.input.config self.old.state
             self.new.input.config self.new.state) }
     {
         loop {
@@ -215,7 +227,7 @@ impl<'r, S: Input> MatchIter<'r, S> {
                 Step::Item(found) => return Some(Ok(found)),
                 Step::Skip => {}
                 Step::End => return None,
-                Step::Fault(error) => return Some(Err(error)),
+                Step::Failed(error) => return Some(Err(error)),
             }
         }
     }

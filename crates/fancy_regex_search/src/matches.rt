@@ -13,7 +13,7 @@ use crate::group_spans::whole_match;
 use crate::match_iter::MatchIter;
 use crate::regex::Regex;
 use fancy_regex_input::{Input, RegexInput};
-use fancy_regex_meta::{Result, MatchDetail};
+use fancy_regex_meta::{MatchDetail, Result};
 use std::alloc::Global;
 
 /// The non-overlapping matches in a haystack, from left to right. An item may be an error; after an error or `None` there are
@@ -27,7 +27,8 @@ pub struct Matches<'r, S: Input> {
 impl<'r, S: Input> Matches<'r, S> {
     /// The iterator before its first search.
     pub(crate) fn new(alloc: Global, regex: &'r Regex, input: RegexInput<S>) -> Matches<'r, S>
-        ensures left { remaining_matches result.match_iter.regex.now.meta (S.text result.match_iter.input.haystack) result.match_iter.input.config result.match_iter.state
+        ensures left { remaining_matches result.match_iter.regex.now.meta
+            (S.text result.match_iter.input.haystack) result.match_iter.input.config result.match_iter.state
             ≡ all_matches regex.entry.now.meta (S.text input.haystack) input.config }
         ensures input { (result.match_iter.input.haystack ≡ input.haystack) × (result.match_iter.input.config ≡ input.config) }
         ensures regex { result.match_iter.regex ≡ regex.entry }
@@ -74,16 +75,20 @@ impl<'r, S: Input> Iterator for Matches<'r, S> {
         × (s.match_iter.input.config.start ≤ t.match_iter.input.config.start)
         × (t.match_iter.input.haystack ≡ s.match_iter.input.haystack) × (t.match_iter.regex ≡ s.match_iter.regex)
         × (t.match_iter.input.config ≡ record (s.match_iter.input.config) { start = t.match_iter.input.config.start })
-        × IfSome r (λ item. IfErr item (λ e. IsItemError s.match_iter.regex.now.meta (S.text s.match_iter.input.haystack) s.match_iter.input.config s.match_iter.state e))
-        × IfSome r (λ item. IfOk item (λ m. KeepsSearches s.match_iter.regex.now.meta (S.text s.match_iter.input.haystack) s.match_iter.input.config s.match_iter.state.continue_disabled
+        × IfSome r (λ item. IfErr item (λ e. IsItemError s.match_iter.regex.now.meta
+        (S.text s.match_iter.input.haystack) s.match_iter.input.config s.match_iter.state e))
+        × IfSome r (λ item. IfOk item (λ m. KeepsSearches s.match_iter.regex.now.meta
+        (S.text s.match_iter.input.haystack) s.match_iter.input.config s.match_iter.state.continue_disabled
         t.match_iter.input.config t.match_iter.state.continue_disabled))
         × NextEnds r t.match_iter.state × IfSome r (λ item. IfOk item (λ m. S.match_text m ≡ S.text s.match_iter.input.haystack))
         × NextKeeps (λ m. (S.span m).1) r t.match_iter.state
-        × IfNone r (IsLeftByNone s.match_iter.regex.now.meta (S.text s.match_iter.input.haystack) s.match_iter.input.config s.match_iter.state
+        × IfNone r (IsLeftByNone s.match_iter.regex.now.meta (S.text s.match_iter.input.haystack) s.match_iter.input.config
+        s.match_iter.state
         t.match_iter.input.config t.match_iter.state)
         × NextStays s.match_iter.regex.now.meta (S.text s.match_iter.input.haystack) s.match_iter.input.config s.match_iter.state r };
 
-    ghost remaining = { λ s. at_most (remaining_searches (S.text s.match_iter.input.haystack) s.match_iter.input.config s.match_iter.state) };
+    ghost remaining = { λ s. at_most (remaining_searches (S.text s.match_iter.input.haystack) s.match_iter.input.config
+        s.match_iter.state) };
 
     fn next(&mut self) -> Option<Result<S::Match>> {
         let haystack = self.match_iter.input.haystack();

@@ -74,7 +74,8 @@ impl TryFrom<(&str, Global)> for Regex {
     type Error = Error;
 
     ghost try_from_gives = { λ source result. MatchResult result
-        (λ regex. (string_bytes regex.meta.pattern ≡ source.0.now) × (regex.meta.options ≡ default_options) × Accepts default_options source.0.now)
+        (λ regex. (string_bytes regex.meta.pattern ≡ source.0.now) × (regex.meta.options ≡ default_options)
+        × Accepts default_options source.0.now)
         (λ e. Refuses default_options source.0.now e) };
 
     fn try_from(source: (&str, Global)) -> Result<Regex> {
@@ -87,7 +88,8 @@ impl TryFrom<(String, Global)> for Regex {
     type Error = Error;
 
     ghost try_from_gives = { λ source result. MatchResult result
-        (λ regex. (regex.meta.pattern ≡ source.0) × (regex.meta.options ≡ default_options) × Accepts default_options (string_bytes source.0))
+        (λ regex. (regex.meta.pattern ≡ source.0) × (regex.meta.options ≡ default_options) × Accepts default_options
+        (string_bytes source.0))
         (λ e. Refuses default_options (string_bytes source.0) e) };
 
     fn try_from(source: (String, Global)) -> Result<Regex> {

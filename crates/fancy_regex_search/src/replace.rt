@@ -13,7 +13,7 @@ use crate::captures::Captures;
 use crate::gap_iter::GapIter;
 use crate::regex::Regex;
 use crate::replacer::{NoExpand, Replacer};
-use fancy_regex_meta::{Result, MatchDetail};
+use fancy_regex_meta::{MatchDetail, Result};
 use std::alloc::Global;
 use std::borrow::CowStr;
 
@@ -46,7 +46,7 @@ fn one_less(limit: Option<usize>) -> Option<usize>
 
 /// The text with its first matches replaced by what the replacer answers for each, or with all of them for limit 0. Errors:
 /// those of the searches, the last of which is the one after the last match that is replaced, that of the replacer, or `Memory`.
-/// The replacer is shown the groups where they are wanted; otherwise its answers must not depend on what it is shown.
+/// The replacer is called with the groups where they are wanted; otherwise its answers must not depend on them.
 // Not inlined: where it was, LLVM had not compiled `try_replacen` for `NoExpand` after half an hour. Why was not looked into.
 #[inline(never)]
 fn replace_by_calls<'t, R: Replacer>(
@@ -62,8 +62,10 @@ fn replace_by_calls<'t, R: Replacer>(
     ensures replaced { IfOk result (λ v. IsReplacedByCalls R.answers regex.now.meta text.entry.now 0 (counted limit
         (all_matches regex.now.meta text.entry.now (whole text.entry.now)))
         replacer.old (cow_str_bytes v) replacer.new) }
-    ensures borrowed { IfOk result (λ v. counted limit (all_matches regex.now.meta text.entry.now (whole text.entry.now)) ≡ [] → v ≡ CowStr.Borrowed text.entry) }
-    ensures stays { IfOk result (λ _. ReplacementStays regex.now.meta text.entry.now (counted limit (all_matches regex.now.meta text.entry.now (whole text.entry.now)))) }
+    ensures borrowed { IfOk result (λ v. counted limit (all_matches regex.now.meta text.entry.now (whole text.entry.now)) ≡ [] → v
+        ≡ CowStr.Borrowed text.entry) }
+    ensures stays { IfOk result (λ _. ReplacementStays regex.now.meta text.entry.now
+        (counted limit (all_matches regex.now.meta text.entry.now (whole text.entry.now)))) }
     ensures fails { IfErr result (λ e. IsReplaceErrorLeaving R.answers regex.now.meta text.entry.now (counted limit
         (all_matches regex.now.meta text.entry.now (whole text.entry.now))) replacer.old e replacer.new None) }
     ensures ready { R.is_ready replacer.new }
@@ -103,8 +105,10 @@ impl Regex {
         requires { R.is_ready rep }
         ensures replaced { IfOk result (λ v. IsReplacedBy R.answers self.now.meta text.entry.now (counted 1
             (all_matches self.now.meta text.entry.now (whole text.entry.now))) rep (cow_str_bytes v) (R.fixed_text rep)) }
-        ensures borrowed { IfOk result (λ v. counted 1 (all_matches self.now.meta text.entry.now (whole text.entry.now)) ≡ [] → v ≡ CowStr.Borrowed text.entry) }
-        ensures stays { IfOk result (λ _. ReplacementStays self.now.meta text.entry.now (counted 1 (all_matches self.now.meta text.entry.now (whole text.entry.now)))) }
+        ensures borrowed { IfOk result (λ v. counted 1 (all_matches self.now.meta text.entry.now (whole text.entry.now)) ≡ [] → v
+            ≡ CowStr.Borrowed text.entry) }
+        ensures stays { IfOk result (λ _. ReplacementStays self.now.meta text.entry.now
+            (counted 1 (all_matches self.now.meta text.entry.now (whole text.entry.now)))) }
         ensures fails { IfErr result (λ e. IsReplaceError R.answers self.now.meta text.entry.now (counted 1
             (all_matches self.now.meta text.entry.now (whole text.entry.now))) rep (R.fixed_text rep) e) }
     {
@@ -121,8 +125,10 @@ impl Regex {
         requires { R.is_ready rep }
         ensures replaced { IfOk result (λ v. IsReplacedBy R.answers self.now.meta text.entry.now
             (all_matches self.now.meta text.entry.now (whole text.entry.now)) rep (cow_str_bytes v) (R.fixed_text rep)) }
-        ensures borrowed { IfOk result (λ v. all_matches self.now.meta text.entry.now (whole text.entry.now) ≡ [] → v ≡ CowStr.Borrowed text.entry) }
-        ensures stays { IfOk result (λ _. ReplacementStays self.now.meta text.entry.now (all_matches self.now.meta text.entry.now (whole text.entry.now))) }
+        ensures borrowed { IfOk result (λ v. all_matches self.now.meta text.entry.now (whole text.entry.now) ≡ [] → v
+            ≡ CowStr.Borrowed text.entry) }
+        ensures stays { IfOk result (λ _. ReplacementStays self.now.meta text.entry.now
+            (all_matches self.now.meta text.entry.now (whole text.entry.now))) }
         ensures fails { IfErr result (λ e. IsReplaceError R.answers self.now.meta text.entry.now
             (all_matches self.now.meta text.entry.now (whole text.entry.now)) rep (R.fixed_text rep) e) }
     {
@@ -141,8 +147,10 @@ impl Regex {
         requires { R.is_ready rep }
         ensures replaced { IfOk result (λ v. IsReplacedBy R.answers self.now.meta text.entry.now (counted limit
             (all_matches self.now.meta text.entry.now (whole text.entry.now))) rep (cow_str_bytes v) (R.fixed_text rep)) }
-        ensures borrowed { IfOk result (λ v. counted limit (all_matches self.now.meta text.entry.now (whole text.entry.now)) ≡ [] → v ≡ CowStr.Borrowed text.entry) }
-        ensures stays { IfOk result (λ _. ReplacementStays self.now.meta text.entry.now (counted limit (all_matches self.now.meta text.entry.now (whole text.entry.now)))) }
+        ensures borrowed { IfOk result (λ v. counted limit (all_matches self.now.meta text.entry.now (whole text.entry.now)) ≡ []
+            → v ≡ CowStr.Borrowed text.entry) }
+        ensures stays { IfOk result (λ _. ReplacementStays self.now.meta text.entry.now
+            (counted limit (all_matches self.now.meta text.entry.now (whole text.entry.now)))) }
         ensures fails { IfErr result (λ e. IsReplaceError R.answers self.now.meta text.entry.now (counted limit
             (all_matches self.now.meta text.entry.now (whole text.entry.now))) rep (R.fixed_text rep) e) }
     {
@@ -163,8 +171,10 @@ impl Regex {
         requires { R.is_ready rep }
         ensures replaced { IfOk result (λ v. IsReplacedBy R.answers self.now.meta text.entry.now (counted limit
             (all_matches self.now.meta text.entry.now (whole text.entry.now))) rep (cow_str_bytes v) (R.fixed_text rep)) }
-        ensures borrowed { IfOk result (λ v. counted limit (all_matches self.now.meta text.entry.now (whole text.entry.now)) ≡ [] → v ≡ CowStr.Borrowed text.entry) }
-        ensures stays { IfOk result (λ _. ReplacementStays self.now.meta text.entry.now (counted limit (all_matches self.now.meta text.entry.now (whole text.entry.now)))) }
+        ensures borrowed { IfOk result (λ v. counted limit (all_matches self.now.meta text.entry.now (whole text.entry.now)) ≡ []
+            → v ≡ CowStr.Borrowed text.entry) }
+        ensures stays { IfOk result (λ _. ReplacementStays self.now.meta text.entry.now
+            (counted limit (all_matches self.now.meta text.entry.now (whole text.entry.now)))) }
         ensures fails { IfErr result (λ e. IsReplaceError R.answers self.now.meta text.entry.now (counted limit
             (all_matches self.now.meta text.entry.now (whole text.entry.now))) rep (R.fixed_text rep) e) }
     {
@@ -183,8 +193,10 @@ impl Regex {
         requires { R.is_ready rep.old }
         ensures replaced { IfOk result (λ v. IsReplacedLeaving R.answers self.now.meta text.entry.now (counted limit
             (all_matches self.now.meta text.entry.now (whole text.entry.now))) rep.old (cow_str_bytes v) rep.new (R.fixed_text rep.old)) }
-        ensures borrowed { IfOk result (λ v. counted limit (all_matches self.now.meta text.entry.now (whole text.entry.now)) ≡ [] → v ≡ CowStr.Borrowed text.entry) }
-        ensures stays { IfOk result (λ _. ReplacementStays self.now.meta text.entry.now (counted limit (all_matches self.now.meta text.entry.now (whole text.entry.now)))) }
+        ensures borrowed { IfOk result (λ v. counted limit (all_matches self.now.meta text.entry.now (whole text.entry.now)) ≡ []
+            → v ≡ CowStr.Borrowed text.entry) }
+        ensures stays { IfOk result (λ _. ReplacementStays self.now.meta text.entry.now
+            (counted limit (all_matches self.now.meta text.entry.now (whole text.entry.now)))) }
         ensures fails { IfErr result (λ e. IsReplaceErrorLeaving R.answers self.now.meta text.entry.now (counted limit
             (all_matches self.now.meta text.entry.now (whole text.entry.now))) rep.old e rep.new (R.fixed_text rep.old)) }
         ensures ready { R.is_ready rep.new }

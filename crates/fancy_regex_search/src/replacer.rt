@@ -6,7 +6,7 @@ ghost use Rattle.std.specs.declared.result.Result.{Result};
 ghost use Rattle.std.specs.Cow.{cow_str_bytes};
 ghost use Rattle.fancy_regex_meta.specs.declared.error.Error.{Error};
 ghost use Rattle.fancy_regex_meta.specs.declared.error.Error.TheVariants.{Memory};
-ghost use Rattle.fancy_regex_search.specs.Replacements.{Shown, IsAnswerOfFunction, AnswersText};
+ghost use Rattle.fancy_regex_search.specs.Replacements.{CapturesView, IsAnswerOfFunction, AnswersText};
 
 use crate::captures::Captures;
 use fancy_regex_meta::Result;
@@ -19,8 +19,8 @@ pub trait Replacer: Drop {
     /// The replacer may be called in this state.
     ghost is_ready: { Self → Type 0 } = { λ _. Unit {0} };
 
-    /// A call in this state, shown this match, may answer this text or error and leave this state.
-    ghost answers: { Self → Shown → Result (List ℕ) Error → Self → Type 0 };
+    /// A call in this state, with these capture groups, may answer this text or error and leave this state.
+    ghost answers: { Self → CapturesView → Result (List ℕ) Error → Self → Type 0 };
 
     /// The text that each call would append, if the replacer says so.
     ghost fixed_text: { Self → Option (List ℕ) } = { λ _. None };
@@ -33,9 +33,13 @@ pub trait Replacer: Drop {
         dst: &mut String,
     ) -> Result<()>
         requires { is_ready self.old }
-        ensures appends { OnOk result ((w : List ℕ) × answers self.old (record { regex = captures.now.regex.now.meta; text = captures.now.haystack.now; slots = captures.now.slots.items }) (Ok w) self.new
+        ensures appends { OnOk result ((w : List ℕ) × answers self.old
+            (record { regex = captures.now.regex.now.meta; text = captures.now.haystack.now; slots = captures.now.slots.items })
+            (Ok w) self.new
             × (string_bytes dst.new ≡ string_bytes dst.old ++ w)) }
-        ensures fails { IfErr result (λ e. answers self.old (record { regex = captures.now.regex.now.meta; text = captures.now.haystack.now; slots = captures.now.slots.items }) (Err e) self.new
+        ensures fails { IfErr result (λ e. answers self.old (record
+            { regex = captures.now.regex.now.meta; text = captures.now.haystack.now; slots = captures.now.slots.items })
+            (Err e) self.new
             × (string_bytes dst.new ≡ string_bytes dst.old)) }
         ensures ready { is_ready self.new };
 
@@ -57,7 +61,8 @@ pub trait Replacer: Drop {
     }
 
     /// Where there is such a text, each call would append it.
-    ghost fixed_text_is_answered: { (s : Self) (t : List ℕ) (m : Shown) (w : List ℕ) (next : Self) → fixed_text s ≡ Some t → answers s m (Ok w) next → w ≡ t };
+    ghost fixed_text_is_answered: { (s : Self) (t : List ℕ) (m : CapturesView) (w : List ℕ) (next : Self) → fixed_text s ≡ Some t
+        → answers s m (Ok w) next → w ≡ t };
 }
 
 /// A replacer that is lent by `Replacer::by_ref`: it answers what the lent one does.
@@ -136,7 +141,8 @@ impl<F: FnMut(&Captures<'_, &str>) -> Result<String>> FnReplacer<F> {
 impl<F: FnMut(&Captures<'_, &str>) -> Result<String> + Drop> Replacer for FnReplacer<F> {
     ghost is_ready = { λ s. F.IsAlwaysCallable s.function };
 
-    ghost answers = { λ s m r t. (c : _) × (q : _) × (c.now.regex.now.meta ≡ m.regex) × (c.now.haystack.now ≡ m.text) × (c.now.slots.items ≡ m.slots)
+    ghost answers = { λ s m r t. (c : _) × (q : _) × (c.now.regex.now.meta ≡ m.regex) × (c.now.haystack.now ≡ m.text)
+        × (c.now.slots.items ≡ m.slots)
         × F.step s.function c q t.function × IsAnswerOfFunction q r };
 
     ghost fixed_text_is_answered = { Prim.search rules };

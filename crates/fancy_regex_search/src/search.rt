@@ -16,7 +16,7 @@ use crate::matches::Matches;
 use crate::regex::Regex;
 use fancy_regex_class::Steps;
 use fancy_regex_input::{Input, RegexInput};
-use fancy_regex_meta::{Result, MatchDetail};
+use fancy_regex_meta::{MatchDetail, MetaMemory, Result};
 use fancy_regex_tree_laws::weight_bound;
 use std::alloc::Global;
 
@@ -39,11 +39,11 @@ impl Regex {
         let found = find_match(
             alloc,
             self,
-            input.haystack(),
-            input.config(),
+            &input,
             false,
             MatchDetail::Span,
             &mut Steps::new(),
+            &mut MetaMemory::new(alloc),
         )?;
         Ok(found.is_some())
     }
@@ -51,12 +51,13 @@ impl Regex {
     /// The first match in the haystack; `None` if there is none. `RuntimeError` if the search exceeds a limit; `Memory` if
     /// memory runs out.
     pub fn find<S: Input>(&self, alloc: Global, haystack: S) -> Result<Option<S::Match>>
-        ensures answer { IfOk result (λ found. option_map S.span found ≡ option_map span_in (meta_match self.now.meta (S.text haystack) (whole (S.text haystack)))) }
+        ensures answer { IfOk result (λ found. option_map S.span found ≡ option_map span_in
+            (meta_match self.now.meta (S.text haystack) (whole (S.text haystack)))) }
         ensures text { IfOk result (λ found. IfSome found (λ m. S.match_text m ≡ S.text haystack)) }
         ensures limits { IfErr result (λ e. IsMetaSearchError self.now.meta (S.text haystack) (whole (S.text haystack)) false e) }
         ensures stays { IfOk result (λ _. MetaStaysInLimits self.now.meta (S.text haystack) (whole (S.text haystack)) false) }
     {
-        self.find_input(alloc, RegexInput::new(haystack))
+        self.find_input_counted(alloc, RegexInput::new(haystack), &mut Steps::new())
     }
 
     /// The first match that starts at the byte offset `position` or later, with the errors of `find`; `\G` matches at
@@ -71,10 +72,13 @@ impl Regex {
         ensures answer { IfOk result (λ found. option_map S.span found
             ≡ option_map span_in (meta_match self.now.meta (S.text haystack) (record (whole (S.text haystack)) { start = position }))) }
         ensures text { IfOk result (λ found. IfSome found (λ m. S.match_text m ≡ S.text haystack)) }
-        ensures limits { IfErr result (λ e. IsMetaSearchError self.now.meta (S.text haystack) (record (whole (S.text haystack)) { start = position }) false e) }
-        ensures stays { IfOk result (λ _. MetaStaysInLimits self.now.meta (S.text haystack) (record (whole (S.text haystack)) { start = position }) false) }
+        ensures limits { IfErr result (λ e. IsMetaSearchError self.now.meta (S.text haystack)
+            (record (whole (S.text haystack)) { start = position }) false e) }
+        ensures stays { IfOk result (λ _. MetaStaysInLimits self.now.meta (S.text haystack)
+            (record (whole (S.text haystack)) { start = position }) false) }
     {
-        self.find_input(alloc, RegexInput::new(haystack).from_pos(position))
+        let input = RegexInput::new(haystack).from_pos(position);
+        self.find_input_counted(alloc, input, &mut Steps::new())
     }
 
     /// The first match of an input; `None` if there is none. `RuntimeError` if the search exceeds a limit; `Memory` if memory
@@ -84,7 +88,8 @@ impl Regex {
         alloc: Global,
         input: RegexInput<S>,
     ) -> Result<Option<S::Match>>
-        ensures answer { IfOk result (λ found. option_map S.span found ≡ option_map span_in (meta_match self.now.meta (S.text input.haystack) (input.config))) }
+        ensures answer { IfOk result (λ found. option_map S.span found ≡ option_map span_in
+            (meta_match self.now.meta (S.text input.haystack) (input.config))) }
         ensures text { IfOk result (λ found. IfSome found (λ m. S.match_text m ≡ S.text input.haystack)) }
         ensures limits { IfErr result (λ e. IsMetaSearchError self.now.meta (S.text input.haystack) input.config false e) }
         ensures stays { IfOk result (λ _. MetaStaysInLimits self.now.meta (S.text input.haystack) input.config false) }
@@ -100,22 +105,23 @@ impl Regex {
         input: RegexInput<S>,
         steps: &mut Steps,
     ) -> Result<Option<S::Match>>
-        ensures answer { IfOk result (λ found. option_map S.span found ≡ option_map span_in (meta_match self.now.meta (S.text input.haystack) (input.config))) }
+        ensures answer { IfOk result (λ found. option_map S.span found ≡ option_map span_in
+            (meta_match self.now.meta (S.text input.haystack) (input.config))) }
         ensures text { IfOk result (λ found. IfSome found (λ m. S.match_text m ≡ S.text input.haystack)) }
         ensures limits { IfErr result (λ e. IsMetaSearchError self.now.meta (S.text input.haystack) input.config false e) }
         ensures stays { IfOk result (λ _. MetaStaysInLimits self.now.meta (S.text input.haystack) input.config false) }
         ensures looks_most { meta_uses_easy self.now.meta ≡ true → steps.new ≤ steps.old + max_looks self.now.meta input.config }
         ensures looks_least { IfOk result (λ _. meta_uses_easy self.now.meta ≡ true
             → min (steps.old + meta_starts_tried self.now.meta (S.text input.haystack) input.config false) (2 ^ 64 - 1) ≤ steps.new) }
-        ensures looks_plain { MetaHasNoCountedRepeats self.now.meta → meta_uses_easy self.now.meta ≡ true → steps.new ≤ steps.old + plain_looks self.now.meta input.config }
+        ensures looks_plain { MetaHasNoCountedRepeats self.now.meta → meta_uses_easy self.now.meta ≡ true → steps.new ≤ steps.old
+            + plain_looks self.now.meta input.config }
         ensures looks_none { meta_uses_easy self.now.meta ≡ false → steps.new ≡ steps.old }
         ensures counts { steps.old ≤ steps.new }
     {
         weight_bound();
-        let haystack = input.haystack();
-        let config = input.config();
-        match find_match(alloc, self, haystack, config, false, MatchDetail::Span, steps)? {
-            Some(found) => Ok(Some(whole_match(haystack, &found))),
+        let memory = &mut MetaMemory::new(alloc);
+        match find_match(alloc, self, &input, false, MatchDetail::Span, steps, memory)? {
+            Some(found) => Ok(Some(whole_match(input.haystack(), &found))),
             None => Ok(None),
         }
     }
@@ -123,7 +129,8 @@ impl Regex {
     /// The capture groups of the first match in the haystack; `None` if there is none. `RuntimeError` if the search exceeds a
     /// limit; `Memory` if memory runs out.
     pub fn captures<S: Input>(&self, alloc: Global, haystack: S) -> Result<Option<Captures<'_, S>>>
-        ensures answer { IfOk result (λ found. IsResultFor (λ c. AreGroupsOf (meta_pattern self.now.meta) c.slots.items) found (meta_match self.now.meta
+        ensures answer { IfOk result (λ found. IsResultFor (λ c. AreGroupsOf (meta_pattern self.now.meta) c.slots.items) found
+            (meta_match self.now.meta
             (S.text haystack) (whole (S.text haystack)))) }
         ensures of { IfOk result (λ found. IfSome found (λ c. (c.haystack ≡ haystack) × (c.regex.now ≡ self.now))) }
         ensures limits { IfErr result (λ e. IsMetaSearchError self.now.meta (S.text haystack) (whole (S.text haystack)) false e) }
@@ -145,8 +152,10 @@ impl Regex {
         ensures answer { IfOk result (λ found. IsResultFor (λ c. AreGroupsOf (meta_pattern self.now.meta) c.slots.items) found
             (meta_match self.now.meta (S.text haystack) (record (whole (S.text haystack)) { start = position }))) }
         ensures of { IfOk result (λ found. IfSome found (λ c. (c.haystack ≡ haystack) × (c.regex.now ≡ self.now))) }
-        ensures limits { IfErr result (λ e. IsMetaSearchError self.now.meta (S.text haystack) (record (whole (S.text haystack)) { start = position }) false e) }
-        ensures stays { IfOk result (λ _. MetaStaysInLimits self.now.meta (S.text haystack) (record (whole (S.text haystack)) { start = position }) false) }
+        ensures limits { IfErr result (λ e. IsMetaSearchError self.now.meta (S.text haystack)
+            (record (whole (S.text haystack)) { start = position }) false e) }
+        ensures stays { IfOk result (λ _. MetaStaysInLimits self.now.meta (S.text haystack)
+            (record (whole (S.text haystack)) { start = position }) false) }
     {
         self.captures_input(alloc, RegexInput::new(haystack).from_pos(position))
     }
@@ -158,31 +167,32 @@ impl Regex {
         alloc: Global,
         input: RegexInput<S>,
     ) -> Result<Option<Captures<'_, S>>>
-        ensures answer { IfOk result (λ found. IsResultFor (λ c. AreGroupsOf (meta_pattern self.now.meta) c.slots.items) found (meta_match self.now.meta
+        ensures answer { IfOk result (λ found. IsResultFor (λ c. AreGroupsOf (meta_pattern self.now.meta) c.slots.items) found
+            (meta_match self.now.meta
             (S.text input.haystack) (input.config))) }
         ensures of { IfOk result (λ found. IfSome found (λ c. (c.haystack ≡ input.haystack) × (c.regex.now ≡ self.now))) }
         ensures limits { IfErr result (λ e. IsMetaSearchError self.now.meta (S.text input.haystack) input.config false e) }
         ensures stays { IfOk result (λ _. MetaStaysInLimits self.now.meta (S.text input.haystack) input.config false) }
     {
-        let haystack = input.haystack();
         let found = find_match(
             alloc,
             self,
-            haystack,
-            input.config(),
+            &input,
             false,
             MatchDetail::Groups,
             &mut Steps::new(),
+            &mut MetaMemory::new(alloc),
         )?;
         match found {
-            Some(matched) => Ok(Some(Captures::new(self, haystack, matched.groups))),
+            Some(matched) => Ok(Some(Captures::new(self, input.haystack(), matched.groups))),
             None => Ok(None),
         }
     }
 
     /// The non-overlapping matches in the haystack, from left to right. An item may be an error, and is the last one then.
     pub fn find_iter<S: Input>(&self, alloc: Global, haystack: S) -> Matches<'_, S>
-        ensures left { remaining_matches result.match_iter.regex.now.meta (S.text result.match_iter.input.haystack) result.match_iter.input.config result.match_iter.state
+        ensures left { remaining_matches result.match_iter.regex.now.meta
+            (S.text result.match_iter.input.haystack) result.match_iter.input.config result.match_iter.state
             ≡ all_matches self.now.meta (S.text haystack) (whole (S.text haystack)) }
         ensures input { (result.match_iter.input.haystack ≡ haystack) × (result.match_iter.input.config ≡ whole (S.text haystack)) }
         ensures regex { result.match_iter.regex.now ≡ self.now }
@@ -195,7 +205,8 @@ impl Regex {
 
     /// The non-overlapping matches of an input, from left to right. An item may be an error, and is the last one then.
     pub fn find_iter_input<S: Input>(&self, alloc: Global, input: RegexInput<S>) -> Matches<'_, S>
-        ensures left { remaining_matches result.match_iter.regex.now.meta (S.text result.match_iter.input.haystack) result.match_iter.input.config result.match_iter.state
+        ensures left { remaining_matches result.match_iter.regex.now.meta
+            (S.text result.match_iter.input.haystack) result.match_iter.input.config result.match_iter.state
             ≡ all_matches self.now.meta (S.text input.haystack) (input.config) }
         ensures input { (result.match_iter.input.haystack ≡ input.haystack) × (result.match_iter.input.config ≡ input.config) }
         ensures regex { result.match_iter.regex.now ≡ self.now }
@@ -209,7 +220,8 @@ impl Regex {
     /// The capture groups of the non-overlapping matches in the haystack, from left to right. An item may be an error, and is
     /// the last one then.
     pub fn captures_iter<S: Input>(&self, alloc: Global, haystack: S) -> CaptureMatches<'_, S>
-        ensures left { remaining_matches result.match_iter.regex.now.meta (S.text result.match_iter.input.haystack) result.match_iter.input.config result.match_iter.state
+        ensures left { remaining_matches result.match_iter.regex.now.meta
+            (S.text result.match_iter.input.haystack) result.match_iter.input.config result.match_iter.state
             ≡ all_matches self.now.meta (S.text haystack) (whole (S.text haystack)) }
         ensures input { (result.match_iter.input.haystack ≡ haystack) × (result.match_iter.input.config ≡ whole (S.text haystack)) }
         ensures regex { result.match_iter.regex.now ≡ self.now }
@@ -227,7 +239,8 @@ impl Regex {
         alloc: Global,
         input: RegexInput<S>,
     ) -> CaptureMatches<'_, S>
-        ensures left { remaining_matches result.match_iter.regex.now.meta (S.text result.match_iter.input.haystack) result.match_iter.input.config result.match_iter.state
+        ensures left { remaining_matches result.match_iter.regex.now.meta
+            (S.text result.match_iter.input.haystack) result.match_iter.input.config result.match_iter.state
             ≡ all_matches self.now.meta (S.text input.haystack) (input.config) }
         ensures input { (result.match_iter.input.haystack ≡ input.haystack) × (result.match_iter.input.config ≡ input.config) }
         ensures regex { result.match_iter.regex.now ≡ self.now }

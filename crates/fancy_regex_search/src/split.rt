@@ -12,7 +12,7 @@ ghost use Rattle.fancy_regex_search.specs.Pieces.{pieces_left, pieces_left_up_to
 
 use crate::gap_iter::GapIter;
 use crate::regex::Regex;
-use fancy_regex_meta::{Result, MatchDetail};
+use fancy_regex_meta::{MatchDetail, Result};
 use std::alloc::Global;
 use std::iter::FusedIterator;
 
@@ -30,12 +30,15 @@ impl<'r, 'h> Split<'r, 'h> {
     /// The iterator before its first search.
     fn new(alloc: Global, regex: &'r Regex, text: &'h str) -> Split<'r, 'h>
         ensures left { pieces_left result.is_done result.gaps.match_iter.input.haystack.now result.gaps.last_end
-            (remaining_matches result.gaps.match_iter.regex.now.meta result.gaps.match_iter.input.haystack.now result.gaps.match_iter.input.config result.gaps.match_iter.state)
+            (remaining_matches result.gaps.match_iter.regex.now.meta result.gaps.match_iter.input.haystack.now
+            result.gaps.match_iter.input.config result.gaps.match_iter.state)
             ≡ pieces text.entry.now (all_matches regex.entry.now.meta text.entry.now (whole text.entry.now)) }
-        ensures matches { remaining_matches result.gaps.match_iter.regex.now.meta result.gaps.match_iter.input.haystack.now result.gaps.match_iter.input.config
+        ensures matches { remaining_matches result.gaps.match_iter.regex.now.meta result.gaps.match_iter.input.haystack.now
+            result.gaps.match_iter.input.config
             result.gaps.match_iter.state
             ≡ all_matches regex.entry.now.meta text.entry.now (whole text.entry.now) }
-        ensures input { (result.gaps.match_iter.input.haystack ≡ text.entry) × (result.gaps.match_iter.input.config ≡ whole text.entry.now) }
+        ensures input { (result.gaps.match_iter.input.haystack ≡ text.entry)
+            × (result.gaps.match_iter.input.config ≡ whole text.entry.now) }
         ensures regex { result.gaps.match_iter.regex ≡ regex.entry }
         ensures begins { (result.gaps.match_iter.state.continue_disabled ≡ false) × (result.gaps.last_end ≡ 0) × (result.is_done ≡ false) }
         ensures going { result.gaps.match_iter.state.is_done ≡ false }
@@ -49,22 +52,30 @@ impl<'r, 'h> Split<'r, 'h> {
     /// The next piece, an error, or the rest of the text after the last match and after an error. `None` after the rest.
     fn next_piece(&mut self) -> Option<Result<&'h str>>
         ensures moves { MovesPiece self.old.gaps.match_iter.input.haystack.now self.old.is_done self.old.gaps.last_end
-            (remaining_matches self.old.gaps.match_iter.regex.now.meta self.old.gaps.match_iter.input.haystack.now self.old.gaps.match_iter.input.config self.old.gaps.match_iter.state) result
+            (remaining_matches self.old.gaps.match_iter.regex.now.meta self.old.gaps.match_iter.input.haystack.now
+            self.old.gaps.match_iter.input.config self.old.gaps.match_iter.state) result
             self.new.is_done self.new.gaps.last_end
-            (remaining_matches self.new.gaps.match_iter.regex.now.meta self.new.gaps.match_iter.input.haystack.now self.new.gaps.match_iter.input.config self.new.gaps.match_iter.state) }
-        ensures nears { self.new.is_done ≡ false → remaining_searches self.new.gaps.match_iter.input.haystack.now self.new.gaps.match_iter.input.config
+            (remaining_matches self.new.gaps.match_iter.regex.now.meta self.new.gaps.match_iter.input.haystack.now
+            self.new.gaps.match_iter.input.config self.new.gaps.match_iter.state) }
+        ensures nears { self.new.is_done ≡ false → remaining_searches self.new.gaps.match_iter.input.haystack.now
+            self.new.gaps.match_iter.input.config
             self.new.gaps.match_iter.state
-            < remaining_searches self.old.gaps.match_iter.input.haystack.now self.old.gaps.match_iter.input.config self.old.gaps.match_iter.state }
+            < remaining_searches self.old.gaps.match_iter.input.haystack.now self.old.gaps.match_iter.input.config
+            self.old.gaps.match_iter.state }
         ensures haystack { self.new.gaps.match_iter.input.haystack ≡ self.old.gaps.match_iter.input.haystack }
         ensures regex { self.new.gaps.match_iter.regex ≡ self.old.gaps.match_iter.regex }
-        ensures config { self.new.gaps.match_iter.input.config ≡ record (self.old.gaps.match_iter.input.config) { start = self.new.gaps.match_iter.input.config.start } }
-        ensures fails { IfSome result (λ item. IfErr item (λ e. IsItemError self.old.gaps.match_iter.regex.now.meta self.old.gaps.match_iter.input.haystack.now
+        ensures config { self.new.gaps.match_iter.input.config ≡ record
+            (self.old.gaps.match_iter.input.config) { start = self.new.gaps.match_iter.input.config.start } }
+        ensures fails { IfSome result (λ item. IfErr item (λ e. IsItemError self.old.gaps.match_iter.regex.now.meta
+            self.old.gaps.match_iter.input.haystack.now
             self.old.gaps.match_iter.input.config self.old.gaps.match_iter.state e)) }
-        ensures stays { PieceStays self.old.gaps.match_iter.regex.now.meta self.old.gaps.match_iter.input.haystack.now self.old.gaps.match_iter.input.config
+        ensures stays { PieceStays self.old.gaps.match_iter.regex.now.meta self.old.gaps.match_iter.input.haystack.now
+            self.old.gaps.match_iter.input.config
             self.old.gaps.match_iter.state result }
         ensures passes { self.new.is_done ≡ false → IfSome result (λ item. IfOk item
             (λ _. KeepsSearches self.old.gaps.match_iter.regex.now.meta self.old.gaps.match_iter.input.haystack.now
-            self.old.gaps.match_iter.input.config self.old.gaps.match_iter.state.continue_disabled self.new.gaps.match_iter.input.config self.new.gaps.match_iter.state.continue_disabled)) }
+            self.old.gaps.match_iter.input.config self.old.gaps.match_iter.state.continue_disabled
+            self.new.gaps.match_iter.input.config self.new.gaps.match_iter.state.continue_disabled)) }
         ensures ends { PieceEnds result self.old.gaps.match_iter.state self.new.is_done self.new.gaps.match_iter.state }
     {
         if self.is_done {
@@ -97,17 +108,22 @@ impl<'r, 'h> Iterator for Split<'r, 'h> {
 
     ghost next_gives = { λ s r t. (YieldsPiece (drop s.gaps.last_end s.gaps.match_iter.input.haystack.now)
         (pieces_left s.is_done s.gaps.match_iter.input.haystack.now s.gaps.last_end
-        (remaining_matches s.gaps.match_iter.regex.now.meta s.gaps.match_iter.input.haystack.now s.gaps.match_iter.input.config s.gaps.match_iter.state)) r
+        (remaining_matches s.gaps.match_iter.regex.now.meta s.gaps.match_iter.input.haystack.now s.gaps.match_iter.input.config
+        s.gaps.match_iter.state)) r
         (pieces_left t.is_done t.gaps.match_iter.input.haystack.now t.gaps.last_end
-        (remaining_matches t.gaps.match_iter.regex.now.meta t.gaps.match_iter.input.haystack.now t.gaps.match_iter.input.config t.gaps.match_iter.state)))
+        (remaining_matches t.gaps.match_iter.regex.now.meta t.gaps.match_iter.input.haystack.now t.gaps.match_iter.input.config
+        t.gaps.match_iter.state)))
         × (t.gaps.match_iter.input.haystack ≡ s.gaps.match_iter.input.haystack) × (t.gaps.match_iter.regex ≡ s.gaps.match_iter.regex)
         × (t.gaps.match_iter.input.config ≡ record (s.gaps.match_iter.input.config) { start = t.gaps.match_iter.input.config.start })
-        × IfSome r (λ item. IfErr item (λ e. IsItemError s.gaps.match_iter.regex.now.meta s.gaps.match_iter.input.haystack.now s.gaps.match_iter.input.config
+        × IfSome r (λ item. IfErr item (λ e. IsItemError s.gaps.match_iter.regex.now.meta s.gaps.match_iter.input.haystack.now
+        s.gaps.match_iter.input.config
         s.gaps.match_iter.state e))
-        × (t.is_done ≡ false → IfSome r (λ item. IfOk item (λ _. KeepsSearches s.gaps.match_iter.regex.now.meta s.gaps.match_iter.input.haystack.now s.gaps.match_iter.input.config
+        × (t.is_done ≡ false → IfSome r (λ item. IfOk item (λ _. KeepsSearches s.gaps.match_iter.regex.now.meta
+        s.gaps.match_iter.input.haystack.now s.gaps.match_iter.input.config
         s.gaps.match_iter.state.continue_disabled t.gaps.match_iter.input.config t.gaps.match_iter.state.continue_disabled)))
         × PieceEnds r s.gaps.match_iter.state t.is_done t.gaps.match_iter.state
-        × PieceStays s.gaps.match_iter.regex.now.meta s.gaps.match_iter.input.haystack.now s.gaps.match_iter.input.config s.gaps.match_iter.state r };
+        × PieceStays s.gaps.match_iter.regex.now.meta s.gaps.match_iter.input.haystack.now s.gaps.match_iter.input.config
+        s.gaps.match_iter.state r };
 
     ghost remaining = { λ s. at_most (if s.is_done then 0 else
         1 + remaining_searches s.gaps.match_iter.input.haystack.now s.gaps.match_iter.input.config s.gaps.match_iter.state) };
@@ -134,18 +150,26 @@ impl<'r, 'h> Iterator for SplitN<'r, 'h> {
 
     ghost next_gives = { λ s r t. (YieldsPiece (drop s.split.gaps.last_end s.split.gaps.match_iter.input.haystack.now)
         (pieces_left_up_to s.limit s.split.is_done s.split.gaps.match_iter.input.haystack.now s.split.gaps.last_end
-        (remaining_matches s.split.gaps.match_iter.regex.now.meta s.split.gaps.match_iter.input.haystack.now s.split.gaps.match_iter.input.config s.split.gaps.match_iter.state)) r
+        (remaining_matches s.split.gaps.match_iter.regex.now.meta s.split.gaps.match_iter.input.haystack.now
+        s.split.gaps.match_iter.input.config s.split.gaps.match_iter.state)) r
         (pieces_left_up_to t.limit t.split.is_done t.split.gaps.match_iter.input.haystack.now t.split.gaps.last_end
-        (remaining_matches t.split.gaps.match_iter.regex.now.meta t.split.gaps.match_iter.input.haystack.now t.split.gaps.match_iter.input.config t.split.gaps.match_iter.state)))
-        × (t.split.gaps.match_iter.input.haystack ≡ s.split.gaps.match_iter.input.haystack) × (t.split.gaps.match_iter.regex ≡ s.split.gaps.match_iter.regex)
-        × (t.split.gaps.match_iter.input.config ≡ record (s.split.gaps.match_iter.input.config) { start = t.split.gaps.match_iter.input.config.start })
-        × IfSome r (λ item. IfErr item (λ e. IsItemError s.split.gaps.match_iter.regex.now.meta s.split.gaps.match_iter.input.haystack.now s.split.gaps.match_iter.input.config
+        (remaining_matches t.split.gaps.match_iter.regex.now.meta t.split.gaps.match_iter.input.haystack.now
+        t.split.gaps.match_iter.input.config t.split.gaps.match_iter.state)))
+        × (t.split.gaps.match_iter.input.haystack ≡ s.split.gaps.match_iter.input.haystack)
+        × (t.split.gaps.match_iter.regex ≡ s.split.gaps.match_iter.regex)
+        × (t.split.gaps.match_iter.input.config ≡ record (s.split.gaps.match_iter.input.config)
+        { start = t.split.gaps.match_iter.input.config.start })
+        × IfSome r (λ item. IfErr item (λ e. IsItemError s.split.gaps.match_iter.regex.now.meta
+        s.split.gaps.match_iter.input.haystack.now s.split.gaps.match_iter.input.config
         s.split.gaps.match_iter.state e))
-        × (t.split.is_done ≡ false → IfSome r (λ item. IfOk item (λ _. KeepsSearches s.split.gaps.match_iter.regex.now.meta s.split.gaps.match_iter.input.haystack.now
-        s.split.gaps.match_iter.input.config s.split.gaps.match_iter.state.continue_disabled t.split.gaps.match_iter.input.config t.split.gaps.match_iter.state.continue_disabled)))
+        × (t.split.is_done ≡ false → IfSome r (λ item. IfOk item
+        (λ _. KeepsSearches s.split.gaps.match_iter.regex.now.meta s.split.gaps.match_iter.input.haystack.now
+        s.split.gaps.match_iter.input.config s.split.gaps.match_iter.state.continue_disabled t.split.gaps.match_iter.input.config
+        t.split.gaps.match_iter.state.continue_disabled)))
         × (r ≢ None → t.limit + 1 ≡ s.limit)
         × PieceEnds r s.split.gaps.match_iter.state t.split.is_done t.split.gaps.match_iter.state
-        × (1 < s.limit → PieceStays s.split.gaps.match_iter.regex.now.meta s.split.gaps.match_iter.input.haystack.now s.split.gaps.match_iter.input.config s.split.gaps.match_iter.state r) };
+        × (1 < s.limit → PieceStays s.split.gaps.match_iter.regex.now.meta s.split.gaps.match_iter.input.haystack.now
+        s.split.gaps.match_iter.input.config s.split.gaps.match_iter.state r) };
 
     ghost remaining = { λ s. at_most s.limit };
 
@@ -168,9 +192,11 @@ impl Regex {
     /// there are matches. An item may be an error, and then only the rest of the text follows.
     pub fn split<'r, 'h>(&'r self, alloc: Global, target: &'h str) -> Split<'r, 'h>
         ensures left { pieces_left result.is_done result.gaps.match_iter.input.haystack.now result.gaps.last_end
-            (remaining_matches result.gaps.match_iter.regex.now.meta result.gaps.match_iter.input.haystack.now result.gaps.match_iter.input.config result.gaps.match_iter.state)
+            (remaining_matches result.gaps.match_iter.regex.now.meta result.gaps.match_iter.input.haystack.now
+            result.gaps.match_iter.input.config result.gaps.match_iter.state)
             ≡ pieces target.entry.now (all_matches self.entry.now.meta target.entry.now (whole target.entry.now)) }
-        ensures input { (result.gaps.match_iter.input.haystack ≡ target.entry) × (result.gaps.match_iter.input.config ≡ whole target.entry.now) }
+        ensures input { (result.gaps.match_iter.input.haystack ≡ target.entry)
+            × (result.gaps.match_iter.input.config ≡ whole target.entry.now) }
         ensures regex { result.gaps.match_iter.regex ≡ self.entry }
         ensures begins { (result.gaps.match_iter.state.continue_disabled ≡ false) × (result.is_done ≡ false) }
         ensures going { result.gaps.match_iter.state.is_done ≡ false }
@@ -181,12 +207,16 @@ impl Regex {
     /// The first pieces of `split`, and then the rest of the text: at most `limit` items, the last of which is the rest, for
     /// which no search is made. Limit 0 returns nothing.
     pub fn splitn<'r, 'h>(&'r self, alloc: Global, target: &'h str, limit: usize) -> SplitN<'r, 'h>
-        ensures left { pieces_left_up_to result.limit result.split.is_done result.split.gaps.match_iter.input.haystack.now result.split.gaps.last_end
-            (remaining_matches result.split.gaps.match_iter.regex.now.meta result.split.gaps.match_iter.input.haystack.now result.split.gaps.match_iter.input.config result.split.gaps.match_iter.state)
+        ensures left { pieces_left_up_to result.limit result.split.is_done result.split.gaps.match_iter.input.haystack.now
+            result.split.gaps.last_end
+            (remaining_matches result.split.gaps.match_iter.regex.now.meta result.split.gaps.match_iter.input.haystack.now
+            result.split.gaps.match_iter.input.config result.split.gaps.match_iter.state)
             ≡ pieces_up_to limit target.entry.now (all_matches self.entry.now.meta target.entry.now (whole target.entry.now)) }
-        ensures input { (result.split.gaps.match_iter.input.haystack ≡ target.entry) × (result.split.gaps.match_iter.input.config ≡ whole target.entry.now) }
+        ensures input { (result.split.gaps.match_iter.input.haystack ≡ target.entry)
+            × (result.split.gaps.match_iter.input.config ≡ whole target.entry.now) }
         ensures regex { result.split.gaps.match_iter.regex ≡ self.entry }
-        ensures begins { (result.split.gaps.match_iter.state.continue_disabled ≡ false) × (result.split.is_done ≡ false) × (result.limit ≡ limit) }
+        ensures begins { (result.split.gaps.match_iter.state.continue_disabled ≡ false) × (result.split.is_done ≡ false)
+            × (result.limit ≡ limit) }
         ensures going { result.split.gaps.match_iter.state.is_done ≡ false }
     {
         SplitN {

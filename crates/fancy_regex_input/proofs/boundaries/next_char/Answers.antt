@@ -1,4 +1,4 @@
-use Rattle.std.proofs.Common.{rules, ◌≡◌, IfSome, IsUtf8, length, drop, take, ap, arith}
+use Rattle.std.proofs.Common.{rules, ◌≡◌, IfSome, IsUtf8, drop}
 use Rattle.std.specs.Char.{IsScalar}
 use Rattle.fancy_regex_class.proofs.AdjacentCharLemmas.{is_char_at}
 use Rattle.fancy_regex_input.proofs.BoundaryLemmas.{boundary_after_char}

@@ -1,4 +1,4 @@
-use Rattle.std.proofs.Common.{◌≡◌, ◌+◌, ◌*◌, ◌∙◌, true, false, sym, ap, subst, true≢false}
+use Rattle.std.proofs.Common.{◌≡◌, refl, ◌+◌, ◌*◌, ◌∙◌, true, false, sym, ap, subst, true≢false}
 use Rattle.std.proofs.lemmas.Result.{MatchResult-from_err}
 use Rattle.fancy_regex_tree.specs.Tree.{Tree}
 use Rattle.fancy_regex_meaning.specs.Choices.{program_nodes}
@@ -40,6 +40,7 @@ returns-then-info-clause-runs c t is refers order =
       c.in_ok-prog.ensures.longest ∙ c.compile_options.ensures.longest,
       subst (λ u. IsSeekTable c.args.options.now u c.in_ok-seek.seek) (analyzed_tree c.args.info.now t is) c.in_ok-seek.ensures.table,
       order,
+      refl,
     )
 
 -- on this branch the tree needs a program

@@ -26,18 +26,18 @@ returns-in-Item-clause-returns g c =
       passes_before s text old.input.config now.input.config new.input.config old.state now.state new.state step.returns.0 inv.config inv.skips step.returns.2,
     )
 
-pub returns-in-Fault-clause-fails : goal.returns-in-Fault-clause-fails
-returns-in-Fault-clause-fails g c =
+pub returns-in-Failed-clause-fails : goal.returns-in-Failed-clause-fails
+returns-in-Failed-clause-fails g c =
     let inv = c.loop-found.invariant in
     let now = c.loop-found.self in
     let s = c.args.self.now.regex.now.meta in
     let text = g.S.Input.text c.args.self.now.input.haystack in
-    let step = rw (inv.haystack, inv.regex, inv.wanted) at c.in-Fault.ensures.step in (
+    let step = rw (inv.haystack, inv.regex, inv.wanted) at c.in-Failed.ensures.step in (
       now.input.config.start,
       now.state.continue_disabled,
       inv.skips now.input.config.start now.state.continue_disabled (at_once now.state.last now.input.config.start now.state.continue_disabled),
       subst (λ (a : SearchConfig). max a.start a.range_start ≤ a.range_end) inv.config step.fails.0,
-      subst (λ (a : SearchConfig). IsMetaSearchError s text a now.state.continue_disabled c.in-Fault.error) inv.config step.fails.1,
+      subst (λ (a : SearchConfig). IsMetaSearchError s text a now.state.continue_disabled c.in-Failed.error) inv.config step.fails.1,
     )
 
 pub returns-in-End-clause-left : goal.returns-in-End-clause-left

@@ -19,7 +19,7 @@ returns-then-start-end-clause-step g c =
     let k = parts-of self.wanted (meta_pattern s) c.args.found m f.2 in
     let end : c.args.found.end ≡ m.end = k.1 in
     let last = ap (λ (e : ℕ). Some e) end in
-    let inside : max a.start a.range_start ≤ a.range_end = omega (arith, c.requires.within.following, c.requires.within.cuts.ordered, c.requires.within.inside) in
+    let inside : max a.start a.range_start ≤ a.range_end = omega (arith, c.requires.within.after, c.requires.within.cuts.ordered, c.requires.within.inside) in
     let less : m.start < m.end = omega (arith, k.0, end, c.if-start-end.true) in
     long_step s text a self.state self.wanted c.requires.going inside self.input.fits.range_end.0 c.laws_of_items.ensures.more m c.args.found f.1 k c.requires.within _ _
     c.requires.going last c.requires.stays c.args.found.end less c.set_start.ensures.config end refl
@@ -35,7 +35,7 @@ returns-then-is_repeated-clause-step g c =
     let k = parts-of self.wanted (meta_pattern s) c.args.found m f.2 in
     let end : c.args.found.end ≡ m.end = k.1 in
     let last = ap (λ (e : ℕ). Some e) end in
-    let inside : max a.start a.range_start ≤ a.range_end = omega (arith, c.requires.within.following, c.requires.within.cuts.ordered, c.requires.within.inside) in
+    let inside : max a.start a.range_start ≤ a.range_end = omega (arith, c.requires.within.after, c.requires.within.cuts.ordered, c.requires.within.inside) in
     let most : m.end ≤ m.start = omega (arith, k.0, end, c.if-start-end.false) in
     let next : c.advance_position-next.result ≡ position_after text m.end = c.advance_position-next.ensures.value ∙ (λ i. position_after (g.S.Input.text (c.haystack.ensures i)) (end i)) in
     let onward : m.end < position_after text m.end = omega (arith, next, end, c.advance_position-next.ensures.after) in
@@ -55,7 +55,7 @@ returns-clause-step g c =
     let k = parts-of self.wanted (meta_pattern s) c.args.found m f.2 in
     let end : c.args.found.end ≡ m.end = k.1 in
     let last = ap (λ (e : ℕ). Some e) end in
-    let inside : max a.start a.range_start ≤ a.range_end = omega (arith, c.requires.within.following, c.requires.within.cuts.ordered, c.requires.within.inside) in
+    let inside : max a.start a.range_start ≤ a.range_end = omega (arith, c.requires.within.after, c.requires.within.cuts.ordered, c.requires.within.inside) in
     let most : m.end ≤ m.start = omega (arith, k.0, end, c.if-start-end.false) in
     let next : c.advance_position-next.result ≡ position_after text m.end = c.advance_position-next.ensures.value ∙ (λ i. position_after (g.S.Input.text (c.haystack.ensures i)) (end i)) in
     let onward : m.end < position_after text m.end = omega (arith, next, end, c.advance_position-next.ensures.after) in

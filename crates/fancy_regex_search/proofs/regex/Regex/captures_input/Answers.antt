@@ -13,7 +13,7 @@ returns-in-Some-clause-answer g c =
     let a = c.args.input.config in
     let x = c.in-Some.matched in
     let told : Some (found_parts x) ≡ option_map (wanted_parts Groups (meta_pattern s)) (meta_match_from s text a (max a.start a.range_start) false) =
-    rw (c.haystack-haystack.ensures, c.config.ensures) at (sym (ap (option_map found_parts) c.in-Some.is) ∙ c.in_ok-found.ensures.answer) in
+    sym (ap (option_map found_parts) c.in-Some.is) ∙ c.in_ok-found.ensures.answer in
     let f = some-of (wanted_parts Groups (meta_pattern s)) (meta_match_from s text a (max a.start a.range_start) false) (found_parts x) told in
     (f.0, found-is s text a ∙ f.1, ap (λ w. w.items) c.new-in-Some.ensures.slots ∙ (parts-of Groups (meta_pattern s) x f.0 f.2).2)
 
@@ -23,5 +23,5 @@ returns-in-None-clause-answer g c =
     let text = g.S.Input.text c.args.input.haystack in
     let a = c.args.input.config in
     let told : None ≡ option_map (wanted_parts Groups (meta_pattern s)) (meta_match_from s text a (max a.start a.range_start) false) =
-    rw (c.haystack-haystack.ensures, c.config.ensures) at (sym (ap (option_map found_parts) c.in-None.is) ∙ c.in_ok-found.ensures.answer) in
+    sym (ap (option_map found_parts) c.in-None.is) ∙ c.in_ok-found.ensures.answer in
     found-is s text a ∙ none-of (wanted_parts Groups (meta_pattern s)) _ told

@@ -15,32 +15,29 @@ returns-in-Some-clause-answer g c =
     let a = c.args.input.config in
     let x = c.in-Some.found in
     let told : Some (found_parts x) ≡ option_map (wanted_parts Span (meta_pattern s)) (meta_match_from s text a (max a.start a.range_start) false) =
-    rw (c.haystack-haystack.ensures, c.config-config.ensures) at (sym (ap (option_map found_parts) c.in-Some.is) ∙ c.in_ok-found.ensures.answer) in
+    sym (ap (option_map found_parts) c.in-Some.is) ∙ c.in_ok-found.ensures.answer in
     let f = some-of (wanted_parts Span (meta_pattern s)) (meta_match_from s text a (max a.start a.range_start) false) (found_parts x) told in
     let k = parts-of Span (meta_pattern s) x f.0 f.2 in
     ap Some (c.whole_match.ensures.span ∙ (λ i. (k.0 i, k.1 i)))
     ∙ sym (ap (option_map span_in) (found-is s text a ∙ f.1))
 
-pub returns-in-None-clause-answer : goal.returns-in-None-clause-answer
-returns-in-None-clause-answer g c =
+pub returns-clause-answer : goal.returns-clause-answer
+returns-clause-answer g c =
     let s = c.args.self.now.meta in
     let text = g.S.Input.text c.args.input.haystack in
     let a = c.args.input.config in
     let told : None ≡ option_map (wanted_parts Span (meta_pattern s)) (meta_match_from s text a (max a.start a.range_start) false) =
-    rw (c.haystack-haystack.ensures, c.config-config.ensures) at (sym (ap (option_map found_parts) c.in-None.is) ∙ c.in_ok-found.ensures.answer) in
+    sym (ap (option_map found_parts) c.in-None.is) ∙ c.in_ok-found.ensures.answer in
     sym (ap (option_map span_in) (found-is s text a ∙ none-of (wanted_parts Span (meta_pattern s)) _ told))
 
 pub returns-in_err-found-clause-looks_plain : goal.returns-in_err-found-clause-looks_plain
 returns-in_err-found-clause-looks_plain g c light served =
-    let most = rw c.config-config.ensures at (c.find_match.ensures.looks_most served) in
-    within_plain c.weight_bound.ensures c.args.self.now.meta light c.args.input.config c.args.steps.now c.find_match.new.steps most
+    within_plain c.weight_bound.ensures c.args.self.now.meta light c.args.input.config c.args.steps.now c.find_match.new.steps (c.find_match.ensures.looks_most served)
 
 pub returns-in-Some-clause-looks_plain : goal.returns-in-Some-clause-looks_plain
 returns-in-Some-clause-looks_plain g c light served =
-    let most = rw c.config-config.ensures at (c.find_match.ensures.looks_most served) in
-    within_plain c.weight_bound.ensures c.args.self.now.meta light c.args.input.config c.args.steps.now c.find_match.new.steps most
+    within_plain c.weight_bound.ensures c.args.self.now.meta light c.args.input.config c.args.steps.now c.find_match.new.steps (c.find_match.ensures.looks_most served)
 
-pub returns-in-None-clause-looks_plain : goal.returns-in-None-clause-looks_plain
-returns-in-None-clause-looks_plain g c light served =
-    let most = rw c.config-config.ensures at (c.find_match.ensures.looks_most served) in
-    within_plain c.weight_bound.ensures c.args.self.now.meta light c.args.input.config c.args.steps.now c.find_match.new.steps most
+pub returns-clause-looks_plain : goal.returns-clause-looks_plain
+returns-clause-looks_plain g c light served =
+    within_plain c.weight_bound.ensures c.args.self.now.meta light c.args.input.config c.args.steps.now c.find_match.new.steps (c.find_match.ensures.looks_most served)

@@ -11,6 +11,6 @@ returns-clause-answer g c =
     let s = c.args.self.now.meta in
     let text = g.S.Input.text c.args.input.haystack in
     let a = c.args.input.config in
-    let told = rw (c.haystack.ensures, c.config.ensures) at (c.in_ok-found.ensures.answer) in
+    let told = c.in_ok-found.ensures.answer in
     c.is_some.ensures ∙ some-same found_parts (wanted_parts Span (meta_pattern s)) c.in_ok-found.found (meta_match_from s text a (max a.start a.range_start) false) told
     ∙ ap is_some (sym (found-is s text a))
