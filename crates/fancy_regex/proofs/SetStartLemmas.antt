@@ -12,10 +12,10 @@ use Rattle.fancy_regex_meta.specs.Patterns.{pattern_in, options_in, setting_in}
 use Rattle.fancy_regex_meta.specs.SeekTables.{marked}
 use Rattle.fancy_regex_meta.specs.declared.options.RegexOptions.{RegexOptions}
 use Rattle.fancy_regex_search.specs.declared.regex.Regex.{Regex}
-use Rattle.fancy_regex_starts.specs.Starts.{may_start_with}
-use Rattle.fancy_regex_starts.specs.Tables.{Serves}
-use Rattle.fancy_regex_starts.specs.declared.table.StartTable.{StartTable}
-use Rattle.fancy_regex_starts.proofs.NextLemmas.{passes}
+use Rattle.fancy_regex.specs.MemberStarts.{may_start_with}
+use Rattle.fancy_regex.specs.StartTables.{Serves}
+use Rattle.fancy_regex.specs.declared.start_table.StartTable.{StartTable}
+use Rattle.fancy_regex.proofs.NextMemberLemmas.{passes}
 use Rattle.fancy_regex.specs.ByteSetLaws.{FindsOnlyIn}
 use Rattle.fancy_regex.specs.SetMembers.{IsBuiltOf, AreBuiltOf}
 use Rattle.fancy_regex.specs.SetStarts.{FindsNoneAt, PassesOver, HaveStarts}

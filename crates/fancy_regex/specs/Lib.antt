@@ -2,7 +2,11 @@ pub mod Reprinting
 pub mod ByteSetLaws
 pub mod SetMembers
 pub mod SetStarts
+pub mod MemberStarts
+pub mod StartTables
 pub mod SetAnswers
+pub mod TextMatches
+pub mod ReplacedTexts
 -- what the public clauses cite of the crates below, under this crate's name
 pub use Rattle.fancy_regex_search.specs.RemainingMatches
 pub use Rattle.fancy_regex_search.specs.IterationSteps

@@ -6,8 +6,8 @@ use Rattle.fancy_regex_meta.specs.MemberSearches.{meta_match_at}
 use Rattle.fancy_regex_meta.specs.SeekTables.{marked}
 use Rattle.fancy_regex_meta.specs.declared.options.RegexOptions.{RegexOptions}
 use Rattle.fancy_regex_search.specs.declared.regex.Regex.{Regex}
-use Rattle.fancy_regex_starts.specs.Tables.{next_of}
-use Rattle.fancy_regex_starts.specs.declared.table.StartTable.{StartTable}
+use Rattle.fancy_regex.specs.StartTables.{next_of}
+use Rattle.fancy_regex.specs.declared.start_table.StartTable.{StartTable}
 use Rattle.fancy_regex.specs.ByteSetLaws.{FindsOnlyIn}
 
 -- The regex has no match that starts at a place with this byte, or at the end of the text.

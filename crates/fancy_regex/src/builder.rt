@@ -160,7 +160,8 @@ impl RegexBuilder {
 
     /// Unnamed groups do not capture if the pattern has a named group. Default: false.
     pub fn ignore_numbered_groups_when_named_groups_exist(&mut self, yes: bool) -> &mut Self
-        ensures value { result.now.options.options ≡ record (self.old.options.options) { ignore_numbered_groups_when_named_groups_exist = yes } }
+        ensures value { result.now.options.options
+            ≡ record (self.old.options.options) { ignore_numbered_groups_when_named_groups_exist = yes } }
         ensures pattern { result.now.pattern ≡ self.old.pattern }
         ensures same { result.ghost_name ≡ self.entry.ghost_name }
     {

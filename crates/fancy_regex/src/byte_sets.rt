@@ -23,7 +23,8 @@ impl RegexOptionsBuilder {
     /// `ParseError` if the text is no pattern, with the first error and its byte offset; `CompileError` with `InnerError` and
     /// the text of a character class that `regex` rejects; `Memory` if memory runs out.
     pub fn start_bytes(&self, alloc: Global, pattern: &str) -> Result<Option<ByteSet>>
-        ensures answer { IfOk result (λ set. option_map has set ≡ starts.start_bytes self.now.options.unicode_mode (tree_in self.now.options pattern.now)) }
+        ensures answer { IfOk result (λ set. option_map has set
+            ≡ starts.start_bytes self.now.options.unicode_mode (tree_in self.now.options pattern.now)) }
         ensures starts { IfOk result (λ found. IfSome found (λ set. MatchesStartIn self.now.options pattern.now (has set))) }
         ensures members { IfOk result (λ found. IfSome found (λ set. FindsOnlyIn self.now.options pattern.now (has set))) }
         ensures refused { IfErr result (λ e. IsStartBytesError self.now.options pattern.now e) }

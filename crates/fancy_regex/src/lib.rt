@@ -11,6 +11,7 @@ mod set;
 mod set_matches;
 mod set_search;
 mod set_starts;
+mod start_table;
 
 pub use builder::RegexBuilder;
 pub use fancy_regex_bytes::{ByteSet, ByteSetIter};

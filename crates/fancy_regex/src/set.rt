@@ -8,9 +8,9 @@ ghost use Rattle.fancy_regex.specs.SetStarts.{FindNoneBetween, PassesOver};
 
 use crate::options_builder::RegexOptionsBuilder;
 use crate::set_starts::start_table;
+use crate::start_table::StartTable;
 use fancy_regex_meta::Result;
 use fancy_regex_search::Regex;
-use fancy_regex_starts::StartTable;
 use std::alloc::Global;
 
 /// Several regexes, its members, that are searched for together. They are numbered from 0. No search changes the set, so it can

@@ -115,11 +115,13 @@ impl<'s, S: Input> Iterator for RegexSetMatchesAt<'s, S> {
 
     ghost next_gives = { λ s r t. (t.first ≡ None) × (t.members ≡ s.members)
         × MatchOption s.first (YieldsMember s.members.set.now.regexes.items (S.text s.members.haystack) s.members.config
-        (λ x found. IsMatchOfMember s.members.set.now.regexes.items found x.pattern x.matched.captures.regex.now x.matched.captures.slots.items (x.matched.start, x.matched.end)
+        (λ x found. IsMatchOfMember s.members.set.now.regexes.items found x.pattern x.matched.captures.regex.now
+        x.matched.captures.slots.items (x.matched.start, x.matched.end)
         × (x.haystack ≡ s.members.haystack) × (x.matched.captures.haystack ≡ s.members.haystack))
         s.members.position s.next r t.next)
         (λ x. (r ≡ Some (Ok x)) × (t.next ≡ s.next))
-        × MatchOption s.first (PassesInLimits s.members.set.now.regexes.items (S.text s.members.haystack) s.members.config s.members.position s.next r t.next)
+        × MatchOption s.first
+        (PassesInLimits s.members.set.now.regexes.items (S.text s.members.haystack) s.members.config s.members.position s.next r t.next)
         (λ _. Unit {0}) };
 
     ghost remaining = { λ s. at_most (unwrap_or (option_map (λ _. 1) s.first) 0 + (length s.members.set.now.regexes.items - s.next)) };
@@ -134,14 +136,10 @@ impl<'s, S: Input> Iterator for RegexSetMatchesAt<'s, S> {
 }
 
 /// Where `\G` matches in a set's search: at its effective start; `None` if it matches nowhere.
-fn continue_at(config: SearchConfig) -> Option<usize>
-    ensures { result ≡ set_continue_at config }
+fn continue_at(config: &SearchConfig) -> Option<usize>
+    ensures { result ≡ set_continue_at config.now }
 {
-    if config.continues {
-        Some(config.start.max(config.range_start))
-    } else {
-        None
-    }
+    config.run_input().continue_at
 }
 
 /// The members of a set, to be asked for a match that starts at one position.
@@ -174,10 +172,12 @@ impl<'s, S: Input> MembersAt<'s, S> {
         memory: &mut MetaMemory,
     ) -> Option<Result<RegexSetMatch<'s, S>>>
         ensures item { YieldsMember self.now.set.now.regexes.items (S.text self.now.haystack) self.now.config
-            (λ x found. IsMatchOfMember self.now.set.now.regexes.items found x.pattern x.matched.captures.regex.now x.matched.captures.slots.items (x.matched.start, x.matched.end)
+            (λ x found. IsMatchOfMember self.now.set.now.regexes.items found x.pattern x.matched.captures.regex.now
+            x.matched.captures.slots.items (x.matched.start, x.matched.end)
             × (x.haystack ≡ self.now.haystack) × (x.matched.captures.haystack ≡ self.now.haystack))
             self.now.position next.old result next.new }
-        ensures limits { PassesInLimits self.now.set.now.regexes.items (S.text self.now.haystack) self.now.config self.now.position next.old result next.new }
+        ensures limits { PassesInLimits self.now.set.now.regexes.items (S.text self.now.haystack) self.now.config
+            self.now.position next.old result next.new }
     {
         let byte = self.byte();
         while let Some(number) = self.set.candidate(byte, *next) {
@@ -204,19 +204,22 @@ impl<'s, S: Input> MembersAt<'s, S> {
     fn ask(&self, number: usize, memory: &mut MetaMemory) -> Result<Option<RegexSetMatch<'s, S>>>
         requires { number < length self.now.set.now.regexes.items }
         ensures answer { IfOk result (λ found. IsAnswerOfMember self.now.set.now.regexes.items (S.text self.now.haystack) self.now.config
-            (λ x found. IsMatchOfMember self.now.set.now.regexes.items found x.pattern x.matched.captures.regex.now x.matched.captures.slots.items (x.matched.start, x.matched.end)
+            (λ x found. IsMatchOfMember self.now.set.now.regexes.items found x.pattern x.matched.captures.regex.now
+            x.matched.captures.slots.items (x.matched.start, x.matched.end)
             × (x.haystack ≡ self.now.haystack) × (x.matched.captures.haystack ≡ self.now.haystack))
             self.now.position number found) }
-        ensures limits { IfErr result (λ e. IsErrorOfMember self.now.set.now.regexes.items (S.text self.now.haystack) self.now.config self.now.position number e) }
-        ensures stays { IfOk result (λ _. IsInLimits self.now.set.now.regexes.items (S.text self.now.haystack) self.now.config self.now.position number) }
+        ensures limits { IfErr result (λ e.
+            IsErrorOfMember self.now.set.now.regexes.items (S.text self.now.haystack) self.now.config self.now.position number e) }
+        ensures stays { IfOk result (λ _.
+            IsInLimits self.now.set.now.regexes.items (S.text self.now.haystack) self.now.config self.now.position number) }
     {
         let set = self.set;
         match match_at(
             self.alloc,
             &set.regexes[number],
             self.haystack,
-            self.config,
-            continue_at(self.config),
+            &self.config,
+            continue_at(&self.config),
             self.position,
             memory,
         ) {

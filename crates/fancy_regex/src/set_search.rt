@@ -13,13 +13,14 @@ use fancy_regex_meta::{MetaMemory, Result};
 use std::alloc::Global;
 
 /// The last position that a search tries: the end of its range, or, if it is anchored, the position at which it starts.
-fn last_position(config: SearchConfig) -> usize
-    ensures { result ≡ last_tried config }
+fn last_position(config: &SearchConfig) -> usize
+    ensures { result ≡ last_tried config.now }
 {
-    if config.anchored {
-        config.start.max(config.range_start).min(config.range_end)
+    let input = config.run_input();
+    if input.anchored {
+        input.first.min(input.range.end)
     } else {
-        config.range_end
+        input.range.end
     }
 }
 
@@ -35,17 +36,22 @@ impl RegexSet {
         alloc: Global,
         input: RegexInput<S>,
     ) -> Result<Option<RegexSetMatchesAt<'_, S>>>
-        ensures answer { IfOk result (λ found. MatchOption found (answer_of_set self.now.regexes.items (S.text input.haystack) input.config ≡ None)
+        ensures answer { IfOk result (λ found.
+            MatchOption found (answer_of_set self.now.regexes.items (S.text input.haystack) input.config ≡ None)
             (λ s. IsAnswerOfSet self.now.regexes.items (S.text input.haystack) input.config
-            (λ x found. IsMatchOfMember self.now.regexes.items found x.pattern x.matched.captures.regex.now x.matched.captures.slots.items (x.matched.start, x.matched.end)
+            (λ x found. IsMatchOfMember self.now.regexes.items found x.pattern x.matched.captures.regex.now
+            x.matched.captures.slots.items (x.matched.start, x.matched.end)
             × (x.haystack ≡ input.haystack) × (x.matched.captures.haystack ≡ input.haystack))
             s.members.position s.first s.next)) }
-        ensures one { IfOk result (λ found. (regex : Regex) → self.now.regexes.items ≡ regex ∷ [] → MatchOption found (meta_match regex.meta (S.text input.haystack) input.config ≡ None)
+        ensures one { IfOk result (λ found. (regex : Regex) → self.now.regexes.items ≡ regex ∷ [] →
+            MatchOption found (meta_match regex.meta (S.text input.haystack) input.config ≡ None)
             (λ s. IsAnswerOfOne self.now.regexes.items (S.text input.haystack) input.config
-            (λ x found. IsMatchOfMember self.now.regexes.items found x.pattern x.matched.captures.regex.now x.matched.captures.slots.items (x.matched.start, x.matched.end)
+            (λ x found. IsMatchOfMember self.now.regexes.items found x.pattern x.matched.captures.regex.now
+            x.matched.captures.slots.items (x.matched.start, x.matched.end)
             × (x.haystack ≡ input.haystack) × (x.matched.captures.haystack ≡ input.haystack))
             regex s.members.position s.first s.next)) }
-        ensures of { IfOk result (λ found. IfSome found (λ s. (s.members.set.now ≡ self.now) × (s.members.haystack ≡ input.haystack) × (s.members.config ≡ input.config))) }
+        ensures of { IfOk result (λ found. IfSome found (λ s.
+            (s.members.set.now ≡ self.now) × (s.members.haystack ≡ input.haystack) × (s.members.config ≡ input.config))) }
         ensures limits { IfErr result (λ e. IsSetError self.now.regexes.items (S.text input.haystack) input.config e) }
         ensures stays { IfOk result (λ found. SearchesInLimits self.now.regexes.items (S.text input.haystack) input.config
             (option_map (λ s. (s.members.position, s.next)) found)) }
@@ -60,12 +66,15 @@ impl RegexSet {
         alloc: Global,
         input: RegexInput<S>,
     ) -> Result<Option<RegexSetMatchesAt<'_, S>>>
-        ensures answer { IfOk result (λ found. MatchOption found (answer_of_set self.now.regexes.items (S.text input.haystack) input.config ≡ None)
+        ensures answer { IfOk result (λ found.
+            MatchOption found (answer_of_set self.now.regexes.items (S.text input.haystack) input.config ≡ None)
             (λ s. IsAnswerOfSet self.now.regexes.items (S.text input.haystack) input.config
-            (λ x found. IsMatchOfMember self.now.regexes.items found x.pattern x.matched.captures.regex.now x.matched.captures.slots.items (x.matched.start, x.matched.end)
+            (λ x found. IsMatchOfMember self.now.regexes.items found x.pattern x.matched.captures.regex.now
+            x.matched.captures.slots.items (x.matched.start, x.matched.end)
             × (x.haystack ≡ input.haystack) × (x.matched.captures.haystack ≡ input.haystack))
             s.members.position s.first s.next)) }
-        ensures of { IfOk result (λ found. IfSome found (λ s. (s.members.set.now ≡ self.now) × (s.members.haystack ≡ input.haystack) × (s.members.config ≡ input.config))) }
+        ensures of { IfOk result (λ found. IfSome found (λ s.
+            (s.members.set.now ≡ self.now) × (s.members.haystack ≡ input.haystack) × (s.members.config ≡ input.config))) }
         ensures limits { IfErr result (λ e. IsSetError self.now.regexes.items (S.text input.haystack) input.config e) }
         ensures stays { IfOk result (λ found. SearchesInLimits self.now.regexes.items (S.text input.haystack) input.config
             (option_map (λ s. (s.members.position, s.next)) found)) }
@@ -74,14 +83,14 @@ impl RegexSet {
         let config = input.config();
         let mut position = input.effective_start();
         let _text = haystack.as_bytes();
-        let last = last_position(config);
+        let last = last_position(&config);
         let mut memory = MetaMemory::new(alloc);
         while position <= last {
             let members = MembersAt {
                 alloc,
                 set: self,
                 haystack,
-                config,
+                config: config.copied(),
                 position,
             };
             let mut next = 0;

@@ -9,8 +9,8 @@ ghost use Rattle.fancy_regex.specs.SetMembers.{AreBuiltOf};
 ghost use Rattle.fancy_regex.specs.SetStarts.{HaveStarts, PassesOver};
 
 use crate::options_builder::RegexOptionsBuilder;
+use crate::start_table::{StartBytes, StartTable};
 use fancy_regex_meta::{Error, Result};
-use fancy_regex_starts::{StartBytes, StartTable};
 use std::alloc::Global;
 
 /// The bytes that the matches of a pattern start with; `None` where they are not known, and where `regex` rejects a class of the
@@ -53,7 +53,8 @@ pub(crate) fn start_table(
     patterns: &[&str],
     options: &RegexOptionsBuilder,
 ) -> Result<StartTable>
-    ensures passes { IfOk result (λ table. (regexes : List Regex) → AreBuiltOf options.now.options (map (λ p. p.now) patterns.now) regexes → PassesOver regexes table) }
+    ensures passes { IfOk result (λ table. (regexes : List Regex) →
+        AreBuiltOf options.now.options (map (λ p. p.now) patterns.now) regexes → PassesOver regexes table) }
     ensures memory { IfErr result (λ e. e ≡ Memory) }
 {
     let members = all_known_starts(alloc, patterns, options)?;

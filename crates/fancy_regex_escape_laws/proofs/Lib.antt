@@ -3,4 +3,5 @@ pub mod EscapeReading
 pub mod LiteralWays
 pub mod OccurrenceLemmas
 pub mod PlainItems
+pub mod PlainReplacementLemmas
 pub mod PlainSearchLemmas

@@ -1,9 +1,14 @@
-//! Laws of `escape_pattern`: how an escaped text is read, what it matches, and what replacing its matches is. No code.
+//! Laws of `escape_pattern`: how an escaped text is read, what it matches, and what replacing its matches is. The code is one
+//! function over public calls, `replace_plainly`.
 #![tactic(auto)]
 
 ghost use Rattle.fancy_regex_escape_laws.specs.EscapeLaws.{EscapedTextsAreRead, EscapedTextsMatchThemselves};
 ghost use Rattle.fancy_regex_escape_laws.specs.Occurrences.{PlainReplacementIsByCases};
 ghost use Rattle.fancy_regex_escape_laws.specs.PlainReplacement.{MatchesAreReplacedPlainly};
+
+mod replacement;
+
+pub use replacement::replace_plainly;
 
 /// Outside Oniguruma mode, with no flag but `i` set, an escaped text is read as the sequence of its characters, each a literal.
 pub fn escaped_texts_are_read()

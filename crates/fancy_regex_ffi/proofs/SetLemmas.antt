@@ -10,15 +10,15 @@ use Rattle.fancy_regex_meta.specs.declared.error.Error.TheVariants.{Memory}
 use Rattle.fancy_regex.specs.SetMembers.{AreBuiltOf}
 use Rattle.fancy_regex.specs.declared.set.RegexSet.{RegexSet}
 use Rattle.fancy_regex_ffi.specs.Codes.{code_of, fault_status}
-use Rattle.fancy_regex_ffi.specs.Ends.{IsHeldAs}
+use Rattle.fancy_regex_ffi.specs.Ends.{IsStored}
 use Rattle.fancy_regex_ffi_lists.specs.Mixed.{AreBuiltEach}
 use Rattle.fancy_regex_ffi_lists.specs.declared.options.Options.{Options}
 use Rattle.fancy_regex_ffi.specs.Sets.{cut_at, Rise, AreTexts, IsPieceFault, IsPieceOrFault, IsSetBuilt, IsSetRefused, IsSetTold, SetBuildEnds, IsMixedBuilt, IsMixedRefused, MixedBuildEnds}
 use Rattle.fancy_regex_ffi.specs.declared.fault.CallError.{CallError}
 use Rattle.fancy_regex_ffi.specs.declared.fault.CallError.TheVariants as faults
-use Rattle.fancy_regex_ffi.specs.declared.held.Held.{Held}
-use Rattle.fancy_regex_ffi.specs.declared.held.Subject.{Subject}
-use Rattle.fancy_regex_ffi.specs.declared.held.Subject.TheVariants as subjects
+use Rattle.fancy_regex_ffi.specs.declared.contents.Contents.{Contents}
+use Rattle.fancy_regex_ffi.specs.declared.contents.Subject.{Subject}
+use Rattle.fancy_regex_ffi.specs.declared.contents.Subject.TheVariants as subjects
 use Rattle.fancy_regex_ffi.specs.declared.status.Status.{Status}
 use Rattle.fancy_regex_ffi.specs.declared.status.Status.TheVariants as statuses
 
@@ -53,37 +53,37 @@ as_many text_of bytes ends options texts shown so_many same is =
     so_many ∙ sym (length-cut_at bytes ends 0) ∙ ap length (sym same) ∙ length-map texts text_of ∙ ap length (sym is)
 
 -- what a build of a set reports
-set_holds : (options : RegexOptions) (bytes ends : List ℕ) (answer : Result RegexSet CallError) (held : Held) (status : Status) → IfOk answer (λ _. AreTexts bytes 0 ends)
-    → IfOk answer (λ set. AreBuiltOf options (cut_at bytes 0 ends) set.regexes.items) → IfErr answer (IsSetRefused options bytes ends) → IsSetTold answer held status
-    → IsSetBuilt options bytes ends held.subject held.fault status
-set_holds options bytes ends (Ok set) held status texts members refused told =
-    subst (λ (s : Subject). IsSetBuilt options bytes ends s held.fault status) (sym told.0) (told.2, told.1, texts, members)
-set_holds options bytes ends (Err fault) held status texts members refused told =
-    subst (λ (s : Subject). IsSetBuilt options bytes ends s held.fault status) (sym told.0)
+set_holds : (options : RegexOptions) (bytes ends : List ℕ) (answer : Result RegexSet CallError) (contents : Contents) (status : Status) → IfOk answer (λ _. AreTexts bytes 0 ends)
+    → IfOk answer (λ set. AreBuiltOf options (cut_at bytes 0 ends) set.regexes.items) → IfErr answer (IsSetRefused options bytes ends) → IsSetTold answer contents status
+    → IsSetBuilt options bytes ends contents.subject contents.fault status
+set_holds options bytes ends (Ok set) contents status texts members refused told =
+    subst (λ (s : Subject). IsSetBuilt options bytes ends s contents.fault status) (sym told.0) (told.2, told.1, texts, members)
+set_holds options bytes ends (Err fault) contents status texts members refused told =
+    subst (λ (s : Subject). IsSetBuilt options bytes ends s contents.fault status) (sym told.0)
     (subst (λ (k : Option CallError). IsSetBuilt options bytes ends subjects.Nothing k status) (sym told.1) (told.2, refused))
 
-pub set_build_reports : (options : RegexOptions) (bytes ends : List ℕ) (left : Option Held) (answer : Result RegexSet CallError) (held : Held) (status : Status) (code : ℤ)
+pub set_build_reports : (options : RegexOptions) (bytes ends : List ℕ) (left : Option Contents) (answer : Result RegexSet CallError) (contents : Contents) (status : Status) (code : ℤ)
     → IfOk answer (λ _. AreTexts bytes 0 ends) → IfOk answer (λ set. AreBuiltOf options (cut_at bytes 0 ends) set.regexes.items) → IfErr answer (IsSetRefused options bytes ends)
-    → IsSetTold answer held status → IsHeldAs held status left code → SetBuildEnds options bytes ends left code
-set_build_reports options bytes ends None answer held status code texts members refused told ends_so = ends_so
-set_build_reports options bytes ends (Some left) answer held status code texts members refused told ends_so =
-    (status, ends_so.1, subst (λ (h : Held). IsSetBuilt options bytes ends h.subject h.fault status) (sym ends_so.0) (set_holds options bytes ends answer held status texts members refused told))
+    → IsSetTold answer contents status → IsStored contents status left code → SetBuildEnds options bytes ends left code
+set_build_reports options bytes ends None answer contents status code texts members refused told ends_so = ends_so
+set_build_reports options bytes ends (Some left) answer contents status code texts members refused told ends_so =
+    (status, ends_so.1, subst (λ (h : Contents). IsSetBuilt options bytes ends h.subject h.fault status) (sym ends_so.0) (set_holds options bytes ends answer contents status texts members refused told))
 
-mixed_holds : (options : List Options) (bytes ends : List ℕ) (answer : Result RegexSet CallError) (held : Held) (status : Status) → IfOk answer (λ _. AreTexts bytes 0 ends)
-    → IfOk answer (λ set. AreBuiltEach options (cut_at bytes 0 ends) set.regexes.items) → IfErr answer (IsMixedRefused options bytes ends) → IsSetTold answer held status
-    → IsMixedBuilt options bytes ends held.subject held.fault status
-mixed_holds options bytes ends (Ok set) held status texts members refused told =
-    subst (λ (s : Subject). IsMixedBuilt options bytes ends s held.fault status) (sym told.0) (told.2, told.1, texts, members)
-mixed_holds options bytes ends (Err fault) held status texts members refused told =
-    subst (λ (s : Subject). IsMixedBuilt options bytes ends s held.fault status) (sym told.0)
+mixed_holds : (options : List Options) (bytes ends : List ℕ) (answer : Result RegexSet CallError) (contents : Contents) (status : Status) → IfOk answer (λ _. AreTexts bytes 0 ends)
+    → IfOk answer (λ set. AreBuiltEach options (cut_at bytes 0 ends) set.regexes.items) → IfErr answer (IsMixedRefused options bytes ends) → IsSetTold answer contents status
+    → IsMixedBuilt options bytes ends contents.subject contents.fault status
+mixed_holds options bytes ends (Ok set) contents status texts members refused told =
+    subst (λ (s : Subject). IsMixedBuilt options bytes ends s contents.fault status) (sym told.0) (told.2, told.1, texts, members)
+mixed_holds options bytes ends (Err fault) contents status texts members refused told =
+    subst (λ (s : Subject). IsMixedBuilt options bytes ends s contents.fault status) (sym told.0)
     (subst (λ (k : Option CallError). IsMixedBuilt options bytes ends subjects.Nothing k status) (sym told.1) (told.2, refused))
 
-pub mixed_build_reports : (options : List Options) (bytes ends : List ℕ) (left : Option Held) (answer : Result RegexSet CallError) (held : Held) (status : Status) (code : ℤ)
+pub mixed_build_reports : (options : List Options) (bytes ends : List ℕ) (left : Option Contents) (answer : Result RegexSet CallError) (contents : Contents) (status : Status) (code : ℤ)
     → IfOk answer (λ _. AreTexts bytes 0 ends) → IfOk answer (λ set. AreBuiltEach options (cut_at bytes 0 ends) set.regexes.items) → IfErr answer (IsMixedRefused options bytes ends)
-    → IsSetTold answer held status → IsHeldAs held status left code → MixedBuildEnds options bytes ends left code
-mixed_build_reports options bytes ends None answer held status code texts members refused told ends_so = ends_so
-mixed_build_reports options bytes ends (Some left) answer held status code texts members refused told ends_so =
-    (status, ends_so.1, subst (λ (h : Held). IsMixedBuilt options bytes ends h.subject h.fault status) (sym ends_so.0) (mixed_holds options bytes ends answer held status texts members refused told))
+    → IsSetTold answer contents status → IsStored contents status left code → MixedBuildEnds options bytes ends left code
+mixed_build_reports options bytes ends None answer contents status code texts members refused told ends_so = ends_so
+mixed_build_reports options bytes ends (Some left) answer contents status code texts members refused told ends_so =
+    (status, ends_so.1, subst (λ (h : Contents). IsMixedBuilt options bytes ends h.subject h.fault status) (sym ends_so.0) (mixed_holds options bytes ends answer contents status texts members refused told))
 
 -- the patterns from the one with some number on begin with that one
 pub cut_next : (bytes ends : List ℕ) (from i end : ℕ) → i < length ends → end ≡ slice_index ends i

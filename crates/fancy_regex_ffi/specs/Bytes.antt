@@ -7,8 +7,8 @@ use Rattle.fancy_regex_ffi_lists.specs.Tables.{AreStartsMarked, AreRequiredMarke
 use Rattle.fancy_regex_ffi.specs.Codes.{code_of, fault_status}
 use Rattle.fancy_regex_ffi.specs.declared.fault.CallError.{CallError}
 use Rattle.fancy_regex_ffi.specs.declared.fault.CallError.TheVariants as faults
-use Rattle.fancy_regex_ffi.specs.declared.held.Held.{Held}
-use Rattle.fancy_regex_ffi.specs.declared.held.Subject.TheVariants as subjects
+use Rattle.fancy_regex_ffi.specs.declared.contents.Contents.{Contents}
+use Rattle.fancy_regex_ffi.specs.declared.contents.Subject.TheVariants as subjects
 use Rattle.fancy_regex_ffi.specs.declared.status.Status.TheVariants as statuses
 
 -- The bytes that the definitions give for the starts of the matches are marked, or they give none; or the pattern is refused, and the
@@ -27,21 +27,21 @@ AreRequiredOrFault o pattern (Err (faults.Regex e)) old new = IsUtf8 pattern × 
 AreRequiredOrFault o pattern (Err faults.NotUtf8) old new = (IsUtf8 pattern → ⊥) × (new ≡ old)
 AreRequiredOrFault o pattern (Err _) old new = ⊥
 
--- the fault is held alone, and its number is told; or memory ran out for it
-abbrev pub FaultHeld : CallError → Option Held → ℤ → Type 0
-FaultHeld fault (Some held) code = (held.subject ≡ subjects.Nothing) × (held.fault ≡ Some fault) × (code ≡ code_of (fault_status fault))
-FaultHeld fault None code = code ≡ code_of statuses.Memory
+-- the fault is stored alone, and its number is told; or memory ran out for it
+abbrev pub IsFaultStored : CallError → Option Contents → ℤ → Type 0
+IsFaultStored fault (Some contents) code = (contents.subject ≡ subjects.Nothing) × (contents.fault ≡ Some fault) × (code ≡ code_of (fault_status fault))
+IsFaultStored fault None code = code ≡ code_of statuses.Memory
 
 -- how the call ends, and what the handle holds afterwards: nothing but a fault
-abbrev pub IsAskedEnd : Result Bool CallError → Option Held → ℤ → Type 0
+abbrev pub IsAskedEnd : Result Bool CallError → Option Contents → ℤ → Type 0
 IsAskedEnd (Ok true) left code = (code ≡ code_of statuses.Done) × (left ≡ None)
 IsAskedEnd (Ok false) left code = (code ≡ code_of statuses.NoMatch) × (left ≡ None)
-IsAskedEnd (Err fault) left code = FaultHeld fault left code
+IsAskedEnd (Err fault) left code = IsFaultStored fault left code
 
 -- what a question about the starts reports
-abbrev pub StartBytesEnd : RegexOptions → List ℕ → Option Held → ℤ → List Bool → List Bool → Type 0
+abbrev pub StartBytesEnd : RegexOptions → List ℕ → Option Contents → ℤ → List Bool → List Bool → Type 0
 StartBytesEnd o pattern left code old new = (answer : Result Bool CallError) × AreStartsOrFault o pattern answer old new × IsAskedEnd answer left code
 
 -- what a question about the bytes that each text with a match has reports
-abbrev pub RequiredBytesEnd : RegexOptions → List ℕ → Option Held → ℤ → List Bool → List Bool → Type 0
+abbrev pub RequiredBytesEnd : RegexOptions → List ℕ → Option Contents → ℤ → List Bool → List Bool → Type 0
 RequiredBytesEnd o pattern left code old new = (answer : Result Bool CallError) × AreRequiredOrFault o pattern answer old new × IsAskedEnd answer left code

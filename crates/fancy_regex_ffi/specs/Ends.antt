@@ -13,9 +13,9 @@ use Rattle.fancy_regex_ffi_lists.specs.Fronts.{IsFrontOf}
 use Rattle.fancy_regex_ffi.specs.Searches.{IsFoundBy, IsCapturedBy, CountsLooksBy, CountsStartsBy}
 use Rattle.fancy_regex_ffi.specs.declared.fault.CallError.{CallError}
 use Rattle.fancy_regex_ffi.specs.declared.fault.CallError.TheVariants as faults
-use Rattle.fancy_regex_ffi.specs.declared.held.Held.{Held}
-use Rattle.fancy_regex_ffi.specs.declared.held.Subject.{Subject}
-use Rattle.fancy_regex_ffi.specs.declared.held.Subject.TheVariants as subjects
+use Rattle.fancy_regex_ffi.specs.declared.contents.Contents.{Contents}
+use Rattle.fancy_regex_ffi.specs.declared.contents.Subject.{Subject}
+use Rattle.fancy_regex_ffi.specs.declared.contents.Subject.TheVariants as subjects
 use Rattle.fancy_regex_ffi.specs.declared.query.Query.{Query}
 use Rattle.fancy_regex_ffi_lists.specs.declared.spans.Span.{Span}
 use Rattle.fancy_regex_ffi.specs.declared.status.Status.{Status}
@@ -36,14 +36,14 @@ IsBuilt options pattern subjects.Nothing (Some fault) status = (status ≡ fault
 IsBuilt options pattern subjects.Nothing None status = ⊥
 IsBuilt options pattern (subjects.Set set) fault status = ⊥
 
--- what was built is held, and how that ended is told; or memory ran out for it
-abbrev pub IsHeldAs : Held → Status → Option Held → ℤ → Type 0
-IsHeldAs held status (Some left) code = (left ≡ held) × (code ≡ code_of status)
-IsHeldAs held status None code = code ≡ code_of statuses.Memory
+-- what was built is stored in the handle, and how that ended is told; or memory ran out for it
+abbrev pub IsStored : Contents → Status → Option Contents → ℤ → Type 0
+IsStored contents status (Some left) code = (left ≡ contents) × (code ≡ code_of status)
+IsStored contents status None code = code ≡ code_of statuses.Memory
 
 -- what stands in the handle after a build, and the number
-abbrev pub BuildEnds : RegexOptions → List ℕ → Option Held → ℤ → Type 0
-BuildEnds options pattern (Some held) code = (status : Status) × (code ≡ code_of status) × IsBuilt options pattern held.subject held.fault status
+abbrev pub BuildEnds : RegexOptions → List ℕ → Option Contents → ℤ → Type 0
+BuildEnds options pattern (Some contents) code = (status : Status) × (code ≡ code_of status) × IsBuilt options pattern contents.subject contents.fault status
 BuildEnds options pattern None code = code ≡ code_of statuses.Memory
 
 -- the number of groups of a regex, the whole match included; 0 without a regex
@@ -53,21 +53,21 @@ groups_for (subjects.Set set) = 0
 groups_for subjects.Nothing = 0
 
 -- the place of a fault, and the largest number where it has none
-abbrev pub place_kept : Option CallError → ℕ
-place_kept (Some fault) = unwrap_or (place_of fault) (2 ^ 64 - 1)
-place_kept None = 2 ^ 64 - 1
+abbrev pub place_or_max : Option CallError → ℕ
+place_or_max (Some fault) = unwrap_or (place_of fault) (2 ^ 64 - 1)
+place_or_max None = 2 ^ 64 - 1
 
 -- the number of groups of what a handle holds, the whole match included; 0 where it holds no regex
-abbrev pub groups_in : Option Held → ℕ
-groups_in (Some held) = groups_for held.subject
+abbrev pub groups_in : Option Contents → ℕ
+groups_in (Some contents) = groups_for contents.subject
 groups_in None = 0
 
--- the place of the fault that a handle keeps, and the largest number where it has none
-abbrev pub place_in : Option Held → ℕ
-place_in (Some held) = place_kept held.fault
+-- the place of the fault that is recorded in a handle, and the largest number where it has none
+abbrev pub place_in : Option Contents → ℕ
+place_in (Some contents) = place_or_max contents.fault
 place_in None = 2 ^ 64 - 1
 
--- the fault that is kept after a call: the earlier one after an answer, else that of the call
+-- the recorded fault after a call: the earlier one after an answer, else that of the call
 abbrev pub FaultAfter : {X : Type 0} → Result X CallError → Option CallError → Option CallError → Type 0
 FaultAfter (Ok _) old new = new ≡ old
 FaultAfter (Err fault) old new = new ≡ Some fault
@@ -78,12 +78,12 @@ IsSpanTold (Ok (Some found)) status span = (status ≡ statuses.Done) × (span �
 IsSpanTold (Ok None) status span = (status ≡ statuses.NoMatch) × (span ≡ span_of None)
 IsSpanTold (Err fault) status span = (status ≡ fault_status fault) × (span ≡ span_of None)
 
--- How a search of what was built ends: with the match that the definitions give, or without one; or with a fault, which is kept.
+-- How a search of what was built ends: with the match that the definitions give, or without one; or with a fault, which is recorded.
 pub record FindEnds (subject : Subject) (text : List ℕ) (query : Query) (status : Status) (span : Span) (old new : Option CallError) : Type 0 where
   pub answer : Result (Option (ℕ × ℕ)) CallError
   pub is_found : IsFoundBy subject text query answer
   pub is_told : IsSpanTold answer status span
-  pub kept : FaultAfter answer old new
+  pub recorded : FaultAfter answer old new
 
 -- how a search for groups that answers this ends
 abbrev pub captured_status : Result Bool CallError → Status
@@ -92,24 +92,24 @@ captured_status (Ok false) = statuses.NoMatch
 captured_status (Err fault) = fault_status fault
 
 -- How a search of what was built for groups ends: their spans are written; or all spans stay as they were, without a match, or with a
--- fault, which is kept.
+-- fault, which is recorded.
 pub record CapturesEnd (subject : Subject) (text : List ℕ) (query : Query) (status : Status) (spans written : List Span) (old new : Option CallError) : Type 0 where
   pub answer : Result Bool CallError
   pub is_captured : IsCapturedBy subject text query answer spans written
   pub is_told : status ≡ captured_status answer
-  pub kept : FaultAfter answer old new
+  pub recorded : FaultAfter answer old new
 
 -- The number that a search of what a handle holds returns, the span, and what the handle holds afterwards: what was built, and the fault
--- that is to be kept.
-abbrev pub FindReports : Option Held → Option Held → List ℕ → Query → ℤ → Span → Type 0
-FindReports (Some held) left text query code span = (after : Held) × (status : Status) × (left ≡ Some after) × (code ≡ code_of status)
-    × (after.subject ≡ held.subject) × FindEnds held.subject text query status span held.fault after.fault
+-- that is recorded.
+abbrev pub FindReports : Option Contents → Option Contents → List ℕ → Query → ℤ → Span → Type 0
+FindReports (Some contents) left text query code span = (after : Contents) × (status : Status) × (left ≡ Some after) × (code ≡ code_of status)
+    × (after.subject ≡ contents.subject) × FindEnds contents.subject text query status span contents.fault after.fault
 FindReports None left text query code span = (code ≡ code_of statuses.EmptyHandle) × (span ≡ span_of None) × (left ≡ None)
 
 -- the number that a search for groups of what a handle holds returns, the spans, and what the handle holds afterwards
-abbrev pub CapturesReport : Option Held → Option Held → List ℕ → Query → ℤ → List Span → List Span → Type 0
-CapturesReport (Some held) left text query code spans written = (after : Held) × (status : Status) × (left ≡ Some after) × (code ≡ code_of status)
-    × (after.subject ≡ held.subject) × CapturesEnd held.subject text query status spans written held.fault after.fault
+abbrev pub CapturesReport : Option Contents → Option Contents → List ℕ → Query → ℤ → List Span → List Span → Type 0
+CapturesReport (Some contents) left text query code spans written = (after : Contents) × (status : Status) × (left ≡ Some after) × (code ≡ code_of status)
+    × (after.subject ≡ contents.subject) × CapturesEnd contents.subject text query status spans written contents.fault after.fault
 CapturesReport None left text query code spans written = (code ≡ code_of statuses.EmptyHandle) × (written ≡ spans) × (left ≡ None)
 
 -- the search answers: with a match, or that there is none
@@ -119,9 +119,9 @@ IsAnswer statuses.NoMatch = ⊤
 IsAnswer _ = ⊥
 
 -- the looks that a search of what a handle holds counts, given the number that it returns
-abbrev pub LooksCounted : Option Held → List ℕ → Query → ℤ → ℕ → Type 0
-LooksCounted (Some held) text query code count = (status : Status) × (code ≡ code_of status) × CountsLooksBy held.subject text query 0 count
-    × (IsAnswer status → CountsStartsBy held.subject text query 0 count)
+abbrev pub LooksCounted : Option Contents → List ℕ → Query → ℤ → ℕ → Type 0
+LooksCounted (Some contents) text query code count = (status : Status) × (code ≡ code_of status) × CountsLooksBy contents.subject text query 0 count
+    × (IsAnswer status → CountsStartsBy contents.subject text query 0 count)
 LooksCounted None text query code count = count ≡ 0
 
 -- the name of a group of what was built, as characters; there is none without a regex or without such a group
@@ -145,6 +145,6 @@ abbrev pub IsNameWritten : Subject → ℕ → List ℕ → List ℕ → ℕ →
 IsNameWritten subject group old new count = (text : List ℕ) × IsNameOf subject group text × (count ≡ length text) × IsFrontOf text old new
 
 -- the same for what a handle holds; an empty one has no names
-abbrev pub NameReports : Option Held → ℕ → List ℕ → List ℕ → ℕ → Type 0
-NameReports (Some held) group old new count = IsNameWritten held.subject group old new count
+abbrev pub NameReports : Option Contents → ℕ → List ℕ → List ℕ → ℕ → Type 0
+NameReports (Some contents) group old new count = IsNameWritten contents.subject group old new count
 NameReports None group old new count = (count ≡ 0) × (new ≡ old)

@@ -2,10 +2,10 @@
 -- groups.
 use Rattle.std.specs.Prelude.{◌≡◌, ℕ, ℤ, List, length, Option, Some, None, Result, Ok, Err, string_bytes, IsUtf8}
 use Rattle.fancy_regex_search.specs.declared.regex.Regex.{Regex}
-use Rattle.fancy_search_text.specs.Matches.{IsErrorOfSearch}
-use Rattle.fancy_search_text.specs.Replaced.{replaced_in}
+use Rattle.fancy_regex.specs.TextMatches.{matches_of, IsErrorOfSearch}
+use Rattle.fancy_regex.specs.ReplacedTexts.{replaced_in}
 use Rattle.fancy_regex_ffi_lists.specs.Groups.{AreMatchingGroups}
-use Rattle.fancy_regex_ffi_lists.specs.Lists.{gap_spans, match_spans, matches_of, matching_members, IsMemberError}
+use Rattle.fancy_regex_ffi_lists.specs.Lists.{gap_spans, match_spans, matching_members, IsMemberError}
 use Rattle.fancy_regex_ffi_lists.specs.declared.member.Member.{Member}
 use Rattle.fancy_regex_ffi_lists.specs.declared.spans.Span.{Span}
 use Rattle.fancy_regex_ffi.specs.Codes.{code_of, fault_status}
@@ -14,9 +14,9 @@ use Rattle.fancy_regex_ffi.specs.Searches.{config_of, CanBegin, IsPlaceFault}
 use Rattle.fancy_regex_ffi_lists.specs.Fronts.{IsFrontOf}
 use Rattle.fancy_regex_ffi.specs.declared.fault.CallError.{CallError}
 use Rattle.fancy_regex_ffi.specs.declared.fault.CallError.TheVariants as faults
-use Rattle.fancy_regex_ffi.specs.declared.held.Held.{Held}
-use Rattle.fancy_regex_ffi.specs.declared.held.Subject.{Subject}
-use Rattle.fancy_regex_ffi.specs.declared.held.Subject.TheVariants as subjects
+use Rattle.fancy_regex_ffi.specs.declared.contents.Contents.{Contents}
+use Rattle.fancy_regex_ffi.specs.declared.contents.Subject.{Subject}
+use Rattle.fancy_regex_ffi.specs.declared.contents.Subject.TheVariants as subjects
 use Rattle.fancy_regex_ffi.specs.declared.query.Query.{Query}
 use Rattle.fancy_regex_ffi.specs.declared.status.Status.TheVariants as statuses
 
@@ -94,8 +94,8 @@ IsListWritten (Err fault) code old new count = (code ≡ code_of (fault_status f
 
 -- How a call ends that writes the list that `Gives` says of what a handle holds: what stands in the handle afterwards, the number, and
 -- what is written and counted. An empty handle has no list.
-abbrev pub ListReports : {X : Type 0} → (Subject → Result (List X) CallError → Type 0) → Option Held → Option Held → ℤ → List X → List X → ℕ → Type 0
-ListReports {X} Gives (Some held) left code old new count =
-    (after : Held) × (answer : Result (List X) CallError) × (left ≡ Some after) × (after.subject ≡ held.subject) × Gives held.subject answer
-    × IsListWritten answer code old new count × FaultAfter answer held.fault after.fault
+abbrev pub ListReports : {X : Type 0} → (Subject → Result (List X) CallError → Type 0) → Option Contents → Option Contents → ℤ → List X → List X → ℕ → Type 0
+ListReports {X} Gives (Some contents) left code old new count =
+    (after : Contents) × (answer : Result (List X) CallError) × (left ≡ Some after) × (after.subject ≡ contents.subject) × Gives contents.subject answer
+    × IsListWritten answer code old new count × FaultAfter answer contents.fault after.fault
 ListReports Gives None left code old new count = (code ≡ code_of statuses.EmptyHandle) × (new ≡ old) × (count ≡ 0) × (left ≡ None)

@@ -14,8 +14,8 @@ use Rattle.fancy_regex_ffi.specs.declared.fault.CallError.{CallError}
 use Rattle.fancy_regex_ffi.specs.declared.fault.CallError.TheVariants as faults
 use Rattle.fancy_regex_ffi.specs.declared.query.Query.{Query}
 use Rattle.fancy_regex_ffi_lists.specs.declared.spans.Span.{Span}
-use Rattle.fancy_regex_ffi.specs.declared.held.Subject.{Subject}
-use Rattle.fancy_regex_ffi.specs.declared.held.Subject.TheVariants as subjects
+use Rattle.fancy_regex_ffi.specs.declared.contents.Subject.{Subject}
+use Rattle.fancy_regex_ffi.specs.declared.contents.Subject.TheVariants as subjects
 
 -- the text itself if it is UTF-8, else the fault that says so
 abbrev pub IsTextOrFault : List ℕ → Result (Bor (List ℕ)) CallError → Type 0

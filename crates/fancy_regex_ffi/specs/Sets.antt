@@ -11,9 +11,9 @@ use Rattle.fancy_regex_ffi_lists.specs.declared.options.Options.{Options}
 use Rattle.fancy_regex_ffi.specs.Codes.{code_of, fault_status}
 use Rattle.fancy_regex_ffi.specs.declared.fault.CallError.{CallError}
 use Rattle.fancy_regex_ffi.specs.declared.fault.CallError.TheVariants as faults
-use Rattle.fancy_regex_ffi.specs.declared.held.Held.{Held}
-use Rattle.fancy_regex_ffi.specs.declared.held.Subject.{Subject}
-use Rattle.fancy_regex_ffi.specs.declared.held.Subject.TheVariants as subjects
+use Rattle.fancy_regex_ffi.specs.declared.contents.Contents.{Contents}
+use Rattle.fancy_regex_ffi.specs.declared.contents.Subject.{Subject}
+use Rattle.fancy_regex_ffi.specs.declared.contents.Subject.TheVariants as subjects
 use Rattle.fancy_regex_ffi.specs.declared.status.Status.{Status}
 use Rattle.fancy_regex_ffi.specs.declared.status.Status.TheVariants as statuses
 
@@ -53,10 +53,10 @@ IsSetRefused options bytes ends faults.NotUtf8 = Each IsUtf8 (cut_at bytes 0 end
 IsSetRefused options bytes ends faults.WrongEnds = Rise bytes 0 ends → ⊥
 IsSetRefused options bytes ends _ = ⊥
 
--- a set is held with no fault, or nothing with the fault; and how that ends
-abbrev pub IsSetTold : Result RegexSet CallError → Held → Status → Type 0
-IsSetTold (Ok set) held status = (held.subject ≡ subjects.Set set) × (held.fault ≡ None) × (status ≡ statuses.Done)
-IsSetTold (Err fault) held status = (held.subject ≡ subjects.Nothing) × (held.fault ≡ Some fault) × (status ≡ fault_status fault)
+-- a set is stored with no fault, or nothing with the fault; and how that ends
+abbrev pub IsSetTold : Result RegexSet CallError → Contents → Status → Type 0
+IsSetTold (Ok set) contents status = (contents.subject ≡ subjects.Set set) × (contents.fault ≡ None) × (status ≡ statuses.Done)
+IsSetTold (Err fault) contents status = (contents.subject ≡ subjects.Nothing) × (contents.fault ≡ Some fault) × (status ≡ fault_status fault)
 
 -- what is built of these patterns, and how the call ends
 abbrev pub IsSetBuilt : RegexOptions → List ℕ → List ℕ → Subject → Option CallError → Status → Type 0
@@ -67,8 +67,8 @@ IsSetBuilt options bytes ends subjects.Nothing None status = ⊥
 IsSetBuilt options bytes ends (subjects.Regex regex) fault status = ⊥
 
 -- what stands in the handle after a set is built, and the number
-abbrev pub SetBuildEnds : RegexOptions → List ℕ → List ℕ → Option Held → ℤ → Type 0
-SetBuildEnds options bytes ends (Some held) code = (status : Status) × (code ≡ code_of status) × IsSetBuilt options bytes ends held.subject held.fault status
+abbrev pub SetBuildEnds : RegexOptions → List ℕ → List ℕ → Option Contents → ℤ → Type 0
+SetBuildEnds options bytes ends (Some contents) code = (status : Status) × (code ≡ code_of status) × IsSetBuilt options bytes ends contents.subject contents.fault status
 SetBuildEnds options bytes ends None code = code ≡ code_of statuses.Memory
 
 -- The same where each pattern has options of its own.
@@ -85,6 +85,6 @@ IsMixedBuilt options bytes ends subjects.Nothing (Some fault) status = (status �
 IsMixedBuilt options bytes ends subjects.Nothing None status = ⊥
 IsMixedBuilt options bytes ends (subjects.Regex regex) fault status = ⊥
 
-abbrev pub MixedBuildEnds : List Options → List ℕ → List ℕ → Option Held → ℤ → Type 0
-MixedBuildEnds options bytes ends (Some held) code = (status : Status) × (code ≡ code_of status) × IsMixedBuilt options bytes ends held.subject held.fault status
+abbrev pub MixedBuildEnds : List Options → List ℕ → List ℕ → Option Contents → ℤ → Type 0
+MixedBuildEnds options bytes ends (Some contents) code = (status : Status) × (code ≡ code_of status) × IsMixedBuilt options bytes ends contents.subject contents.fault status
 MixedBuildEnds options bytes ends None code = code ≡ code_of statuses.Memory

@@ -1,6 +1,6 @@
 -- Templates and names: what their calls answer.
 use Rattle.std.specs.Prelude.{◌≡◌, ℕ, ℤ, Bool, true, false, List, length, Option, Some, None, Result, Ok, Err, chars, IsUtf8}
-use Rattle.fancy_regex_template.specs.Faults.{CallError as TemplateFault, first_fault}
+use Rattle.fancy_regex_template.specs.Faults.{TemplateFault, first_fault}
 use Rattle.fancy_regex_template.specs.Parts.{parts}
 use Rattle.fancy_regex_template.specs.PatternEscape.{escaped_pattern}
 use Rattle.fancy_regex_template.specs.declared.syntax.TemplateSyntax.{TemplateSyntax}
@@ -17,8 +17,8 @@ use Rattle.fancy_regex_ffi.specs.Ends.{FaultAfter}
 use Rattle.fancy_regex_ffi.specs.Lists.{IsListWritten, ListReports, OfRegex}
 use Rattle.fancy_regex_ffi.specs.declared.fault.CallError.{CallError}
 use Rattle.fancy_regex_ffi.specs.declared.fault.CallError.TheVariants as faults
-use Rattle.fancy_regex_ffi.specs.declared.held.Held.{Held}
-use Rattle.fancy_regex_ffi.specs.declared.held.Subject.{Subject}
+use Rattle.fancy_regex_ffi.specs.declared.contents.Contents.{Contents}
+use Rattle.fancy_regex_ffi.specs.declared.contents.Subject.{Subject}
 use Rattle.fancy_regex_ffi.specs.declared.status.Status.TheVariants as statuses
 
 -- the names of the groups of a regex, line by line, or want of memory
@@ -31,7 +31,7 @@ abbrev pub AreNames : Subject → Result (List ℕ) CallError → Type 0
 AreNames = OfRegex AreNamesOf
 
 -- what the call for the names of a handle reports
-abbrev pub NamesReport : Option Held → Option Held → ℤ → List ℕ → List ℕ → ℕ → Type 0
+abbrev pub NamesReport : Option Contents → Option Contents → ℤ → List ℕ → List ℕ → ℕ → Type 0
 NamesReport = ListReports AreNames
 
 -- how the references of a template are written
@@ -66,9 +66,9 @@ done_code (Ok _) = code_of statuses.Done
 done_code (Err fault) = code_of (fault_status fault)
 
 -- what the check of a template for a handle reports
-abbrev pub CheckReports : Option Held → Option Held → List ℕ → Bool → ℤ → Type 0
-CheckReports (Some held) left template is_python code = (after : Held) × (answer : Result (Unit {0}) CallError) × (left ≡ Some after) × (after.subject ≡ held.subject)
-    × IsChecked template is_python held.subject answer × (code ≡ done_code answer) × FaultAfter answer held.fault after.fault
+abbrev pub CheckReports : Option Contents → Option Contents → List ℕ → Bool → ℤ → Type 0
+CheckReports (Some contents) left template is_python code = (after : Contents) × (answer : Result (Unit {0}) CallError) × (left ≡ Some after) × (after.subject ≡ contents.subject)
+    × IsChecked template is_python contents.subject answer × (code ≡ done_code answer) × FaultAfter answer contents.fault after.fault
 CheckReports None left template is_python code = (code ≡ code_of statuses.EmptyHandle) × (left ≡ None)
 
 -- the pattern that matches exactly the text, or why there is none: want of memory, or that the text is not UTF-8

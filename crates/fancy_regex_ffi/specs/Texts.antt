@@ -4,7 +4,7 @@ use Rattle.fancy_regex_meta.specs.declared.error.Error.{Error}
 use Rattle.fancy_regex_ffi_lists.specs.Fronts.{IsFrontOf, IsErrorWritten}
 use Rattle.fancy_regex_ffi.specs.declared.fault.CallError.{CallError}
 use Rattle.fancy_regex_ffi.specs.declared.fault.CallError.TheVariants as faults
-use Rattle.fancy_regex_ffi.specs.declared.held.Held.{Held}
+use Rattle.fancy_regex_ffi.specs.declared.contents.Contents.{Contents}
 
 -- the number is the length of the text, and the bytes begin with it; after it they are as they were
 abbrev pub IsTold : List ℕ → List ℕ → List ℕ → ℕ → Type 0
@@ -20,12 +20,12 @@ IsFaultWritten shown faults.PastEnd = IsTold (codes "the search begins past the 
 IsFaultWritten shown faults.OffBoundary = IsTold (codes "the search begins inside a character")
 IsFaultWritten shown (faults.Regex error) = IsErrorWritten (shown error)
 
--- the same for the fault that is kept; without one nothing is told
+-- the same for the fault that is recorded; without one nothing is told
 abbrev pub IsTextWritten : (Error → Option (List ℕ)) → Option CallError → List ℕ → List ℕ → ℕ → Type 0
 IsTextWritten shown (Some fault) old new count = IsFaultWritten shown fault old new count
 IsTextWritten shown None old new count = (count ≡ 0) × (new ≡ old)
 
--- the same for what a handle keeps; an empty one has no fault
-abbrev pub TextReports : (Error → Option (List ℕ)) → Option Held → List ℕ → List ℕ → ℕ → Type 0
-TextReports shown (Some held) old new count = IsTextWritten shown held.fault old new count
+-- the same for what a handle holds; an empty one has no fault
+abbrev pub TextReports : (Error → Option (List ℕ)) → Option Contents → List ℕ → List ℕ → ℕ → Type 0
+TextReports shown (Some contents) old new count = IsTextWritten shown contents.fault old new count
 TextReports shown None old new count = (count ≡ 0) × (new ≡ old)

@@ -1,30 +1,30 @@
-//! How calls end: what they write, what a handle keeps, and the number.
+//! How calls end: what they write, what is stored in the handle, and the number.
 
 ghost use Rattle.std.specs.Prelude.{◌≡◌, None};
 ghost use Rattle.std.specs.Cow.{cow_str_bytes};
 ghost use Rattle.fancy_regex_ffi.specs.Codes.{code_of};
-ghost use Rattle.fancy_regex_ffi.specs.Ends.{FaultAfter, IsHeldAs};
+ghost use Rattle.fancy_regex_ffi.specs.Ends.{FaultAfter, IsStored};
 ghost use Rattle.fancy_regex_ffi.specs.Lists.{IsListWritten, listed};
 ghost use Rattle.fancy_regex_ffi.specs.Templates.{done_code};
 
-use crate::calls::keep;
+use crate::calls::record_fault;
+use crate::contents::Contents;
 use crate::fault::CallError;
 use crate::handle::Handle;
-use crate::held::Held;
 use crate::status::Status;
 use fancy_regex_ffi_lists::write_front;
 use std::alloc::Global;
 use std::borrow::CowStr;
 
-/// Writes a list, as much of it as there is room for, and counts it, or keeps the fault; and tells how the call ends.
+/// Writes a list, as much of it as there is room for, and counts it, or records the fault; and tells how the call ends.
 pub fn answer_items<T: Copy>(
-    held: &mut Held,
+    contents: &mut Contents,
     answer: Result<Vec<T>, CallError>,
     out: &mut [T],
     count: &mut usize,
 ) -> Status
-    ensures subject { held.new.subject ≡ held.old.subject }
-    ensures fault { FaultAfter (listed (λ items. items.items) answer) held.old.fault held.new.fault }
+    ensures subject { contents.new.subject ≡ contents.old.subject }
+    ensures fault { FaultAfter (listed (λ items. items.items) answer) contents.old.fault contents.new.fault }
     ensures written { IsListWritten (listed (λ items. items.items) answer) (code_of result) out.old out.new count.new }
 {
     match answer {
@@ -34,20 +34,20 @@ pub fn answer_items<T: Copy>(
         }
         Err(fault) => {
             *count = 0;
-            keep(held, fault)
+            record_fault(contents, fault)
         }
     }
 }
 
-/// Writes a text, as much of it as there is room for, and its length, or keeps the fault; and tells how the call ends.
+/// Writes a text, as much of it as there is room for, and its length, or records the fault; and tells how the call ends.
 pub fn answer_text(
-    held: &mut Held,
+    contents: &mut Contents,
     answer: Result<CowStr<'_>, CallError>,
     out: &mut [u8],
     length: &mut usize,
 ) -> Status
-    ensures subject { held.new.subject ≡ held.old.subject }
-    ensures fault { FaultAfter (listed (λ text. cow_str_bytes text) answer.entry) held.old.fault held.new.fault }
+    ensures subject { contents.new.subject ≡ contents.old.subject }
+    ensures fault { FaultAfter (listed (λ text. cow_str_bytes text) answer.entry) contents.old.fault contents.new.fault }
     ensures written { IsListWritten (listed (λ text. cow_str_bytes text) answer.entry) (code_of result) out.old out.new length.new }
 {
     match answer {
@@ -57,12 +57,12 @@ pub fn answer_text(
         }
         Err(fault) => {
             *length = 0;
-            keep(held, fault)
+            record_fault(contents, fault)
         }
     }
 }
 
-/// Writes a text, as much of it as there is room for, and its length; and tells how the call ends, which keeps no fault.
+/// Writes a text, as much of it as there is room for, and its length; and tells how the call ends, which records no fault.
 pub fn end_text(answer: Result<CowStr<'_>, CallError>, out: &mut [u8], length: &mut usize) -> Status
     ensures { IsListWritten (listed (λ text. cow_str_bytes text) answer.entry) (code_of result) out.old out.new length.new }
 {
@@ -78,26 +78,26 @@ pub fn end_text(answer: Result<CowStr<'_>, CallError>, out: &mut [u8], length: &
     }
 }
 
-/// Tells how a call ends that answers nothing, or keeps the fault.
-pub fn answer_done(held: &mut Held, answer: Result<(), CallError>) -> Status
-    ensures subject { held.new.subject ≡ held.old.subject }
-    ensures fault { FaultAfter answer held.old.fault held.new.fault }
+/// Tells how a call ends that answers nothing, or records the fault.
+pub fn answer_done(contents: &mut Contents, answer: Result<(), CallError>) -> Status
+    ensures subject { contents.new.subject ≡ contents.old.subject }
+    ensures fault { FaultAfter answer contents.old.fault contents.new.fault }
     ensures code { code_of result ≡ done_code answer }
 {
     match answer {
         Ok(()) => Status::Done,
-        Err(fault) => keep(held, fault),
+        Err(fault) => record_fault(contents, fault),
     }
 }
 
-/// Holds what was built, and tells how that ended; the handle stays empty if memory runs out.
-pub fn hold(alloc: Global, handle: &mut Handle, held: Held, status: Status) -> i32
-    requires { handle.old.held ≡ None }
-    ensures { IsHeldAs held status handle.new.held result }
+/// Stores what was built in the handle, and tells how that ended; the handle stays empty if memory runs out.
+pub fn store(alloc: Global, handle: &mut Handle, contents: Contents, status: Status) -> i32
+    requires { handle.old.contents ≡ None }
+    ensures { IsStored contents status handle.new.contents result }
 {
-    match Box::new(alloc, held) {
-        Ok(held) => {
-            handle.put(alloc, held);
+    match Box::new(alloc, contents) {
+        Ok(contents) => {
+            handle.put(alloc, contents);
             status.code()
         }
         Err(_) => Status::Memory.code(),

@@ -4,10 +4,10 @@ ghost use Rattle.std.specs.Prelude.{◌≡◌, None};
 ghost use Rattle.fancy_regex_ffi_lists.specs.Choices.{chosen};
 ghost use Rattle.fancy_regex_ffi.specs.Bytes.{AreStartsOrFault, AreRequiredOrFault, IsAskedEnd};
 
-use crate::answers::hold;
+use crate::answers::store;
+use crate::contents::Contents;
 use crate::fault::CallError;
 use crate::handle::Handle;
-use crate::held::Held;
 use crate::query::text_of;
 use crate::status::Status;
 use fancy_regex_ffi_lists::{Options, mark_required_bytes, mark_start_bytes};
@@ -41,17 +41,17 @@ pub fn required_of(
 }
 
 /// Tells how a question about a pattern ends. The handle holds the fault, if there is one.
-#[tactic(auto, using(crate::proofs::EndLemmas::fault_held))]
+#[tactic(auto, using(crate::proofs::EndLemmas::fault_stored))]
 pub fn end_asked(alloc: Global, handle: &mut Handle, answer: Result<bool, CallError>) -> i32
-    requires { handle.old.held ≡ None }
-    ensures { IsAskedEnd answer handle.new.held result }
+    requires { handle.old.contents ≡ None }
+    ensures { IsAskedEnd answer handle.new.contents result }
 {
     match answer {
         Ok(true) => Status::Done.code(),
         Ok(false) => Status::NoMatch.code(),
         Err(fault) => {
             let status = Status::of_fault(&fault);
-            hold(alloc, handle, Held::of_fault(fault), status)
+            store(alloc, handle, Contents::of_fault(fault), status)
         }
     }
 }

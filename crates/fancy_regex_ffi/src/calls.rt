@@ -1,17 +1,17 @@
-//! What the exported calls do with what a handle holds.
+//! What the exported calls do with the contents of a handle.
 
 ghost use Rattle.std.specs.Prelude.{◌≡◌, Some, true, IfOk, IfErr, option_map, chars, string_bytes, IsUtf8};
 ghost use Rattle.fancy_regex_meta.specs.Caps.{MetaKeepsCap};
 ghost use Rattle.fancy_regex_meta.specs.Refusals.{Accepts};
 ghost use Rattle.fancy_regex_ffi_lists.specs.Choices.{chosen};
 ghost use Rattle.fancy_regex_ffi.specs.Codes.{fault_status};
-ghost use Rattle.fancy_regex_ffi.specs.Ends.{IsAnswer, IsBuildFault, IsBuilt, FindEnds, CapturesEnd, groups_for, place_kept, IsGroupName, IsNameOf, IsNameWritten};
+ghost use Rattle.fancy_regex_ffi.specs.Ends.{IsAnswer, IsBuildFault, IsBuilt, FindEnds, CapturesEnd, groups_for, place_or_max, IsGroupName, IsNameOf, IsNameWritten};
 ghost use Rattle.fancy_regex_ffi.specs.Searches.{IsFoundBy, CountsLooksBy, CountsStartsBy, IsCapturedBy, IsCapturedIn, AreGroupSpans};
 ghost use Rattle.fancy_regex_ffi.specs.Texts.{IsFaultWritten, IsTextWritten};
-ghost use Rattle.fancy_regex_ffi.specs.declared.held.Subject.TheVariants as subjects;
+ghost use Rattle.fancy_regex_ffi.specs.declared.contents.Subject.TheVariants as subjects;
 
+use crate::contents::{Contents, Subject};
 use crate::fault::CallError;
-use crate::held::{Held, Subject};
 use crate::query::{Query, check_place, find_in, text_of};
 use crate::status::Status;
 use fancy_regex::{Captures, Error, Regex, RegexInput, Steps};
@@ -21,14 +21,14 @@ use std::{fmt, str};
 
 /// Builds a regex, and tells how that ends.
 #[tactic(auto, using(crate::proofs::EndLemmas::built_ends, crate::proofs::EndLemmas::refused_ends))]
-pub fn built(alloc: Global, pattern: &[u8], options: &Options) -> (Held, Status)
+pub fn built(alloc: Global, pattern: &[u8], options: &Options) -> (Contents, Status)
     ensures { IsBuilt (chosen options.now) pattern.now result.0.subject result.0.fault result.1 }
 {
     match build(alloc, pattern, options) {
-        Ok(regex) => (Held::of_regex(regex), Status::Done),
+        Ok(regex) => (Contents::of_regex(regex), Status::Done),
         Err(fault) => {
             let status = Status::of_fault(&fault);
-            (Held::of_fault(fault), status)
+            (Contents::of_fault(fault), status)
         }
     }
 }
@@ -50,26 +50,26 @@ fn build(alloc: Global, pattern: &[u8], options: &Options) -> Result<Regex, Call
     }
 }
 
-/// How a search ends, and the span of the first match; a fault is kept. The counter is raised by the looks of the linear-time
+/// How a search ends, and the span of the first match; a fault is recorded. The counter is raised by the looks of the linear-time
 /// matcher.
-#[tactic(auto, using(crate::proofs::EndLemmas::found_ends, crate::proofs::EndLemmas::missing_ends, crate::proofs::EndLemmas::fault_ends, crate::proofs::EndLemmas::no_answer))]
-pub fn find_held(
+#[tactic(auto, using(crate::proofs::EndLemmas::ends_of_find))]
+pub fn find_span(
     alloc: Global,
-    held: &mut Held,
+    contents: &mut Contents,
     text: &[u8],
     query: &Query,
     steps: &mut Steps,
 ) -> (Status, Span)
     requires { query.now.is_utf8 ≡ true → IsUtf8 text.now }
-    ensures subject { held.new.subject ≡ held.old.subject }
-    ensures answer { FindEnds held.old.subject text.now query.now result.0 result.1 held.old.fault held.new.fault }
-    ensures looks { CountsLooksBy held.old.subject text.now query.now steps.old steps.new }
-    ensures starts { IsAnswer result.0 → CountsStartsBy held.old.subject text.now query.now steps.old steps.new }
+    ensures subject { contents.new.subject ≡ contents.old.subject }
+    ensures answer { FindEnds contents.old.subject text.now query.now result.0 result.1 contents.old.fault contents.new.fault }
+    ensures looks { CountsLooksBy contents.old.subject text.now query.now steps.old steps.new }
+    ensures starts { IsAnswer result.0 → CountsStartsBy contents.old.subject text.now query.now steps.old steps.new }
 {
-    match find(alloc, &held.subject, text, query, steps) {
+    match find(alloc, &contents.subject, text, query, steps) {
         Ok(Some(found)) => (Status::Done, Span::of(Some(found))),
         Ok(None) => (Status::NoMatch, Span::of(None)),
-        Err(fault) => (keep(held, fault), Span::of(None)),
+        Err(fault) => (record_fault(contents, fault), Span::of(None)),
     }
 }
 
@@ -95,23 +95,23 @@ fn find(
     }
 }
 
-/// Writes the groups of the first match, as many as there is room for, and tells how the search ends; a fault is kept.
-#[tactic(auto, using(crate::proofs::EndLemmas::captured_ends, crate::proofs::EndLemmas::uncaptured_ends, crate::proofs::EndLemmas::captures_fault_ends))]
-pub fn captures_held(
+/// Writes the groups of the first match, as many as there is room for, and tells how the search ends; a fault is recorded.
+#[tactic(auto, using(crate::proofs::EndLemmas::ends_of_captures))]
+pub fn write_captures(
     alloc: Global,
-    held: &mut Held,
+    contents: &mut Contents,
     text: &[u8],
     query: &Query,
     spans: &mut [Span],
 ) -> Status
     requires { query.now.is_utf8 ≡ true → IsUtf8 text.now }
-    ensures subject { held.new.subject ≡ held.old.subject }
-    ensures answer { CapturesEnd held.old.subject text.now query.now result spans.old spans.new held.old.fault held.new.fault }
+    ensures subject { contents.new.subject ≡ contents.old.subject }
+    ensures answer { CapturesEnd contents.old.subject text.now query.now result spans.old spans.new contents.old.fault contents.new.fault }
 {
-    match captures(alloc, &held.subject, text, query, spans) {
+    match captures(alloc, &contents.subject, text, query, spans) {
         Ok(true) => Status::Done,
         Ok(false) => Status::NoMatch,
-        Err(fault) => keep(held, fault),
+        Err(fault) => record_fault(contents, fault),
     }
 }
 
@@ -167,32 +167,32 @@ fn write_groups(captures: &Captures<'_, &str>, spans: &mut [Span])
     }
 }
 
-/// Keeps the fault, and tells how the call ends that has it.
-pub fn keep(held: &mut Held, fault: CallError) -> Status
+/// Records the fault, and tells how the call ends that has it.
+pub fn record_fault(contents: &mut Contents, fault: CallError) -> Status
     ensures status { result ≡ fault_status fault }
-    ensures fault { held.new.fault ≡ Some fault }
-    ensures subject { held.new.subject ≡ held.old.subject }
+    ensures fault { contents.new.fault ≡ Some fault }
+    ensures subject { contents.new.subject ≡ contents.old.subject }
 {
     let status = Status::of_fault(&fault);
-    held.fault = Some(fault);
+    contents.fault = Some(fault);
     status
 }
 
 /// The number of groups.
-pub fn groups_of(held: &Held) -> usize
-    ensures { result ≡ groups_for held.now.subject }
+pub fn groups_of(contents: &Contents) -> usize
+    ensures { result ≡ groups_for contents.now.subject }
 {
-    match &held.subject {
+    match &contents.subject {
         Subject::Regex(regex) => regex.captures_len(),
         Subject::Set(_) | Subject::Nothing => 0,
     }
 }
 
 /// Writes the name of a group, as much as there is room for, and returns how long it is; 0 if it has none.
-pub fn write_name(held: &Held, group: usize, out: &mut [u8]) -> usize
-    ensures { IsNameWritten held.now.subject group out.old out.new result }
+pub fn write_name(contents: &Contents, group: usize, out: &mut [u8]) -> usize
+    ensures { IsNameWritten contents.now.subject group out.old out.new result }
 {
-    write_front(out, name_of(&held.subject, group))
+    write_front(out, name_of(&contents.subject, group))
 }
 
 /// The name of a group in UTF-8; no bytes if it has none.
@@ -224,20 +224,20 @@ fn group_name(regex: &Regex, group: usize) -> Option<&str>
 }
 
 /// The byte of the pattern at which the last fault stands; `usize::MAX` if there is none.
-pub fn place_held(held: &Held) -> usize
-    ensures { result ≡ place_kept held.now.fault }
+pub fn place_of_fault(contents: &Contents) -> usize
+    ensures { result ≡ place_or_max contents.now.fault }
 {
-    match &held.fault {
+    match &contents.fault {
         Some(fault) => fault.place().unwrap_or(usize::MAX),
         None => usize::MAX,
     }
 }
 
 /// Writes the text of the last fault, as much as there is room for, and returns how long it is; 0 only if there is none.
-pub fn write_fault(held: &Held, out: &mut [u8]) -> usize
-    ensures { IsTextWritten ⟦<Error as fmt::Display>⟧.output held.now.fault out.old out.new result }
+pub fn write_fault(contents: &Contents, out: &mut [u8]) -> usize
+    ensures { IsTextWritten ⟦<Error as fmt::Display>⟧.output contents.now.fault out.old out.new result }
 {
-    match &held.fault {
+    match &contents.fault {
         Some(fault) => write_told(fault, out),
         None => 0,
     }

@@ -1,13 +1,13 @@
-//! `Handle`: the place in the hands of C at which a value of the library is held, or nothing.
+//! `Handle`: the place in the hands of C at which a value of the library stands, or nothing.
 
 ghost use Rattle.std.specs.Prelude.{◌≡◌, Option, None, Some, MatchOption};
 ghost use Rattle.core.specs.contracts.option.Option.{the_row as option_row};
-ghost use Rattle.fancy_regex_ffi.specs.declared.held.Held.{Held};
-ghost use Rattle.fancy_regex_ffi.specs.contracts.held.Held.{the_row as held_row};
+ghost use Rattle.fancy_regex_ffi.specs.declared.contents.Contents.{Contents};
+ghost use Rattle.fancy_regex_ffi.specs.contracts.contents.Contents.{the_row as contents_row};
 ghost use Rattle.fancy_regex_ffi.specs.Handles.{owns_if_live, token};
 
-use crate::held::Held;
-use crate::loose::Loose;
+use crate::box_parts::BoxParts;
+use crate::contents::Contents;
 use std::alloc::Global;
 use std::marker::Model;
 use std::{mem, ptr};
@@ -19,11 +19,11 @@ pub struct Handle {
     at: *mut u8,
     /// Whether there is one.
     live: bool,
-    pub ghost held: { Option Held } by { (option_row held_row).coded },
+    pub ghost contents: { Option Contents } by { (option_row contents_row).coded },
 }
 
 impl Model for Handle {
-    ghost also_owns = { λ h. owns_if_live token held_row h.at h.live h.held };
+    ghost also_owns = { λ h. owns_if_live token contents_row h.at h.live h.contents };
 }
 
 // What a handle owns names no thread, so a handle may go to another one: that is proved.
@@ -32,7 +32,7 @@ unsafe impl Send for Handle {}
 impl Handle {
     /// The handle that holds nothing.
     pub fn empty() -> Handle
-        ensures { result.held ≡ None }
+        ensures { result.contents ≡ None }
     {
         Handle {
             at: ptr::null_mut(),
@@ -41,10 +41,10 @@ impl Handle {
     }
 
     /// The handle of what a box taken apart owns.
-    fn keep(loose: Loose<Held, Global>) -> Handle
-        ensures { result.held ≡ Some loose.value }
+    fn from_parts(parts: BoxParts<Contents, Global>) -> Handle
+        ensures { result.contents ≡ Some parts.value }
     {
-        let Loose { at, alloc: _ } = loose;
+        let BoxParts { at, alloc: _ } = parts;
         Handle {
             at: at as *mut u8,
             live: true,
@@ -52,48 +52,48 @@ impl Handle {
     }
 
     /// What the handle holds, as the parts of its box; `None` if it is empty.
-    fn release(self, alloc: Global) -> Option<Loose<Held, Global>>
-        ensures { MatchOption result (self.held ≡ None) (λ loose. self.held ≡ Some loose.value) }
+    fn into_parts(self, alloc: Global) -> Option<BoxParts<Contents, Global>>
+        ensures { MatchOption result (self.contents ≡ None) (λ parts. self.contents ≡ Some parts.value) }
     {
         let Handle { at, live } = self;
         if live {
-            let at = at as *mut Held;
-            Some(Loose { at, alloc })
+            let at = at as *mut Contents;
+            Some(BoxParts { at, alloc })
         } else {
             None
         }
     }
 
     /// The handle that holds this.
-    pub fn of(held: Box<Held, Global>) -> Handle
-        ensures { result.held ≡ Some held.value }
+    pub fn of(contents: Box<Contents, Global>) -> Handle
+        ensures { result.contents ≡ Some contents.value }
     {
-        Handle::keep(Loose::of(held))
+        Handle::from_parts(BoxParts::of(contents))
     }
 
     /// What the handle holds; `None` if it is empty.
-    pub fn into_box(self, alloc: Global) -> Option<Box<Held, Global>>
-        ensures { MatchOption result (self.held ≡ None) (λ held. self.held ≡ Some held.value) }
+    pub fn into_box(self, alloc: Global) -> Option<Box<Contents, Global>>
+        ensures { MatchOption result (self.contents ≡ None) (λ contents. self.contents ≡ Some contents.value) }
     {
-        match self.release(alloc) {
-            Some(loose) => Some(loose.into_box()),
+        match self.into_parts(alloc) {
+            Some(parts) => Some(parts.into_box()),
             None => None,
         }
     }
 
     /// Takes what the handle holds, and leaves it empty; `None` if it is empty already.
-    pub fn take(&mut self, alloc: Global) -> Option<Box<Held, Global>>
-        ensures taken { MatchOption result (self.old.held ≡ None) (λ held. self.old.held ≡ Some held.value) }
-        ensures empty { self.new.held ≡ None }
+    pub fn take(&mut self, alloc: Global) -> Option<Box<Contents, Global>>
+        ensures taken { MatchOption result (self.old.contents ≡ None) (λ contents. self.old.contents ≡ Some contents.value) }
+        ensures empty { self.new.contents ≡ None }
     {
         mem::replace(self, Handle::empty()).into_box(alloc)
     }
 
-    /// Holds this from now on; what was held is dropped.
-    pub fn put(&mut self, alloc: Global, held: Box<Held, Global>)
-        ensures { self.new.held ≡ Some held.value }
+    /// Holds this from now on; what it held before is dropped.
+    pub fn put(&mut self, alloc: Global, contents: Box<Contents, Global>)
+        ensures { self.new.contents ≡ Some contents.value }
     {
-        let old = mem::replace(self, Handle::of(held));
+        let old = mem::replace(self, Handle::of(contents));
         drop(old.into_box(alloc));
     }
 }

@@ -1,14 +1,16 @@
 //! All matches of a text, the pieces between them, and the text with its matches replaced.
 
-ghost use Rattle.std.specs.Prelude.{◌≡◌, true, IsUtf8};
+ghost use Rattle.std.specs.Prelude.{◌≡◌, true, IfOk, IfErr, IsUtf8, string_bytes};
 ghost use Rattle.std.specs.Cow.{cow_str_bytes};
+ghost use Rattle.fancy_regex.specs.ReplacedTexts.{replaced_in};
+ghost use Rattle.fancy_regex.specs.TextMatches.{IsErrorOfSearch};
 ghost use Rattle.fancy_regex_ffi.specs.Lists.{AreMatchSpans, ArePieceSpans, IsReplacedText, OfRegex, listed};
 
+use crate::contents::Subject;
 use crate::fault::CallError;
-use crate::held::Subject;
 use crate::query::text_of;
+use fancy_regex::Regex;
 use fancy_regex_ffi_lists::{Span, match_spans, piece_spans};
-use fancy_search_text::replaced_text;
 use std::alloc::Global;
 use std::borrow::CowStr;
 
@@ -69,4 +71,18 @@ pub fn replaced_of<'t>(
         }
         Subject::Set(_) | Subject::Nothing => Err(CallError::NoRegex),
     }
+}
+
+/// The text with each match replaced by what the template stands for there; the text itself if there is no match.
+fn replaced_text<'t>(
+    alloc: Global,
+    regex: &Regex,
+    text: &'t str,
+    template: &str,
+) -> fancy_regex::Result<CowStr<'t>>
+    ensures text { IfOk result (λ v. cow_str_bytes v
+        ≡ replaced_in regex.now.meta.options (string_bytes regex.now.meta.pattern) template.now text.entry.now) }
+    ensures fails { IfErr result (IsErrorOfSearch regex.now.meta.options (string_bytes regex.now.meta.pattern) text.entry.now) }
+{
+    regex.replace_all(alloc, text, template)
 }

@@ -12,21 +12,21 @@ ghost use Rattle.fancy_regex_ffi.specs.Texts.{TextReports};
 ghost use Rattle.fancy_regex_ffi.specs.Bytes.{StartBytesEnd, RequiredBytesEnd};
 
 mod answers;
+mod box_parts;
 mod bytes;
 mod calls;
+mod contents;
 mod fault;
 mod handle;
-mod held;
 mod items;
-mod loose;
 mod query;
 mod sets;
 mod status;
 mod templates;
 
-use answers::{answer_done, answer_items, answer_text, end_text, hold};
+use answers::{answer_done, answer_items, answer_text, end_text, store};
 use bytes::{end_asked, required_of, starts_of};
-use calls::{built, captures_held, find_held, groups_of, place_held, write_fault, write_name};
+use calls::{built, find_span, groups_of, place_of_fault, write_captures, write_fault, write_name};
 use fancy_regex::{Error, Steps};
 use fancy_regex_ffi_lists::{Member, Options, Span};
 use handle::Handle;
@@ -47,17 +47,17 @@ pub extern "C" fn fancy_regex_raw_build(
     pattern: &[u8],
     options: &Options,
 ) -> i32
-    ensures { BuildEnds (chosen options.now) pattern.now handle.new.held result }
+    ensures { BuildEnds (chosen options.now) pattern.now handle.new.contents result }
 {
     fancy_regex_raw_free(alloc, handle);
-    let (held, status) = built(alloc, pattern, options);
-    hold(alloc, handle, held, status)
+    let (contents, status) = built(alloc, pattern, options);
+    store(alloc, handle, contents, status)
 }
 
 /// Empties the handle.
 #[unsafe(no_mangle)]
 pub extern "C" fn fancy_regex_raw_free(alloc: Global, handle: &mut Handle)
-    ensures { handle.new.held ≡ None }
+    ensures { handle.new.contents ≡ None }
 {
     drop(handle.take(alloc));
 }
@@ -72,7 +72,7 @@ pub extern "C" fn fancy_regex_raw_find(
     span: &mut Span,
 ) -> i32
     requires { query.now.is_utf8 ≡ true → IsUtf8 text.now }
-    ensures { FindReports handle.old.held handle.new.held text.now query.now result span.new }
+    ensures { FindReports handle.old.contents handle.new.contents text.now query.now result span.new }
 {
     find_counted(alloc, handle, text, query, span, &mut Steps::new())
 }
@@ -90,8 +90,8 @@ pub extern "C" fn fancy_regex_raw_find_counted(
     looks: &mut u64,
 ) -> i32
     requires { query.now.is_utf8 ≡ true → IsUtf8 text.now }
-    ensures answer { FindReports handle.old.held handle.new.held text.now query.now result span.new }
-    ensures looks { LooksCounted handle.old.held text.now query.now result looks.new }
+    ensures answer { FindReports handle.old.contents handle.new.contents text.now query.now result span.new }
+    ensures looks { LooksCounted handle.old.contents text.now query.now result looks.new }
 {
     let mut steps = Steps::new();
     let code = find_counted(alloc, handle, text, query, span, &mut steps);
@@ -111,16 +111,16 @@ fn find_counted(
 ) -> i32
     requires utf8 { query.now.is_utf8 ≡ true → IsUtf8 text.now }
     requires fresh { steps.old ≡ 0 }
-    ensures answer { FindReports handle.old.held handle.new.held text.now query.now result span.new }
-    ensures looks { LooksCounted handle.old.held text.now query.now result steps.new }
+    ensures answer { FindReports handle.old.contents handle.new.contents text.now query.now result span.new }
+    ensures looks { LooksCounted handle.old.contents text.now query.now result steps.new }
 {
-    let Some(mut held) = handle.take(alloc) else {
+    let Some(mut contents) = handle.take(alloc) else {
         *span = Span::of(None);
         return Status::EmptyHandle.code();
     };
-    let (status, found) = find_held(alloc, &mut held, text, query, steps);
+    let (status, found) = find_span(alloc, &mut contents, text, query, steps);
     *span = found;
-    handle.put(alloc, held);
+    handle.put(alloc, contents);
     status.code()
 }
 
@@ -135,27 +135,27 @@ pub extern "C" fn fancy_regex_raw_captures(
     spans: &mut [Span],
 ) -> i32
     requires { query.now.is_utf8 ≡ true → IsUtf8 text.now }
-    ensures { CapturesReport handle.old.held handle.new.held text.now query.now result spans.old spans.new }
+    ensures { CapturesReport handle.old.contents handle.new.contents text.now query.now result spans.old spans.new }
 {
-    let Some(mut held) = handle.take(alloc) else {
+    let Some(mut contents) = handle.take(alloc) else {
         return Status::EmptyHandle.code();
     };
-    let status = captures_held(alloc, &mut held, text, query, spans);
-    handle.put(alloc, held);
+    let status = write_captures(alloc, &mut contents, text, query, spans);
+    handle.put(alloc, contents);
     status.code()
 }
 
 /// The number of groups, the whole match included; 0 where the handle holds no regex.
 #[unsafe(no_mangle)]
 pub extern "C" fn fancy_regex_raw_groups(alloc: Global, handle: &mut Handle) -> usize
-    ensures groups { result ≡ groups_in handle.old.held }
-    ensures kept { handle.new.held ≡ handle.old.held }
+    ensures groups { result ≡ groups_in handle.old.contents }
+    ensures same { handle.new.contents ≡ handle.old.contents }
 {
-    let Some(held) = handle.take(alloc) else {
+    let Some(contents) = handle.take(alloc) else {
         return 0;
     };
-    let groups = groups_of(&held);
-    handle.put(alloc, held);
+    let groups = groups_of(&contents);
+    handle.put(alloc, contents);
     groups
 }
 
@@ -168,28 +168,28 @@ pub extern "C" fn fancy_regex_raw_group_name(
     group: usize,
     out: &mut [u8],
 ) -> usize
-    ensures name { NameReports handle.old.held group out.old out.new result }
-    ensures kept { handle.new.held ≡ handle.old.held }
+    ensures name { NameReports handle.old.contents group out.old out.new result }
+    ensures same { handle.new.contents ≡ handle.old.contents }
 {
-    let Some(held) = handle.take(alloc) else {
+    let Some(contents) = handle.take(alloc) else {
         return 0;
     };
-    let length = write_name(&held, group, out);
-    handle.put(alloc, held);
+    let length = write_name(&contents, group, out);
+    handle.put(alloc, contents);
     length
 }
 
 /// The byte of the pattern at which the last fault stands; `usize::MAX` if it has no place.
 #[unsafe(no_mangle)]
 pub extern "C" fn fancy_regex_raw_fault_place(alloc: Global, handle: &mut Handle) -> usize
-    ensures place { result ≡ place_in handle.old.held }
-    ensures kept { handle.new.held ≡ handle.old.held }
+    ensures place { result ≡ place_in handle.old.contents }
+    ensures same { handle.new.contents ≡ handle.old.contents }
 {
-    let Some(held) = handle.take(alloc) else {
+    let Some(contents) = handle.take(alloc) else {
         return usize::MAX;
     };
-    let place = place_held(&held);
-    handle.put(alloc, held);
+    let place = place_of_fault(&contents);
+    handle.put(alloc, contents);
     place
 }
 
@@ -201,14 +201,14 @@ pub extern "C" fn fancy_regex_raw_fault_text(
     handle: &mut Handle,
     out: &mut [u8],
 ) -> usize
-    ensures text { TextReports ⟦<Error as fmt::Display>⟧.output handle.old.held out.old out.new result }
-    ensures kept { handle.new.held ≡ handle.old.held }
+    ensures text { TextReports ⟦<Error as fmt::Display>⟧.output handle.old.contents out.old out.new result }
+    ensures same { handle.new.contents ≡ handle.old.contents }
 {
-    let Some(held) = handle.take(alloc) else {
+    let Some(contents) = handle.take(alloc) else {
         return 0;
     };
-    let length = write_fault(&held, out);
-    handle.put(alloc, held);
+    let length = write_fault(&contents, out);
+    handle.put(alloc, contents);
     length
 }
 
@@ -224,15 +224,15 @@ pub extern "C" fn fancy_regex_raw_find_all(
     count: &mut usize,
 ) -> i32
     requires { is_utf8 ≡ true → IsUtf8 text.now }
-    ensures { ListReports (OfRegex (AreMatchSpans text.now)) handle.old.held handle.new.held result spans.old spans.new count.new }
+    ensures { ListReports (OfRegex (AreMatchSpans text.now)) handle.old.contents handle.new.contents result spans.old spans.new count.new }
 {
-    let Some(mut held) = handle.take(alloc) else {
+    let Some(mut contents) = handle.take(alloc) else {
         *count = 0;
         return Status::EmptyHandle.code();
     };
-    let answer = spans_of(alloc, &held.subject, text, is_utf8);
-    let status = answer_items(&mut held, answer, spans, count);
-    handle.put(alloc, held);
+    let answer = spans_of(alloc, &contents.subject, text, is_utf8);
+    let status = answer_items(&mut contents, answer, spans, count);
+    handle.put(alloc, contents);
     status.code()
 }
 
@@ -249,15 +249,15 @@ pub extern "C" fn fancy_regex_raw_split(
     count: &mut usize,
 ) -> i32
     requires { is_utf8 ≡ true → IsUtf8 text.now }
-    ensures { ListReports (OfRegex (ArePieceSpans text.now)) handle.old.held handle.new.held result spans.old spans.new count.new }
+    ensures { ListReports (OfRegex (ArePieceSpans text.now)) handle.old.contents handle.new.contents result spans.old spans.new count.new }
 {
-    let Some(mut held) = handle.take(alloc) else {
+    let Some(mut contents) = handle.take(alloc) else {
         *count = 0;
         return Status::EmptyHandle.code();
     };
-    let answer = pieces_of(alloc, &held.subject, text, is_utf8);
-    let status = answer_items(&mut held, answer, spans, count);
-    handle.put(alloc, held);
+    let answer = pieces_of(alloc, &contents.subject, text, is_utf8);
+    let status = answer_items(&mut contents, answer, spans, count);
+    handle.put(alloc, contents);
     status.code()
 }
 
@@ -274,15 +274,16 @@ pub extern "C" fn fancy_regex_raw_replace_all(
     length: &mut usize,
 ) -> i32
     requires { is_utf8 ≡ true → IsUtf8 text.now }
-    ensures { ListReports (OfRegex (IsReplacedText text.now template.now)) handle.old.held handle.new.held result out.old out.new length.new }
+    ensures { ListReports (OfRegex (IsReplacedText text.now template.now)) handle.old.contents handle.new.contents result
+        out.old out.new length.new }
 {
-    let Some(mut held) = handle.take(alloc) else {
+    let Some(mut contents) = handle.take(alloc) else {
         *length = 0;
         return Status::EmptyHandle.code();
     };
-    let answer = replaced_of(alloc, &held.subject, text, is_utf8, template);
-    let status = answer_text(&mut held, answer, out, length);
-    handle.put(alloc, held);
+    let answer = replaced_of(alloc, &contents.subject, text, is_utf8, template);
+    let status = answer_text(&mut contents, answer, out, length);
+    handle.put(alloc, contents);
     status.code()
 }
 
@@ -297,11 +298,11 @@ pub extern "C" fn fancy_regex_raw_set_build(
     ends: &[usize],
     options: &Options,
 ) -> i32
-    ensures { SetBuildEnds (chosen options.now) patterns.now ends.now handle.new.held result }
+    ensures { SetBuildEnds (chosen options.now) patterns.now ends.now handle.new.contents result }
 {
     fancy_regex_raw_free(alloc, handle);
-    let (held, status) = set_told(build_set(alloc, patterns, ends, options));
-    hold(alloc, handle, held, status)
+    let (contents, status) = set_told(build_set(alloc, patterns, ends, options));
+    store(alloc, handle, contents, status)
 }
 
 /// The members of a set that match at the earliest place at which one of them does, in order of their numbers, as many as there is
@@ -317,15 +318,15 @@ pub extern "C" fn fancy_regex_raw_set_find(
     count: &mut usize,
 ) -> i32
     requires { query.now.is_utf8 ≡ true → IsUtf8 text.now }
-    ensures { ListReports (AreMembers text.now query.now) handle.old.held handle.new.held result members.old members.new count.new }
+    ensures { ListReports (AreMembers text.now query.now) handle.old.contents handle.new.contents result members.old members.new count.new }
 {
-    let Some(mut held) = handle.take(alloc) else {
+    let Some(mut contents) = handle.take(alloc) else {
         *count = 0;
         return Status::EmptyHandle.code();
     };
-    let answer = members_of(alloc, &held.subject, text, query);
-    let status = answer_items(&mut held, answer, members, count);
-    handle.put(alloc, held);
+    let answer = members_of(alloc, &contents.subject, text, query);
+    let status = answer_items(&mut contents, answer, members, count);
+    handle.put(alloc, contents);
     status.code()
 }
 
@@ -342,15 +343,16 @@ pub extern "C" fn fancy_regex_raw_set_captures(
     count: &mut usize,
 ) -> i32
     requires { query.now.is_utf8 ≡ true → IsUtf8 text.now }
-    ensures { ListReports (AreMemberGroups text.now query.now) handle.old.held handle.new.held result groups.old groups.new count.new }
+    ensures { ListReports (AreMemberGroups text.now query.now) handle.old.contents handle.new.contents result
+        groups.old groups.new count.new }
 {
-    let Some(mut held) = handle.take(alloc) else {
+    let Some(mut contents) = handle.take(alloc) else {
         *count = 0;
         return Status::EmptyHandle.code();
     };
-    let answer = member_groups_of(alloc, &held.subject, text, query);
-    let status = answer_items(&mut held, answer, groups, count);
-    handle.put(alloc, held);
+    let answer = member_groups_of(alloc, &contents.subject, text, query);
+    let status = answer_items(&mut contents, answer, groups, count);
+    handle.put(alloc, contents);
     status.code()
 }
 
@@ -366,11 +368,11 @@ pub extern "C" fn fancy_regex_raw_set_build_mixed(
     options: &[Options],
 ) -> i32
     requires { length options.now ≡ length ends.now }
-    ensures { MixedBuildEnds options.now patterns.now ends.now handle.new.held result }
+    ensures { MixedBuildEnds options.now patterns.now ends.now handle.new.contents result }
 {
     fancy_regex_raw_free(alloc, handle);
-    let (held, status) = set_told(build_mixed(alloc, patterns, ends, options));
-    hold(alloc, handle, held, status)
+    let (contents, status) = set_told(build_mixed(alloc, patterns, ends, options));
+    store(alloc, handle, contents, status)
 }
 
 /// The names of the groups in UTF-8, a line for each group in order of their numbers, as much as there is room for; and the length of
@@ -383,15 +385,15 @@ pub extern "C" fn fancy_regex_raw_group_names(
     out: &mut [u8],
     length: &mut usize,
 ) -> i32
-    ensures { NamesReport handle.old.held handle.new.held result out.old out.new length.new }
+    ensures { NamesReport handle.old.contents handle.new.contents result out.old out.new length.new }
 {
-    let Some(mut held) = handle.take(alloc) else {
+    let Some(mut contents) = handle.take(alloc) else {
         *length = 0;
         return Status::EmptyHandle.code();
     };
-    let answer = names_of(alloc, &held.subject);
-    let status = answer_text(&mut held, answer, out, length);
-    handle.put(alloc, held);
+    let answer = names_of(alloc, &contents.subject);
+    let status = answer_text(&mut contents, answer, out, length);
+    handle.put(alloc, contents);
     status.code()
 }
 
@@ -404,14 +406,14 @@ pub extern "C" fn fancy_regex_raw_template_check(
     template: &[u8],
     is_python: bool,
 ) -> i32
-    ensures { CheckReports handle.old.held handle.new.held template.now is_python result }
+    ensures { CheckReports handle.old.contents handle.new.contents template.now is_python result }
 {
-    let Some(mut held) = handle.take(alloc) else {
+    let Some(mut contents) = handle.take(alloc) else {
         return Status::EmptyHandle.code();
     };
-    let answer = checked(alloc, &held.subject, template, is_python);
-    let status = answer_done(&mut held, answer);
-    handle.put(alloc, held);
+    let answer = checked(alloc, &contents.subject, template, is_python);
+    let status = answer_done(&mut contents, answer);
+    handle.put(alloc, contents);
     status.code()
 }
 
@@ -439,7 +441,7 @@ pub extern "C" fn fancy_regex_raw_start_bytes(
     options: &Options,
     table: &mut [bool],
 ) -> i32
-    ensures { StartBytesEnd (chosen options.now) pattern.now handle.new.held result table.old table.new }
+    ensures { StartBytesEnd (chosen options.now) pattern.now handle.new.contents result table.old table.new }
 {
     fancy_regex_raw_free(alloc, handle);
     let answer = starts_of(alloc, pattern, options, table);
@@ -456,7 +458,7 @@ pub extern "C" fn fancy_regex_raw_required_bytes(
     options: &Options,
     table: &mut [bool],
 ) -> i32
-    ensures { RequiredBytesEnd (chosen options.now) pattern.now handle.new.held result table.old table.new }
+    ensures { RequiredBytesEnd (chosen options.now) pattern.now handle.new.contents result table.old table.new }
 {
     fancy_regex_raw_free(alloc, handle);
     let answer = required_of(alloc, pattern, options, table);

@@ -7,8 +7,8 @@ ghost use Rattle.fancy_regex_ffi_lists.specs.Mixed.{AreBuiltEach};
 ghost use Rattle.fancy_regex_ffi.specs.Lists.{AreMemberGroups, AreMembers, listed};
 ghost use Rattle.fancy_regex_ffi.specs.Sets.{cut_at, AreTexts, IsPieceFault, IsPieceOrFault, IsSetRefused, IsSetTold, IsMixedRefused};
 
+use crate::contents::{Contents, Subject};
 use crate::fault::CallError;
-use crate::held::{Held, Subject};
 use crate::query::{Query, check_place, text_of};
 use crate::status::Status;
 use fancy_regex::{Error, RegexSet};
@@ -16,14 +16,14 @@ use fancy_regex_ffi_lists::{Member, Options, mixed_set, set_groups, set_members}
 use std::alloc::Global;
 
 /// What holds a set, or the fault of building it; and how that ends.
-pub fn set_told(answer: Result<RegexSet, CallError>) -> (Held, Status)
+pub fn set_told(answer: Result<RegexSet, CallError>) -> (Contents, Status)
     ensures { IsSetTold answer result.0 result.1 }
 {
     match answer {
-        Ok(set) => (Held::of_set(set), Status::Done),
+        Ok(set) => (Contents::of_set(set), Status::Done),
         Err(fault) => {
             let status = Status::of_fault(&fault);
-            (Held::of_fault(fault), status)
+            (Contents::of_fault(fault), status)
         }
     }
 }
@@ -45,7 +45,11 @@ pub fn build_set(
 
 /// The texts of patterns that stand one after another, by where each of them ends.
 #[tactic(auto, using(crate::proofs::SetLemmas::texts_next, crate::proofs::SetLemmas::texts_none))]
-fn patterns_of<'p>(alloc: Global, bytes: &'p [u8], ends: &[usize]) -> Result<Vec<&'p str>, CallError>
+fn patterns_of<'p>(
+    alloc: Global,
+    bytes: &'p [u8],
+    ends: &[usize],
+) -> Result<Vec<&'p str>, CallError>
     ensures texts { IfOk result (λ _. AreTexts bytes.entry.now 0 ends.now) }
     ensures same { IfOk result (λ texts. map (λ text. text.now) texts.items ≡ cut_at bytes.entry.now 0 ends.now) }
     ensures refused { IfErr result (λ fault. IsPieceFault bytes.entry.now ends.now fault) }

@@ -5,8 +5,8 @@ ghost use Rattle.std.specs.Cow.{cow_str_bytes};
 ghost use Rattle.fancy_regex_ffi.specs.Lists.{listed};
 ghost use Rattle.fancy_regex_ffi.specs.Templates.{AreNames, IsChecked, IsEscaped};
 
+use crate::contents::Subject;
 use crate::fault::CallError;
-use crate::held::Subject;
 use crate::query::text_of;
 use fancy_regex::{Expander, escape};
 use fancy_regex_ffi_lists::group_names;

@@ -1,5 +1,5 @@
 -- The spans of the matches of a text, and of the pieces between them, and the members of a set that match.
-use Rattle.std.specs.Prelude.{◌≡◌, ◌⊎◌, ℕ, Bool, List, [], ◌∷◌, map, Option, Some, None, string_bytes}
+use Rattle.std.specs.Prelude.{◌≡◌, ◌⊎◌, ℕ, Bool, List, [], ◌∷◌, map, Option, Some, None}
 use Rattle.fancy_regex.specs.Searches.{Match, SetAnswer}
 use Rattle.fancy_regex.specs.SearchConfig.{SearchConfig}
 use Rattle.fancy_regex.specs.SearchInputs.{whole}
@@ -7,14 +7,9 @@ use Rattle.fancy_regex.specs.Error.{Error}
 use Rattle.fancy_regex.specs.Error.TheVariants.{Memory}
 use Rattle.fancy_regex.specs.SetAnswers.{answer_of_set, AreInLimits, AreInLimitsBefore, IsErrorOfMember, IsSetError}
 use Rattle.fancy_regex_search.specs.declared.regex.Regex.{Regex}
-use Rattle.fancy_search_text.specs.Matches.{matches_in}
 use Rattle.fancy_regex_ffi_lists.specs.Spans.{span_of}
 use Rattle.fancy_regex_ffi_lists.specs.declared.member.Member.{Member}
 use Rattle.fancy_regex_ffi_lists.specs.declared.spans.Span.{Span}
-
--- all matches of a regex in the whole text
-abbrev pub matches_of : Regex → List ℕ → List Match
-matches_of regex text = matches_in regex.meta.options (string_bytes regex.meta.pattern) text
 
 -- the span of each match
 abbrev pub match_spans : List Match → List Span

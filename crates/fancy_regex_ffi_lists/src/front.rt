@@ -28,7 +28,8 @@ struct Front<'a> {
 }
 
 impl Write for Front<'_> {
-    ghost write_str_gives = { λ s bytes t. Appends s.room.now s.length bytes t.room.now t.length × (t.room.ghost_name ≡ s.room.ghost_name) };
+    ghost write_str_gives = { λ s bytes t. Appends s.room.now s.length bytes t.room.now t.length
+        × (t.room.ghost_name ≡ s.room.ghost_name) };
 
     fn write_str(&mut self, s: &str) -> fmt::Result {
         let bytes = s.as_bytes();

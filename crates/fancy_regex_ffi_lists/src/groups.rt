@@ -22,7 +22,8 @@ pub fn set_groups(
     continues: bool,
 ) -> Result<Vec<Member>>
     requires { IsCharBoundary text.now position }
-    ensures groups { IfOk result (λ groups. AreMatchingGroups set.now.regexes.items text.now (config_at text.now position continues) groups.items) }
+    ensures groups { IfOk result (λ groups.
+        AreMatchingGroups set.now.regexes.items text.now (config_at text.now position continues) groups.items) }
     ensures fails { IfErr result (IsMemberError set.now.regexes.items text.now (config_at text.now position continues)) }
 {
     let mut groups = Vec::new(alloc);

@@ -1,8 +1,8 @@
 //! The matches of a text, and the pieces between them, as spans.
 
 ghost use Rattle.std.specs.Prelude.{◌≡◌, Some, IfOk, IfErr, length, string_bytes};
-ghost use Rattle.fancy_search_text.specs.Matches.{IsErrorOfSearch};
-ghost use Rattle.fancy_regex_ffi_lists.specs.Lists.{matches_of, match_spans, gap_spans};
+ghost use Rattle.fancy_regex.specs.TextMatches.{matches_of, IsErrorOfSearch};
+ghost use Rattle.fancy_regex_ffi_lists.specs.Lists.{match_spans, gap_spans};
 ghost use Rattle.fancy_regex_ffi_lists.specs.Spans.{span_of};
 
 use crate::spans::Span;

@@ -18,7 +18,8 @@ pub fn set_members(
     continues: bool,
 ) -> Result<Vec<Member>>
     requires { IsCharBoundary text.now position }
-    ensures members { IfOk result (λ members. members.items ≡ matching_members set.now.regexes.items text.now (config_at text.now position continues)) }
+    ensures members { IfOk result (λ members.
+        members.items ≡ matching_members set.now.regexes.items text.now (config_at text.now position continues)) }
     ensures fails { IfErr result (IsMemberError set.now.regexes.items text.now (config_at text.now position continues)) }
 {
     let mut members = Vec::new(alloc);

@@ -12,7 +12,7 @@ use Rattle.fancy_regex.specs.Error.TheVariants as errors
 use Rattle.fancy_regex.specs.RegexOptions.{RegexOptions}
 use Rattle.std.specs.Fmt.{decimal}
 use Rattle.fancy_search_text.specs.Lines.{lines_of, span_text}
-use Rattle.fancy_search_text.specs.Matches.{IsErrorOfSearch}
+use Rattle.fancy_regex.specs.TextMatches.{IsErrorOfSearch}
 use Rattle.fancy_search_text.specs.Members.{Source, member_lines, IsErrorOfSet}
 use Rattle.fancy_search_run.specs.Answers.{IsAccepted, IsSearchFault, IsPrintFault, IsSetFault, sources_with, status_of, status_of_lines}
 use Rattle.fancy_search_run.specs.FaultConversions.{fault_of_error}

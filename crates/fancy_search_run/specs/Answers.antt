@@ -10,10 +10,10 @@ use Rattle.fancy_regex.specs.Error.{Error}
 use Rattle.fancy_regex.specs.Error.TheVariants as errors
 use Rattle.fancy_regex.specs.RegexOptions.{RegexOptions}
 use Rattle.fancy_search_text.specs.Lines.{span_lines, group_lines, piece_lines}
-use Rattle.fancy_search_text.specs.Matches.{matches_in, IsErrorOfSearch}
+use Rattle.fancy_regex.specs.TextMatches.{matches_in, IsErrorOfSearch}
 use Rattle.fancy_search_text.specs.Members.{Source, answer_in, member_lines, members_found, IsErrorOfSet}
 use Rattle.fancy_search_text.specs.Printed.{IsPrinted}
-use Rattle.fancy_search_text.specs.Replaced.{replaced_in}
+use Rattle.fancy_regex.specs.ReplacedTexts.{replaced_in}
 use Rattle.fancy_search_words.specs.Requests.{Command}
 use Rattle.fancy_search_words.specs.Requests as commands
 use Rattle.fancy_search_run.specs.declared.answer.Answer.{Answer}

@@ -37,10 +37,13 @@ pub fn run<S: AsStr, R: Read, W: Write>(
     writer: &mut W,
 ) -> Result<Status, Fault>
     ensures words { requested (map S.text words.now) ≡ None → RefusesWords (map S.text words.now) result × (reader.new ≡ reader.old) }
-    ensures outcome { (request : Request) → requested (map S.text words.now) ≡ Some request → (input : List ℕ) × IfSome (R.remaining reader.old) (λ xs. input ≡ xs)
+    ensures outcome { (request : Request) → requested (map S.text words.now) ≡ Some request →
+        (input : List ℕ) × IfSome (R.remaining reader.old) (λ xs. input ≡ xs)
         × Outcome request (W.contents writer.old) (W.contents writer.new) input result }
-    ensures end { (request : Request) → requested (map S.text words.now) ≡ Some request → reads_input request.command ≡ true → OnOk result (IsAtEnd (R.remaining reader.new)) }
-    ensures unread { (request : Request) → requested (map S.text words.now) ≡ Some request → reads_input request.command ≡ false → reader.new ≡ reader.old }
+    ensures end { (request : Request) → requested (map S.text words.now) ≡ Some request → reads_input request.command ≡ true
+        → OnOk result (IsAtEnd (R.remaining reader.new)) }
+    ensures unread { (request : Request) → requested (map S.text words.now) ≡ Some request → reads_input request.command ≡ false
+        → reader.new ≡ reader.old }
     ensures untouched { IfErr result (λ f. f ≢ Output → writer.new ≡ writer.old) }
 {
     run_from(alloc, words, &mut Source::new(reader), writer)
@@ -54,12 +57,15 @@ pub fn run_from<S: AsStr, R: Read, W: Write>(
     writer: &mut W,
 ) -> Result<Status, Fault>
     ensures same_reader { source.new.reader.ghost_name ≡ source.old.reader.ghost_name }
-    ensures words { requested (map S.text words.now) ≡ None → RefusesWords (map S.text words.now) result × (source.new.reader.now ≡ source.old.reader.now) }
-    ensures outcome { (request : Request) → requested (map S.text words.now) ≡ Some request → (input : List ℕ) × IfSome (R.remaining source.old.reader.now) (λ xs. input ≡ xs)
+    ensures words { requested (map S.text words.now) ≡ None →
+        RefusesWords (map S.text words.now) result × (source.new.reader.now ≡ source.old.reader.now) }
+    ensures outcome { (request : Request) → requested (map S.text words.now) ≡ Some request →
+        (input : List ℕ) × IfSome (R.remaining source.old.reader.now) (λ xs. input ≡ xs)
         × Outcome request (W.contents writer.old) (W.contents writer.new) input result }
     ensures end { (request : Request) → requested (map S.text words.now) ≡ Some request → reads_input request.command ≡ true
         → OnOk result (IsAtEnd (R.remaining source.new.reader.now) × (source.new.has_ended ≡ true)) }
-    ensures unread { (request : Request) → requested (map S.text words.now) ≡ Some request → reads_input request.command ≡ false → source.new.reader.now ≡ source.old.reader.now }
+    ensures unread { (request : Request) → requested (map S.text words.now) ≡ Some request → reads_input request.command ≡ false
+        → source.new.reader.now ≡ source.old.reader.now }
     ensures input { IfErr result (λ f. f ≡ Input → source.new.has_ended ≡ false) }
     ensures untouched { IfErr result (λ f. f ≢ Output → writer.new ≡ writer.old) }
 {
@@ -76,9 +82,12 @@ fn input_for<R: Read>(
     source: &mut Source<'_, R>,
 ) -> Result<Vec<u8>, Fault>
     ensures same_reader { source.new.reader.ghost_name ≡ source.old.reader.ghost_name }
-    ensures read { reads_input (command_of subcommand.now) ≡ true → IfOk result (λ v. IfSome (R.remaining source.old.reader.now) (λ xs. v.items ≡ xs)) }
-    ensures end { reads_input (command_of subcommand.now) ≡ true → OnOk result (IsAtEnd (R.remaining source.new.reader.now) × (source.new.has_ended ≡ true)) }
-    ensures unread { reads_input (command_of subcommand.now) ≡ false → (source.new.reader.now ≡ source.old.reader.now) × IfOk result (λ v. v.items ≡ []) }
+    ensures read { reads_input (command_of subcommand.now) ≡ true →
+        IfOk result (λ v. IfSome (R.remaining source.old.reader.now) (λ xs. v.items ≡ xs)) }
+    ensures end { reads_input (command_of subcommand.now) ≡ true →
+        OnOk result (IsAtEnd (R.remaining source.new.reader.now) × (source.new.has_ended ≡ true)) }
+    ensures unread { reads_input (command_of subcommand.now) ≡ false →
+        (source.new.reader.now ≡ source.old.reader.now) × IfOk result (λ v. v.items ≡ []) }
     ensures fault { IfErr result (λ f. IsReadFault source.new.has_ended f × (f ≡ Input → reads_input (command_of subcommand.now) ≡ true)) }
 {
     match subcommand {

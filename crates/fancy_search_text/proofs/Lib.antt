@@ -1,8 +1,5 @@
-pub mod ErrorLemmas
 pub mod LineLemmas
-pub mod MatchLemmas
 pub mod MemberLemmas
 pub mod PieceLemmas
 pub mod PrintedLemmas
-pub mod ReplacedLemmas
 pub mod SpanLemmas

@@ -3,7 +3,7 @@
 ghost use Rattle.std.specs.Prelude.{◌≡◌, ◌++◌, IfOk, IfErr, OnOk, codes, string_bytes};
 ghost use Rattle.fancy_regex.specs.Ways.{Pairs};
 ghost use Rattle.fancy_search_text.specs.Lines.{span_lines, group_lines, groups_text, span_text};
-ghost use Rattle.fancy_search_text.specs.Matches.{matches_in, IsErrorOfSearch};
+ghost use Rattle.fancy_regex.specs.TextMatches.{matches_of, IsErrorOfSearch};
 ghost use Rattle.fancy_search_text.specs.Spans.{AreGroupSpans};
 
 use fancy_regex::{Captures, Match, Regex, Result, laws_of_items};
@@ -12,7 +12,7 @@ use std::alloc::{AllocError, Global};
 
 /// A line `START..END` for each match in the text. `RuntimeError` if a search exceeds a limit, or `Memory`.
 pub fn span_lines(alloc: Global, regex: &Regex, text: &str) -> Result<String>
-    ensures lines { IfOk result (λ lines. string_bytes lines ≡ span_lines (matches_in regex.now.meta.options (string_bytes regex.now.meta.pattern) text.now)) }
+    ensures lines { IfOk result (λ lines. string_bytes lines ≡ span_lines (matches_of regex.now text.now)) }
     ensures fails { IfErr result (IsErrorOfSearch regex.now.meta.options (string_bytes regex.now.meta.pattern) text.now) }
 {
     let mut lines = String::new(alloc);
@@ -27,7 +27,7 @@ pub fn span_lines(alloc: Global, regex: &Regex, text: &str) -> Result<String>
 /// A line for each match in the text, with the spans of all its groups, and `-` for a group that did not participate.
 /// `RuntimeError` if a search exceeds a limit, or `Memory`.
 pub fn group_lines(alloc: Global, regex: &Regex, text: &str) -> Result<String>
-    ensures lines { IfOk result (λ lines. string_bytes lines ≡ group_lines (matches_in regex.now.meta.options (string_bytes regex.now.meta.pattern) text.now)) }
+    ensures lines { IfOk result (λ lines. string_bytes lines ≡ group_lines (matches_of regex.now text.now)) }
     ensures fails { IfErr result (IsErrorOfSearch regex.now.meta.options (string_bytes regex.now.meta.pattern) text.now) }
 {
     laws_of_items();

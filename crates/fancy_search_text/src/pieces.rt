@@ -3,7 +3,7 @@
 ghost use Rattle.std.specs.Prelude.{◌≡◌, ◌++◌, IfOk, IfErr, OnOk, string_bytes};
 ghost use Rattle.fancy_regex.specs.Searches.{pieces};
 ghost use Rattle.fancy_search_text.specs.Lines.{piece_line, piece_lines};
-ghost use Rattle.fancy_search_text.specs.Matches.{matches_in, IsErrorOfSearch};
+ghost use Rattle.fancy_regex.specs.TextMatches.{matches_of, IsErrorOfSearch};
 
 use fancy_regex::{Regex, Result};
 use std::alloc::{AllocError, Global};
@@ -11,7 +11,7 @@ use std::alloc::{AllocError, Global};
 /// A line for each piece of the text between the matches: its length in bytes, `:` and the piece. `RuntimeError` if a search
 /// exceeds a limit, or `Memory`.
 pub fn piece_lines(alloc: Global, regex: &Regex, text: &str) -> Result<String>
-    ensures lines { IfOk result (λ lines. string_bytes lines ≡ piece_lines (pieces text.now (matches_in regex.now.meta.options (string_bytes regex.now.meta.pattern) text.now))) }
+    ensures lines { IfOk result (λ lines. string_bytes lines ≡ piece_lines (pieces text.now (matches_of regex.now text.now))) }
     ensures fails { IfErr result (IsErrorOfSearch regex.now.meta.options (string_bytes regex.now.meta.pattern) text.now) }
 {
     let mut lines = String::new(alloc);

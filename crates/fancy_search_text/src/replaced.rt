@@ -2,8 +2,8 @@
 
 ghost use Rattle.std.specs.Prelude.{◌≡◌, IfOk, IfErr, string_bytes};
 ghost use Rattle.std.specs.Cow.{cow_str_bytes};
-ghost use Rattle.fancy_search_text.specs.Matches.{IsErrorOfSearch};
-ghost use Rattle.fancy_search_text.specs.Replaced.{replaced_in};
+ghost use Rattle.fancy_regex.specs.TextMatches.{IsErrorOfSearch};
+ghost use Rattle.fancy_regex.specs.ReplacedTexts.{replaced_in};
 
 use fancy_regex::{Regex, Result};
 use std::alloc::Global;
@@ -17,7 +17,8 @@ pub fn replaced_text<'t>(
     text: &'t str,
     template: &str,
 ) -> Result<CowStr<'t>>
-    ensures text { IfOk result (λ v. cow_str_bytes v ≡ replaced_in regex.now.meta.options (string_bytes regex.now.meta.pattern) template.now text.entry.now) }
+    ensures text { IfOk result (λ v. cow_str_bytes v
+        ≡ replaced_in regex.now.meta.options (string_bytes regex.now.meta.pattern) template.now text.entry.now) }
     ensures fails { IfErr result (IsErrorOfSearch regex.now.meta.options (string_bytes regex.now.meta.pattern) text.entry.now) }
 {
     regex.replace_all(alloc, text, template)

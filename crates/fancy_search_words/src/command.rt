@@ -39,7 +39,8 @@ const CAPTURES: &str =
     "Prints a line for each match: the spans of all groups in order, - for a group that is not set. Example: captures '(a)|(b)'";
 
 const SPLIT: &str =
-    "Prints each piece of the input between the matches, a line for each: its length in bytes, a colon and the piece. Example: split ',\\s*'";
+    "Prints each piece of the input between the matches, a line for each: its length in bytes, a colon and the piece. \
+    Example: split ',\\s*'";
 
 const REPLACE: &str =
     "Prints the input with each match replaced by the template, where $1 or ${name} is the text of a group. Example: replace '(a)b' '$1'";
@@ -48,7 +49,8 @@ const PRINT: &str =
     "Prints the pattern as one that means the same without -i, -m, -s, -x and --oniguruma, and reads no input. Example: print -i a";
 
 const SET: &str =
-    "Prints the patterns that match at the earliest place where one of them does, a line for each: its number, from 0, and its span. Example: set '\\d+' '\\w+'";
+    "Prints the patterns that match at the earliest place where one of them does, a line for each: \
+    its number, from 0, and its span. Example: set '\\d+' '\\w+'";
 
 const PATTERNS: &str = "The patterns, one or more. Those that begin with - stand after --";
 

@@ -44,7 +44,8 @@ fn arguments_from<'a>(
     alloc: Global,
     matches: &ArgMatches<'a>,
 ) -> Result<Option<Arguments<'a>>, AllocError>
-    ensures { IfOk result (λ found. option_map request_of_arguments found ≡ option_and_then request_of_subcommand (subcommand_rows_of matches.now)) }
+    ensures { IfOk result (λ found. option_map request_of_arguments found
+        ≡ option_and_then request_of_subcommand (subcommand_rows_of matches.now)) }
 {
     let Some((name, found)) = matches.subcommand() else {
         return Ok(None);
@@ -75,7 +76,8 @@ fn subcommand<'a>(
 
 /// The subcommand `set` with the patterns that were matched; `None` if there are none. Fails only if memory runs out.
 fn set_of<'a>(alloc: Global, found: &ArgMatches<'a>) -> Result<Option<Subcommand<'a>>, AllocError>
-    ensures { IfOk result (λ made. option_map command_of made ≡ option_map requests.set (all_of (codes "patterns") (rows_of (found_of found.now)))) }
+    ensures { IfOk result (λ made. option_map command_of made
+        ≡ option_map requests.set (all_of (codes "patterns") (rows_of (found_of found.now)))) }
 {
     let Some(patterns) = found.get_strs("patterns") else {
         return Ok(None);

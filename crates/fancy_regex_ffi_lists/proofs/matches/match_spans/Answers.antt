@@ -4,8 +4,8 @@ use Rattle.std.proofs.lemmas.Result.{err_from_is_err_and}
 use Rattle.fancy_regex.specs.SearchConfig.{SearchConfig}
 use Rattle.fancy_regex.specs.Searches.{Match}
 use Rattle.fancy_regex.specs.RemainingMatches.{remaining_matches}
-use Rattle.fancy_search_text.proofs.ErrorLemmas.{item_error_is, memory_is_error}
-use Rattle.fancy_search_text.proofs.MatchLemmas.{all_are}
+use Rattle.fancy_regex.proofs.SearchErrorLemmas.{item_error_is, memory_is_error}
+use Rattle.fancy_regex.proofs.TextMatchLemmas.{all_are}
 use Rattle.fancy_regex_ffi_lists.specs.Spans.{span_of}
 use Rattle.fancy_regex_ffi_lists.specs.Lists.{match_spans}
 use Rattle.fancy_regex_ffi_lists.proofs.ListLemmas.{spans_more, spans_all}

@@ -2,7 +2,7 @@ use Rattle.std.proofs.Common.{◌≡◌, ◌∙◌, ap}
 use Rattle.std.specs.Prelude.{string_bytes}
 use Rattle.std.proofs.lemmas.Result.{err_from_is_err_and}
 use Rattle.fancy_search_text.specs.Lines.{group_lines, groups_text, spans_of}
-use Rattle.fancy_search_text.specs.Matches.{matches_in}
+use Rattle.fancy_regex.specs.TextMatches.{matches_in}
 use Rattle.fancy_search_run.specs.Answers.{status_of_lines}
 use Rattle.fancy_search_run.specs.Requests.{regex_options}
 use Rattle.fancy_search_run.proofs.AnswerLemmas.{of_compiled, refusal_is_fault, error_is_fault, status_same}

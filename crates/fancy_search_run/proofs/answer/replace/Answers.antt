@@ -1,7 +1,7 @@
 use Rattle.std.proofs.Common.{◌∙◌, ap}
 use Rattle.std.specs.Cow.{cow_str_bytes}
 use Rattle.std.proofs.lemmas.Result.{err_from_is_err_and}
-use Rattle.fancy_search_text.specs.Replaced.{replaced_in}
+use Rattle.fancy_regex.specs.ReplacedTexts.{replaced_in}
 use Rattle.fancy_search_run.specs.Requests.{regex_options}
 use Rattle.fancy_search_run.proofs.AnswerLemmas.{of_compiled, refusal_is_fault, error_is_fault}
 use Rattle.fancy_search_run.proofs.answer.replace.Goals as goal

@@ -3,7 +3,7 @@ use Rattle.std.specs.Cow.{cow_str_bytes}
 use Rattle.std.proofs.lemmas.Result.{err_from_is_err_and}
 use Rattle.fancy_regex.specs.Searches.{pieces}
 use Rattle.fancy_search_text.specs.Lines.{piece_lines}
-use Rattle.fancy_search_text.specs.Matches.{matches_in}
+use Rattle.fancy_regex.specs.TextMatches.{matches_in}
 use Rattle.fancy_search_run.specs.Requests.{regex_options}
 use Rattle.fancy_search_run.proofs.AnswerLemmas.{of_compiled, refusal_is_fault, error_is_fault}
 use Rattle.fancy_search_run.proofs.answer.split.Goals as goal

@@ -11,11 +11,11 @@ use Rattle.fancy_regex.specs.Patterns.{options_in, setting_in}
 use Rattle.fancy_regex.specs.RemainingMatches.{remaining_matches, all_matches}
 use Rattle.fancy_regex.specs.IterationSearches.{MakesSearchFrom}
 use Rattle.std.proofs.lemmas.Result.{err_from_is_err_and}
-use Rattle.fancy_search_text.proofs.ErrorLemmas.{item_error_is, memory_is_error}
+use Rattle.fancy_regex.proofs.SearchErrorLemmas.{item_error_is, memory_is_error}
 use Rattle.fancy_search_text.proofs.SpanLemmas.{HasSpans, all_have_spans, first_spans, each_later}
 use Rattle.fancy_search_text.proofs.LineLemmas.{line_more}
 use Rattle.std.proofs.lemmas.Grind.{common_steps}
-use Rattle.fancy_search_text.proofs.MatchLemmas.{all_are}
+use Rattle.fancy_regex.proofs.TextMatchLemmas.{all_are}
 use Rattle.fancy_search_text.specs.Lines.{group_lines, groups_text, spans_of}
 use Rattle.fancy_search_text.proofs.lines.group_lines.Goals as goal
 

@@ -8,8 +8,8 @@ use Rattle.fancy_regex.specs.Searches.{Match}
 use Rattle.fancy_regex.specs.RemainingMatches.{remaining_matches, all_matches}
 use Rattle.fancy_search_text.specs.Lines.{span_lines, span_text}
 use Rattle.fancy_search_text.proofs.LineLemmas.{line_more}
-use Rattle.fancy_search_text.proofs.ErrorLemmas.{item_error_is, memory_is_error}
-use Rattle.fancy_search_text.proofs.MatchLemmas.{all_are}
+use Rattle.fancy_regex.proofs.SearchErrorLemmas.{item_error_is, memory_is_error}
+use Rattle.fancy_regex.proofs.TextMatchLemmas.{all_are}
 use Rattle.fancy_search_text.proofs.lines.span_lines.Goals as goal
 
 pub loop-found-preserved : goal.loop-found-preserved

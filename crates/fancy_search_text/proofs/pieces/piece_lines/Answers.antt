@@ -9,8 +9,8 @@ use Rattle.fancy_regex.specs.RemainingMatches.{remaining_matches, all_matches}
 use Rattle.fancy_regex.specs.IterationSearches.{MakesSearchFrom}
 use Rattle.std.proofs.lemmas.Grind.{common_steps}
 use Rattle.fancy_search_text.specs.Lines.{piece_lines}
-use Rattle.fancy_search_text.proofs.ErrorLemmas.{item_error_is, memory_is_error}
-use Rattle.fancy_search_text.proofs.MatchLemmas.{all_are}
+use Rattle.fancy_regex.proofs.SearchErrorLemmas.{item_error_is, memory_is_error}
+use Rattle.fancy_regex.proofs.TextMatchLemmas.{all_are}
 use Rattle.fancy_search_text.proofs.PieceLemmas.{line_more, not_done, not_done_before}
 use Rattle.fancy_search_text.proofs.pieces.piece_lines.Goals as goal
 

@@ -29,7 +29,8 @@ returns-in-Some-Ok-clause-answer g c =
     let inv = c.loop-position.invariant in
     let fits : FitsText text config = rw (c.haystack-haystack.ensures, c.config-config.ensures) c.args.input.fits in
     let within : p ≤ last_tried config = omega (arith, c.loop-position-test.true, c.last_position-last.ensures) in
-    let y = rw c.in-Some-Ok.field-0-is at c.in-Some-Ok.ensures.item in
+    let same : c.copied.result ≡ c.config-config.result = c.copied.ensures in
+    let y = rw (same, c.in-Some-Ok.field-0-is) at c.in-Some-Ok.ensures.item in
     let is = found_here items text config c.as_bytes-text.ensures.utf8 fits p inv.cut within y.0 _ inv.answer y.3 in
     rw (← c.haystack-haystack.ensures, ← c.config-config.ensures, c.in-Some-Ok.field-0-is) (is.0, is.1, is.2, (y.0, y.2, is.3, y.4))
 
@@ -42,8 +43,9 @@ returns-in-Some-Err-clause-limits g c =
     let inv = c.loop-position.invariant in
     let fits : FitsText text config = rw (c.haystack-haystack.ensures, c.config-config.ensures) c.args.input.fits in
     let within : p ≤ last_tried config = omega (arith, c.loop-position-test.true, c.last_position-last.ensures) in
-    let y = rw c.in-Some-Err.field-0-is at c.in-Some-Err.ensures.item in
-    let within_limits = rw c.in-Some-Err.field-0-is at c.in-Some-Err.ensures.limits in
+    let same : c.copied.result ≡ c.config-config.result = c.copied.ensures in
+    let y = rw (same, c.in-Some-Err.field-0-is) at c.in-Some-Err.ensures.item in
+    let within_limits = rw (same, c.in-Some-Err.field-0-is) at c.in-Some-Err.ensures.limits in
     rw (← c.haystack-haystack.ensures, ← c.config-config.ensures, c.in-Some-Err.field-0-is)
     (p, y.0, tried_here items text config c.as_bytes-text.ensures.utf8 fits p inv.cut within inv.following, inv.none, y.3, y.4, inv.limits, within_limits y.0 y.2)
 
@@ -57,12 +59,15 @@ loop-position-preserved g c =
     let utf8 = c.as_bytes-text.ensures.utf8 in
     let fits : FitsText text config = rw (c.haystack-haystack.ensures, c.config-config.ensures) c.args.input.fits in
     let within : p ≤ last_tried config = omega (arith, c.loop-position-test.true, c.last_position-last.ensures) in
-    let here = c.in-None.ensures.item.0 in
+    let same : c.copied.result ≡ c.config-config.result = c.copied.ensures in
+    let left = rw same at c.in-None.ensures.item in
+    let here = left.0 in
+    let passed = rw same at c.in-None.ensures.limits in
     let next = c.advance_position-position.ensures in
     record {
       cut = next.boundary;
       following = omega (arith, inv.following, next.after);
-      limits = λ q tried lt. all_later items text config utf8 fits p inv.cut within (λ (x : ℕ). AreInLimits items text config x 0 (length items)) inv.limits c.in-None.ensures.limits q tried
+      limits = λ q tried lt. all_later items text config utf8 fits p inv.cut within (λ (x : ℕ). AreInLimits items text config x 0 (length items)) inv.limits passed q tried
           (omega (arith, lt, next.value));
       none = λ q tried lt. none_later items text config utf8 fits p inv.cut within inv.none here q tried (omega (arith, lt, next.value));
       answer = rw next.value (answer_after items text config utf8 fits p inv.cut within inv.answer here);
@@ -70,7 +75,8 @@ loop-position-preserved g c =
 
 pub returns-in-Some-Ok-clause-stays : goal.returns-in-Some-Ok-clause-stays
 returns-in-Some-Ok-clause-stays g c =
-    let passed = rw c.in-Some-Ok.field-0-is at c.in-Some-Ok.ensures.limits in
+    let same : c.copied.result ≡ c.config-config.result = c.copied.ensures in
+    let passed = rw (same, c.in-Some-Ok.field-0-is) at c.in-Some-Ok.ensures.limits in
     rw (← c.haystack-haystack.ensures, ← c.config-config.ensures) (c.loop-position.invariant.limits, passed)
 
 pub returns-clause-stays : goal.returns-clause-stays

@@ -1,6 +1,6 @@
 use Rattle.std.proofs.Common.{subst}
 use Rattle.std.proofs.lemmas.Option.{same_Some}
-use Rattle.fancy_regex_starts.specs.declared.table.StartTable.{StartTable}
+use Rattle.fancy_regex.specs.declared.start_table.StartTable.{StartTable}
 use Rattle.fancy_regex.specs.SetStarts.{PassesOver}
 use Rattle.fancy_regex.proofs.set.RegexSet.new_with_options.Goals as goal
 

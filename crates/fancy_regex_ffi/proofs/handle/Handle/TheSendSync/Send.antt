@@ -13,20 +13,20 @@ use Rattle.core.specs.declared.option.Option.TheVariants.{None, Some}
 use Rattle.std_alloc.proofs.SendSync.{quiet, lies}
 use Rattle.fancy_regex_meta.proofs.Sending.{regex_send}
 use Rattle.fancy_regex_ffi.specs.Handles.{owns_if_live, token}
-use Rattle.fancy_regex_ffi.specs.contracts.held.Held.{the_row as held_row}
+use Rattle.fancy_regex_ffi.specs.contracts.contents.Contents.{the_row as contents_row}
 use Rattle.fancy_regex_ffi.proofs.fault.CallError.TheSendSync as fault
 use Rattle.fancy_regex_ffi.specs.contracts.handle.Handle.{the_row, the_type}
 
 -- what a handle holds, of which the toolchain writes no such proof, since a program may hold a tree
-held_send : IsSend held_row
-held_send = search (regex_send, fault.the_field_send, heap.crosses, sendable) depth 60 fits 20000
+contents_send : IsSend contents_row
+contents_send = search (regex_send, fault.the_field_send, heap.crosses, sendable) depth 60 fits 20000
 
-owned : (p : Ptr) (b : Bool) (o : Option held_row.Denot) → Keyless (owns_if_live token held_row p b o)
+owned : (p : Ptr) (b : Bool) (o : Option contents_row.Denot) → Keyless (owns_if_live token contents_row p b o)
 unfolding owns_if_live
 owned p b None = tt
-owned p b (Some x) = (tt, (lies held_row held_send p x, heap.frees.frees (record { memory = record { seal = tt } }) (raw (lone held_row.mir)) p))
+owned p b (Some x) = (tt, (lies contents_row contents_send p x, heap.frees.frees (record { memory = record { seal = tt } }) (raw (lone contents_row.mir)) p))
 
 pub send : IsSend the_row
 send =
     let all : AllSend (fields the_type) = (search sendable, (search sendable, tt)) in
-    owning_send the_type all (λ d. owned d.at d.live d.held) (λ k. quiet (to the_type) (exits_of k (fields the_type)) ((struct_send (shape the_type) all).leaving k))
+    owning_send the_type all (λ d. owned d.at d.live d.contents) (λ k. quiet (to the_type) (exits_of k (fields the_type)) ((struct_send (shape the_type) all).leaving k))

@@ -29,10 +29,10 @@ empty_spec 𝓤 𝓛 𝓜 𝓡 wired =
     let H = 𝓛.H in let 𝓣 = tables 𝓤 H 𝓜 𝓡 𝓡.env in let c = clauses 𝓛 𝓜.mem 𝓡.returns in let hs : Stays ended.signature.params ended.kept = tt in
     proved_at 𝓛 ended hs c 𝓜 𝓡 tt #self code.function (code.unfolded 𝓤 H 𝓜 𝓡 wired) (λ z are.
     let κs = z.0.0 in let qs = z.0.1 in let Post : Val → SProp 𝓤 = (walk_of 𝓛 ended hs c).post z in let w : Val = word null_ptr false in
-    let d : handle.the_row.Denot = record { at = null_ptr; live = false; held = None } in
+    let d : handle.the_row.Denot = record { at = null_ptr; live = false; contents = None } in
     qed 𝓛 ((raw (alive 𝓛 ended.signature κs qs) ⊛ ‵ (owns (types_at ended.signature.params κs) z.0.3 z.0.4)) ∷ raw ((c κs z.0.3).requires z.1) ∷ []) ∵ split ! $
     enter ! 𝓣.C 𝓣.Λ code.function [] Post $ alloc_all ! (λ l. pass_all ! refl tt $
     sets ! (agg ! (and_then ! (lit ! tt) (and_then ! (false_lit !) (no_more !)))) refl (word_good null_ptr false) $
     use0 𝓛 (‵ (Owned null_ptr false None)) (empty_in 𝓛 null_ptr) $ handle_in ! d $
-    use0 𝓛 (raw (fact 𝓤 (d.held ≡ d.held))) (fact_i 𝓤 (d.held ≡ d.held) (emp 𝓤) refl) $ nothing ! $
+    use0 𝓛 (raw (fact 𝓤 (d.contents ≡ d.contents))) (fact_i 𝓤 (d.contents ≡ d.contents) (emp 𝓤) refl) $ nothing ! $
     returns ! (look_at ! 0 refl) $ free_all ! refl $ keep ! (3 ∷ 0 ∷ 2 ∷ 1 ∷ []) $ by ! (leaves 𝓛 ended hs c z w d tt tt)))
