@@ -1,16 +1,23 @@
 #!/usr/bin/env python3
-"""Writes the table of cases that the program reads.
+"""Makes the table of cases that the program reads, and what the program prints of it.
 
-    python3 make_cases.py ROWS LIBRARY WORKED >stdin
+    python3 make_cases.py
 
-ROWS and LIBRARY are two collections of cases, a JSON object a line. They were made by a model of the written dialect that shares no
-code with this project, and each row of ROWS was also written by hand. WORKED, worked.jsonl beside this script, has more rows in the
-form of ROWS, written by hand. Nothing of the table comes from this project's own answers.
+Reads stdin and worked.jsonl beside this script, and writes stdin and stdout. The lines of outside cases stay in stdin as they are;
+those between them are made anew from worked.jsonl. So a new case is a row of worked.jsonl, and a run of this script.
+
+The outside cases are two collections that were made by a model of the written dialect, which shares no code with this project; each
+case before the worked ones was also written by hand. Nothing of the table comes from this project's own answers. To add an outside
+collection, append its cases to stdin as lines of the table, add their number to OUTSIDE_AFTER, and run this script.
+
+A row of worked.jsonl is a JSON object: `kind`, the call or calls that it asks (see row_calls), `pattern`, of a set a list, and
+`expected`, or `error` where the calls fail; and as it needs them `text`, `options`, `input`, `template`, `no_expand`, `limit`,
+`position`, `name`, `total` and `seek`.
 
 A line of the table is a case: six columns or more, separated by tabs. In patterns, texts, templates and answers each byte that is a
 control character, a blank, a `%` or not ASCII is written as `%` and two hexadecimal digits.
 
-    options     letters; behind blanks `b` and the backtrack limit, `c` and the cap of the program, if they are not the defaults
+    options     letters; then, after blanks, `b` and the backtrack limit, `c` and the cap of the program, if they are not the defaults
     pattern     of a set all its patterns with a blank between, `-` if it has none; none of them has a blank itself
     text
     input       empty for a whole text; else the start, both ends of the range, and letters, with blanks between
@@ -41,12 +48,15 @@ The answer of a call that fails is the text of its error in brackets. Other answ
     set                 MEMBER:START..END or the text of an error, with a blank between, or none
 """
 import json
-import sys
+import re
+from collections import Counter
+from pathlib import Path
+
+HERE = Path(__file__).resolve().parent
+# How many lines of the table are outside cases: those before the worked cases, and those after them.
+OUTSIDE_BEFORE, OUTSIDE_AFTER = 205, 2999
 
 LETTERS = {
-    "FLAG_UNICODE": "u",
-    "FLAG_CASEI": "i",
-    "FLAG_ONIGURUMA_MODE": "o",
     "case_insensitive": "i",
     "multi_line": "m",
     "dot_matches_new_line": "s",
@@ -61,7 +71,7 @@ LETTERS = {
 
 LIMIT_LETTERS = {"backtrack_limit": "b", "max_prog_size": "c"}
 
-# The texts of errors by their kinds; a payload comes behind those that end in `: `.
+# The texts of errors by their kinds; a payload follows those that end in `: `.
 TEXTS = {
     "GeneralParseError": "General parsing error: ",
     "UnclosedOpenParen": "Opening parenthesis without closing parenthesis",
@@ -94,8 +104,6 @@ CAUSES = {
     "PatternTooComplex": "pattern too complex",
     "RepeatBoundsReversed": "repeat bounds reversed",
 }
-# Cases of LIBRARY with `ß` or what folds to it.
-FOLDINGS = {f"library {number}" for number in (267, 890, 1018, 1316, 1953, 2240, 2404, 2410, 2815)}
 LIMITS = {"BacktrackLimitExceeded": "backtrack limit exceeded"}
 
 
@@ -180,11 +188,6 @@ def options_column(options, seek=""):
     return " ".join([letters] + [f"{letter}{options[name]}" for name, letter in LIMIT_LETTERS.items() if name in options])
 
 
-def line(options, pattern, text, given, template, questions):
-    columns = [options, pattern, quoted(text), input_column(text, given), quoted(template)]
-    return "\t".join(columns + [f"{call}={answer}" for call, answer in questions])
-
-
 def suffix(given):
     return "_input" if given else ""
 
@@ -195,13 +198,10 @@ def set_item(item):
 
 
 def row_calls(row):
-    """The calls that a row asks, each with the form of its answer; none for what is shown elsewhere: reading and printing of trees,
-    and the program."""
+    """The calls that a row asks, each with the form of its answer."""
     kind, given = row["kind"], suffix(row.get("input"))
     matched = ("is_match" + given, lambda expected: yes(expected is not None))
     match kind:
-        case "fault":
-            return [(call, lambda expected: fault_text(*expected)) for call in ("build", "reprint", "required_bytes", "start_bytes")]
         case "build":
             return [("build", lambda expected: "built" if expected is None else cause_text(*expected))]
         case "find":
@@ -228,17 +228,17 @@ def row_calls(row):
             return [("split", pieces)]
         case "splitn":
             return [(f"splitn {row['limit']}", pieces)]
-        case "replacen" if "counter" not in row:
+        case "replacen":
             return [(f"{'no_expand' if 'no_expand' in row else 'replacen'} {row['limit']}", bracketed)]
-        case "set" if "each_options" not in row:
+        case "set":
             return [("set", lambda expected: "none" if expected is None else " ".join(map(set_item, expected)))]
-        case "names" if "total" in row:
+        case "names":
             return [("capture_names", lambda expected: names_answer(row["total"], expected))]
         case "looks":
             return [("looks %d..%d" % tuple(row["expected"]), lambda _: "within")]
         case "expand":
             return [("python" if row.get("python") else "expand", bracketed)]
-    return [(kind, FORMS[kind])] if kind in FORMS else []
+    return [(kind, FORMS[kind])]
 
 
 def error_text(error):
@@ -285,7 +285,7 @@ FORMS = {
     "reprint": optional,
     "start_bytes": start_bytes_answer,
     "required_bytes": byte_runs,
-    "check": lambda expected: check_answer(expected),
+    "check": check_answer,
     "escape": bracketed,
     "expander_escape": bracketed,
     "layout": layout_answer,
@@ -293,20 +293,17 @@ FORMS = {
 }
 
 
-def row_lines(row):
-    questions = row_questions(row)
-    if not questions:
-        return
-    options = row.get("options", {})
-    if row["kind"] == "fault":
-        options = {name: True for name in row["flags"]} | {"unicode_mode": "FLAG_UNICODE" in row["flags"]}
+def row_line(row):
     pattern = row["pattern"]
     patterns = " ".join(map(quoted, pattern)) or "-" if isinstance(pattern, list) else quoted(pattern or "")
-    template = row.get("template", row.get("no_expand", ""))
-    yield line(options_column(options, row_seek(row)), patterns, row.get("text", ""), row.get("input"), template, questions)
-    # a part is a pattern too, whose weight is two more
-    for part, weight in row.get("parts", []):
-        yield line("u", quoted(part), "", None, "", [("weight", str(weight + 2))])
+    columns = [
+        options_column(row.get("options", {}), row_seek(row)),
+        patterns,
+        quoted(row.get("text", "")),
+        input_column(row.get("text", ""), row.get("input")),
+        quoted(row.get("template", row.get("no_expand", ""))),
+    ]
+    return "\t".join(columns + [f"{call}={answer}" for call, answer in row_questions(row)])
 
 
 def row_seek(row):
@@ -316,70 +313,41 @@ def row_seek(row):
     return "p" if row["kind"] == "limit" and "options" in row else ""
 
 
-def library_questions(case):
-    if "fault" in case:
-        return [("build", fault_text(*case["fault"])), ("reprint", fault_text(*case["fault"]))]
-    causes = [cause_text(*cause) for cause in case.get("causes", [])]
-    questions = [("reprint", optional(case["reprint"])), ("required_bytes", byte_runs(case["required_bytes"]))]
-    starts = library_starts(case)
-    if starts is not None:
-        questions.append(("start_bytes", starts))
-    if causes:
-        return questions + [("build", " | ".join(causes))]
-    if case["reprint"] is not None:
-        questions.append(("reprinted", "alike"))
-    return questions + analysis_questions(case) + search_questions(case) + text_questions(case)
+def lines_of(name):
+    with open(HERE / name, encoding="utf-8") as file:
+        return [line.rstrip("\n") for line in file]
 
 
-def library_starts(case):
-    """The answer of start_bytes; `None` where the collection does not say which it is.
-
-    Where `regex` refuses a class of the tree the collection has InnerError, although the class may stand where no start byte can come
-    from, and is then passed over: it is surely asked where each match begins with it. FOLDINGS: the
-    tables of the library fold U+1DF95 and `ß` together, and those of the model do not.
-    """
-    if case["start_bytes"] != "InnerError":
-        return None if case["id"] in FOLDINGS else start_bytes_answer(case["start_bytes"])
-    if case["tree"][0] == "Alt" or case["sizes"][0] == 0:
-        return None
-    refused = [cause for cause in case.get("causes", []) if cause[0] == "InnerError" and case["pattern"].startswith(cause[1])]
-    return cause_text(*refused[0]) if refused else None
+def table_lines():
+    """The lines of the table: those of outside cases as they are, and those of the worked cases made anew."""
+    old = lines_of("stdin")
+    if len(old) < OUTSIDE_BEFORE + OUTSIDE_AFTER:
+        raise SystemExit("make_cases: stdin has lost outside cases")
+    worked = [row_line(json.loads(row)) for row in lines_of("worked.jsonl")]
+    return old[:OUTSIDE_BEFORE] + worked + old[-OUTSIDE_AFTER:]
 
 
-def analysis_questions(case):
-    return [("sizes", sizes_answer(*case["sizes"])), ("weight", str(case["weight"])), ("easy", yes(case["easy"]))]
+def totals(table):
+    """What the program prints where all answers agree: how often each call was asked, in the order of the table in src/call.rt."""
+    asked = Counter()
+    for line in table:
+        options, *rest = line.split("\t")
+        letters = options.split(" ")[0]
+        times = 1 if "k" in letters or "p" in letters else 2
+        for question in rest[4:]:
+            asked[re.split("[ =]", question)[0]] += times
+    calls = re.findall(r'"(\w+)",\s*LibraryCall::', (HERE / "src/call.rt").read_text(encoding="utf-8"))
+    return [f"{call}: {asked[call]} agree" for call in calls if asked[call]]
 
 
-def search_questions(case):
-    given, captured, items = suffix(case["input"]), case["captures"], case["items"]
-    first = None if captured is None else captured[0]
-    questions = [
-        ("is_match" + given, yes(captured is not None)),
-        ("find" + given, found(first)),
-        ("captures" + given, groups(captured)),
-        ("find_iter" + given, " ".join(span(item[0]) for item in items)),
-        ("captures_iter" + given, " / ".join(map(groups, items))),
-    ]
-    return questions if given else questions + [("machine", groups(captured))]
-
-
-def text_questions(case):
-    questions = [("splitn 3", pieces(case["splitn"])), ("check", check_answer(case["check"]))]
-    if case["groups"]:
-        questions.append(("capture_names", names_answer(case["groups"], case["names"])))
-    if "expanded" in case and not case["input"]:
-        questions.append(("expand", bracketed(case["expanded"])))
-    return questions
+def write(name, lines):
+    (HERE / name).write_text("".join(line + "\n" for line in lines), encoding="utf-8")
 
 
 def main():
-    rows, library, worked = ([json.loads(text) for text in open(name, encoding="utf-8")] for name in sys.argv[1:4])
-    for row in rows + worked:
-        for each in row_lines(row):
-            print(each)
-    for case in library:
-        questions = library_questions(case)
-        print(line(options_column(case["options"]), quoted(case["pattern"]), case["text"], case.get("input"), case.get("template", ""), questions))
+    table = table_lines()
+    write("stdin", table)
+    write("stdout", totals(table))
 
 
 if __name__ == "__main__":

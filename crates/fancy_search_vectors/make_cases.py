@@ -1,11 +1,17 @@
 #!/usr/bin/env python3
-"""Writes the table of cases that the program reads.
+"""Makes the table of cases that the program reads, and what the program prints of it.
 
-    python3 make_cases.py PROGRAM ROWS WORKED >stdin
+    python3 make_cases.py
 
-PROGRAM and ROWS are two collections of cases, a JSON object a line. They were made by a model of the written dialect that shares no
-code with this project, and each row of ROWS was also written by hand. WORKED, worked.jsonl beside this script, has more cases in the
-form of PROGRAM, written by hand. Nothing of the table comes from this project's own answers.
+Reads stdin and worked.jsonl beside this script, and writes stdin and stdout. The lines of outside cases stay in stdin as they are;
+those after them are made anew from worked.jsonl. So a new case is a row of worked.jsonl, and a run of this script.
+
+The outside cases are two collections that were made by a model of the written dialect, which shares no code with this project; some
+of them were also written by hand. Nothing of the table comes from this project's own answers. To add an outside collection, put its
+cases in front of stdin as lines of the table, add their number to OUTSIDE, and run this script.
+
+A row of worked.jsonl is a JSON object: `words`, `stdin` and `allowed`, a list of the answers that are allowed: `status`, `stdout`
+and `stderr`.
 
 A line of the table is a case, in columns separated by tabs: the words and the input, and then each answer that is allowed. There is
 more than one where several causes hold for which a pattern is refused, any of which may be told, or where a search opens more choices
@@ -14,7 +20,11 @@ than its limit, and may answer or tell the limit. An answer is the exit status, 
 is percent-encoded: each byte that is a control character, a blank, a `%` or not ASCII is `%` and two hexadecimal digits.
 """
 import json
-import sys
+from pathlib import Path
+
+HERE = Path(__file__).resolve().parent
+# How many lines of the table are outside cases, which stand before the worked cases.
+OUTSIDE = 3145
 
 
 def quoted_bytes(data):
@@ -33,16 +43,28 @@ def answer(allowed):
     return f"{allowed['status']} " + ("%" if text is None else quoted_bytes(bytes_of(text)))
 
 
-def line(case):
+def case_line(case):
     words = " ".join(quoted_bytes(word.encode()) for word in case["words"])
     return "\t".join([words, quoted_bytes(bytes_of(case["stdin"]))] + [answer(allowed) for allowed in case["allowed"]])
 
 
+def lines_of(name):
+    with open(HERE / name, encoding="utf-8") as file:
+        return [line.rstrip("\n") for line in file]
+
+
+def table_lines():
+    """The lines of the table: those of outside cases as they are, and those of the worked cases made anew."""
+    old = lines_of("stdin")
+    if len(old) < OUTSIDE:
+        raise SystemExit("make_cases: stdin has lost outside cases")
+    return old[:OUTSIDE] + [case_line(json.loads(row)) for row in lines_of("worked.jsonl")]
+
+
 def main():
-    cases = [json.loads(text) for name in sys.argv[1:4] for text in open(name, encoding="utf-8")]
-    for case in cases:
-        if "program" in case or "words" in case:
-            print(line(case.get("program", case)))
+    table = table_lines()
+    (HERE / "stdin").write_text("".join(line + "\n" for line in table), encoding="utf-8")
+    (HERE / "stdout").write_text(f"{len(table)} cases agree\n", encoding="utf-8")
 
 
 if __name__ == "__main__":

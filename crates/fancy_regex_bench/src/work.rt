@@ -8,7 +8,7 @@ use std::alloc::Global;
 /// A call that is measured.
 #[derive(Clone, Copy)]
 pub enum TimedCall {
-    /// A search on the runner of one table, with its looks at the haystack.
+    /// A search of the linear engine, with its looks at the haystack.
     Looks,
     /// A search on the backtracking machine.
     Search,

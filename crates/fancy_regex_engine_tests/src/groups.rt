@@ -10,7 +10,7 @@ use fancy_regex_program::Prog;
 use std::alloc::Global;
 
 /// How a run has to end.
-enum Wanted {
+enum RunEnding {
     /// With the byte offsets of the groups.
     Groups(&'static [usize]),
     NoMatch,
@@ -18,45 +18,53 @@ enum Wanted {
 }
 
 /// Whether a run ends as wanted.
-fn ends(found: &Result<Option<Vec<usize>>, RuntimeError>, wanted: &Wanted) -> bool {
+fn ends(found: &Result<Option<Vec<usize>>, RuntimeError>, wanted: &RunEnding) -> bool {
     match (found, wanted) {
-        (Ok(Some(places)), Wanted::Groups(groups)) => places.as_slice() == *groups,
-        (Ok(None), Wanted::NoMatch) => true,
-        (Err(found), Wanted::Fails(error)) => found == error,
+        (Ok(Some(places)), RunEnding::Groups(groups)) => places.as_slice() == *groups,
+        (Ok(None), RunEnding::NoMatch) => true,
+        (Err(found), RunEnding::Fails(error)) => found == error,
         _ => false,
     }
 }
 
 /// A pattern, a text, and how runs of at most 100 backtracks have to end.
-struct Run(Text, Text, Wanted);
+struct Run(Text, Text, RunEnding);
 
 static RUNS: [Run; 9] = [
-    Run("(?=(a|ab)(?!x))\\1c", "abc", Wanted::Groups(&[0, 3, 0, 2])),
+    Run(
+        "(?=(a|ab)(?!x))\\1c",
+        "abc",
+        RunEnding::Groups(&[0, 3, 0, 2]),
+    ),
     Run(
         "(a+)+\\1b",
         "aaaaaaaaaaaaaaaaaaaa",
-        Wanted::Fails(RuntimeError::BacktrackLimitExceeded),
+        RunEnding::Fails(RuntimeError::BacktrackLimitExceeded),
     ),
-    Run("(\\w)(x)?\\1", "abcd", Wanted::NoMatch),
-    Run("(\\w)(x)?\\1", "zaxa", Wanted::Groups(&[1, 4, 1, 2, 2, 3])),
+    Run("(\\w)(x)?\\1", "abcd", RunEnding::NoMatch),
+    Run(
+        "(\\w)(x)?\\1",
+        "zaxa",
+        RunEnding::Groups(&[1, 4, 1, 2, 2, 3]),
+    ),
     Run(
         "(\\w)(x)?\\1",
         "abb",
-        Wanted::Groups(&[1, 3, 1, 2, usize::MAX, usize::MAX]),
+        RunEnding::Groups(&[1, 3, 1, 2, usize::MAX, usize::MAX]),
     ),
     // a run for spans leaves out what nothing reads
     Run(
         "((\\w)\\2)(\\w)",
         "abbc",
-        Wanted::Groups(&[1, 4, 1, 3, 1, 2, 3, 4]),
+        RunEnding::Groups(&[1, 4, 1, 3, 1, 2, 3, 4]),
     ),
-    Run("((\\w)\\2)(\\w)", "abcd", Wanted::NoMatch),
+    Run("((\\w)\\2)(\\w)", "abcd", RunEnding::NoMatch),
     Run(
         "(?:(a)|(b))+(?!c)",
         "xabc",
-        Wanted::Groups(&[1, 2, 1, 2, usize::MAX, usize::MAX]),
+        RunEnding::Groups(&[1, 2, 1, 2, usize::MAX, usize::MAX]),
     ),
-    Run("(a)?(?(1)b|c)", "ab", Wanted::Groups(&[0, 2, 0, 1])),
+    Run("(a)?(?(1)b|c)", "ab", RunEnding::Groups(&[0, 2, 0, 1])),
 ];
 
 /// Whether the run in this memory and one in new memory end as wanted, and the start and the end in this memory as well.
@@ -65,7 +73,7 @@ fn all_end(
     memory: &mut RunMemory,
     prog: &Prog,
     text: &str,
-    wanted: &Wanted,
+    wanted: &RunEnding,
 ) -> bool {
     let input = RunInput {
         first: 0,
@@ -96,11 +104,11 @@ fn all_end(
         run_spans_in(alloc, prog, text, &input, &options, memory),
         wanted,
     ) {
-        (Ok(Some((start, end))), Wanted::Groups(groups)) => {
+        (Ok(Some((start, end))), RunEnding::Groups(groups)) => {
             matches!(**groups, [first, last, ..] if first == start && last == end)
         }
-        (Ok(None), Wanted::NoMatch) => true,
-        (Err(found), Wanted::Fails(error)) => found == *error,
+        (Ok(None), RunEnding::NoMatch) => true,
+        (Err(found), RunEnding::Fails(error)) => found == *error,
         _ => false,
     }
 }
@@ -124,7 +132,7 @@ fn runs_in_one_memory_end_as_in_new_memory(rt: HostRuntime) {
 }
 
 /// A pattern, a text and how often it is repeated, the start of a default run, and how it has to end.
-struct DefaultRun(Text, Text, usize, usize, Wanted);
+struct DefaultRun(Text, Text, usize, usize, RunEnding);
 
 static DEFAULT_RUNS: [DefaultRun; 4] = [
     // the body is entered again where it has a capture group
@@ -133,18 +141,18 @@ static DEFAULT_RUNS: [DefaultRun; 4] = [
         "abc",
         1,
         0,
-        Wanted::Groups(&[0, 3, 0, 2]),
+        RunEnding::Groups(&[0, 3, 0, 2]),
     ),
     // it continues at its start
-    DefaultRun("\\Ga", "aab", 1, 1, Wanted::Groups(&[1, 2])),
-    DefaultRun("\\Ga", "aba", 1, 1, Wanted::NoMatch),
+    DefaultRun("\\Ga", "aab", 1, 1, RunEnding::Groups(&[1, 2])),
+    DefaultRun("\\Ga", "aba", 1, 1, RunEnding::NoMatch),
     // a million branches are the limit
     DefaultRun(
         "(a)*\\1c",
         "a",
         1_000_001,
         0,
-        Wanted::Fails(RuntimeError::StackOverflow),
+        RunEnding::Fails(RuntimeError::StackOverflow),
     ),
 ];
 

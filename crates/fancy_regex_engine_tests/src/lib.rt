@@ -1,4 +1,4 @@
-//! Tests of character classes, the analysis of patterns, the runner, the compiler and the machine, of what the cases of
+//! Tests of character classes, the analysis of patterns, the linear engine, the compiler and the machine, of what the cases of
 //! `fancy_regex_vectors` cannot state. They are a crate of their own so that the crates that they test are proved once. There is no
 //! code here.
 //!
@@ -14,8 +14,8 @@ mod compiled;
 #[cfg(test)]
 mod groups;
 #[cfg(test)]
-mod program;
+mod linear;
 #[cfg(test)]
-mod runner;
+mod program;
 #[cfg(test)]
 mod spans;

@@ -15,8 +15,8 @@ enum Step {
     End,
 }
 
-/// What a program has.
-enum Wanted {
+/// A feature that a program has.
+enum ProgramFeature {
     /// So many parts that are delegated.
     Parts(usize),
     /// Whether the end of the pattern is delegated.
@@ -30,45 +30,45 @@ enum Wanted {
 }
 
 /// A pattern, and what its program has.
-struct Compiled(Text, Wanted);
+struct Compiled(Text, ProgramFeature);
 
 static PROGRAMS: [Compiled; 28] = [
-    Compiled("(?>(?:a?){3}b)", Wanted::Parts(1)),
-    Compiled("(?!(?:a?){3}b)c", Wanted::Parts(1)),
-    Compiled("(?((?:a?){3}b)c|d)", Wanted::Parts(1)),
-    Compiled("(?=(?:a?){3}b)a", Wanted::Parts(1)),
+    Compiled("(?>(?:a?){3}b)", ProgramFeature::Parts(1)),
+    Compiled("(?!(?:a?){3}b)c", ProgramFeature::Parts(1)),
+    Compiled("(?((?:a?){3}b)c|d)", ProgramFeature::Parts(1)),
+    Compiled("(?=(?:a?){3}b)a", ProgramFeature::Parts(1)),
     // one choice at the end, where only counts whether the body matches
-    Compiled("(?=ab*)c", Wanted::Parts(1)),
-    Compiled("(?!a|b)c", Wanted::Parts(1)),
-    Compiled("(?=a*b)a", Wanted::Parts(0)),
-    Compiled("(?=a(?:b*c))a", Wanted::Parts(0)),
+    Compiled("(?=ab*)c", ProgramFeature::Parts(1)),
+    Compiled("(?!a|b)c", ProgramFeature::Parts(1)),
+    Compiled("(?=a*b)a", ProgramFeature::Parts(0)),
+    Compiled("(?=a(?:b*c))a", ProgramFeature::Parts(0)),
     // the same body of two uses
-    Compiled("(?=(?:a|b)*)(?>(?:a|b)*)", Wanted::Parts(2)),
+    Compiled("(?=(?:a|b)*)(?>(?:a|b)*)", ProgramFeature::Parts(2)),
     // too few choices, a capture group, a hard node, a body that is read backwards
-    Compiled("(?>a*)b", Wanted::Parts(0)),
-    Compiled("(?>(a?){3}b)", Wanted::Parts(0)),
-    Compiled("(?=(a?){3})b", Wanted::Parts(0)),
-    Compiled("(?<=a|b)e", Wanted::Parts(0)),
-    Compiled("(?>(?:a?){3}\\Gb)", Wanted::Parts(0)),
-    Compiled("(?<!(?:a|b)(?:c|d))e", Wanted::Parts(0)),
+    Compiled("(?>a*)b", ProgramFeature::Parts(0)),
+    Compiled("(?>(a?){3}b)", ProgramFeature::Parts(0)),
+    Compiled("(?=(a?){3})b", ProgramFeature::Parts(0)),
+    Compiled("(?<=a|b)e", ProgramFeature::Parts(0)),
+    Compiled("(?>(?:a?){3}\\Gb)", ProgramFeature::Parts(0)),
+    Compiled("(?<!(?:a|b)(?:c|d))e", ProgramFeature::Parts(0)),
     // the end of the pattern
-    Compiled("(?<=x)a?(?:b?c)*d", Wanted::Tail(true)),
-    Compiled("(?:a|b){2}c", Wanted::Tail(true)),
-    Compiled("(?<=x)(?:a|ab){1,2}(?:c|bcd)?", Wanted::Tail(true)),
-    Compiled("(?:a??){2}b??", Wanted::Tail(true)),
+    Compiled("(?<=x)a?(?:b?c)*d", ProgramFeature::Tail(true)),
+    Compiled("(?:a|b){2}c", ProgramFeature::Tail(true)),
+    Compiled("(?<=x)(?:a|ab){1,2}(?:c|bcd)?", ProgramFeature::Tail(true)),
+    Compiled("(?:a??){2}b??", ProgramFeature::Tail(true)),
     // no choices in a repetition, a group in the last part, no row
-    Compiled("(?<=x)(?:a|b)c*d*", Wanted::Tail(false)),
-    Compiled("(?:a|b)*(c)", Wanted::Tail(false)),
-    Compiled("(?:a|b)*", Wanted::Tail(false)),
-    Compiled("(a|b)\\g<1>", Wanted::Slots(5)),
-    Compiled("(?:(?:ab){2,3}){4,5}", Wanted::Slots(4)),
-    Compiled("((\\w)\\2)(\\w)", Wanted::SpanCode),
-    Compiled("(?:(a)|(b))+(?!c)", Wanted::SpanCode),
+    Compiled("(?<=x)(?:a|b)c*d*", ProgramFeature::Tail(false)),
+    Compiled("(?:a|b)*(c)", ProgramFeature::Tail(false)),
+    Compiled("(?:a|b)*", ProgramFeature::Tail(false)),
+    Compiled("(a|b)\\g<1>", ProgramFeature::Slots(5)),
+    Compiled("(?:(?:ab){2,3}){4,5}", ProgramFeature::Slots(4)),
+    Compiled("((\\w)\\2)(\\w)", ProgramFeature::SpanCode),
+    Compiled("(?:(a)|(b))+(?!c)", ProgramFeature::SpanCode),
     // a literal is one instruction, and so is the body of a look-ahead
-    Compiled("abc", Wanted::Steps(&[Step::Lit("abc"), Step::End])),
+    Compiled("abc", ProgramFeature::Steps(&[Step::Lit("abc"), Step::End])),
     Compiled(
         "(?=ab*)c",
-        Wanted::Steps(&[
+        ProgramFeature::Steps(&[
             Step::Save(0),
             Step::Part("ab*"),
             Step::Restore(0),
@@ -93,20 +93,20 @@ fn is_step(insn: &Insn, step: &Step) -> bool {
 }
 
 /// Whether the program has what is wanted.
-fn has(prog: &Prog, wanted: &Wanted) -> bool {
+fn has(prog: &Prog, wanted: &ProgramFeature) -> bool {
     let mut body = prog.body().iter();
     match wanted {
-        Wanted::Parts(count) => {
+        ProgramFeature::Parts(count) => {
             body.filter(|insn| matches!(**insn, Insn::Delegate(_)))
                 .count()
                 == *count
         }
-        Wanted::Tail(is_there) => {
+        ProgramFeature::Tail(is_there) => {
             body.any(|insn| matches!(*insn, Insn::DelegateTail { .. })) == *is_there
         }
-        Wanted::Slots(count) => prog.slots() == *count,
-        Wanted::SpanCode => prog.spans().is_some(),
-        Wanted::Steps(steps) => {
+        ProgramFeature::Slots(count) => prog.slots() == *count,
+        ProgramFeature::SpanCode => prog.spans().is_some(),
+        ProgramFeature::Steps(steps) => {
             prog.body().len() == steps.len()
                 && body
                     .zip(steps.iter())
@@ -117,7 +117,7 @@ fn has(prog: &Prog, wanted: &Wanted) -> bool {
 
 /// Whether the program of a row has what is wanted.
 fn holds(alloc: Global, row: &Compiled) -> bool {
-    let is_bare = matches!(row.1, Wanted::Steps(_));
+    let is_bare = matches!(row.1, ProgramFeature::Steps(_));
     let options = CompileOptions {
         anchored: is_bare,
         ..CompileOptions::default()

@@ -8,14 +8,14 @@
 mod fault;
 mod report;
 
-use fancy_regex_fuzz_cases::pattern::{Kind, make_pattern};
-use fancy_regex_fuzz_cases::random::Random;
-use fancy_regex_fuzz_cases::text::{make_template, make_text};
 use fancy_regex_fuzz_checks::case::Case;
 use fancy_regex_fuzz_checks::ending::{Ending, ending_of};
 use fancy_regex_fuzz_checks::part::Part;
+use fancy_regex_fuzz_checks::pattern::{Kind, make_pattern};
+use fancy_regex_fuzz_checks::random::Random;
 use fancy_regex_fuzz_checks::setting::Setting;
 use fancy_regex_fuzz_checks::shrink::shortest_pattern;
+use fancy_regex_fuzz_checks::text::{make_template, make_text};
 use fault::FuzzError;
 use report::{Report, print_contradiction};
 use std::env;

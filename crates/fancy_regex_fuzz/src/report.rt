@@ -1,10 +1,10 @@
 //! What is printed: how the cases ended, counted by the kind of their patterns, and a contradiction.
 
 use crate::fault::FuzzError;
-use fancy_regex_fuzz_cases::pattern::Kind;
 use fancy_regex_fuzz_checks::case::Case;
 use fancy_regex_fuzz_checks::check::Check;
 use fancy_regex_fuzz_checks::ending::Ending;
+use fancy_regex_fuzz_checks::pattern::Kind;
 
 /// How the cases of a kind ended.
 #[derive(Clone, Copy)]
@@ -89,7 +89,11 @@ impl Report {
 }
 
 /// Prints a case and the check that does not hold.
-pub fn print_contradiction(rt: &HostRuntime, case: Case<'_>, check: Check) -> Result<(), FuzzError> {
+pub fn print_contradiction(
+    rt: &HostRuntime,
+    case: Case<'_>,
+    check: Check,
+) -> Result<(), FuzzError> {
     println!(rt; "contradiction: {check:?}")?;
     println!(rt; "pattern: {:?}", case.pattern)?;
     println!(rt; "text: {:?}", case.text)?;

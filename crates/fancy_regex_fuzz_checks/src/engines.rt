@@ -1,4 +1,4 @@
-//! The checks of the inner calls: reading, analysis, the runner, the compiler and the machine, one after the other, end as the build
+//! The checks of the inner calls: reading, analysis, the linear engine, the compiler and the machine, one after the other, end as the build
 //! of a regex does, and find what the regex finds.
 
 use crate::case::Case;
@@ -8,7 +8,7 @@ use fancy_regex::{
     Captures, CompileError, Error, Expr, ExprTree, Regex, RegexInput, Result, Steps,
 };
 use fancy_regex_analysis::analyze;
-use fancy_regex_class::{RunInput, Span};
+use fancy_regex_class::RunInput;
 use fancy_regex_compiler::compile;
 use fancy_regex_info::{AnalyzeContext, CompileOptions, Info};
 use fancy_regex_linear::Easy;
@@ -18,7 +18,7 @@ use std::alloc::Global;
 /// Which engine runs a pattern.
 #[derive(Clone, Copy)]
 pub enum Engine {
-    /// That of a regex: the runner of an easy tree, else the machine.
+    /// That of a regex: the linear engine for an easy tree, else the machine.
     Own,
     /// The machine.
     Machine,
@@ -71,7 +71,7 @@ fn places_by_tree(
     }
 }
 
-/// The offsets of the groups that the runner of an easy tree finds.
+/// The offsets of the groups that the linear engine finds for an easy tree.
 fn places_by_runner(
     alloc: Global,
     case: Case<'_>,
@@ -110,22 +110,10 @@ fn places_by_machine(
 
 /// The input of the engines for a search; `None` if the search begins after its range.
 fn run_input(input: RegexInput<&str>) -> Option<RunInput> {
-    let config = input.config();
-    let first = input.effective_start();
-    if config.range_end < first {
+    if input.is_done() {
         return None;
     }
-    Some(RunInput {
-        first,
-        continue_at: if config.continues { Some(first) } else { None },
-        range: Span {
-            start: config.range_start,
-            end: config.range_end,
-        },
-        anchored: config.anchored,
-        no_start_text: !config.start_text,
-        no_end_text: !config.end_text,
-    })
+    Some(*input.run_input())
 }
 
 /// Whether these are the offsets of the groups that the regex finds in the case's part.

@@ -1,6 +1,7 @@
-//! The checks of a fuzzer of `fancy_regex`: a case with random options and a random part of its text, what has to hold between the
-//! answers of the public calls on it, and the shortest pattern that can be found where it does not hold. Programs and searches are
-//! limited, so a case takes little memory and time.
+//! The cases and the checks of a fuzzer of `fancy_regex`: random patterns, haystacks and templates; a case with random options and a
+//! random part of its text; what has to hold between the answers of the public calls on it; and the shortest pattern that can be
+//! found where it does not hold. Counts in patterns are digits, and programs and searches are limited, so a case takes little
+//! memory and time.
 #![tactic(auto)]
 
 mod bytes;
@@ -11,10 +12,13 @@ mod engines;
 mod groups;
 mod iteration;
 pub mod part;
+pub mod pattern;
+pub mod random;
 mod refused;
 mod replacing;
 mod searches;
 mod sets;
 pub mod setting;
 pub mod shrink;
+pub mod text;
 mod variants;

@@ -1,7 +1,7 @@
 //! Parts of a text, and how they are searched.
 
+use crate::random::Random;
 use fancy_regex::RegexInput;
-use fancy_regex_fuzz_cases::random::Random;
 
 /// A part of a text, and how it is searched. An offset inside a character or past the text means the boundary before it.
 #[derive(Clone, Copy, Debug)]

@@ -1,12 +1,12 @@
 //! Random options.
 
+use crate::pattern::Kind;
+use crate::random::Random;
 use fancy_regex::{
     FLAG_CASEI, FLAG_CRLF, FLAG_DOTNL, FLAG_IGNORE_NUMBERED_GROUPS_WHEN_NAMED_GROUPS_EXIST,
     FLAG_IGNORE_SPACE, FLAG_MULTI, FLAG_ONIGURUMA_MODE, FLAG_UNICODE, RegexBuilder,
     RegexOptionsBuilder, Result,
 };
-use fancy_regex_fuzz_cases::pattern::Kind;
-use fancy_regex_fuzz_cases::random::Random;
 use fancy_regex_info::CompileOptions;
 use fancy_regex_machine::RunOptions;
 use std::alloc::Global;
@@ -121,7 +121,7 @@ impl Setting {
         all
     }
 
-    /// The same for the compiler and the runner, of a pattern without calls.
+    /// The same for the compiler and the linear engine, of a pattern without calls.
     pub fn compile_options(self) -> CompileOptions {
         CompileOptions {
             unicode: self.unicode,

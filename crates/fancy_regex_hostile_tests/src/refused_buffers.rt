@@ -2,7 +2,7 @@
 
 use crate::appending::Expanding;
 use crate::outcome::first_wrong;
-use crate::regex_row::{Call, RegexRow};
+use crate::regex_row::{RegexCall, RegexRow};
 
 const PATTERN: &str = "(\\w+) (?<b>\\w+)";
 
@@ -12,17 +12,17 @@ static APPENDED: [RegexRow; 8] = [
     RegexRow(
         PATTERN,
         TEXT,
-        Call::Expand(Expanding::AppendExpansion, "$2 $1", "before world hello"),
+        RegexCall::Expand(Expanding::AppendExpansion, "$2 $1", "before world hello"),
     ),
     RegexRow(
         PATTERN,
         TEXT,
-        Call::Expand(Expanding::AppendExpansion, "", "before "),
+        RegexCall::Expand(Expanding::AppendExpansion, "", "before "),
     ),
     RegexRow(
         PATTERN,
         TEXT,
-        Call::Expand(
+        RegexCall::Expand(
             Expanding::AppendExpansion,
             "a text without groups, longer than the buffer has room for at first",
             "before a text without groups, longer than the buffer has room for at first",
@@ -31,7 +31,7 @@ static APPENDED: [RegexRow; 8] = [
     RegexRow(
         PATTERN,
         TEXT,
-        Call::Expand(
+        RegexCall::Expand(
             Expanding::Expand,
             "${b}-$0-$$",
             "before world-hello world-$",
@@ -40,12 +40,12 @@ static APPENDED: [RegexRow; 8] = [
     RegexRow(
         PATTERN,
         TEXT,
-        Call::Expand(Expanding::ReplaceAppend, "$2 $1", "before world hello"),
+        RegexCall::Expand(Expanding::ReplaceAppend, "$2 $1", "before world hello"),
     ),
     RegexRow(
         PATTERN,
         TEXT,
-        Call::Expand(
+        RegexCall::Expand(
             Expanding::ReplaceAppend,
             "$0$0",
             "before hello worldhello world",
@@ -54,7 +54,7 @@ static APPENDED: [RegexRow; 8] = [
     RegexRow(
         PATTERN,
         TEXT,
-        Call::Expand(
+        RegexCall::Expand(
             Expanding::ReplaceAppendPlain,
             "$0 as it is, and not as a template",
             "before $0 as it is, and not as a template",
@@ -63,7 +63,7 @@ static APPENDED: [RegexRow; 8] = [
     RegexRow(
         PATTERN,
         TEXT,
-        Call::Expand(
+        RegexCall::Expand(
             Expanding::WriteExpansion,
             "\\g<1>-\\10\\\\",
             "before hello-\\",
@@ -77,15 +77,15 @@ fn a_refused_expansion_leaves_the_buffer(rt: HostRuntime) {
 }
 
 static MADE: [RegexRow; 5] = [
-    RegexRow(PATTERN, "a.b", Call::Escape("a\\.b")),
-    RegexRow(PATTERN, "ab", Call::Escape("ab")),
-    RegexRow(PATTERN, "$a", Call::EscapeTemplate("$$a")),
+    RegexRow(PATTERN, "a.b", RegexCall::Escape("a\\.b")),
+    RegexRow(PATTERN, "ab", RegexCall::Escape("ab")),
+    RegexRow(PATTERN, "$a", RegexCall::EscapeTemplate("$$a")),
     RegexRow(
         PATTERN,
         TEXT,
-        Call::Expand(Expanding::Expansion, "$b-$0", "world-hello world"),
+        RegexCall::Expand(Expanding::Expansion, "$b-$0", "world-hello world"),
     ),
-    RegexRow(PATTERN, "$b ${other}", Call::Check("other")),
+    RegexRow(PATTERN, "$b ${other}", RegexCall::Check("other")),
 ];
 
 #[test]

@@ -7,14 +7,14 @@ use fancy_regex::{
 };
 use std::alloc::Global;
 
-/// A call with a pattern, and the right answer. Where there are named groups the builder that is kept has no others.
-enum Call {
+/// A call with a pattern, and the right answer. The builder is made once; where there are named groups, its regex has no others.
+enum BuildCall {
     /// Reading: a tree with so many groups.
     Parse(usize),
     /// Building, by options: a regex with so many groups, the whole match included.
     Build(usize),
-    /// Building, by a builder that keeps the pattern and its option.
-    BuildKept(usize),
+    /// Building, by the builder, which has the pattern and its option.
+    BuildByBuilder(usize),
     /// Making a regex of a text.
     FromText(usize),
     /// Making a regex of a text that is handed over.
@@ -32,34 +32,37 @@ enum Call {
 }
 
 /// A call and a pattern.
-struct Building(Call, Text);
+struct Building(BuildCall, Text);
 
 static BUILT: [Building; 25] = [
-    Building(Call::Parse(1), "(a|b|ab)*bc"),
-    Building(Call::Parse(3), "(?<a>x)(?<b>y)(?<a>z)"),
-    Building(Call::Parse(1), "(?=(a|ab)(?!x))\\1c"),
-    Building(Call::Parse(1), "(\\((?:[^()]|\\g<1>)*\\))"),
-    Building(Call::Parse(0), "(?~a[b-d&&c]+)(?(a)y|\\R)"),
-    Building(Call::Build(2), "(a|b|ab)*bc"),
-    Building(Call::Build(4), "(?<a>x)(?<b>y)(?<a>z)"),
-    Building(Call::Build(2), "(?=(a|ab)(?!x))\\1c"),
-    Building(Call::Build(2), "(\\((?:[^()]|\\g<1>)*\\))"),
-    Building(Call::Build(2), "(a)?(?(1)b|c)"),
-    Building(Call::Build(1), "(?<=a|bc)d"),
-    Building(Call::Build(1), "(?~abc)"),
-    Building(Call::Build(1), "(?>a{2,3}+)\\Kb\\G?"),
-    Building(Call::Build(2), "(?i)(k)\\1\\b"),
-    Building(Call::Build(1), "[a-z[é]]\\w\\p{Lu}"),
-    Building(Call::Build(1), ""),
-    Building(Call::Build(2), "(?x) a # b\n (?(DEFINE)(?<d>[0-9]+))\\g<d>"),
-    Building(Call::Build(1), "(?m)^a$|\\Ab\\z|\\<c\\>"),
-    Building(Call::Build(2), "((?:a|b)++)(?!\\1)"),
-    Building(Call::Build(1), "a(?:\\g<0>)?b"),
-    Building(Call::FromText(2), "(a|b)"),
-    Building(Call::FromText(2), "(a)(?=b)"),
-    Building(Call::FromString(2), "(a|b)"),
-    Building(Call::FromString(2), "(a)\\1"),
-    Building(Call::BuildSet(3), "\\d+"),
+    Building(BuildCall::Parse(1), "(a|b|ab)*bc"),
+    Building(BuildCall::Parse(3), "(?<a>x)(?<b>y)(?<a>z)"),
+    Building(BuildCall::Parse(1), "(?=(a|ab)(?!x))\\1c"),
+    Building(BuildCall::Parse(1), "(\\((?:[^()]|\\g<1>)*\\))"),
+    Building(BuildCall::Parse(0), "(?~a[b-d&&c]+)(?(a)y|\\R)"),
+    Building(BuildCall::Build(2), "(a|b|ab)*bc"),
+    Building(BuildCall::Build(4), "(?<a>x)(?<b>y)(?<a>z)"),
+    Building(BuildCall::Build(2), "(?=(a|ab)(?!x))\\1c"),
+    Building(BuildCall::Build(2), "(\\((?:[^()]|\\g<1>)*\\))"),
+    Building(BuildCall::Build(2), "(a)?(?(1)b|c)"),
+    Building(BuildCall::Build(1), "(?<=a|bc)d"),
+    Building(BuildCall::Build(1), "(?~abc)"),
+    Building(BuildCall::Build(1), "(?>a{2,3}+)\\Kb\\G?"),
+    Building(BuildCall::Build(2), "(?i)(k)\\1\\b"),
+    Building(BuildCall::Build(1), "[a-z[é]]\\w\\p{Lu}"),
+    Building(BuildCall::Build(1), ""),
+    Building(
+        BuildCall::Build(2),
+        "(?x) a # b\n (?(DEFINE)(?<d>[0-9]+))\\g<d>",
+    ),
+    Building(BuildCall::Build(1), "(?m)^a$|\\Ab\\z|\\<c\\>"),
+    Building(BuildCall::Build(2), "((?:a|b)++)(?!\\1)"),
+    Building(BuildCall::Build(1), "a(?:\\g<0>)?b"),
+    Building(BuildCall::FromText(2), "(a|b)"),
+    Building(BuildCall::FromText(2), "(a)(?=b)"),
+    Building(BuildCall::FromString(2), "(a|b)"),
+    Building(BuildCall::FromString(2), "(a)\\1"),
+    Building(BuildCall::BuildSet(3), "\\d+"),
 ];
 
 #[test]
@@ -68,26 +71,26 @@ fn a_call_that_wants_memory_makes_nothing(rt: HostRuntime) {
 }
 
 // The builder has its pattern and its option after a refusal too: without the option there would be one group more.
-static KEPT: [Building; 2] = [
-    Building(Call::BuildKept(2), "(?<n>a)(b)"),
-    Building(Call::BuildKept(2), "(?<n>a)(b)(?!c)"),
+static BY_BUILDER: [Building; 2] = [
+    Building(BuildCall::BuildByBuilder(2), "(?<n>a)(b)"),
+    Building(BuildCall::BuildByBuilder(2), "(?<n>a)(b)(?!c)"),
 ];
 
 #[test]
 fn a_builder_that_is_kept_builds_again(rt: HostRuntime) {
-    assert_eq!(rt; first_wrong(&rt, &KEPT), None);
+    assert_eq!(rt; first_wrong(&rt, &BY_BUILDER), None);
 }
 
 static ASKED: [Building; 9] = [
-    Building(Call::Reprint(Some("(?i:a)|(?i:b){2}")), "(?i)a|b{2}"),
-    Building(Call::Reprint(Some("(x)[^\\d]")), "(?<a>x)[^\\d]"),
-    Building(Call::Reprint(None), "a\\Z"),
-    Building(Call::StartBytes(Some("fil")), "fn|let|impl"),
-    Building(Call::StartBytes(None), "a?"),
-    Building(Call::StartBytes(Some("b")), "(?<=foo)bar"),
-    Building(Call::StartBytes(Some("ab")), "a(?=d)|b"),
-    Building(Call::RequiredBytes(Some("b")), "a?b"),
-    Building(Call::RequiredBytes(Some("c")), "(?=(a|ab)(?!x))\\1c"),
+    Building(BuildCall::Reprint(Some("(?i:a)|(?i:b){2}")), "(?i)a|b{2}"),
+    Building(BuildCall::Reprint(Some("(x)[^\\d]")), "(?<a>x)[^\\d]"),
+    Building(BuildCall::Reprint(None), "a\\Z"),
+    Building(BuildCall::StartBytes(Some("fil")), "fn|let|impl"),
+    Building(BuildCall::StartBytes(None), "a?"),
+    Building(BuildCall::StartBytes(Some("b")), "(?<=foo)bar"),
+    Building(BuildCall::StartBytes(Some("ab")), "a(?=d)|b"),
+    Building(BuildCall::RequiredBytes(Some("b")), "a?b"),
+    Building(BuildCall::RequiredBytes(Some("c")), "(?=(a|ab)(?!x))\\1c"),
 ];
 
 #[test]
@@ -97,35 +100,37 @@ fn a_question_that_wants_memory_can_be_repeated(rt: HostRuntime) {
 
 static FAULTS: [Building; 8] = [
     Building(
-        Call::Fault("Parsing error at position 3: Opening parenthesis without closing parenthesis"),
+        BuildCall::Fault(
+            "Parsing error at position 3: Opening parenthesis without closing parenthesis",
+        ),
         "a(b",
     ),
     Building(
-        Call::Fault("Parsing error at position 0: Invalid escape: \\q"),
+        BuildCall::Fault("Parsing error at position 0: Invalid escape: \\q"),
         "\\q",
     ),
     Building(
-        Call::Fault("Parsing error at position 7: Invalid group name in back reference: b"),
+        BuildCall::Fault("Parsing error at position 7: Invalid group name in back reference: b"),
         "(?<a>x)\\k<b>",
     ),
     Building(
-        Call::Fault("Parsing error at position 7: Invalid group name in back reference: a"),
+        BuildCall::Fault("Parsing error at position 7: Invalid group name in back reference: a"),
         "(?<a>x)\\k<a>(?<a>y)",
     ),
     Building(
-        Call::Fault("Error compiling regex: inner error: [z-a]"),
+        BuildCall::Fault("Error compiling regex: inner error: [z-a]"),
         "[z-a]",
     ),
     Building(
-        Call::Fault("Error compiling regex: never ending recursion"),
+        BuildCall::Fault("Error compiling regex: never ending recursion"),
         "(a\\g<1>)",
     ),
     Building(
-        Call::Fault("Error compiling regex: feature not yet supported: absent operator"),
+        BuildCall::Fault("Error compiling regex: feature not yet supported: absent operator"),
         "(?~(?~abc))",
     ),
     Building(
-        Call::Fault("Error compiling regex: pattern too complex"),
+        BuildCall::Fault("Error compiling regex: pattern too complex"),
         "(?:a{65536}){65536}",
     ),
 ];
@@ -207,22 +212,24 @@ impl Attempt for Building {
         Ok(builder)
     }
 
-    fn is_right(&self, alloc: Global, kept: &RegexBuilder) -> Result<bool> {
+    fn is_right(&self, alloc: Global, builder: &RegexBuilder) -> Result<bool> {
         let pattern = self.1;
         let options = RegexOptionsBuilder::new();
         match &self.0 {
-            Call::Parse(groups) => Ok(Expr::parse_tree(alloc, pattern)?.total_groups == *groups),
-            Call::Build(groups) => has_groups(built(alloc, pattern), *groups),
-            Call::BuildKept(groups) => has_groups(kept.build(alloc), *groups),
-            Call::FromText(groups) => has_groups(Regex::try_from((pattern, alloc)), *groups),
-            Call::FromString(groups) => has_groups(from_string(alloc, pattern), *groups),
-            Call::BuildSet(members) => has_members(alloc, pattern, *members),
-            Call::Fault(text) => has_fault(alloc, &built(alloc, pattern), text),
-            Call::Reprint(wanted) => is_printed(alloc, pattern, *wanted),
-            Call::StartBytes(wanted) => {
+            BuildCall::Parse(groups) => Ok(
+                Expr::parse_tree(alloc, pattern)?.total_groups == *groups,
+            ),
+            BuildCall::Build(groups) => has_groups(built(alloc, pattern), *groups),
+            BuildCall::BuildByBuilder(groups) => has_groups(builder.build(alloc), *groups),
+            BuildCall::FromText(groups) => has_groups(Regex::try_from((pattern, alloc)), *groups),
+            BuildCall::FromString(groups) => has_groups(from_string(alloc, pattern), *groups),
+            BuildCall::BuildSet(members) => has_members(alloc, pattern, *members),
+            BuildCall::Fault(text) => has_fault(alloc, &built(alloc, pattern), text),
+            BuildCall::Reprint(wanted) => is_printed(alloc, pattern, *wanted),
+            BuildCall::StartBytes(wanted) => {
                 Ok(are_just(options.start_bytes(alloc, pattern)?, *wanted))
             }
-            Call::RequiredBytes(wanted) => {
+            BuildCall::RequiredBytes(wanted) => {
                 Ok(are_just(Some(options.required_bytes(alloc, pattern)?), *wanted))
             }
         }

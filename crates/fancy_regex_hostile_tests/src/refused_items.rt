@@ -3,7 +3,7 @@
 
 use crate::iterating::{Iterating, room, show};
 use crate::outcome::{Attempt, Text, first_wrong, shows};
-use crate::regex_row::{Call, RegexRow};
+use crate::regex_row::{RegexCall, RegexRow};
 use fancy_regex::{
     Regex, RegexInput, RegexOptionsBuilder, RegexSet, RegexSetMatch, RegexSetMatchesAt, Result,
 };
@@ -25,62 +25,62 @@ static ITERATED: [RegexRow; 12] = [
     RegexRow(
         "(\\w+)",
         "ab c,def",
-        Call::Iterate(Iterating::Matches, WORDS, &CUT_WORDS),
+        RegexCall::Iterate(Iterating::Matches, WORDS, &CUT_WORDS),
     ),
     RegexRow(
         "(\\w+)(?!x)",
         "ab c,def",
-        Call::Iterate(Iterating::Matches, WORDS, &CUT_WORDS),
+        RegexCall::Iterate(Iterating::Matches, WORDS, &CUT_WORDS),
     ),
     RegexRow(
         "(\\w+)",
         "ab c,def",
-        Call::Iterate(Iterating::Groups, WORDS, &CUT_WORDS),
+        RegexCall::Iterate(Iterating::Groups, WORDS, &CUT_WORDS),
     ),
     RegexRow(
         "(\\w+)(?!x)",
         "ab c,def",
-        Call::Iterate(Iterating::Groups, WORDS, &CUT_WORDS),
+        RegexCall::Iterate(Iterating::Groups, WORDS, &CUT_WORDS),
     ),
     RegexRow(
         ",",
         "a,,bc,",
-        Call::Iterate(Iterating::Split, PIECES, &CUT_PIECES),
+        RegexCall::Iterate(Iterating::Split, PIECES, &CUT_PIECES),
     ),
     RegexRow(
         ",(?!x)",
         "a,,bc,",
-        Call::Iterate(Iterating::Split, PIECES, &CUT_PIECES),
+        RegexCall::Iterate(Iterating::Split, PIECES, &CUT_PIECES),
     ),
     RegexRow(
         ",",
         "a,,bc,",
-        Call::Iterate(Iterating::SplitN(9), PIECES, &CUT_PIECES),
+        RegexCall::Iterate(Iterating::SplitN(9), PIECES, &CUT_PIECES),
     ),
     RegexRow(
         ",(?!x)",
         "a,,bc,",
-        Call::Iterate(Iterating::SplitN(9), PIECES, &CUT_PIECES),
+        RegexCall::Iterate(Iterating::SplitN(9), PIECES, &CUT_PIECES),
     ),
     RegexRow(
         ",",
         "a,,bc,",
-        Call::Iterate(Iterating::SplitN(3), THREE, &CUT_THREE),
+        RegexCall::Iterate(Iterating::SplitN(3), THREE, &CUT_THREE),
     ),
     RegexRow(
         ",(?!x)",
         "a,,bc,",
-        Call::Iterate(Iterating::SplitN(3), THREE, &CUT_THREE),
+        RegexCall::Iterate(Iterating::SplitN(3), THREE, &CUT_THREE),
     ),
     RegexRow(
         ",(?!x)",
         "a,,bc,",
-        Call::Iterate(Iterating::SplitN(1), "[a,,bc,]", &[]),
+        RegexCall::Iterate(Iterating::SplitN(1), "[a,,bc,]", &[]),
     ),
     RegexRow(
         ",(?!x)",
         "abc",
-        Call::Iterate(Iterating::SplitN(9), "[abc]", &["![abc]"]),
+        RegexCall::Iterate(Iterating::SplitN(9), "[abc]", &["![abc]"]),
     ),
 ];
 

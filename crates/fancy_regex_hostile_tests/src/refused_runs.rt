@@ -1,5 +1,5 @@
-//! Memory is refused while a program is run or a runner searches by the calls of the inner crates: program and runner are as before,
-//! and the same call then answers.
+//! Memory is refused while a program is run or the linear engine searches by the calls of the inner crates: the program and the
+//! compiled pattern are as before, and the same call then answers.
 
 ghost use Rattle.std.specs.Prelude.{◌≡◌, length};
 
@@ -42,7 +42,7 @@ fn run_options() -> RunOptions {
 }
 
 /// What the calls that run a program answer.
-enum Call {
+enum RunCall {
     /// All of them: the span of the match.
     Find((usize, usize)),
     /// `run`: so many groups after the whole match, and each letter of the text is in a group of its own.
@@ -50,17 +50,21 @@ enum Call {
 }
 
 /// A pattern for the machine, a text, and calls that run the program.
-struct Running(Text, Text, Call);
+struct Running(Text, Text, RunCall);
 
 static RUNS: [Running; 8] = [
-    Running("(?=(a|ab)(?!x))\\1c", "abc", Call::Find((0, 3))),
-    Running("(\\((?:[^()]|\\g<1>)*\\))", "x(a(b)c)y", Call::Find((1, 8))),
-    Running("(a)?(?(1)b|c)", "ab", Call::Find((0, 2))),
-    Running("(?<=a|bc)d", "bcd", Call::Find((2, 3))),
-    Running("(?~abc)", "xabcx", Call::Find((0, 3))),
-    Running("(?>a{2,3}+)\\Kb\\G?", "aab", Call::Find((2, 3))),
-    Running("(?i)(ſ)\\1\\b", "ſſ", Call::Find((0, 4))),
-    Running("((?:a|b){1,2}?)*(?!\\1)", "abab", Call::Find((0, 4))),
+    Running("(?=(a|ab)(?!x))\\1c", "abc", RunCall::Find((0, 3))),
+    Running(
+        "(\\((?:[^()]|\\g<1>)*\\))",
+        "x(a(b)c)y",
+        RunCall::Find((1, 8)),
+    ),
+    Running("(a)?(?(1)b|c)", "ab", RunCall::Find((0, 2))),
+    Running("(?<=a|bc)d", "bcd", RunCall::Find((2, 3))),
+    Running("(?~abc)", "xabcx", RunCall::Find((0, 3))),
+    Running("(?>a{2,3}+)\\Kb\\G?", "aab", RunCall::Find((2, 3))),
+    Running("(?i)(ſ)\\1\\b", "ſſ", RunCall::Find((0, 4))),
+    Running("((?:a|b){1,2}?)*(?!\\1)", "abab", RunCall::Find((0, 4))),
 ];
 
 #[test]
@@ -73,7 +77,7 @@ static GROUPED: [Running; 1] = [Running(
     "(a)?(a)?(a)?(a)?(a)?(a)?(a)?(a)?(a)?(a)?(a)?(a)?(a)?(a)?(a)?(a)?(a)?(a)?(a)?(a)?\
     (a)?(a)?(a)?(a)?(a)?(a)?(a)?(a)?(a)?(a)?(a)?(a)?(a)?(a)?(a)?(a)?(a)?(a)?(a)?(a)?(?!b)",
     "aaaaaaaaaaaaaaaaaaaa",
-    Call::Groups(40),
+    RunCall::Groups(40),
 )];
 
 #[test]
@@ -150,14 +154,14 @@ impl Attempt for Running {
 
     fn is_right(&self, alloc: Global, prog: &Prog) -> Result<bool> {
         match &self.2 {
-            Call::Find(wanted) => all_find(alloc, prog, self.1, *wanted),
-            Call::Groups(groups) => has_letters(alloc, prog, self.1, *groups),
+            RunCall::Find(wanted) => all_find(alloc, prog, self.1, *wanted),
+            RunCall::Groups(groups) => has_letters(alloc, prog, self.1, *groups),
         }
     }
 }
 
-/// A pattern for the runner, its weight, a text, and the span of the match. A search looks at the text at most as often as the weight
-/// says for each byte, and once more.
+/// A pattern for the linear engine, its weight, a text, and the span of the match. A search looks at the text at most as often as the
+/// weight says for each byte, and once more.
 struct Looking(Text, u64, Text, Option<(usize, usize)>);
 
 const A60: &str = "aaaaaaaaaaaaaaaaaaaaaaaaaaaaaaaaaaaaaaaaaaaaaaaaaaaaaaaaaaaa";
@@ -188,12 +192,12 @@ static LOOKS: [Looking; 10] = [
 ];
 
 #[test]
-fn a_search_of_the_runner_that_wants_memory_can_be_repeated(rt: HostRuntime) {
+fn a_search_of_the_linear_engine_that_wants_memory_can_be_repeated(rt: HostRuntime) {
     assert_eq!(rt; first_wrong(&rt, &LOOKS), None);
 }
 
-/// The runner of a pattern of this weight. A pattern of another weight, or for the machine, counts as too complex.
-fn runner_of(alloc: Global, pattern: &str, weight: u64) -> Result<Easy> {
+/// A pattern of this weight, compiled for the linear engine. A pattern of another weight, or for the machine, counts as too complex.
+fn compiled_of_weight(alloc: Global, pattern: &str, weight: u64) -> Result<Easy> {
     let tree = Expr::parse_tree(alloc, pattern)?;
     let info = analyze(alloc, &tree, AnalyzeContext::default())?;
     if info.hard || info.weight.saturating_add(2) != weight {
@@ -202,7 +206,7 @@ fn runner_of(alloc: Global, pattern: &str, weight: u64) -> Result<Easy> {
     Ok(Easy::new(alloc, &info, &CompileOptions::default())?)
 }
 
-/// Whether the runner finds this span with at most so many looks at the text, also where the search wants memory.
+/// Whether the linear engine finds this span with at most so many looks at the text, also where the search wants memory.
 fn looks_little(
     alloc: Global,
     easy: &Easy,
@@ -226,7 +230,7 @@ impl Attempt for Looking {
     type Made = Easy;
 
     fn make(&self, alloc: Global) -> Result<Easy> {
-        runner_of(alloc, self.0, self.1)
+        compiled_of_weight(alloc, self.0, self.1)
     }
 
     fn is_right(&self, alloc: Global, easy: &Easy) -> Result<bool> {

@@ -1,46 +1,50 @@
 //! Memory is refused during a search or a replacement: the regex is as before, and the same call then answers.
 
 use crate::outcome::first_wrong;
-use crate::regex_row::{Call, RegexRow};
+use crate::regex_row::{RegexCall, RegexRow};
 
 // One of each kind of construct.
 static FOUND: [RegexRow; 24] = [
-    RegexRow("(a|b|ab)*bc", "ababac", Call::Find(0, None)),
-    RegexRow("(?>a|ab)c", "abc", Call::Find(0, None)),
-    RegexRow("(a|b|ab)*bc", "xababbc", Call::Find(0, Some((1, 7)))),
-    RegexRow("(?<=a|bc)d", "bcd", Call::Find(0, Some((2, 3)))),
+    RegexRow("(a|b|ab)*bc", "ababac", RegexCall::Find(0, None)),
+    RegexRow("(?>a|ab)c", "abc", RegexCall::Find(0, None)),
+    RegexRow("(a|b|ab)*bc", "xababbc", RegexCall::Find(0, Some((1, 7)))),
+    RegexRow("(?<=a|bc)d", "bcd", RegexCall::Find(0, Some((2, 3)))),
     RegexRow(
         "(?<!b)[[:alpha:]&&[^a]]",
         "abcd",
-        Call::Find(0, Some((1, 2))),
+        RegexCall::Find(0, Some((1, 2))),
     ),
-    RegexRow("(?~abc)", "xabcx", Call::Find(0, Some((0, 3)))),
-    RegexRow("(?i)k", "\u{212a}", Call::Find(0, Some((0, 3)))),
-    RegexRow("(?i)(s)\\1", "xsS", Call::Find(0, Some((1, 3)))),
-    RegexRow("a++\\Kb", "aab", Call::Find(0, Some((2, 3)))),
-    RegexRow("a{2}b{1,}?c{,1}$", "aabbc", Call::Find(0, Some((0, 5)))),
-    RegexRow("(?:a|){2,3}+b", "aab", Call::Find(0, Some((0, 3)))),
-    RegexRow("^", "ab", Call::Find(1, None)),
-    RegexRow("(?m)^b$|\\Ac\\z", "a\nb", Call::Find(0, Some((2, 3)))),
-    RegexRow("\\bbar\\b", "fooé bar", Call::Find(3, Some((6, 9)))),
+    RegexRow("(?~abc)", "xabcx", RegexCall::Find(0, Some((0, 3)))),
+    RegexRow("(?i)k", "\u{212a}", RegexCall::Find(0, Some((0, 3)))),
+    RegexRow("(?i)(s)\\1", "xsS", RegexCall::Find(0, Some((1, 3)))),
+    RegexRow("a++\\Kb", "aab", RegexCall::Find(0, Some((2, 3)))),
+    RegexRow(
+        "a{2}b{1,}?c{,1}$",
+        "aabbc",
+        RegexCall::Find(0, Some((0, 5))),
+    ),
+    RegexRow("(?:a|){2,3}+b", "aab", RegexCall::Find(0, Some((0, 3)))),
+    RegexRow("^", "ab", RegexCall::Find(1, None)),
+    RegexRow("(?m)^b$|\\Ac\\z", "a\nb", RegexCall::Find(0, Some((2, 3)))),
+    RegexRow("\\bbar\\b", "fooé bar", RegexCall::Find(3, Some((6, 9)))),
     RegexRow(
         "\\<b\\B\\p{Ll}\\>\\Z",
         "a bé\n",
-        Call::Find(0, Some((2, 5))),
+        RegexCall::Find(0, Some((2, 5))),
     ),
-    RegexRow("\\Gx", "yx", Call::Find(1, Some((1, 2)))),
-    RegexRow("\\w+(?=!)", "so fancy!", Call::Find(3, Some((3, 8)))),
-    RegexRow("(?s).(?!.)", "ab", Call::Find(0, Some((1, 2)))),
+    RegexRow("\\Gx", "yx", RegexCall::Find(1, Some((1, 2)))),
+    RegexRow("\\w+(?=!)", "so fancy!", RegexCall::Find(3, Some((3, 8)))),
+    RegexRow("(?s).(?!.)", "ab", RegexCall::Find(0, Some((1, 2)))),
     RegexRow(
         "(?x) a # b\n (?(DEFINE)(?<d>[0-9]+))\\g<d>",
         "xa12",
-        Call::Find(0, Some((1, 4))),
+        RegexCall::Find(0, Some((1, 4))),
     ),
-    RegexRow("(?((?=a))ab|c)", "xab", Call::Find(0, Some((1, 3)))),
-    RegexRow("(a)?(?(1)b|c)", "c", Call::Find(0, Some((0, 1)))),
-    RegexRow("\\R\\x41\\d", "\r\nA1", Call::Find(0, Some((0, 4)))),
-    RegexRow("a(*FAIL)|b", "ab", Call::Find(0, Some((1, 2)))),
-    RegexRow("a(?:\\g<0>)?b", "aabb", Call::Find(0, Some((0, 4)))),
+    RegexRow("(?((?=a))ab|c)", "xab", RegexCall::Find(0, Some((1, 3)))),
+    RegexRow("(a)?(?(1)b|c)", "c", RegexCall::Find(0, Some((0, 1)))),
+    RegexRow("\\R\\x41\\d", "\r\nA1", RegexCall::Find(0, Some((0, 4)))),
+    RegexRow("a(*FAIL)|b", "ab", RegexCall::Find(0, Some((1, 2)))),
+    RegexRow("a(?:\\g<0>)?b", "aabb", RegexCall::Find(0, Some((0, 4)))),
 ];
 
 #[test]
@@ -49,7 +53,7 @@ fn a_search_that_wants_memory_can_be_repeated(rt: HostRuntime) {
 }
 
 // A class that is not read as one class, so that its members are found by a search for each character.
-static CLASSES: [RegexRow; 1] = [RegexRow("[)-[a]|b]", "ba", Call::Find(0, Some((1, 2))))];
+static CLASSES: [RegexRow; 1] = [RegexRow("[)-[a]|b]", "ba", RegexCall::Find(0, Some((1, 2))))];
 
 #[test]
 fn a_class_that_wants_memory_is_searched_for_again(rt: HostRuntime) {
@@ -60,16 +64,20 @@ static SOUGHT: [RegexRow; 5] = [
     RegexRow(
         "(?=(a|ab)(?!x))\\1c",
         "xxabc",
-        Call::Seek(false, Some((2, 5))),
+        RegexCall::Seek(false, Some((2, 5))),
     ),
     RegexRow(
         "(?<=\\$)\\d+(?!\\d)",
         "a1 $29",
-        Call::Seek(false, Some((4, 6))),
+        RegexCall::Seek(false, Some((4, 6))),
     ),
-    RegexRow("(?:a|ab)(?!c)", "xxabd", Call::Seek(true, Some((2, 4)))),
-    RegexRow("fn|let|impl", "a let", Call::Seek(false, Some((2, 5)))),
-    RegexRow("a|ab", "xab", Call::Seek(true, Some((1, 3)))),
+    RegexRow(
+        "(?:a|ab)(?!c)",
+        "xxabd",
+        RegexCall::Seek(true, Some((2, 4))),
+    ),
+    RegexRow("fn|let|impl", "a let", RegexCall::Seek(false, Some((2, 5)))),
+    RegexRow("a|ab", "xab", RegexCall::Seek(true, Some((1, 3)))),
 ];
 
 #[test]
@@ -79,11 +87,11 @@ fn a_seeking_search_that_wants_memory_can_be_repeated(rt: HostRuntime) {
 
 // The greatest number of looks is the weight of the pattern for each of the text's bytes, and once more; the machine has none.
 static SEARCHED: [RegexRow; 5] = [
-    RegexRow("(\\w+)b", "xab c", Call::Search(Some((0, 3)), 54)),
-    RegexRow("(x)(?:a|ab){3}", "xaab", Call::Search(None, 115)),
-    RegexRow("(a|b|ab)*bc", ALTERNATING, Call::Search(None, 1121)),
-    RegexRow("(\\w+)(?=b)", "xab c", Call::Search(Some((0, 2)), 0)),
-    RegexRow("(x)(?!a)", "xa", Call::Search(None, 0)),
+    RegexRow("(\\w+)b", "xab c", RegexCall::Search(Some((0, 3)), 54)),
+    RegexRow("(x)(?:a|ab){3}", "xaab", RegexCall::Search(None, 115)),
+    RegexRow("(a|b|ab)*bc", ALTERNATING, RegexCall::Search(None, 1121)),
+    RegexRow("(\\w+)(?=b)", "xab c", RegexCall::Search(Some((0, 2)), 0)),
+    RegexRow("(x)(?!a)", "xa", RegexCall::Search(None, 0)),
 ];
 
 const ALTERNATING: &str = "ababababababababababababababababababababababababababababac";
@@ -97,28 +105,32 @@ static CAPTURED: [RegexRow; 6] = [
     RegexRow(
         "(?=(a|ab)(?!x))\\1c",
         "abc",
-        Call::Capture(&[Some((0, 3)), Some((0, 2))]),
+        RegexCall::Capture(&[Some((0, 3)), Some((0, 2))]),
     ),
     RegexRow(
         "(\\((?:[^()]|\\g<1>)*\\))",
         "x(a(b)c)y",
-        Call::Capture(&[Some((1, 8)), Some((1, 8))]),
+        RegexCall::Capture(&[Some((1, 8)), Some((1, 8))]),
     ),
     RegexRow(
         "(a|b?)*",
         "ab",
-        Call::Capture(&[Some((0, 2)), Some((2, 2))]),
+        RegexCall::Capture(&[Some((0, 2)), Some((2, 2))]),
     ),
     RegexRow(
         "(?<a>x)(?<b>y)(?<a>z)",
         "xyz",
-        Call::Capture(&[Some((0, 3)), Some((0, 1)), Some((1, 2)), Some((2, 3))]),
+        RegexCall::Capture(&[Some((0, 3)), Some((0, 1)), Some((1, 2)), Some((2, 3))]),
     ),
-    RegexRow("(a)?(?(1)b|c)", "c", Call::Capture(&[Some((0, 1)), None])),
+    RegexRow(
+        "(a)?(?(1)b|c)",
+        "c",
+        RegexCall::Capture(&[Some((0, 1)), None]),
+    ),
     RegexRow(
         "(a)(?!a)",
         "aa",
-        Call::Capture(&[Some((1, 2)), Some((1, 2))]),
+        RegexCall::Capture(&[Some((1, 2)), Some((1, 2))]),
     ),
 ];
 
@@ -128,25 +140,33 @@ fn a_capture_that_wants_memory_can_be_repeated(rt: HostRuntime) {
 }
 
 static REPLACED: [RegexRow; 11] = [
-    RegexRow("(b)", "abc", Call::Replace(0, "$1a", "ac")),
-    RegexRow("(b)", "abc", Call::Replace(0, "${1}a", "abac")),
-    RegexRow("(b)", "abc", Call::Replace(0, "x$", "ax$c")),
-    RegexRow("foo\\Kbar", "foobar", Call::Replace(0, "X", "fooX")),
-    RegexRow("", "ab", Call::Replace(0, "-", "-a-b-")),
-    RegexRow("[^01]+", "1078910", Call::Replace(1, "", "1010")),
+    RegexRow("(b)", "abc", RegexCall::Replace(0, "$1a", "ac")),
+    RegexRow("(b)", "abc", RegexCall::Replace(0, "${1}a", "abac")),
+    RegexRow("(b)", "abc", RegexCall::Replace(0, "x$", "ax$c")),
+    RegexRow("foo\\Kbar", "foobar", RegexCall::Replace(0, "X", "fooX")),
+    RegexRow("", "ab", RegexCall::Replace(0, "-", "-a-b-")),
+    RegexRow("[^01]+", "1078910", RegexCall::Replace(1, "", "1010")),
     RegexRow(
         "(\\w+)(?!\\w) (\\w+)",
         "a bc d",
-        Call::Replace(1, "$2 $1", "bc a d"),
+        RegexCall::Replace(1, "$2 $1", "bc a d"),
     ),
     RegexRow(
         "a\\.b",
         "a.b axb a.b",
-        Call::ReplacePlainly(0, "$1", "$1 axb $1"),
+        RegexCall::ReplacePlainly(0, "$1", "$1 axb $1"),
     ),
-    RegexRow("foo\\Kbar", "foobar", Call::ReplacePlainly(0, "X", "fooX")),
-    RegexRow("", "ab", Call::ReplacePlainly(0, "-", "-a-b-")),
-    RegexRow("[^01]+", "1078910", Call::ReplacePlainly(1, "", "1010")),
+    RegexRow(
+        "foo\\Kbar",
+        "foobar",
+        RegexCall::ReplacePlainly(0, "X", "fooX"),
+    ),
+    RegexRow("", "ab", RegexCall::ReplacePlainly(0, "-", "-a-b-")),
+    RegexRow(
+        "[^01]+",
+        "1078910",
+        RegexCall::ReplacePlainly(1, "", "1010"),
+    ),
 ];
 
 #[test]
@@ -156,8 +176,8 @@ fn a_replacement_that_wants_memory_can_be_repeated(rt: HostRuntime) {
 
 // What the function has done is kept also where the replacement wants memory.
 static CALLED: [RegexRow; 2] = [
-    RegexRow("a", "banana", Call::ReplaceByFunction),
-    RegexRow("a(?!x)", "banana", Call::ReplaceByFunction),
+    RegexRow("a", "banana", RegexCall::ReplaceByFunction),
+    RegexRow("a(?!x)", "banana", RegexCall::ReplaceByFunction),
 ];
 
 #[test]

@@ -10,7 +10,7 @@ use fancy_regex_tree::{Expr, ExprTree};
 use std::alloc::Global;
 
 /// Calls with a tree, and the right answer.
-enum Call {
+enum TreeCall {
     /// `is_printable`, `try_clone` and `to_str`: what the buffer holds when the tree is printed.
     Print(Text),
     /// `analyze`, and `compile` with this cap on the program: the weight, the least size, and how many instructions the program has;
@@ -19,12 +19,15 @@ enum Call {
 }
 
 /// A pattern, and calls with its tree.
-struct Tree(Text, Call);
+struct Tree(Text, TreeCall);
 
 static PRINTED: [Tree; 3] = [
-    Tree("(a|b|ab)*bc", Call::Print("before (a|b|ab)*bc")),
-    Tree("(?i)a|[b-d]{2}", Call::Print("before (?i:a)|(?i:[b-d]){2}")),
-    Tree("(?<a>x)[^\\d]", Call::Print("before (x)[^\\d]")),
+    Tree("(a|b|ab)*bc", TreeCall::Print("before (a|b|ab)*bc")),
+    Tree(
+        "(?i)a|[b-d]{2}",
+        TreeCall::Print("before (?i:a)|(?i:[b-d]){2}"),
+    ),
+    Tree("(?<a>x)[^\\d]", TreeCall::Print("before (x)[^\\d]")),
 ];
 
 #[test]
@@ -33,8 +36,8 @@ fn a_refused_print_leaves_the_buffer(rt: HostRuntime) {
 }
 
 static COMPILED: [Tree; 2] = [
-    Tree("abc", Call::Compile(5, 3, 3, Some(5))),
-    Tree("abc", Call::Compile(3, 3, 3, None)),
+    Tree("abc", TreeCall::Compile(5, 3, 3, Some(5))),
+    Tree("abc", TreeCall::Compile(3, 3, 3, None)),
 ];
 
 #[test]
@@ -112,10 +115,10 @@ impl Attempt for Tree {
 
     fn is_right(&self, alloc: Global, tree: &ExprTree) -> Result<bool> {
         match &self.1 {
-            Call::Print(wanted) => {
+            TreeCall::Print(wanted) => {
                 Ok(can_be_copied(alloc, &tree.expr)? && is_printed(alloc, &tree.expr, wanted)?)
             }
-            Call::Compile(cap, weight, least, length) => {
+            TreeCall::Compile(cap, weight, least, length) => {
                 is_analyzed(alloc, tree, *cap, (*weight, *least), *length)
             }
         }

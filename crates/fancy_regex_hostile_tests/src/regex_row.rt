@@ -9,12 +9,12 @@ use fancy_regex::{Regex, RegexOptionsBuilder, Result};
 use std::alloc::Global;
 
 /// A call with a regex and a text, and the right answer.
-pub enum Call {
+pub enum RegexCall {
     /// `is_match_input` and `find_from_pos` from this byte offset: the span of the match.
     Find(usize, Option<Place>),
     /// `find` of a regex that seeks, and whether the longest match is wanted: the span of the match.
     Seek(bool, Option<Place>),
-    /// All searches: the span of the match, and the greatest number of looks of the runner at the text.
+    /// All searches: the span of the match, and the greatest number of looks of the linear engine at the text.
     Search(Option<Place>, u64),
     /// `captures`: the spans of all groups of the first match.
     Capture(&'static [Option<Place>]),
@@ -37,7 +37,7 @@ pub enum Call {
 }
 
 /// A pattern, a text, and a call.
-pub struct RegexRow(pub Text, pub Text, pub Call);
+pub struct RegexRow(pub Text, pub Text, pub RegexCall);
 
 /// The regex of a pattern that seeks.
 fn seeking(alloc: Global, pattern: &str, is_longest: bool) -> Result<Regex> {
@@ -65,7 +65,7 @@ impl Attempt for RegexRow {
 
     fn make(&self, alloc: Global) -> Result<Regex> {
         match &self.2 {
-            Call::Seek(is_longest, _) => seeking(alloc, self.0, *is_longest),
+            RegexCall::Seek(is_longest, _) => seeking(alloc, self.0, *is_longest),
             _ => Regex::new(alloc, self.0),
         }
     }
@@ -73,29 +73,29 @@ impl Attempt for RegexRow {
     fn is_right(&self, alloc: Global, regex: &Regex) -> Result<bool> {
         let text = self.1;
         match &self.2 {
-            Call::Find(from, wanted) => finds(alloc, regex, text, *from, *wanted),
-            Call::Seek(_, wanted) => finds_in_all(alloc, regex, text, *wanted),
-            Call::Search(wanted, looks) => {
+            RegexCall::Find(from, wanted) => finds(alloc, regex, text, *from, *wanted),
+            RegexCall::Seek(_, wanted) => finds_in_all(alloc, regex, text, *wanted),
+            RegexCall::Search(wanted, looks) => {
                 Ok(
                     looks_little(alloc, regex, text, *wanted, *looks)?
                         && all_find(alloc, regex, text, *wanted)?,
                 )
             }
-            Call::Capture(wanted) => has_groups(alloc, regex, text, wanted),
-            Call::Replace(limit, template, wanted) => {
+            RegexCall::Capture(wanted) => has_groups(alloc, regex, text, wanted),
+            RegexCall::Replace(limit, template, wanted) => {
                 replaces(alloc, regex, text, *limit, template, wanted)
             }
-            Call::ReplacePlainly(limit, fixed, wanted) => {
+            RegexCall::ReplacePlainly(limit, fixed, wanted) => {
                 replaces_plainly(alloc, regex, text, *limit, fixed, wanted)
             }
-            Call::ReplaceByFunction => calls_for_each(alloc, regex),
-            Call::Expand(call, template, wanted) => {
+            RegexCall::ReplaceByFunction => calls_for_each(alloc, regex),
+            RegexCall::Expand(call, template, wanted) => {
                 expands(alloc, regex, text, call, template, wanted)
             }
-            Call::Escape(wanted) => escapes(alloc, text, wanted),
-            Call::EscapeTemplate(wanted) => escapes_template(alloc, text, wanted),
-            Call::Check(name) => is_refused(alloc, regex, text, name),
-            Call::Iterate(call, whole, cut) => iterates(alloc, regex, text, call, whole, cut),
+            RegexCall::Escape(wanted) => escapes(alloc, text, wanted),
+            RegexCall::EscapeTemplate(wanted) => escapes_template(alloc, text, wanted),
+            RegexCall::Check(name) => is_refused(alloc, regex, text, name),
+            RegexCall::Iterate(call, whole, cut) => iterates(alloc, regex, text, call, whole, cut),
         }
     }
 }

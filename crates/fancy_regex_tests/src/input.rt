@@ -55,9 +55,10 @@ fn sets_one_thing() -> Result<bool, AllocError> {
         .start_text(false)
         .end_text(false)
         .continue_from_previous_match_end(false);
-    let config = input.clone()?.config();
-    let is_whole = config.start_text || config.end_text || config.continues;
-    Ok(is_placed && is_begun && config.anchored && !is_whole)
+    let copy = input.clone()?;
+    let config = copy.run_input();
+    let is_cut = config.no_start_text && config.no_end_text && config.continue_at.is_none();
+    Ok(is_placed && is_begun && config.anchored && is_cut)
 }
 
 #[test]

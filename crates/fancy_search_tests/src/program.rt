@@ -20,7 +20,7 @@ pub enum Input {
 
 /// A call of the program: its words, what it can read, its exit status, how it ends, and what it writes if there is room.
 #[derive(Clone, Copy)]
-pub struct Call(
+pub struct ProgramCall(
     pub &'static [&'static str],
     pub Input,
     pub u8,
@@ -118,8 +118,8 @@ fn is_full_of(writer: &Narrow, text: &str) -> bool {
 }
 
 /// Whether a call ends as it has to where its writer has room for so many bytes.
-fn ends_rightly(alloc: Global, call: &Call, room: usize, fails: bool) -> bool {
-    let Call(words, input, status, told, written) = *call;
+fn ends_rightly(alloc: Global, call: &ProgramCall, room: usize, fails: bool) -> bool {
+    let ProgramCall(words, input, status, told, written) = *call;
     let mut reader = Given::new(input);
     let mut writer = Narrow {
         taken: Vec::new(alloc),
@@ -145,8 +145,8 @@ fn ends_rightly(alloc: Global, call: &Call, room: usize, fails: bool) -> bool {
 }
 
 /// Whether a call ends as it has to with room for its output, and with less.
-pub fn is_right(alloc: Global, call: &Call) -> bool {
-    let Call(_, _, _, _, written) = *call;
+pub fn is_right(alloc: Global, call: &ProgramCall) -> bool {
+    let ProgramCall(_, _, _, _, written) = *call;
     for room in 0..=written.len() {
         if !ends_rightly(alloc, call, room, true) || !ends_rightly(alloc, call, room, false) {
             return false;

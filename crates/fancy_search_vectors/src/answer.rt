@@ -3,7 +3,7 @@
 use crate::case::Case;
 use crate::fault::SearchVectorsError;
 use crate::quoted::{append_quoted, plain, plain_bytes};
-use fancy_search_run::{SearchVectorsError as ProgramFault, Status, exit_status, run};
+use fancy_search_run::{Fault as ProgramFault, Status, exit_status, run};
 use std::alloc::{AllocError, Global};
 use std::fmt::Write;
 

@@ -1,4 +1,4 @@
-//! Searches of the runner in one memory, in turn, and the modes that it refuses.
+//! Searches of the linear engine in one memory, in turn, and the modes that it refuses.
 
 use crate::compiled::Text;
 use fancy_regex_analysis::analyze;
@@ -9,7 +9,7 @@ use fancy_regex_tree::Expr;
 use std::alloc::Global;
 
 /// A pattern, how bytes are read, a text, and the byte offsets of the groups, none where nothing is to be found. `None` where the
-/// runner refuses the mode, as a feature that is not supported.
+/// linear engine refuses the mode, as a feature that is not supported.
 struct Search(Text, BytesMode, Text, Option<&'static [usize]>);
 
 static SEARCHES: [Search; 6] = [
@@ -41,8 +41,8 @@ static SEARCHES: [Search; 6] = [
     Search("a", BytesMode::Unicode, "a", Some(&[0, 1])),
 ];
 
-/// Makes a pattern ready for the runner. `None` for a pattern that it does not run.
-fn runner_of(
+/// Compiles a pattern for the linear engine. `None` for a pattern that is not easy.
+fn compiled_easy(
     alloc: Global,
     pattern: &str,
     bytes_mode: BytesMode,
@@ -85,9 +85,9 @@ fn answers(
     }
 }
 
-/// Whether the runner answers or refuses as wanted.
+/// Whether the linear engine answers or refuses as wanted.
 fn holds(alloc: Global, row: &Search, memory: &mut SearchMemory) -> bool {
-    match (runner_of(alloc, row.0, row.1), row.3) {
+    match (compiled_easy(alloc, row.0, row.1), row.3) {
         (Some(Ok(easy)), Some(wanted)) => answers(alloc, &easy, row.2, memory, wanted),
         (Some(Err(CompileError::FeatureNotYetSupported(_))), None) => true,
         _ => false,
