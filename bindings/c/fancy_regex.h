@@ -1,6 +1,6 @@
 /* fancy_regex: regular expressions with look-around, back references and more.
  *
- * A regex, or a set of patterns, lives behind a handle, `fancy_regex`, which the caller holds as a value and passes by its address:
+ * A regex, or a set of patterns, is owned by a handle, `fancy_regex`, which the caller keeps as a value and passes by its address:
  *
  *     fancy_regex regex = FANCY_REGEX_EMPTY;
  *     if (fancy_regex_build(&regex, "(\\d+)-(\\d+)", 11, NULL) == FANCY_REGEX_DONE) { ... }
@@ -177,7 +177,7 @@ static inline int32_t fancy_regex_find_by(fancy_regex *regex, const char *text, 
     return fancy_regex_raw_find(regex, fancy_regex_bytes(text), length, query, span != NULL ? span : &ignored);
 }
 
-/* As fancy_regex_find_by, and writes into `looks`, which must not be null, a count of the looks at the text that the linear-time matcher
+/* As fancy_regex_find_by, and writes into `looks`, which must not be null, a count of the looks at the text that the linear engine
  * makes: 0 where nothing is searched and for a pattern that needs a backtracking program; for another pattern at most W * (N + 1),
  * where N is the number of bytes from the place of the search to the end of the text, 0 past the end, and W is a number that the pattern
  * and its options give; and, where the search answers, at least one for each place at which it tries to begin a match. */
@@ -230,7 +230,7 @@ typedef struct fancy_regex_walk {
 
 #define FANCY_REGEX_WALK {0, FANCY_REGEX_UNSET, false, false}
 
-/* The byte offset a character behind `place`. */
+/* The byte offset a character after `place`. */
 static inline size_t fancy_regex_step(const char *text, size_t length, size_t place) {
     place++;
     while (place < length && ((unsigned char)text[place] & 0xc0) == 0x80) place++;
@@ -290,7 +290,7 @@ static inline int32_t fancy_regex_split(fancy_regex *regex, const char *text, si
 }
 
 /* Writes the text with each match replaced by what the `with_length` bytes of `with` stand for there into the `room` bytes of `out`,
- * cut off where there is too little room, and with no zero byte behind it; and its whole length into `out_length`. In `with`, $1,
+ * cut off where there is too little room, and with no zero byte after it; and its whole length into `out_length`. In `with`, $1,
  * ${1}, $name and ${name} stand for the text of a group, and $$ for a $; a name is as long as it can be, a group that is not there or
  * took no part has no text, and another $ stands for itself. The answers are those of fancy_regex_find_all, and FANCY_REGEX_NOT_UTF8
  * is of the text or of `with`. With no room `out` may be null: the length is told. A text that is cut off may end inside a
@@ -308,7 +308,7 @@ static inline int32_t fancy_regex_replace_all(fancy_regex *regex, const char *te
     return fancy_regex_raw_replace_all(regex, fancy_regex_bytes(text), length, false, fancy_regex_bytes(with), with_length, out != NULL ? (uint8_t *)out : &none, room, out_length);
 }
 
-/* Builds a set of `count` patterns into the handle, which is emptied first. The patterns stand one behind another in `patterns`, and
+/* Builds a set of `count` patterns into the handle, which is emptied first. The patterns stand one after another in `patterns`, and
  * `ends` are the byte offsets at which each of them ends: for "ab" and "c" they are "abc", 2 and 3. All have the same options; null
  * are the default ones. An end that is less than the one before it is FANCY_REGEX_WRONG_ENDS, and a pattern that is not UTF-8
  * FANCY_REGEX_NOT_UTF8; else the answers are those of fancy_regex_build, and the fault is that of the first pattern that is refused,
@@ -366,7 +366,7 @@ static inline int32_t fancy_regex_set_captures_by(fancy_regex *set, const char *
 
 /* Writes the members of a set that match at the earliest place from `position` on at which one of them does, in order of their
  * numbers, into the `room` members of `members`, as many as there is room for, and how many there are into `count`; \G matches at
- * `position`. A match may start behind that place, after \K. The answer is FANCY_REGEX_DONE, with a count of 0 where no member
+ * `position`. A match may start after that place, by \K. The answer is FANCY_REGEX_DONE, with a count of 0 where no member
  * matches, or a fault; the count is 0 then and no member is written. With no room `members` may be null. The faults are those of
  * fancy_regex_find, with NO_SET in the place of NO_REGEX; the search of each member that is asked may pass its limit. */
 static inline int32_t fancy_regex_set_find(fancy_regex *set, const char *text, size_t length, size_t position, fancy_regex_member *members, size_t room, size_t *count) {
@@ -415,7 +415,7 @@ static inline int32_t fancy_regex_template_check(fancy_regex *regex, const char 
 }
 
 /* Writes a pattern that matches exactly the text into the `room` bytes of `out`, cut off where there is too little room, and with no
- * zero byte behind it; and the length of the whole pattern into `out_length`. The answer is FANCY_REGEX_DONE, or NULL_POINTER, TOO_LONG,
+ * zero byte after it; and the length of the whole pattern into `out_length`. The answer is FANCY_REGEX_DONE, or NULL_POINTER, TOO_LONG,
  * NOT_UTF8 or MEMORY; the length is 0 then. With no room `out` may be null: the length is told. No fault is kept. */
 static inline int32_t fancy_regex_escape(const char *text, size_t length, char *out, size_t room, size_t *out_length) {
     uint8_t none = 0;
@@ -447,7 +447,7 @@ static inline size_t fancy_regex_groups(fancy_regex *regex) {
 }
 
 /* Writes the name of the group with this number, in UTF-8, into the `room` bytes of `out`, cut off where there is too little room, and
- * with no zero byte behind it. Returns the length of the whole name, 0 where the group has none or there is no such group or regex,
+ * with no zero byte after it. Returns the length of the whole name, 0 where the group has none or there is no such group or regex,
  * and where `out` is null but has room, or more room than an object can have. */
 static inline size_t fancy_regex_group_name(fancy_regex *regex, size_t group, char *out, size_t room) {
     uint8_t none = 0;
@@ -462,7 +462,7 @@ static inline size_t fancy_regex_fault_place(fancy_regex *regex) {
 }
 
 /* Writes the text of the fault that the handle keeps into the `room` bytes of `out`, cut off where there is too little room, and
- * with no zero byte behind it. A handle keeps its last fault, of building or of a later call, until it is built again or freed;
+ * with no zero byte after it. A handle keeps its last fault, of building or of a later call, until it is built again or freed;
  * EMPTY_HANDLE, NULL_POINTER and TOO_LONG are not kept. Returns the length of the whole text, 0 only where no fault is kept, and where
  * `out` is null but has room, or more room than an object can have. It takes no memory. */
 static inline size_t fancy_regex_fault_text(fancy_regex *regex, char *out, size_t room) {

@@ -102,7 +102,7 @@ static int32_t any_search(fancy_regex *regex) {
     return answer;
 }
 
-/* Room that is filled with a mark, to see that nothing is written behind what a call tells. */
+/* Room that is filled with a mark, to see that nothing is written after what a call tells. */
 #define MARK 0x5a
 
 static void marked(void *room, size_t bytes) {
@@ -144,7 +144,7 @@ static int32_t any_list(fancy_regex *regex) {
     return answer;
 }
 
-/* The pieces of a text, one behind another, are the text with each match replaced by nothing. */
+/* The pieces of a text, one after another, are the text with each match replaced by nothing. */
 static int32_t any_split(fancy_regex *regex) {
     char text[LONGEST], joined[LONGEST], replaced[LONGEST];
     size_t length = any_haystack(text), count = 77, filled = 0, whole = 77;

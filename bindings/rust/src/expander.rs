@@ -86,7 +86,7 @@ impl Expander {
         }
     }
 
-    /// Appends what the text behind a sign refers to, and returns what stands behind it.
+    /// Appends what the text after a sign refers to, and returns the rest.
     fn reference<'t>(&self, tail: &'t str, groups: &Captures<'_>, to: &mut String) -> &'t str {
         if let Some(rest) = tail.strip_prefix(self.sign()) {
             to.push(self.sign());
@@ -106,7 +106,7 @@ impl Expander {
         rest
     }
 
-    /// A name between its signs, and what stands behind them.
+    /// A name between its signs, and the rest of the text.
     fn delimited<'t>(&self, tail: &'t str) -> Option<(&'t str, &'t str)> {
         let (open, close) = if self.is_python {
             ("g<", ">")

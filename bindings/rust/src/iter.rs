@@ -45,7 +45,7 @@ impl<'t> Walk<'t> {
         None
     }
 
-    /// Goes on behind a match, and tells whether it counts: an empty one right behind another does not.
+    /// Goes on after a match, and tells whether it counts: an empty one right after another does not.
     fn take(&mut self, found: Match<'t>) -> bool {
         let end = found.end();
         let empty = found.start() >= end;
@@ -118,7 +118,7 @@ impl<'t> Iterator for CaptureMatches<'_, 't> {
     }
 }
 
-/// The pieces of a text between the matches, and last the rest of the text. Behind an error the rest still comes.
+/// The pieces of a text between the matches, and last the rest of the text. After an error the rest still comes.
 pub struct Split<'r, 't> {
     matches: Matches<'r, 't>,
     next: Option<usize>,
@@ -132,7 +132,7 @@ impl<'r, 't> Split<'r, 't> {
         }
     }
 
-    /// The text behind the last match, if it was not given yet.
+    /// The text after the last match, if it was not given yet.
     fn rest(&mut self) -> Option<&'t str> {
         self.next
             .take()

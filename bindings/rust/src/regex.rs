@@ -240,7 +240,7 @@ impl Regex {
         CaptureMatches::new(self, text)
     }
 
-    /// The pieces of the text between the matches, and last the rest of the text. Behind an error the rest still comes.
+    /// The pieces of the text between the matches, and last the rest of the text. After an error the rest still comes.
     pub fn split<'r, 't>(&'r self, text: &'t str) -> Split<'r, 't> {
         Split::new(self, text)
     }

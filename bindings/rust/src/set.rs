@@ -213,7 +213,7 @@ impl fmt::Debug for RegexSet {
     }
 }
 
-/// Patterns one behind another, and where each of them ends.
+/// Patterns one after another, and where each of them ends.
 struct Listed {
     bytes: String,
     ends: Vec<usize>,

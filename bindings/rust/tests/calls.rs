@@ -48,7 +48,7 @@ fn splits_and_replaces() {
 }
 
 #[test]
-fn the_rest_comes_behind_an_error() {
+fn the_rest_comes_after_an_error() {
     let slow = RegexBuilder::new(",|(a|b|ab)*bc(?=x)")
         .backtrack_limit(100)
         .build()
