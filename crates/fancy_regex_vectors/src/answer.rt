@@ -44,7 +44,9 @@ fn append_searched(
 ) -> Result<(), AllocError> {
     match question.call {
         LibraryCall::Span(call) => append_span_call(alloc, out, case, input, regex, question, call),
-        LibraryCall::Group(call) => append_groups_call(alloc, out, case, input, regex, question, call),
+        LibraryCall::Group(call) => append_groups_call(
+            alloc, out, case, input, regex, question, call,
+        ),
         LibraryCall::Text(call) => append_text_call(alloc, out, case, regex, question, call),
         LibraryCall::Reprinted => append_reprinted_answers(alloc, out, case, regex),
         _ => out.push_str("built"),

@@ -63,7 +63,11 @@ fn compare_row(
 }
 
 /// Compares the answers to the questions of a case.
-fn compare_case(rt: &HostRuntime, case: &Case<'_>, totals: &mut Totals) -> Result<(), VectorsError> {
+fn compare_case(
+    rt: &HostRuntime,
+    case: &Case<'_>,
+    totals: &mut Totals,
+) -> Result<(), VectorsError> {
     let pattern = String::from_str(rt.alloc(), case.pattern)?;
     let built = case.options_to_build().build(rt.alloc(), pattern);
     compare_questions(rt, case, &built, totals)
