@@ -2,9 +2,12 @@
 """Makes the table of cases that the program reads, and what the program prints of it.
 
     python3 make_cases.py
+    python3 make_cases.py --check
 
-Reads stdin and worked.jsonl beside this script, and writes stdin and stdout. The lines of outside cases stay in stdin as they are;
-those after them are made anew from worked.jsonl. So a new case is a row of worked.jsonl, and a run of this script.
+Reads stdin and worked.jsonl beside this script and the rows of docs/SYNTAX.md and docs/COMING-FROM.md (see page_cases.py), and writes
+stdin and stdout. The lines of outside cases stay in stdin as they are; those after them are made anew. So a new case is a row of
+worked.jsonl or of these pages, and a run of this script. With --check it writes nothing: it ends with status 1, and prints what differs,
+where stdin or stdout is not what it would write.
 
 The outside cases are two collections that were made by a model of the written dialect, which shares no code with this project; some
 of them were also written by hand. Nothing of the table comes from this project's own answers. To add an outside collection, put its
@@ -20,7 +23,12 @@ than its limit, and may answer or tell the limit. An answer is the exit status, 
 is percent-encoded: each byte that is a control character, a blank, a `%` or not ASCII is `%` and two hexadecimal digits.
 """
 import json
+import sys
+from itertools import zip_longest
 from pathlib import Path
+
+sys.dont_write_bytecode = True
+from page_cases import page_cases
 
 HERE = Path(__file__).resolve().parent
 # How many lines of the table are outside cases, which stand before the worked cases.
@@ -54,17 +62,37 @@ def lines_of(name):
 
 
 def table_lines():
-    """The lines of the table: those of outside cases as they are, and those of the worked cases made anew."""
+    """The lines of the table: those of outside cases as they are, and those of the worked cases and of the pages made anew."""
     old = lines_of("stdin")
     if len(old) < OUTSIDE:
         raise SystemExit("make_cases: stdin has lost outside cases")
-    return old[:OUTSIDE] + [case_line(json.loads(row)) for row in lines_of("worked.jsonl")]
+    return old[:OUTSIDE] + [case_line(json.loads(row)) for row in lines_of("worked.jsonl")] + list(map(case_line, page_cases()))
+
+
+def write(name, lines):
+    (HERE / name).write_text("".join(line + "\n" for line in lines), encoding="utf-8")
+
+
+def differs(name, lines):
+    """Whether a file has other lines than these; prints the first that differ."""
+    for has, due in zip_longest(lines_of(name), lines):
+        if has != due:
+            print(f"{name} of fancy_search_vectors has\n{has or 'nothing more'}\nand is to have\n{due or 'nothing more'}")
+            print("Correct the page, or run make_cases.py.")
+            return True
+    return False
 
 
 def main():
     table = table_lines()
-    (HERE / "stdin").write_text("".join(line + "\n" for line in table), encoding="utf-8")
-    (HERE / "stdout").write_text(f"{len(table)} cases agree\n", encoding="utf-8")
+    files = {"stdin": table, "stdout": [f"{len(table)} cases agree"]}
+    if sys.argv[1:] == ["--check"]:
+        if any([differs(name, lines) for name, lines in files.items()]):
+            sys.exit(1)
+        print("the rows of the pages are cases of the table")
+        return
+    for name, lines in files.items():
+        write(name, lines)
 
 
 if __name__ == "__main__":
