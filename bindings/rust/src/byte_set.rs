@@ -1,17 +1,20 @@
 use crate::error::Result;
-use crate::handle::Owned;
-use crate::raw::{self, Handle, Options};
+use crate::handle::{Marks, Owned};
+use crate::raw::{self, Options};
 use std::fmt;
 
-/// A set of bytes.
+/// A set of bytes, from [`RegexOptionsBuilder::start_bytes`](crate::RegexOptionsBuilder::start_bytes) and
+/// [`RegexOptionsBuilder::required_bytes`](crate::RegexOptionsBuilder::required_bytes).
+///
+/// ```
+/// let set = proved_fancy_regex::RegexOptionsBuilder::new().required_bytes("a?b").unwrap();
+/// assert!(set.contains(b'b') && !set.contains(b'a'));
+/// assert_eq!(set.iter().collect::<Vec<_>>(), [b'b']);
+/// ```
 #[derive(Clone, Copy, PartialEq, Eq)]
 pub struct ByteSet {
     table: [bool; 256],
 }
-
-/// A call of the library that marks bytes in a table.
-type Marks =
-    unsafe extern "C" fn(*mut Handle, *const u8, usize, *const Options, *mut bool, usize) -> i32;
 
 impl ByteSet {
     /// The bytes that matches of the pattern start with, if they are known.
@@ -26,20 +29,8 @@ impl ByteSet {
     }
 
     fn marked(marks: Marks, pattern: &str, options: &Options) -> Result<Option<ByteSet>> {
-        let handle = Owned::empty();
         let mut table = [false; 256];
-        // The handle is empty, the pattern and the options are borrowed for the call, and the room is that of the table.
-        let status = unsafe {
-            marks(
-                handle.at(),
-                pattern.as_ptr(),
-                pattern.len(),
-                options,
-                table.as_mut_ptr(),
-                table.len(),
-            )
-        };
-        let known = handle.told(status)?;
+        let known = Owned::empty().mark(marks, pattern, options, &mut table)?;
         Ok(known.then_some(ByteSet { table }))
     }
 

@@ -1,9 +1,9 @@
 use crate::captures::Captures;
 use crate::error::Result;
-use crate::handle::filled_from;
-use crate::raw;
+use crate::handle::escaped;
 use crate::regex::Regex;
 use std::borrow::Cow;
+use std::fmt;
 use std::io;
 
 /// Expands, checks and escapes templates. In the default form `$name`, `${name}` and the same with a number stand for the text of a group,
@@ -30,18 +30,42 @@ impl Default for Expander {
 }
 
 impl Expander {
-    /// The expander of the form of Python, with `\\`.
+    /// The expander of the form of Python, with `\\`: `\g<name>`, `\g<1>` and `\1` are references, and a number is as long as it can be.
+    ///
+    /// ```
+    /// use proved_fancy_regex::{Expander, Regex};
+    ///
+    /// let groups = Regex::new("(?<a>.)(.)").unwrap().captures("xy").unwrap().unwrap();
+    /// assert_eq!(Expander::python().expansion(r"\2\g<a>\\", &groups), r"yx\");
+    /// ```
     pub fn python() -> Expander {
         Expander { is_python: true }
     }
 
-    /// Accepts a template whose references are all to groups of the regex, and whose signs all begin something. Else the error tells
-    /// the first fault from the left.
+    /// Accepts a template whose references are all to groups of the regex, and whose signs all begin something.
+    ///
+    /// ```
+    /// use proved_fancy_regex::{CompileError, Expander, Regex};
+    ///
+    /// let regex = Regex::new("(a)").unwrap();
+    /// assert_eq!(Expander::default().check("$1$$", &regex), Ok(()));
+    /// assert_eq!(Expander::default().check("$2", &regex), Err(CompileError::InvalidBackref(2).into()));
+    /// ```
+    ///
+    /// # Errors
+    ///
+    /// That of the first fault from the left: the `CompileError`s `InvalidBackref` for a number that no group has, `NamedBackrefOnly` for
+    /// a number above 0 where groups have names, and `InvalidGroupNameBackref` for a name that no group has; a `ParseError` for a sign that
+    /// begins nothing. `Memory` where memory runs out.
     pub fn check(&self, template: &str, regex: &Regex) -> Result<()> {
         regex.check_template(template, self.is_python)
     }
 
     /// The text with each sign doubled: a template that expands to the text. A text without a sign is borrowed.
+    ///
+    /// ```
+    /// assert_eq!(proved_fancy_regex::Expander::default().escape("5 $"), "5 $$");
+    /// ```
     pub fn escape<'t>(&self, text: &'t str) -> Cow<'t, str> {
         let sign = self.sign();
         if !text.contains(sign) {
@@ -50,15 +74,37 @@ impl Expander {
         Cow::Owned(text.replace(sign, &String::from_iter([sign, sign])))
     }
 
+    #[doc(hidden)]
+    #[deprecated(note = "`escape` is its name")]
+    pub fn quote<'t>(&self, text: &'t str) -> Cow<'t, str> {
+        self.escape(text)
+    }
+
     /// What the template stands for in a match.
-    pub fn expansion(&self, template: &str, groups: &Captures<'_>) -> String {
+    ///
+    /// ```
+    /// use proved_fancy_regex::{Expander, Regex};
+    ///
+    /// let groups = Regex::new("(.)(.)").unwrap().captures("xy").unwrap().unwrap();
+    /// assert_eq!(Expander::default().expansion("$2$1", &groups), "yx");
+    /// ```
+    pub fn expansion(&self, template: &str, groups: &Captures<'_, str>) -> String {
         let mut text = String::new();
         self.append_expansion(&mut text, template, groups);
         text
     }
 
     /// Appends what the template stands for in a match.
-    pub fn append_expansion(&self, to: &mut String, template: &str, groups: &Captures<'_>) {
+    ///
+    /// ```
+    /// use proved_fancy_regex::{Expander, Regex};
+    ///
+    /// let groups = Regex::new("(.)(.)").unwrap().captures("xy").unwrap().unwrap();
+    /// let mut text = String::from("-");
+    /// Expander::default().append_expansion(&mut text, "$2$1", &groups);
+    /// assert_eq!(text, "-yx");
+    /// ```
+    pub fn append_expansion(&self, to: &mut String, template: &str, groups: &Captures<'_, str>) {
         let sign = self.sign();
         let mut rest = template;
         while let Some(at) = rest.find(sign) {
@@ -69,13 +115,50 @@ impl Expander {
     }
 
     /// Writes what the template stands for in a match.
+    ///
+    /// ```
+    /// use proved_fancy_regex::{Expander, Regex};
+    ///
+    /// let groups = Regex::new("(.)(.)").unwrap().captures("xy").unwrap().unwrap();
+    /// let mut bytes = Vec::new();
+    /// Expander::default().write_expansion(&mut bytes, "$2$1", &groups).unwrap();
+    /// assert_eq!(bytes, b"yx");
+    /// ```
+    ///
+    /// # Errors
+    ///
+    /// Those of the writer.
     pub fn write_expansion(
         &self,
         mut to: impl io::Write,
         template: &str,
-        groups: &Captures<'_>,
+        groups: &Captures<'_, str>,
     ) -> io::Result<()> {
         to.write_all(self.expansion(template, groups).as_bytes())
+    }
+
+    /// Appends what the template stands for in a match, in UTF-8. It never fails.
+    ///
+    /// ```
+    /// use proved_fancy_regex::{Expander, Regex};
+    ///
+    /// let groups = Regex::new("(.)(.)").unwrap().captures("xy").unwrap().unwrap();
+    /// let mut bytes = Vec::new();
+    /// Expander::default().write_expansion_vec(&mut bytes, "$2$1", &groups).unwrap();
+    /// assert_eq!(bytes, b"yx");
+    /// ```
+    ///
+    /// # Errors
+    ///
+    /// None.
+    pub fn write_expansion_vec(
+        &self,
+        to: &mut Vec<u8>,
+        template: &str,
+        groups: &Captures<'_, str>,
+    ) -> fmt::Result {
+        to.extend_from_slice(self.expansion(template, groups).as_bytes());
+        Ok(())
     }
 
     fn sign(&self) -> char {
@@ -87,7 +170,7 @@ impl Expander {
     }
 
     /// Appends what the text after a sign refers to, and returns the rest.
-    fn reference<'t>(&self, tail: &'t str, groups: &Captures<'_>, to: &mut String) -> &'t str {
+    fn reference<'t>(&self, tail: &'t str, groups: &Captures<'_, str>, to: &mut String) -> &'t str {
         if let Some(rest) = tail.strip_prefix(self.sign()) {
             to.push(self.sign());
             return rest;
@@ -142,31 +225,17 @@ fn leading(tail: &str, is_part: impl Fn(char) -> bool) -> Option<(&str, &str)> {
 
 /// The text as a pattern that matches exactly it; a text without a character that has a meaning in patterns is borrowed.
 ///
-/// # Panics
-///
-/// If memory runs out.
-///
 /// ```
 /// assert_eq!(proved_fancy_regex::escape("a.b"), r"a\.b");
 /// ```
+///
+/// # Panics
+///
+/// If memory runs out.
 pub fn escape(text: &str) -> Cow<'_, str> {
-    let pattern = filled_from(text.len() + 16, |out| {
-        let mut length = 0;
-        // The text is borrowed for the call, and the room is that of the slice.
-        let status = unsafe {
-            raw::fancy_regex_raw_escape(
-                text.as_ptr(),
-                text.len(),
-                out.as_mut_ptr(),
-                out.len(),
-                &mut length,
-            )
-        };
-        assert_eq!(status, raw::DONE, "no memory for a pattern");
-        Ok(length)
-    });
-    match pattern {
-        Ok(pattern) if pattern != text => Cow::Owned(pattern),
-        _ => Cow::Borrowed(text),
+    match escaped(text) {
+        Ok(pattern) if pattern == text => Cow::Borrowed(text),
+        Ok(pattern) => Cow::Owned(pattern),
+        Err(error) => panic!("{error}"),
     }
 }

@@ -1,39 +1,74 @@
-use crate::captures::{Captures, Match};
+use crate::captures::Captures;
 use crate::error::Result;
+use crate::input::{Input, RegexInput, Search};
+use crate::raw::Span;
 use crate::regex::Regex;
+use std::fmt;
+use std::iter::FusedIterator;
 
-/// Where a walk over all matches goes on.
-struct Walk<'t> {
-    text: &'t str,
-    next: usize,
+/// The matches of an input from left to right, from [`Regex::find_iter`]. An error is the last item.
+///
+/// ```
+/// use proved_fancy_regex::{Matches, Regex};
+///
+/// let regex = Regex::new(r"\w+").unwrap();
+/// let mut words: Matches<'_, '_, str> = regex.find_iter("one two");
+/// assert_eq!(words.next().unwrap().unwrap().as_str(), "one");
+/// assert_eq!((words.regex().as_str(), words.text(), words.input().start()), (r"\w+", "one two", 3));
+/// ```
+pub struct Matches<'r, 't, S: Input + ?Sized = str> {
+    regex: &'r Regex,
+    /// The input, with the start of the next search.
+    input: RegexInput<'t, S>,
+    /// The input as a text, if it is UTF-8.
+    text: Option<&'t str>,
+    /// Where the last match ended.
     last: Option<usize>,
+    /// Whether the next search begins a character after an empty match, so that `\G` does not match there.
     stepped: bool,
     done: bool,
 }
 
-impl<'t> Walk<'t> {
-    fn new(text: &'t str) -> Walk<'t> {
-        Walk {
-            text,
-            next: 0,
+impl<'r, 't, S: Input + ?Sized> Matches<'r, 't, S> {
+    pub(crate) fn new(regex: &'r Regex, input: RegexInput<'t, S>) -> Matches<'r, 't, S> {
+        Matches {
+            regex,
+            text: input.haystack().text(),
+            input,
             last: None,
             stepped: false,
             done: false,
         }
     }
 
-    /// The next item, by a search from a place; `\G` does not match at a place that the walk stepped to over an empty match.
+    /// The regex.
+    pub fn regex(&self) -> &'r Regex {
+        self.regex
+    }
+
+    /// The searched input.
+    pub fn text(&self) -> &'t S {
+        self.input.haystack()
+    }
+
+    /// The input, with the start of the next search.
+    pub fn input(&self) -> &RegexInput<'t, S> {
+        &self.input
+    }
+
+    /// The next item, by a search that is described.
     fn step<T>(
         &mut self,
-        search: impl Fn(usize, bool) -> Result<Option<T>>,
-        span: impl Fn(&T) -> Match<'t>,
+        search: impl Fn(&Regex, &Search<'t>) -> Result<Option<T>>,
+        span: impl Fn(&T) -> Span,
     ) -> Option<Result<T>> {
-        while !self.done && self.next <= self.text.len() {
-            let found = match search(self.next, !self.stepped) {
+        while !self.done {
+            let found = match self.search_next(&search) {
                 Ok(Some(found)) => found,
                 Ok(None) => break,
                 Err(error) => {
                     self.done = true;
+                    self.input.set_start(self.input.get_range().end + 1);
                     return Some(Err(error));
                 }
             };
@@ -45,98 +80,140 @@ impl<'t> Walk<'t> {
         None
     }
 
+    fn search_next<T>(
+        &self,
+        search: impl Fn(&Regex, &Search<'t>) -> Result<Option<T>>,
+    ) -> Result<Option<T>> {
+        let overrides = self.regex.overrides_assertions();
+        match self.input.search(self.text, overrides)? {
+            Some(mut next) => {
+                next.continues = next.continues && !self.stepped;
+                search(self.regex, &next)
+            }
+            None => Ok(None),
+        }
+    }
+
     /// Goes on after a match, and tells whether it counts: an empty one right after another does not.
-    fn take(&mut self, found: Match<'t>) -> bool {
-        let end = found.end();
-        let empty = found.start() >= end;
-        self.stepped = empty && end == self.next;
-        let counts = !(empty && self.last == Some(end));
-        self.next = if empty { self.after(end) } else { end };
+    fn take(&mut self, found: Span) -> bool {
+        let empty = found.start >= found.end;
+        self.stepped = empty && found.end == self.input.effective_start();
+        let counts = !(empty && self.last == Some(found.end));
+        let next = if empty {
+            self.after(found.end)
+        } else {
+            found.end
+        };
+        self.input.set_start(next);
         if counts {
-            self.last = Some(end);
+            self.last = Some(found.end);
         }
         counts
     }
 
     /// The place a character further.
     fn after(&self, place: usize) -> usize {
-        place + self.text[place..].chars().next().map_or(1, char::len_utf8)
+        let rest = self.text.map_or("", |text| &text[place..]);
+        place + rest.chars().next().map_or(1, char::len_utf8)
     }
 }
 
-/// The matches of a text. An error is the last item.
-pub struct Matches<'r, 't> {
-    regex: &'r Regex,
-    walk: Walk<'t>,
-}
+impl<'t, S: Input + ?Sized> Iterator for Matches<'_, 't, S> {
+    type Item = Result<S::Match<'t>>;
 
-impl<'r, 't> Matches<'r, 't> {
-    pub(crate) fn new(regex: &'r Regex, text: &'t str) -> Matches<'r, 't> {
-        Matches {
-            regex,
-            walk: Walk::new(text),
-        }
+    fn next(&mut self) -> Option<Result<S::Match<'t>>> {
+        let found = self.step(Regex::find_span, |span| *span)?;
+        let input = self.text();
+        Some(found.map(|span| input.make_match(span.start, span.end)))
     }
 }
 
-impl<'t> Iterator for Matches<'_, 't> {
-    type Item = Result<Match<'t>>;
+impl<S: Input + ?Sized> FusedIterator for Matches<'_, '_, S> {}
 
-    fn next(&mut self) -> Option<Result<Match<'t>>> {
-        let (regex, text) = (self.regex, self.walk.text);
-        self.walk.step(
-            |place, continues| regex.find_at(text, place, continues),
-            |found| *found,
-        )
+impl<S: Input + fmt::Debug + ?Sized> fmt::Debug for Matches<'_, '_, S> {
+    fn fmt(&self, f: &mut fmt::Formatter<'_>) -> fmt::Result {
+        f.debug_struct("Matches")
+            .field("regex", &self.regex)
+            .field("input", &self.input)
+            .field("last", &self.last)
+            .finish_non_exhaustive()
     }
 }
 
-/// The groups of the matches of a text. An error is the last item.
-pub struct CaptureMatches<'r, 't> {
-    regex: &'r Regex,
-    walk: Walk<'t>,
-}
+/// The groups of the matches of an input from left to right, from [`Regex::captures_iter`]. An error is the last item.
+///
+/// ```
+/// use proved_fancy_regex::{CaptureMatches, Regex};
+///
+/// let regex = Regex::new(r"(\w)=(\w)").unwrap();
+/// let mut pairs: CaptureMatches<'_, '_, str> = regex.captures_iter("a=1 b=2");
+/// assert_eq!((pairs.text(), pairs.regex().as_str()), ("a=1 b=2", r"(\w)=(\w)"));
+/// let values: Vec<_> = pairs.map(|groups| groups.unwrap()[2].to_string()).collect();
+/// assert_eq!(values, ["1", "2"]);
+/// ```
+pub struct CaptureMatches<'r, 't, S: Input + ?Sized = str>(Matches<'r, 't, S>);
 
-impl<'r, 't> CaptureMatches<'r, 't> {
-    pub(crate) fn new(regex: &'r Regex, text: &'t str) -> CaptureMatches<'r, 't> {
-        CaptureMatches {
-            regex,
-            walk: Walk::new(text),
-        }
+impl<'r, 't, S: Input + ?Sized> CaptureMatches<'r, 't, S> {
+    pub(crate) fn new(matches: Matches<'r, 't, S>) -> CaptureMatches<'r, 't, S> {
+        CaptureMatches(matches)
+    }
+
+    /// The searched input.
+    pub fn text(&self) -> &'t S {
+        self.0.text()
+    }
+
+    /// The regex.
+    pub fn regex(&self) -> &'r Regex {
+        self.0.regex()
     }
 }
 
-impl<'t> Iterator for CaptureMatches<'_, 't> {
-    type Item = Result<Captures<'t>>;
+impl<'t, S: Input + ?Sized> Iterator for CaptureMatches<'_, 't, S> {
+    type Item = Result<Captures<'t, S>>;
 
-    fn next(&mut self) -> Option<Result<Captures<'t>>> {
-        let (regex, text) = (self.regex, self.walk.text);
-        self.walk.step(
-            |place, continues| regex.captures_at(text, place, continues),
-            Captures::whole,
-        )
+    fn next(&mut self) -> Option<Result<Captures<'t, S>>> {
+        let spans = self.0.step(Regex::group_spans, |spans| spans[0])?;
+        let groups = |spans| Captures::new(self.text(), spans, self.regex().names());
+        Some(spans.map(groups))
     }
 }
 
-/// The pieces of a text between the matches, and last the rest of the text. After an error the rest still comes.
+impl<S: Input + ?Sized> FusedIterator for CaptureMatches<'_, '_, S> {}
+
+impl<S: Input + fmt::Debug + ?Sized> fmt::Debug for CaptureMatches<'_, '_, S> {
+    fn fmt(&self, f: &mut fmt::Formatter<'_>) -> fmt::Result {
+        f.debug_tuple("CaptureMatches").field(&self.0).finish()
+    }
+}
+
+/// The pieces of a text between the matches, and last the rest of the text, from [`Regex::split`]. After an error the rest still comes.
+///
+/// ```
+/// use proved_fancy_regex::{Regex, Split};
+///
+/// let regex = Regex::new(",").unwrap();
+/// let pieces: Split<'_, '_> = regex.split("a,b");
+/// assert_eq!(pieces.map(|piece| piece.unwrap()).collect::<Vec<_>>(), ["a", "b"]);
+/// ```
+#[derive(Debug)]
 pub struct Split<'r, 't> {
-    matches: Matches<'r, 't>,
+    matches: Matches<'r, 't, str>,
+    /// Where the next piece starts; `None` once the rest was given.
     next: Option<usize>,
 }
 
 impl<'r, 't> Split<'r, 't> {
-    pub(crate) fn new(regex: &'r Regex, text: &'t str) -> Split<'r, 't> {
+    pub(crate) fn new(matches: Matches<'r, 't, str>) -> Split<'r, 't> {
         Split {
-            matches: Matches::new(regex, text),
+            matches,
             next: Some(0),
         }
     }
 
     /// The text after the last match, if it was not given yet.
     fn rest(&mut self) -> Option<&'t str> {
-        self.next
-            .take()
-            .map(|start| &self.matches.walk.text[start..])
+        self.next.take().map(|start| &self.matches.text()[start..])
     }
 }
 
@@ -145,11 +222,10 @@ impl<'t> Iterator for Split<'_, 't> {
 
     fn next(&mut self) -> Option<Result<&'t str>> {
         let start = self.next?;
-        let text = self.matches.walk.text;
         match self.matches.next() {
             Some(Ok(found)) => {
                 self.next = Some(found.end());
-                Some(Ok(&text[start..found.start()]))
+                Some(Ok(&self.matches.text()[start..found.start()]))
             }
             Some(Err(error)) => Some(Err(error)),
             None => self.rest().map(Ok),
@@ -157,7 +233,18 @@ impl<'t> Iterator for Split<'_, 't> {
     }
 }
 
-/// At most so many items of a split; the last one is the rest of the text. An error is one of them.
+impl FusedIterator for Split<'_, '_> {}
+
+/// At most so many items of a split, from [`Regex::splitn`]. The last one is the rest of the text, and an error is one of them.
+///
+/// ```
+/// use proved_fancy_regex::{Regex, SplitN};
+///
+/// let regex = Regex::new(",").unwrap();
+/// let pieces: SplitN<'_, '_> = regex.splitn("a,b,c", 2);
+/// assert_eq!(pieces.map(|piece| piece.unwrap()).collect::<Vec<_>>(), ["a", "b,c"]);
+/// ```
+#[derive(Debug)]
 pub struct SplitN<'r, 't> {
     pieces: Split<'r, 't>,
     left: usize,
@@ -183,4 +270,10 @@ impl<'t> Iterator for SplitN<'_, 't> {
             self.pieces.next()
         }
     }
+
+    fn size_hint(&self) -> (usize, Option<usize>) {
+        (0, Some(self.left))
+    }
 }
+
+impl FusedIterator for SplitN<'_, '_> {}

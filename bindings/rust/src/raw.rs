@@ -45,6 +45,13 @@ impl Member {
         start: 0,
         end: 0,
     };
+
+    pub fn span(&self) -> Span {
+        Span {
+            start: self.start,
+            end: self.end,
+        }
+    }
 }
 
 #[repr(C)]

@@ -1,15 +1,17 @@
-use crate::captures::{Captures, Match, Names};
+use crate::captures::{CaptureNames, Captures, Names};
 use crate::error::{Error, Result};
-use crate::handle::{filled, filled_from, Owned};
-use crate::input::RegexInput;
+use crate::handle::{Listed, Owned};
+use crate::input::{Input, RegexInput, Search};
 use crate::iter::{CaptureMatches, Matches, Split, SplitN};
 use crate::options::RegexOptionsBuilder;
-use crate::raw::{self, Options, Query, Span};
+use crate::pool::{Borrowed, Pool};
+use crate::raw::{Options, Span};
 use crate::replacer::Replacer;
 use std::borrow::Cow;
 use std::fmt;
+use std::sync::{Arc, OnceLock};
 
-/// A compiled pattern. It can move to another thread, but no two threads can search with the same one: it is `Send` and not `Sync`.
+/// A compiled pattern.
 ///
 /// ```
 /// use proved_fancy_regex::Regex;
@@ -18,158 +20,234 @@ use std::fmt;
 /// let found = regex.find("hello world").unwrap().unwrap();
 /// assert_eq!(found.as_str(), "hello ");
 /// ```
+///
+/// Threads can share it, and a clone is the same regex: it costs next to nothing. Threads that search at the same time do not wait for
+/// one another. The library serves one search of a compiled pattern at a time, so where as many searches run at once as never before,
+/// the pattern is compiled once more; what was compiled is kept as long as the regex.
+///
+/// ```
+/// use proved_fancy_regex::Regex;
+/// use std::thread;
+///
+/// let regex = Regex::new(r"(\w)\1").unwrap();
+/// thread::scope(|scope| {
+///     for text in ["aa", "xbb"] {
+///         let regex = &regex;
+///         scope.spawn(move || assert!(regex.is_match(text).unwrap()));
+///     }
+/// });
+/// ```
+///
+/// # Errors of searches
+///
+/// A search is an error where it passes a limit, where memory runs out, where it begins inside a character, where bytes are searched that
+/// are not UTF-8, or where a [`RegexInput`] asks for what the library cannot be asked for. The error is that of this search,
+/// whatever other threads do, and the regex can be used again.
+#[derive(Clone)]
 pub struct Regex {
-    handle: Owned,
+    compiled: Arc<Compiled>,
+}
+
+struct Compiled {
     pattern: String,
-    options: Options,
+    options: RegexOptionsBuilder,
     names: Names,
+    handles: Pool,
+    /// Handles of sets of the pattern and the empty pattern, for anchored searches.
+    anchored: OnceLock<Box<Pool>>,
 }
 
 impl Regex {
     /// Compiles a pattern with the default options.
+    ///
+    /// ```
+    /// assert!(proved_fancy_regex::Regex::new(r"(?<=a)b").is_ok());
+    /// ```
+    ///
+    /// # Errors
+    ///
+    /// `ParseError` where the text is no pattern, `CompileError` where the pattern cannot be compiled, and `Memory` where memory runs out.
     pub fn new(pattern: &str) -> Result<Regex> {
-        RegexOptionsBuilder::new().build(pattern)
+        RegexOptionsBuilder::new().build(pattern.to_string())
     }
 
-    pub(crate) fn with_options(pattern: &str, options: &Options) -> Result<Regex> {
-        let mut regex = Regex {
-            handle: Owned::empty(),
-            pattern: pattern.to_string(),
-            options: *options,
-            names: Names::from(Vec::new()),
-        };
-        // The handle is empty, and the pattern and the options are borrowed for the call.
-        let status = unsafe {
-            raw::fancy_regex_raw_build(regex.handle.at(), pattern.as_ptr(), pattern.len(), options)
-        };
-        regex.handle.told(status)?;
-        let lines = regex.group_lines()?;
+    pub(crate) fn with_options(pattern: String, options: &RegexOptionsBuilder) -> Result<Regex> {
+        let handle = Owned::empty();
+        handle.build(&pattern, &options.options)?;
+        options.check()?;
+        let lines = handle.group_lines()?;
         let name = |line: &str| (!line.is_empty()).then(|| line.to_string());
-        regex.names = lines.lines().map(name).collect();
-        Ok(regex)
+        let compiled = Compiled {
+            pattern,
+            options: options.clone(),
+            names: lines.lines().map(name).collect(),
+            handles: Pool::of(handle),
+            anchored: OnceLock::new(),
+        };
+        Ok(Regex {
+            compiled: Arc::new(compiled),
+        })
     }
 
-    /// The names of the groups, a line for each; the line of a group without a name is empty.
-    fn group_lines(&self) -> Result<String> {
-        filled(|room| {
-            let mut length = 0;
-            // The room is that of the slice.
-            let status = unsafe {
-                raw::fancy_regex_raw_group_names(
-                    self.handle.at(),
-                    room.as_mut_ptr(),
-                    room.len(),
-                    &mut length,
-                )
-            };
-            self.handle.told(status)?;
-            Ok(length)
+    /// A handle of the regex that no other search has.
+    fn handle(&self) -> Result<Borrowed<'_>> {
+        let Compiled {
+            pattern, options, ..
+        } = &*self.compiled;
+        let build = |handle: &Owned| handle.build(pattern, &options.options);
+        self.compiled.handles.borrow(build)
+    }
+
+    /// A handle of the set of the pattern and the empty pattern. The empty pattern matches where a search begins, and a set asks its
+    /// members at the first place alone at which one of them matches: so its answer has the match of the pattern that starts there.
+    fn anchored_handle(&self) -> Result<Borrowed<'_>> {
+        let Compiled {
+            pattern, options, ..
+        } = &*self.compiled;
+        let handles = self.compiled.anchored.get_or_init(|| Box::new(Pool::new()));
+        handles.borrow(|handle| {
+            let patterns = Listed::of([pattern.as_str(), ""].into_iter());
+            handle.build_mixed(&patterns, &[options.options, Options::DEFAULT])
         })
     }
 
     /// The options of the pattern.
-    pub(crate) fn options(&self) -> &Options {
-        &self.options
+    pub(crate) fn options(&self) -> &RegexOptionsBuilder {
+        &self.compiled.options
+    }
+
+    /// Whether inputs may say that the start and the end of a text are none.
+    pub(crate) fn overrides_assertions(&self) -> bool {
+        self.compiled.options.overrides_assertions
     }
 
     /// The names of the groups.
     pub(crate) fn names(&self) -> Names {
-        self.names.clone()
+        self.compiled.names.clone()
     }
 
     /// The first fault of a template from the left.
     pub(crate) fn check_template(&self, template: &str, is_python: bool) -> Result<()> {
-        // The template is borrowed for the call.
-        let status = unsafe {
-            raw::fancy_regex_raw_template_check(
-                self.handle.at(),
-                template.as_ptr(),
-                template.len(),
-                is_python,
-            )
-        };
-        self.handle.told(status)?;
-        Ok(())
+        self.handle()?.check_template(template, is_python)
     }
 
     /// The text of the pattern.
+    ///
+    /// ```
+    /// assert_eq!(proved_fancy_regex::Regex::new("a+").unwrap().as_str(), "a+");
+    /// ```
     pub fn as_str(&self) -> &str {
-        &self.pattern
+        &self.compiled.pattern
     }
 
     /// The number of groups, the whole match included.
+    ///
+    /// ```
+    /// assert_eq!(proved_fancy_regex::Regex::new("(a)(?:b)").unwrap().captures_len(), 2);
+    /// ```
     pub fn captures_len(&self) -> usize {
-        self.names.len()
+        self.compiled.names.len()
     }
 
     /// The names of the groups in order of their numbers; `None` for a group without a name, as group 0 is.
-    pub fn capture_names(&self) -> impl Iterator<Item = Option<&str>> + '_ {
-        self.names.iter().map(Option::as_deref)
+    ///
+    /// ```
+    /// let regex = proved_fancy_regex::Regex::new("(?<a>.)(.)").unwrap();
+    /// assert_eq!(regex.capture_names().collect::<Vec<_>>(), [None, Some("a"), None]);
+    /// ```
+    pub fn capture_names(&self) -> CaptureNames<'_> {
+        CaptureNames(self.compiled.names.iter())
     }
 
-    /// Whether the text has a match.
-    pub fn is_match(&self, text: &str) -> Result<bool> {
-        Ok(self.find(text)?.is_some())
+    /// Whether the input has a match.
+    ///
+    /// ```
+    /// let regex = proved_fancy_regex::Regex::new(r"(\w+) \1").unwrap();
+    /// assert!(regex.is_match("mirror mirror on the wall").unwrap());
+    /// assert!(regex.is_match(b"mirror mirror on the wall").unwrap());
+    /// ```
+    ///
+    /// # Errors
+    ///
+    /// Those of [searches](Regex#errors-of-searches).
+    pub fn is_match<S: Input + ?Sized>(&self, input: &S) -> Result<bool> {
+        self.is_match_input(RegexInput::new(input))
     }
 
-    /// The first match in the text.
-    pub fn find<'t>(&self, text: &'t str) -> Result<Option<Match<'t>>> {
-        self.find_from_pos(text, 0)
+    /// Whether the input has a match from its start on.
+    ///
+    /// ```
+    /// use proved_fancy_regex::{Regex, RegexInput};
+    ///
+    /// let regex = Regex::new("a").unwrap();
+    /// assert!(!regex.is_match_input(RegexInput::new("ab").from_pos(1)).unwrap());
+    /// ```
+    ///
+    /// # Errors
+    ///
+    /// Those of [searches](Regex#errors-of-searches).
+    pub fn is_match_input<S: Input + ?Sized>(&self, input: RegexInput<'_, S>) -> Result<bool> {
+        Ok(self.span_in(&input)?.is_some())
     }
 
-    /// The first match that starts at the byte offset `position` or later; past the end of the text there is none.
+    /// The first match in the input.
     ///
-    /// # Panics
+    /// ```
+    /// let regex = proved_fancy_regex::Regex::new(r"\w+(?=!)").unwrap();
+    /// assert_eq!(regex.find("so fancy!").unwrap().unwrap().as_str(), "fancy");
+    /// ```
     ///
-    /// If `position` lies inside a character.
-    pub fn find_from_pos<'t>(&self, text: &'t str, position: usize) -> Result<Option<Match<'t>>> {
-        self.find_at(text, position, true)
+    /// # Errors
+    ///
+    /// Those of [searches](Regex#errors-of-searches).
+    pub fn find<'t, S: Input + ?Sized>(&self, input: &'t S) -> Result<Option<S::Match<'t>>> {
+        self.find_input(RegexInput::new(input))
     }
 
-    /// The first match of an input.
+    /// The first match that starts at the byte offset `position` or later; past the end of the input there is none. What stands before is
+    /// still seen by look-behind, `^` and `\b`, so this is not a search of a slice.
     ///
-    /// # Panics
+    /// ```
+    /// let regex = proved_fancy_regex::Regex::new(r"(?m:^)(\d+)").unwrap();
+    /// let text = "1 test 123\n2 foo";
+    /// assert_eq!(regex.find_from_pos(text, 7).unwrap().unwrap().range(), 11..12);
+    /// assert_eq!(regex.find(&text[7..]).unwrap().unwrap().as_str(), "123");
+    /// ```
     ///
-    /// If the search begins inside a character.
-    pub fn find_input<'t>(&self, input: RegexInput<'t>) -> Result<Option<Match<'t>>> {
-        self.find_at(input.text, input.start, input.continues)
-    }
-
-    /// The groups of the first match of an input.
+    /// # Errors
     ///
-    /// # Panics
-    ///
-    /// If the search begins inside a character.
-    pub fn captures_input<'t>(&self, input: RegexInput<'t>) -> Result<Option<Captures<'t>>> {
-        self.captures_at(input.text, input.start, input.continues)
-    }
-
-    pub(crate) fn find_at<'t>(
+    /// Those of [searches](Regex#errors-of-searches).
+    pub fn find_from_pos<'t, S: Input + ?Sized>(
         &self,
-        text: &'t str,
+        input: &'t S,
         position: usize,
-        continues: bool,
-    ) -> Result<Option<Match<'t>>> {
-        let query = match query(text, position, continues) {
-            Some(query) => query,
-            None => return Ok(None),
-        };
-        let mut span = Span::UNSET;
-        // The text is UTF-8, as the query says, and borrowed for the call, as the query and the span are.
-        let status = unsafe {
-            raw::fancy_regex_raw_find(
-                self.handle.at(),
-                text.as_ptr(),
-                text.len(),
-                &query,
-                &mut span,
-            )
-        };
-        let found = self.handle.told(status)?;
-        Ok(found.then(|| Match::new(text, span)))
+    ) -> Result<Option<S::Match<'t>>> {
+        self.find_input(RegexInput::new(input).from_pos(position))
     }
 
-    /// The groups of the first match in the text.
+    /// The first match of an input from its start on.
+    ///
+    /// ```
+    /// use proved_fancy_regex::{Regex, RegexInput};
+    ///
+    /// let regex = Regex::new("a").unwrap();
+    /// let found = regex.find_input(RegexInput::new("aba").from_pos(1)).unwrap().unwrap();
+    /// assert_eq!(found.range(), 2..3);
+    /// ```
+    ///
+    /// # Errors
+    ///
+    /// Those of [searches](Regex#errors-of-searches).
+    pub fn find_input<'t, S: Input + ?Sized>(
+        &self,
+        input: RegexInput<'t, S>,
+    ) -> Result<Option<S::Match<'t>>> {
+        let haystack = input.haystack();
+        let found = self.span_in(&input)?;
+        Ok(found.map(|span| haystack.make_match(span.start, span.end)))
+    }
+
+    /// The groups of the first match in the input.
     ///
     /// ```
     /// use proved_fancy_regex::Regex;
@@ -178,50 +256,95 @@ impl Regex {
     /// let groups = regex.captures("on 2018-04").unwrap().unwrap();
     /// assert_eq!(groups.get(2).unwrap().as_str(), "04");
     /// ```
-    pub fn captures<'t>(&self, text: &'t str) -> Result<Option<Captures<'t>>> {
-        self.captures_from_pos(text, 0)
-    }
-
-    /// The groups of the first match that starts at the byte offset `position` or later; past the end of the text there is none.
     ///
-    /// # Panics
+    /// # Errors
     ///
-    /// If `position` lies inside a character.
-    pub fn captures_from_pos<'t>(
-        &self,
-        text: &'t str,
-        position: usize,
-    ) -> Result<Option<Captures<'t>>> {
-        self.captures_at(text, position, true)
+    /// Those of [searches](Regex#errors-of-searches).
+    pub fn captures<'t, S: Input + ?Sized>(&self, input: &'t S) -> Result<Option<Captures<'t, S>>> {
+        self.captures_input(RegexInput::new(input))
     }
 
-    pub(crate) fn captures_at<'t>(
+    /// The groups of the first match that starts at the byte offset `position` or later; as [`Regex::find_from_pos`].
+    ///
+    /// ```
+    /// let regex = proved_fancy_regex::Regex::new(r"(?m:^)(\d+)").unwrap();
+    /// let groups = regex.captures_from_pos("1 test 123\n2 foo", 7).unwrap().unwrap();
+    /// assert_eq!(groups.get(1).unwrap().range(), 11..12);
+    /// ```
+    ///
+    /// # Errors
+    ///
+    /// Those of [searches](Regex#errors-of-searches).
+    pub fn captures_from_pos<'t, S: Input + ?Sized>(
         &self,
-        text: &'t str,
+        input: &'t S,
         position: usize,
-        continues: bool,
-    ) -> Result<Option<Captures<'t>>> {
-        let query = match query(text, position, continues) {
-            Some(query) => query,
-            None => return Ok(None),
-        };
-        let mut spans = vec![Span::UNSET; self.names.len()];
-        // As in `find_at`; the spans are as many as the call is told.
-        let status = unsafe {
-            raw::fancy_regex_raw_captures(
-                self.handle.at(),
-                text.as_ptr(),
-                text.len(),
-                &query,
-                spans.as_mut_ptr(),
-                spans.len(),
-            )
-        };
-        let found = self.handle.told(status)?;
-        Ok(found.then(|| Captures::new(text, spans, self.names.clone())))
+    ) -> Result<Option<Captures<'t, S>>> {
+        self.captures_input(RegexInput::new(input).from_pos(position))
     }
 
-    /// The matches of the text from left to right, none overlapping another. An error is the last item.
+    /// The groups of the first match of an input from its start on.
+    ///
+    /// ```
+    /// use proved_fancy_regex::{Regex, RegexInput};
+    ///
+    /// let regex = Regex::new("(a)(b)").unwrap();
+    /// let input = RegexInput::new("abab").from_pos(1);
+    /// assert_eq!(regex.captures_input(input).unwrap().unwrap().get(2).unwrap().start(), 3);
+    /// ```
+    ///
+    /// # Errors
+    ///
+    /// Those of [searches](Regex#errors-of-searches).
+    pub fn captures_input<'t, S: Input + ?Sized>(
+        &self,
+        input: RegexInput<'t, S>,
+    ) -> Result<Option<Captures<'t, S>>> {
+        let haystack = input.haystack();
+        let spans = match input.search(haystack.text(), self.overrides_assertions())? {
+            Some(search) => self.group_spans(&search)?,
+            None => None,
+        };
+        Ok(spans.map(|spans| Captures::new(haystack, spans, self.names())))
+    }
+
+    /// The span of the first match of an input.
+    fn span_in<S: Input + ?Sized>(&self, input: &RegexInput<'_, S>) -> Result<Option<Span>> {
+        let text = input.haystack().text();
+        match input.search(text, self.overrides_assertions())? {
+            Some(search) => self.find_span(&search),
+            None => Ok(None),
+        }
+    }
+
+    /// The span of the first match.
+    pub(crate) fn find_span(&self, search: &Search<'_>) -> Result<Option<Span>> {
+        if search.anchored {
+            return Ok(self.anchored_spans(search)?.map(|spans| spans[0]));
+        }
+        self.handle()?.find(search)
+    }
+
+    /// The spans of the groups of the first match.
+    pub(crate) fn group_spans(&self, search: &Search<'_>) -> Result<Option<Vec<Span>>> {
+        if search.anchored {
+            return self.anchored_spans(search);
+        }
+        let mut spans = vec![Span::UNSET; self.captures_len()];
+        let found = self.handle()?.captures(search, &mut spans)?;
+        Ok(found.then_some(spans))
+    }
+
+    /// The spans of the groups of the match that starts where the search begins.
+    fn anchored_spans(&self, search: &Search<'_>) -> Result<Option<Vec<Span>>> {
+        let room = self.captures_len() + 1;
+        let groups = self.anchored_handle()?.set_captures(search, room)?;
+        let own = groups.iter().filter(|group| group.pattern == 0);
+        let spans: Vec<Span> = own.map(|group| group.span()).collect();
+        Ok((!spans.is_empty()).then_some(spans))
+    }
+
+    /// The matches of the input from left to right, none overlapping another. An error is the last item.
     ///
     /// ```
     /// use proved_fancy_regex::Regex;
@@ -231,18 +354,65 @@ impl Regex {
     /// let texts: Vec<_> = found.unwrap().iter().map(|m| m.as_str()).collect();
     /// assert_eq!(texts, ["fancy", "with", "iterators"]);
     /// ```
-    pub fn find_iter<'r, 't>(&'r self, text: &'t str) -> Matches<'r, 't> {
-        Matches::new(self, text)
+    pub fn find_iter<'r, 't, S: Input + ?Sized>(&'r self, input: &'t S) -> Matches<'r, 't, S> {
+        self.find_iter_input(RegexInput::new(input))
     }
 
-    /// The groups of the matches of the text from left to right. An error is the last item.
-    pub fn captures_iter<'r, 't>(&'r self, text: &'t str) -> CaptureMatches<'r, 't> {
-        CaptureMatches::new(self, text)
+    /// The matches of the input from its start on.
+    ///
+    /// ```
+    /// use proved_fancy_regex::{Regex, RegexInput};
+    ///
+    /// let regex = Regex::new("a").unwrap();
+    /// let input = RegexInput::new("aab").anchored(true);
+    /// assert_eq!(regex.find_iter_input(input).count(), 2);
+    /// ```
+    pub fn find_iter_input<'r, 't, S: Input + ?Sized>(
+        &'r self,
+        input: RegexInput<'t, S>,
+    ) -> Matches<'r, 't, S> {
+        Matches::new(self, input)
+    }
+
+    /// The groups of the matches of the input from left to right. An error is the last item.
+    ///
+    /// ```
+    /// let regex = proved_fancy_regex::Regex::new(r"(\d{4})-(\d{2})").unwrap();
+    /// let all = regex.captures_iter("It was between 2018-04 and 2020-01");
+    /// let months: Vec<_> = all.map(|groups| groups.unwrap()[2].to_string()).collect();
+    /// assert_eq!(months, ["04", "01"]);
+    /// ```
+    pub fn captures_iter<'r, 't, S: Input + ?Sized>(
+        &'r self,
+        input: &'t S,
+    ) -> CaptureMatches<'r, 't, S> {
+        self.captures_iter_input(RegexInput::new(input))
+    }
+
+    /// The groups of the matches of the input from its start on.
+    ///
+    /// ```
+    /// use proved_fancy_regex::{Regex, RegexInput};
+    ///
+    /// let regex = Regex::new("(a)").unwrap();
+    /// assert_eq!(regex.captures_iter_input(RegexInput::new("aba").from_pos(1)).count(), 1);
+    /// ```
+    pub fn captures_iter_input<'r, 't, S: Input + ?Sized>(
+        &'r self,
+        input: RegexInput<'t, S>,
+    ) -> CaptureMatches<'r, 't, S> {
+        CaptureMatches::new(self.find_iter_input(input))
     }
 
     /// The pieces of the text between the matches, and last the rest of the text. After an error the rest still comes.
+    ///
+    /// ```
+    /// let regex = proved_fancy_regex::Regex::new(r"[ \t]+").unwrap();
+    /// let fields: Vec<&str> = regex.split("a b \t  c\td    e").map(|piece| piece.unwrap()).collect();
+    /// assert_eq!(fields, ["a", "b", "c", "d", "e"]);
+    /// ```
     pub fn split<'r, 't>(&'r self, text: &'t str) -> Split<'r, 't> {
-        Split::new(self, text)
+        Split::new(self.find_iter(text))
     }
 
     /// At most `limit` pieces of the text: the last one is the rest, with what matches in it. None for limit 0.
@@ -258,23 +428,51 @@ impl Regex {
         SplitN::new(self.split(text), limit)
     }
 
-    /// The text with its first match replaced.
+    /// The text with its first match replaced. It is borrowed if nothing matches.
+    ///
+    /// What stands in the place of the match is most often a template:
     ///
     /// ```
     /// use proved_fancy_regex::Regex;
     ///
     /// let regex = Regex::new(r"(?P<last>[^,\s]+),\s+(?P<first>\S+)").unwrap();
     /// assert_eq!(regex.replace("Springsteen, Bruce", "$first $last"), "Bruce Springsteen");
+    /// assert_eq!(regex.replace("Springsteen, Bruce", "$2 $1"), "Bruce Springsteen");
+    /// ```
+    ///
+    /// In a template `$name`, `${name}`, `$1` and `${1}` stand for the text of a group, where group 0 is the whole match, and `$$`
+    /// stands for `$`. A group that is not there or took no part in the match has no text. The longest name counts, so `$1a` is the
+    /// group `1a`; `${1}a` is group 1, and then an `a`:
+    ///
+    /// ```
+    /// # use proved_fancy_regex::Regex;
+    /// let regex = Regex::new(r"(?P<first>\w+)\s+(?P<second>\w+)").unwrap();
+    /// assert_eq!(regex.replace("deep fried", "${first}_$second"), "deep_fried");
+    /// assert_eq!(regex.replace("deep fried", "$first_$second"), "fried");
+    /// ```
+    ///
+    /// It may be a function of the groups, or a text that is no template, or any other [`Replacer`]:
+    ///
+    /// ```
+    /// # use proved_fancy_regex::Regex;
+    /// use proved_fancy_regex::{Captures, NoExpand};
+    ///
+    /// let regex = Regex::new(r"([^,\s]+),\s+(\S+)").unwrap();
+    /// let swapped = regex.replace("Springsteen, Bruce", |groups: &Captures<'_, str>| {
+    ///     format!("{} {}", &groups[2], &groups[1])
+    /// });
+    /// assert_eq!(swapped, "Bruce Springsteen");
+    /// assert_eq!(regex.replace("Springsteen, Bruce", NoExpand("$2 $1")), "$2 $1");
     /// ```
     ///
     /// # Panics
     ///
-    /// If a search fails; `try_replacen` returns the error.
+    /// If a search fails; [`Regex::try_replacen`] returns the error.
     pub fn replace<'t, R: Replacer>(&self, text: &'t str, replacer: R) -> Cow<'t, str> {
         self.replacen(text, 1, replacer)
     }
 
-    /// The text with each match replaced.
+    /// The text with each match replaced; as [`Regex::replace`].
     ///
     /// ```
     /// use proved_fancy_regex::{Captures, Regex};
@@ -286,16 +484,21 @@ impl Regex {
     ///
     /// # Panics
     ///
-    /// If a search fails; `try_replacen` returns the error.
+    /// If a search fails; [`Regex::try_replacen`] returns the error.
     pub fn replace_all<'t, R: Replacer>(&self, text: &'t str, replacer: R) -> Cow<'t, str> {
         self.replacen(text, 0, replacer)
     }
 
-    /// The text with its first `limit` matches replaced, or with all of them for limit 0.
+    /// The text with its first `limit` matches replaced, or with all of them for limit 0; as [`Regex::replace`].
+    ///
+    /// ```
+    /// let regex = proved_fancy_regex::Regex::new("a").unwrap();
+    /// assert_eq!(regex.replacen("aaa", 2, "b"), "bba");
+    /// ```
     ///
     /// # Panics
     ///
-    /// If a search fails; `try_replacen` returns the error.
+    /// If a search fails; [`Regex::try_replacen`] returns the error.
     pub fn replacen<'t, R: Replacer>(
         &self,
         text: &'t str,
@@ -307,6 +510,16 @@ impl Regex {
 
     /// The text with its first `limit` matches replaced, or with all of them for limit 0. It is borrowed if none matches, or if a
     /// template changes nothing.
+    ///
+    /// ```
+    /// let regex = proved_fancy_regex::Regex::new("a").unwrap();
+    /// assert_eq!(regex.try_replacen("aaa", 0, "b").unwrap(), "bbb");
+    /// ```
+    ///
+    /// # Errors
+    ///
+    /// Those of [searches](Regex#errors-of-searches). With a limit above 0 one match more is searched for, and its error is that of
+    /// the call.
     pub fn try_replacen<'t, R: Replacer>(
         &self,
         text: &'t str,
@@ -314,51 +527,20 @@ impl Regex {
         mut replacer: R,
     ) -> Result<Cow<'t, str>> {
         if let (0, Some(template)) = (limit, replacer.template()) {
-            return self.replaced(text, template);
+            let replaced = self.handle()?.replace_all(text, template)?;
+            return Ok(if replaced == text {
+                Cow::Borrowed(text)
+            } else {
+                Cow::Owned(replaced)
+            });
         }
         if let Some(same) = replacer.no_expansion() {
-            let append = |_: &Match<'t>, to: &mut String| to.push_str(&same);
-            return spliced(text, limit, self.find_iter(text), |found| *found, append);
+            let spans = self.find_iter(text).map(|found| Ok(found?.range()));
+            return spliced(text, limit, spans, Clone::clone, |_, to| to.push_str(&same));
         }
+        let whole = |groups: &Captures<'t>| groups.whole().start..groups.whole().end;
         let append = |groups: &Captures<'t>, to: &mut String| replacer.replace_append(groups, to);
-        spliced(
-            text,
-            limit,
-            self.captures_iter(text),
-            Captures::whole,
-            append,
-        )
-    }
-
-    /// The text with each match replaced by a template, as the library does it.
-    fn replaced<'t>(&self, text: &'t str, template: &str) -> Result<Cow<'t, str>> {
-        let room = text.len() + text.len() / 4 + 64;
-        let out = filled_from(room, |out| self.replace_into(text, template, out))?;
-        if out == text {
-            return Ok(Cow::Borrowed(text));
-        }
-        Ok(Cow::Owned(out))
-    }
-
-    /// Writes as much of the replaced text as there is room for, and returns its length.
-    fn replace_into(&self, text: &str, template: &str, out: &mut [u8]) -> Result<usize> {
-        let mut length = 0;
-        // The text is UTF-8, as the call says; all is borrowed for the call, and the room is that of the slice.
-        let status = unsafe {
-            raw::fancy_regex_raw_replace_all(
-                self.handle.at(),
-                text.as_ptr(),
-                text.len(),
-                true,
-                template.as_ptr(),
-                template.len(),
-                out.as_mut_ptr(),
-                out.len(),
-                &mut length,
-            )
-        };
-        self.handle.told(status)?;
-        Ok(length)
+        spliced(text, limit, self.captures_iter(text), whole, append)
     }
 }
 
@@ -367,7 +549,7 @@ fn spliced<'t, T>(
     text: &'t str,
     limit: usize,
     matches: impl Iterator<Item = Result<T>>,
-    whole: impl Fn(&T) -> Match<'t>,
+    whole: impl Fn(&T) -> std::ops::Range<usize>,
     mut append: impl FnMut(&T, &mut String),
 ) -> Result<Cow<'t, str>> {
     let mut spliced = None;
@@ -378,9 +560,9 @@ fn spliced<'t, T>(
             break;
         }
         let to = spliced.get_or_insert_with(String::new);
-        to.push_str(&text[last..whole(&found).start()]);
+        to.push_str(&text[last..whole(&found).start]);
         append(&found, to);
-        last = whole(&found).end();
+        last = whole(&found).end;
     }
     Ok(match spliced {
         Some(mut to) => {
@@ -391,28 +573,15 @@ fn spliced<'t, T>(
     })
 }
 
-/// The query of a search from a place; `None` past the end of the text, where nothing is found.
-pub(crate) fn query(text: &str, position: usize, continues: bool) -> Option<Query> {
-    assert!(
-        position > text.len() || text.is_char_boundary(position),
-        "the search begins inside a character"
-    );
-    (position <= text.len()).then_some(Query {
-        position,
-        is_utf8: true,
-        continues,
-    })
-}
-
 impl fmt::Display for Regex {
     fn fmt(&self, f: &mut fmt::Formatter<'_>) -> fmt::Result {
-        f.write_str(&self.pattern)
+        f.write_str(self.as_str())
     }
 }
 
 impl fmt::Debug for Regex {
     fn fmt(&self, f: &mut fmt::Formatter<'_>) -> fmt::Result {
-        f.write_str(&self.pattern)
+        f.write_str(self.as_str())
     }
 }
 
@@ -436,6 +605,6 @@ impl TryFrom<String> for Regex {
     type Error = Error;
 
     fn try_from(pattern: String) -> Result<Regex> {
-        Regex::new(&pattern)
+        RegexOptionsBuilder::new().build(pattern)
     }
 }

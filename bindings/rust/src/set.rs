@@ -1,17 +1,19 @@
-use crate::captures::{Captures, Match, Names};
+use crate::captures::{Captures, Names};
 use crate::error::Result;
-use crate::handle::Owned;
-use crate::input::RegexInput;
+use crate::handle::{Listed, Owned};
+use crate::input::{Input, RegexInput, Search};
 use crate::options::RegexOptionsBuilder;
-use crate::raw::{self, Options, Query, Span};
-use crate::regex::{query, Regex};
-use std::borrow::Borrow;
-use std::cell::{Cell, RefCell};
+use crate::pool::{Borrowed, Pool};
+use crate::raw::{self, Options};
+use crate::regex::Regex;
 use std::fmt;
-use std::iter::Peekable;
+use std::iter::{FusedIterator, Peekable};
+use std::sync::atomic::{AtomicUsize, Ordering};
+use std::sync::{Arc, OnceLock};
 use std::vec;
 
-/// Several patterns, its members, that are searched for together. They are numbered from 0. A set is `Send` and not `Sync`.
+/// Several patterns, its members, that are searched for together. They are numbered from 0. Threads can share a set as they can share
+/// a [`Regex`], and a clone is the same set.
 ///
 /// ```
 /// use proved_fancy_regex::{RegexInput, RegexSet};
@@ -31,66 +33,89 @@ use std::vec;
 /// let time = found.next().unwrap().unwrap();
 /// assert_eq!((time.pattern(), &time.captures()["hour"]), (0, "12"));
 /// ```
+#[derive(Clone)]
 pub struct RegexSet {
-    handle: Owned,
+    compiled: Arc<Compiled>,
+}
+
+struct Compiled {
     members: Vec<Member>,
+    /// Whether each member has options of its own.
+    is_mixed: bool,
+    handles: Pool,
+    /// Handles of sets of the members and the empty pattern, for anchored searches.
+    anchored: OnceLock<Box<Pool>>,
     /// The most groups that a search found so far: how much room the next one has.
-    room: Cell<usize>,
+    room: AtomicUsize,
 }
 
 /// A member of a set, and the names of its groups once they are known.
 struct Member {
     pattern: String,
-    options: Options,
-    names: RefCell<Option<Names>>,
+    options: RegexOptionsBuilder,
+    names: OnceLock<Names>,
 }
 
 impl Member {
     /// The names of the groups, of which there are so many. The pattern is compiled once for them if there are more than group 0.
     fn names(&self, groups: usize) -> Result<Names> {
-        let mut names = self.names.borrow_mut();
-        if let Some(names) = &*names {
+        if let Some(names) = self.names.get() {
             return Ok(names.clone());
         }
         let read = if groups == 1 {
             Names::from(vec![None])
         } else {
-            Regex::with_options(&self.pattern, &self.options)?.names()
+            self.options.build(self.pattern.clone())?.names()
         };
-        Ok(names.insert(read).clone())
+        Ok(self.names.get_or_init(|| read).clone())
+    }
+
+    /// Whether a match may start after the place at which it was tried.
+    fn may_start_later(&self) -> bool {
+        self.pattern.contains(r"\K")
     }
 }
 
 impl RegexSet {
     /// Compiles the patterns with the default options.
+    ///
+    /// ```
+    /// let set = proved_fancy_regex::RegexSet::new(["a", "b+"]).unwrap();
+    /// assert_eq!(set.len(), 2);
+    /// ```
+    ///
+    /// # Errors
+    ///
+    /// The error of the first pattern that is refused, or `Memory` where memory runs out.
     pub fn new<I: IntoIterator<Item = S>, S: AsRef<str>>(patterns: I) -> Result<RegexSet> {
         RegexSet::new_with_options(patterns, &RegexOptionsBuilder::new())
     }
 
-    /// Compiles the patterns with these options. The error is that of the first pattern that is refused.
+    /// Compiles the patterns with these options.
+    ///
+    /// ```
+    /// use proved_fancy_regex::{RegexInput, RegexOptionsBuilder, RegexSet};
+    ///
+    /// let mut options = RegexOptionsBuilder::new();
+    /// let set = RegexSet::new_with_options(["a"], options.case_insensitive(true)).unwrap();
+    /// assert!(set.find_input(RegexInput::new("A")).unwrap().is_some());
+    /// ```
+    ///
+    /// # Errors
+    ///
+    /// The error of the first pattern that is refused, or `Memory` where memory runs out.
     pub fn new_with_options<I: IntoIterator<Item = S>, S: AsRef<str>>(
         patterns: I,
         options: &RegexOptionsBuilder,
     ) -> Result<RegexSet> {
-        let named = |pattern: S| Member {
+        let member = |pattern: S| Member {
             pattern: pattern.as_ref().to_string(),
-            options: options.options,
-            names: RefCell::new(None),
+            options: options.clone(),
+            names: OnceLock::new(),
         };
-        let set = RegexSet::of(patterns.into_iter().map(named).collect());
-        let listed = Listed::of(&set.members);
-        // The handle is empty, and the patterns, their ends and the options are borrowed for the call.
-        let status = unsafe {
-            raw::fancy_regex_raw_set_build(
-                set.handle.at(),
-                listed.bytes.as_ptr(),
-                listed.bytes.len(),
-                listed.ends.as_ptr(),
-                listed.ends.len(),
-                &options.options,
-            )
-        };
-        set.handle.told(status)?;
+        let members = patterns.into_iter().map(member).collect();
+        let set = RegexSet::of(members, false)?;
+        options.check()?;
         Ok(set)
     }
 
@@ -98,112 +123,174 @@ impl RegexSet {
     /// this set asks each member at each place; a set that is made of patterns is faster.
     ///
     /// ```
-    /// use proved_fancy_regex::{Regex, RegexInput, RegexSet};
+    /// use proved_fancy_regex::{Regex, RegexInput, RegexSet, RegexSetOptions};
+    /// use std::sync::Arc;
     ///
-    /// let regexes = [Regex::new("a").unwrap(), Regex::new(r"\w(?=c)").unwrap()];
-    /// let set = RegexSet::from_regexes(&regexes).unwrap();
+    /// let regexes = ["a", r"\w(?=c)"].map(|pattern| Arc::new(Regex::new(pattern).unwrap()));
+    /// let set = RegexSet::from_regexes(regexes, RegexSetOptions::new()).unwrap();
     /// let found = set.find_input(RegexInput::new("bc")).unwrap().unwrap();
     /// assert_eq!(found.map(|m| m.unwrap().pattern()).collect::<Vec<_>>(), [1]);
     /// ```
-    pub fn from_regexes<I: IntoIterator<Item = R>, R: Borrow<Regex>>(
+    ///
+    /// # Errors
+    ///
+    /// `Memory` where memory runs out.
+    pub fn from_regexes<I: IntoIterator<Item = Arc<Regex>>>(
         regexes: I,
+        _options: RegexSetOptions,
     ) -> Result<RegexSet> {
-        let named = |regex: R| Member {
-            pattern: regex.borrow().as_str().to_string(),
-            options: *regex.borrow().options(),
-            names: RefCell::new(Some(regex.borrow().names())),
+        let member = |regex: Arc<Regex>| Member {
+            pattern: regex.as_str().to_string(),
+            options: regex.options().clone(),
+            names: OnceLock::from(regex.names()),
         };
-        let set = RegexSet::of(regexes.into_iter().map(named).collect());
-        let listed = Listed::of(&set.members);
-        let options: Vec<Options> = set.members.iter().map(|member| member.options).collect();
-        // As above; there are as many options as ends.
-        let status = unsafe {
-            raw::fancy_regex_raw_set_build_mixed(
-                set.handle.at(),
-                listed.bytes.as_ptr(),
-                listed.bytes.len(),
-                listed.ends.as_ptr(),
-                listed.ends.len(),
-                options.as_ptr(),
-                options.len(),
-            )
-        };
-        set.handle.told(status)?;
-        Ok(set)
+        RegexSet::of(regexes.into_iter().map(member).collect(), true)
     }
 
-    /// The set of these members before it is built.
-    fn of(members: Vec<Member>) -> RegexSet {
-        RegexSet {
-            handle: Owned::empty(),
+    fn of(members: Vec<Member>, is_mixed: bool) -> Result<RegexSet> {
+        let mut compiled = Compiled {
             members,
-            room: Cell::new(8),
-        }
+            is_mixed,
+            handles: Pool::new(),
+            anchored: OnceLock::new(),
+            room: AtomicUsize::new(8),
+        };
+        let first = Owned::empty();
+        compiled.build(&first)?;
+        compiled.handles = Pool::of(first);
+        Ok(RegexSet {
+            compiled: Arc::new(compiled),
+        })
     }
 
     /// The number of members.
+    ///
+    /// ```
+    /// assert_eq!(proved_fancy_regex::RegexSet::new(["a", "b"]).unwrap().len(), 2);
+    /// ```
     pub fn len(&self) -> usize {
-        self.members.len()
+        self.compiled.members.len()
     }
 
     /// Whether the set has no members.
+    ///
+    /// ```
+    /// assert!(!proved_fancy_regex::RegexSet::new(["a", "b"]).unwrap().is_empty());
+    /// ```
     pub fn is_empty(&self) -> bool {
-        self.members.is_empty()
+        self.compiled.members.is_empty()
     }
 
     /// The members that match at the earliest place at which one of them matches, in the order of their numbers; `None` if no member
     /// matches anywhere. All of them are searched for at once: where one fails, its error is that of the call. The names of the groups
     /// of a member are read when it first matches: where it has groups, its pattern is compiled once more for that.
     ///
-    /// # Panics
+    /// ```
+    /// use proved_fancy_regex::{RegexInput, RegexSet};
     ///
-    /// If the search begins inside a character.
-    pub fn find_input<'r, 't>(
+    /// let set = RegexSet::new(["b", "a", "ab"]).unwrap();
+    /// let found = set.find_input(RegexInput::new("-ab")).unwrap().unwrap();
+    /// assert_eq!(found.map(|m| m.unwrap().pattern()).collect::<Vec<_>>(), [1, 2]);
+    /// ```
+    ///
+    /// # Errors
+    ///
+    /// Those of [searches](Regex#errors-of-searches), of each member that is asked.
+    pub fn find_input<'r, 't, S: Input + ?Sized>(
         &'r self,
-        input: RegexInput<'t>,
-    ) -> Result<Option<RegexSetMatchesAt<'r, 't>>> {
-        let query = match query(input.text, input.start, input.continues) {
-            Some(query) => query,
+        input: RegexInput<'t, S>,
+    ) -> Result<Option<RegexSetMatchesAt<'r, 't, S>>> {
+        let members = &self.compiled.members;
+        let overrides = members.iter().any(|m| m.options.overrides_assertions);
+        let search = match input.search(input.haystack().text(), overrides)? {
+            Some(search) => search,
             None => return Ok(None),
         };
-        let groups = self.groups(input.text, &query)?;
-        Ok((!groups.is_empty()).then(|| RegexSetMatchesAt {
+        let groups = self.compiled.groups(&search)?;
+        if groups.is_empty() {
+            return Ok(None);
+        }
+        let start = self.compiled.place(&search, &groups)?;
+        Ok(Some(RegexSetMatchesAt {
             set: self,
-            text: input.text,
+            haystack: input.haystack(),
+            start,
             groups: groups.into_iter().peekable(),
         }))
     }
+}
 
-    /// The groups of the members that match. A search that finds more groups than there is room for is made again.
-    fn groups(&self, text: &str, query: &Query) -> Result<Vec<raw::Member>> {
-        let mut groups = vec![raw::Member::NONE; self.room.get()];
-        let mut count = self.groups_into(text, query, &mut groups)?;
-        if count > groups.len() {
-            self.room.set(count);
-            groups.resize(count, raw::Member::NONE);
-            count = self.groups_into(text, query, &mut groups)?;
+impl Compiled {
+    /// Builds the set into a handle.
+    fn build(&self, handle: &Owned) -> Result<()> {
+        let patterns = Listed::of(self.members.iter().map(|m| m.pattern.as_str()));
+        match (self.is_mixed, self.members.first()) {
+            (false, Some(first)) => handle.build_set(&patterns, &first.options.options),
+            _ => handle.build_mixed(&patterns, &self.options()),
         }
-        groups.truncate(count);
+    }
+
+    fn options(&self) -> Vec<Options> {
+        self.members.iter().map(|m| m.options.options).collect()
+    }
+
+    /// A handle of the set with the empty pattern as one member more. It matches where a search begins, so the members that match there
+    /// are the answer.
+    fn anchored_handle(&self) -> Result<Borrowed<'_>> {
+        let handles = self.anchored.get_or_init(|| Box::new(Pool::new()));
+        handles.borrow(|handle| {
+            let patterns = self.members.iter().map(|m| m.pattern.as_str());
+            let mut options = self.options();
+            options.push(Options::DEFAULT);
+            handle.build_mixed(&Listed::of(patterns.chain([""])), &options)
+        })
+    }
+
+    /// The groups of the members that match.
+    fn groups(&self, search: &Search<'_>) -> Result<Vec<raw::Member>> {
+        let room = self.room.load(Ordering::Relaxed);
+        let mut groups = if search.anchored {
+            self.anchored_handle()?.set_captures(search, room)?
+        } else {
+            let handle = self.handles.borrow(|handle| self.build(handle))?;
+            handle.set_captures(search, room)?
+        };
+        self.room.fetch_max(groups.len(), Ordering::Relaxed);
+        groups.retain(|group| group.pattern < self.members.len());
         Ok(groups)
     }
 
-    /// Writes as many groups of the members that match as there is room for, and returns how many there are.
-    fn groups_into(&self, text: &str, query: &Query, groups: &mut [raw::Member]) -> Result<usize> {
-        let mut count = 0;
-        // The text is UTF-8, as the query says; all is borrowed for the call, and the room is that of the slice.
-        let status = unsafe {
-            raw::fancy_regex_raw_set_captures(
-                self.handle.at(),
-                text.as_ptr(),
-                text.len(),
-                query,
-                groups.as_mut_ptr(),
-                groups.len(),
-                &mut count,
-            )
-        };
-        self.handle.told(status)?;
-        Ok(count)
+    /// The place at which the members with these groups match. It is where a match starts whose pattern has no `\K`; if there is none,
+    /// the first place at which an anchored search finds one.
+    fn place(&self, search: &Search<'_>, groups: &[raw::Member]) -> Result<usize> {
+        let is_whole =
+            |number: &usize| *number == 0 || groups[number - 1].pattern != groups[*number].pattern;
+        let wholes = (0..groups.len()).filter(is_whole).map(|n| groups[n]);
+        let plain = |whole: &raw::Member| !self.members[whole.pattern].may_start_later();
+        if let Some(whole) = wholes.clone().find(plain) {
+            return Ok(whole.start);
+        }
+        let latest = wholes.map(|whole| whole.start).min().unwrap_or(0);
+        for (step, _) in search.text[search.position..].char_indices() {
+            let position = search.position + step;
+            if search.anchored || position >= latest {
+                break;
+            }
+            let here = Search {
+                position,
+                anchored: true,
+                continues: search.continues && step == 0,
+                ..*search
+            };
+            if !self.groups(&here)?.is_empty() {
+                return Ok(position);
+            }
+        }
+        Ok(if search.anchored {
+            search.position
+        } else {
+            latest
+        })
     }
 }
 
@@ -213,110 +300,195 @@ impl fmt::Debug for RegexSet {
     }
 }
 
-/// Patterns one after another, and where each of them ends.
-struct Listed {
-    bytes: String,
-    ends: Vec<usize>,
+/// The options of a set's automata. There are none here, so these options change nothing.
+///
+/// ```
+/// use proved_fancy_regex::{RegexSet, RegexSetOptions};
+///
+/// let options = RegexSetOptions::new().meta_nfa_size_limit(None).delegate_size_limit(1);
+/// assert!(RegexSet::from_regexes([], options).unwrap().is_empty());
+/// ```
+#[derive(Clone, Debug, Default)]
+pub struct RegexSetOptions {}
+
+/// Setters that change nothing.
+macro_rules! set_options {
+    ($($(#[$doc:meta])* $name:ident($value:ident: $kind:ty);)*) => {
+        impl RegexSetOptions {
+            $(
+                $(#[$doc])*
+                ///
+                /// It changes nothing here: there are no automata.
+                pub fn $name(self, $value: $kind) -> RegexSetOptions {
+                    self
+                }
+            )*
+        }
+    };
 }
 
-impl Listed {
-    fn of(members: &[Member]) -> Listed {
-        let mut listed = Listed {
-            bytes: String::new(),
-            ends: Vec::new(),
-        };
-        for member in members {
-            listed.bytes.push_str(&member.pattern);
-            listed.ends.push(listed.bytes.len());
-        }
-        listed
+set_options! {
+    /// How large delegated parts of a pattern may be.
+    delegate_size_limit(_limit: usize);
+    /// How large the automata of delegated parts may be.
+    delegate_dfa_size_limit(_limit: usize);
+    /// How large the automaton for the earliest place may be.
+    meta_nfa_size_limit(_limit: Option<usize>);
+    /// How large the cache of the automaton for the earliest place may be.
+    meta_hybrid_cache_capacity(_limit: usize);
+    /// How large the cache of the automaton for the members at a place may be.
+    overlapping_dfa_cache_capacity(_limit: usize);
+    /// Whether the automaton for the members at a place may have a cache that is too small.
+    overlapping_dfa_skip_cache_capacity_check(_yes: bool);
+}
+
+impl RegexSetOptions {
+    /// The default options.
+    pub fn new() -> RegexSetOptions {
+        RegexSetOptions::default()
     }
 }
 
 /// The match of one member of a set.
-#[derive(Clone, Debug)]
-pub struct RegexSetMatch<'t> {
+///
+/// ```
+/// use proved_fancy_regex::{RegexInput, RegexSet, RegexSetMatch};
+///
+/// let set = RegexSet::new([r"(\w)\w*"]).unwrap();
+/// let mut found = set.find_input(RegexInput::new("-abc")).unwrap().unwrap();
+/// let word: RegexSetMatch<'_, str> = found.next().unwrap().unwrap();
+/// assert_eq!((word.pattern(), word.start(), word.end()), (0, 1, 4));
+/// assert_eq!((word.as_str(), word.get().as_str(), &word.captures()[1]), ("abc", "abc", "a"));
+/// ```
+pub struct RegexSetMatch<'t, S: Input + ?Sized = str> {
     pattern: usize,
-    groups: Captures<'t>,
+    groups: Captures<'t, S>,
 }
 
-impl<'t> RegexSetMatch<'t> {
+impl<'t, S: Input + ?Sized> RegexSetMatch<'t, S> {
     /// The number of the member.
     pub fn pattern(&self) -> usize {
         self.pattern
     }
 
     /// The groups of the match.
-    pub fn captures(&self) -> &Captures<'t> {
+    pub fn captures(&self) -> &Captures<'t, S> {
         &self.groups
     }
 
     /// The match.
-    pub fn get(&self) -> Match<'t> {
-        self.groups.whole()
+    pub fn get(&self) -> S::Match<'t> {
+        self.groups.get(0).expect("a match has group 0")
     }
 
     /// The byte offset at which the match starts.
     pub fn start(&self) -> usize {
-        self.get().start()
+        self.groups.whole().start
     }
 
     /// The byte offset at which the match ends, exclusive.
     pub fn end(&self) -> usize {
-        self.get().end()
+        self.groups.whole().end
     }
+}
 
+impl<'t> RegexSetMatch<'t, str> {
     /// The text that matched.
     pub fn as_str(&self) -> &'t str {
         self.get().as_str()
     }
 }
 
-/// The members of a set that match at one place, in the order of their numbers.
-#[derive(Clone)]
-pub struct RegexSetMatchesAt<'r, 't> {
+impl<S: Input + ?Sized> Clone for RegexSetMatch<'_, S> {
+    fn clone(&self) -> Self {
+        RegexSetMatch {
+            pattern: self.pattern,
+            groups: self.groups.clone(),
+        }
+    }
+}
+
+impl<S: Input + fmt::Debug + ?Sized> fmt::Debug for RegexSetMatch<'_, S> {
+    fn fmt(&self, f: &mut fmt::Formatter<'_>) -> fmt::Result {
+        f.debug_struct("RegexSetMatch")
+            .field("pattern", &self.pattern)
+            .field("captures", &self.groups)
+            .finish()
+    }
+}
+
+/// The members of a set that match at one place, in the order of their numbers, from [`RegexSet::find_input`].
+///
+/// ```
+/// use proved_fancy_regex::{RegexInput, RegexSet, RegexSetMatchesAt};
+///
+/// let set = RegexSet::new([r"a\Kb", "b"]).unwrap();
+/// let found: RegexSetMatchesAt<'_, '_, str> = set.find_input(RegexInput::new("-ab")).unwrap().unwrap();
+/// assert_eq!((found.regex_set().len(), found.haystack(), found.start()), (2, "-ab", 1));
+/// ```
+pub struct RegexSetMatchesAt<'r, 't, S: Input + ?Sized = str> {
     set: &'r RegexSet,
-    text: &'t str,
+    haystack: &'t S,
+    start: usize,
     groups: Peekable<vec::IntoIter<raw::Member>>,
 }
 
-impl<'r, 't> RegexSetMatchesAt<'r, 't> {
+impl<'r, 't, S: Input + ?Sized> RegexSetMatchesAt<'r, 't, S> {
     /// The set.
     pub fn regex_set(&self) -> &'r RegexSet {
         self.set
     }
 
-    /// The searched text.
-    pub fn haystack(&self) -> &'t str {
-        self.text
+    /// The searched input.
+    pub fn haystack(&self) -> &'t S {
+        self.haystack
+    }
+
+    /// The byte offset at which the members match. By `\K` a match may start later.
+    pub fn start(&self) -> usize {
+        self.start
     }
 }
 
-impl<'t> Iterator for RegexSetMatchesAt<'_, 't> {
-    type Item = Result<RegexSetMatch<'t>>;
+impl<'t, S: Input + ?Sized> Iterator for RegexSetMatchesAt<'_, 't, S> {
+    type Item = Result<RegexSetMatch<'t, S>>;
 
-    fn next(&mut self) -> Option<Result<RegexSetMatch<'t>>> {
+    fn next(&mut self) -> Option<Result<RegexSetMatch<'t, S>>> {
         let pattern = self.groups.peek()?.pattern;
         let mut spans = Vec::new();
         while let Some(group) = self.groups.next_if(|group| group.pattern == pattern) {
-            spans.push(Span {
-                start: group.start,
-                end: group.end,
-            });
+            spans.push(group.span());
         }
-        let names = match self.set.members[pattern].names(spans.len()) {
+        let names = match self.set.compiled.members[pattern].names(spans.len()) {
             Ok(names) => names,
             Err(error) => return Some(Err(error)),
         };
         Some(Ok(RegexSetMatch {
             pattern,
-            groups: Captures::new(self.text, spans, names),
+            groups: Captures::new(self.haystack, spans, names),
         }))
     }
 }
 
-impl fmt::Debug for RegexSetMatchesAt<'_, '_> {
+impl<S: Input + ?Sized> FusedIterator for RegexSetMatchesAt<'_, '_, S> {}
+
+impl<S: Input + ?Sized> Clone for RegexSetMatchesAt<'_, '_, S> {
+    fn clone(&self) -> Self {
+        RegexSetMatchesAt {
+            set: self.set,
+            haystack: self.haystack,
+            start: self.start,
+            groups: self.groups.clone(),
+        }
+    }
+}
+
+impl<S: Input + fmt::Debug + ?Sized> fmt::Debug for RegexSetMatchesAt<'_, '_, S> {
     fn fmt(&self, f: &mut fmt::Formatter<'_>) -> fmt::Result {
-        write!(f, "<RegexSetMatchesAt>")
+        f.debug_struct("RegexSetMatchesAt")
+            .field("regex_set", &self.set)
+            .field("haystack", &self.haystack)
+            .field("start", &self.start)
+            .finish_non_exhaustive()
     }
 }

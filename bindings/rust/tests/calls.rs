@@ -1,10 +1,11 @@
 //! Each call of the wrapper, on the examples of the crate that was ported and on errors.
 
 use proved_fancy_regex::{
-    escape, Captures, Error, Expander, Regex, RegexBuilder, RegexInput, RegexOptionsBuilder,
-    RegexSet, Replacer,
+    escape, Captures, CompileError, Error, Expander, ParseError, Regex, RegexBuilder, RegexInput,
+    RegexOptionsBuilder, RegexSet, RegexSetOptions, Replacer, RuntimeError,
 };
 use std::borrow::Cow;
+use std::sync::Arc;
 
 fn spans(pattern: &str, text: &str) -> Vec<(usize, usize)> {
     let regex = Regex::new(pattern).unwrap();
@@ -69,9 +70,13 @@ fn the_rest_comes_after_an_error() {
 }
 
 #[test]
-#[should_panic(expected = "inside a character")]
-fn a_place_inside_a_character_panics() {
-    let _ = Regex::new("a").unwrap().find_from_pos("é", 1);
+fn a_place_inside_a_character_is_an_error() {
+    let error = Regex::new("a").unwrap().find_from_pos("é", 1).unwrap_err();
+    assert_eq!(error, RuntimeError::InsideCharacter.into());
+    assert_eq!(
+        error.to_string(),
+        "Error executing regex: search begins inside a character"
+    );
 }
 
 /// A replacer that has the same text for all matches, and no other.
@@ -133,6 +138,122 @@ fn errors_are_told() {
         Err(Error::RuntimeError(_))
     ));
     assert_eq!(slow.find("c").unwrap(), None);
+}
+
+#[test]
+fn errors_have_causes() {
+    for (pattern, wanted) in [
+        ("(a", ParseError::UnclosedOpenParen),
+        ("\\", ParseError::TrailingBackslash),
+        (r"\y", ParseError::InvalidEscape(r"\y".to_string())),
+        (r"\xz", ParseError::InvalidHex),
+        (r"\x{110000}", ParseError::InvalidCodepointValue),
+        ("[a", ParseError::InvalidClass),
+        ("(?w)", ParseError::UnknownFlag("(?w".to_string())),
+        ("(?u)a(?-u)", ParseError::ChangingUnicodeModeUnsupported),
+        ("+", ParseError::TargetNotRepeatable),
+        ("(?<>a)", ParseError::InvalidGroupName),
+        (
+            r"\k<b>",
+            ParseError::InvalidGroupNameBackref("b".to_string()),
+        ),
+    ] {
+        match Regex::new(pattern) {
+            Err(Error::ParseError(_, cause)) => assert_eq!(cause, wanted, "{pattern}"),
+            other => panic!("{pattern}: {other:?}"),
+        }
+    }
+    for (pattern, wanted) in [
+        ("[z-a]", CompileError::InnerError("[z-a]".to_string())),
+        ("(?<=a+)b", CompileError::LookBehindNotConst),
+        (r"\2(a)", CompileError::InvalidBackref(2)),
+        (r"(\g<1>|a)", CompileError::LeftRecursiveSubroutineCall(1)),
+        (r"a\g<0>", CompileError::NeverEndingRecursion),
+        ("a{3,2}", CompileError::RepeatBoundsReversed),
+        (
+            "(*COMMIT)a",
+            CompileError::FeatureNotYetSupported("control verb".to_string()),
+        ),
+        (
+            r"\g<3>",
+            CompileError::SubroutineCallTargetNotFound("3".to_string()),
+        ),
+    ] {
+        let refused = Regex::new(pattern).map(drop);
+        assert_eq!(refused, Err(wanted.into()), "{pattern}");
+    }
+}
+
+#[test]
+fn an_anchored_search_finds_what_starts_there() {
+    let regex = Regex::new(r"a\K(b)(c)?").unwrap();
+    let input = RegexInput::new("-abab").anchored(true);
+    assert!(regex.find_input(input.clone()).unwrap().is_none());
+    let groups = regex
+        .captures_input(input.clone().from_pos(1))
+        .unwrap()
+        .unwrap();
+    let spans: Vec<_> = groups.iter().map(|m| m.map(|m| m.range())).collect();
+    assert_eq!(spans, [Some(2..3), Some(2..3), None]);
+    let all = regex.find_iter_input(input.from_pos(1));
+    let spans: Vec<_> = all.map(|m| m.unwrap().range()).collect();
+    assert_eq!(spans, [2..3, 4..5]);
+    let far = Regex::new(r"(a|aa)+\1x|b").unwrap();
+    let text = format!("b{}", "a".repeat(60));
+    let input = RegexInput::new(&text).anchored(true);
+    assert_eq!(far.find_input(input).unwrap().unwrap().range(), 0..1);
+}
+
+#[test]
+fn a_set_tells_the_place_of_its_matches() {
+    let starts = |patterns: &[&str], input: RegexInput<'_>| {
+        let set = RegexSet::new(patterns).unwrap();
+        let found = set.find_input(input).unwrap();
+        found.map(|found| (found.start(), found.map(|m| m.unwrap().start()).collect()))
+    };
+    let text = RegexInput::new("éab-ab");
+    assert_eq!(starts(&[r"a\Kb"], text.clone()), Some((2, vec![3])));
+    assert_eq!(
+        starts(&[r"a\Kb", "ab"], text.clone()),
+        Some((2, vec![3, 2]))
+    );
+    assert_eq!(starts(&[r"\Ga\Kb"], text.clone()), None);
+    let anchored = text.clone().anchored(true);
+    assert_eq!(starts(&["b", r"a\Kb"], anchored.clone()), None);
+    let there = anchored.from_pos(5);
+    assert_eq!(starts(&["b", r"a\Kb"], there.clone()), Some((5, vec![6])));
+    assert_eq!(starts(&[], there), None);
+}
+
+#[test]
+fn bytes_are_searched_if_they_are_utf8() {
+    let regex = Regex::new("(é)b").unwrap();
+    let bytes = "aéb".as_bytes();
+    let groups = regex.captures(bytes).unwrap().unwrap();
+    assert_eq!(groups.get(1).unwrap().as_bytes(), "é".as_bytes());
+    assert_eq!(regex.find_iter(b"b").count(), 0);
+    let error = regex.is_match(b"\x80").unwrap_err();
+    assert_eq!(error, RuntimeError::NotUtf8.into());
+    assert_eq!(regex.find_iter(b"\x80").count(), 1);
+    assert!(matches!(
+        regex.find_from_pos(bytes, 2),
+        Err(Error::RuntimeError(RuntimeError::InsideCharacter))
+    ));
+}
+
+#[test]
+fn what_the_library_cannot_be_asked_for_is_an_error() {
+    let regex = Regex::new("b").unwrap();
+    let cut = RegexInput::new("abc").range(0..2);
+    assert!(matches!(
+        regex.find_input(cut.clone()),
+        Err(Error::RuntimeError(RuntimeError::InputNotSupported(_)))
+    ));
+    assert!(regex.find_iter_input(cut.from_pos(3)).next().is_none());
+    let built = RegexBuilder::new("b")
+        .disallow_empty_match_at_eof_after_newline(true)
+        .build();
+    assert!(matches!(built, Err(Error::CompileError(_))));
 }
 
 #[test]
@@ -258,15 +379,16 @@ fn sets_of_regexes_keep_their_options() {
         .case_insensitive(true)
         .build()
         .unwrap();
-    let regexes = [any_case, Regex::new("a").unwrap()];
-    let set = RegexSet::from_regexes(&regexes).unwrap();
+    let regexes = [any_case, Regex::new("a").unwrap()].map(Arc::new);
+    let set = RegexSet::from_regexes(regexes.clone(), RegexSetOptions::new()).unwrap();
     let numbers = |text| {
         let found = set.find_input(RegexInput::new(text)).unwrap().unwrap();
         found.map(|m| m.unwrap().pattern()).collect::<Vec<_>>()
     };
     assert_eq!((numbers("bA"), numbers("ba")), (vec![0], vec![0, 1]));
     assert!(regexes[0].is_match("A").unwrap());
-    assert_eq!(RegexSet::from_regexes([] as [Regex; 0]).unwrap().len(), 0);
+    let empty = RegexSet::from_regexes([], RegexSetOptions::new()).unwrap();
+    assert!(empty.is_empty());
 }
 
 #[test]
@@ -315,8 +437,8 @@ fn sets_are_searched() {
         .unwrap()
         .unwrap();
     assert_eq!(
-        found.map(|m| m.unwrap().get().range()).collect::<Vec<_>>(),
-        [2..3]
+        found.map(|m| m.unwrap().get().start()).collect::<Vec<_>>(),
+        [2]
     );
     assert!(set.find_input(RegexInput::new("x")).unwrap().is_none());
     assert!(set

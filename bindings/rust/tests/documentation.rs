@@ -1,10 +1,9 @@
-//! The examples in the documentation of the crate that was ported, each with what it prints there. Left out are those of texts that are not
-//! UTF-8 (two), and that of `seek_filter`. `Captures` and `RegexInput` have no parameter for the kind of text here, and `from_regexes`
-//! takes no options of automata.
+//! The examples in the documentation of the crate that was ported, each with what it prints there. Left out are the two of texts that are
+//! not UTF-8.
 
 use proved_fancy_regex::{
-    Captures, Expander, NoExpand, Regex, RegexBuilder, RegexInput, RegexOptionsBuilder, RegexSet,
-    Replacer,
+    seek_pattern_is_useful, Captures, Expander, NoExpand, Regex, RegexBuilder, RegexInput,
+    RegexOptionsBuilder, RegexSet, Replacer,
 };
 use std::sync::Arc;
 
@@ -32,7 +31,14 @@ fn required_bytes() {
 }
 
 #[test]
-#[allow(clippy::arc_with_non_send_sync)]
+fn seek_filter() {
+    let mut builder = RegexOptionsBuilder::new();
+    builder.seek_filter(seek_pattern_is_useful);
+    let mut builder = RegexOptionsBuilder::new();
+    builder.seek_filter(|pat| pat.len() > 3 && seek_pattern_is_useful(pat));
+}
+
+#[test]
 fn from_regexes() {
     let re1 = Arc::new(
         RegexBuilder::new(r"hello")
@@ -42,7 +48,7 @@ fn from_regexes() {
     );
     let re2 = Arc::new(Regex::new(r"\d+").unwrap());
     let re3 = Arc::new(Regex::new(r"(?<=\w)end").unwrap());
-    let set = RegexSet::from_regexes([re1, re2, re3]).unwrap();
+    let set = RegexSet::from_regexes([re1, re2, re3], Default::default()).unwrap();
     let mut matches = set.find_input(RegexInput::new("HELLO")).unwrap().unwrap();
     let m = matches.next().unwrap().unwrap();
     assert_eq!(m.pattern(), 0);
@@ -146,7 +152,7 @@ fn replace() {
     assert_eq!(re.replace("1078910", ""), "1010");
 
     let re = Regex::new(r"([^,\s]+),\s+(\S+)").unwrap();
-    let result = re.replace("Springsteen, Bruce", |caps: &Captures<'_>| {
+    let result = re.replace("Springsteen, Bruce", |caps: &Captures<'_, str>| {
         format!("{} {}", &caps[2], &caps[1])
     });
     assert_eq!(result, "Bruce Springsteen");
@@ -195,7 +201,7 @@ fn splitn() {
 
 #[test]
 fn set() {
-    let set = RegexSet::new(&[r"\d+", r"\w+", r"\.\d+", r"(?<=\$)\d+\.\d+"]).unwrap();
+    let set = RegexSet::new([r"\d+", r"\w+", r"\.\d+", r"(?<=\$)\d+\.\d+"]).unwrap();
     let mut matches = set.find_input(RegexInput::new("$29.99")).unwrap().unwrap();
 
     let first = matches.next().unwrap().unwrap();
@@ -215,7 +221,7 @@ fn set() {
 
 #[test]
 fn set_match() {
-    let set = RegexSet::new(&[r"\w+"]).unwrap();
+    let set = RegexSet::new([r"\w+"]).unwrap();
     let mut matches = set.find_input(RegexInput::new("abc")).unwrap().unwrap();
     let m = matches.next().unwrap().unwrap();
     assert_eq!(m.pattern(), 0);
