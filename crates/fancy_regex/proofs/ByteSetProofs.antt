@@ -31,7 +31,7 @@ use Rattle.fancy_regex_meta.specs.SearchLimits.{setting_from, search_at}
 use Rattle.fancy_regex_meta.specs.declared.options.RegexOptions.{RegexOptions}
 use Rattle.fancy_regex_meta.proofs.MatchOffsetLemmas.{first_fits, first_lies}
 use Rattle.fancy_regex_meta.proofs.SearchLemmas.{none-past}
-use Rattle.fancy_regex.specs.ByteSetLaws.{StartsIn, HoldsAll, MatchesHave, MatchesStartIn, FindsOnlyIn, MatchesRequire}
+use Rattle.fancy_regex.specs.ByteSetLaws.{StartsIn, HoldsAll, MatchesHave, MatchesStartIn, FindsOnlyIn, MatchesRequire, FindsOnlyWith}
 use Rattle.fancy_regex.proofs.InOrderLemmas.{in_order}
 
 boundary_after : (text : List ℕ) (p : ℕ) → IsUtf8 text → IsCharBoundary text p → p < length text → IsCharBoundary text (position_after text p)
@@ -127,6 +127,11 @@ unfolding search_from
 required_hold o pattern set law =
     matches_have o pattern (λ text m. HoldsAll set text) (λ text config q off m utf8 inside at e.
     law.1 (setting_from o text config q off) (pattern_in o pattern) refl (search_at o config q) m e)
+
+pub found_only_with : (o : RegexOptions) (pattern : List ℕ) (set : Bytes) → RequiredBytesHold (tree_in o pattern) set → FindsOnlyWith o pattern set
+found_only_with o pattern set law text config continue_at p m e =
+    law.0 (record (setting_in o text config) { continue_at = continue_at }) (pattern_in o pattern) refl
+    (record { first = p; stop = config.range_end; anchored = true; options = options_in o }) p m e
 
 -- the same of a set that may not be known, of the tree that was parsed
 pub starts_hold_if : (o : RegexOptions) (pattern : List ℕ) (t : Tree) (found : Option ByteSet) → t ≡ tree_in o pattern →

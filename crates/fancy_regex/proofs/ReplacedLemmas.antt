@@ -5,6 +5,7 @@ use Rattle.fancy_regex_meaning.specs.Searches.{Match, pieces_from, replaced_from
 use Rattle.fancy_regex_meaning.specs.ItemLaws.{alternately}
 use Rattle.fancy_regex_input.specs.SearchInputs.{whole}
 use Rattle.fancy_regex_meta.specs.declared.meta_regex.MetaRegex.{MetaRegex}
+use Rattle.fancy_regex_search.specs.IterationErrors.{IsErrorOfIteration}
 use Rattle.fancy_regex_search.specs.RemainingMatches.{all_matches}
 use Rattle.fancy_regex_meta.specs.declared.error.Error.{Error}
 use Rattle.fancy_regex_meta.specs.declared.error.Error.TheVariants as errors
@@ -79,3 +80,17 @@ module _ {S : Type 0} (template_of : S → List ℕ) (r : MetaRegex) (text : Lis
       → IfErr answer (IsErrorOfSearch r.options (string_bytes r.pattern) text)
   error_if_err (Ok v) h = tt
   error_if_err (Err e) h = error_is (all_matches r text (whole text)) (text_without_sign (template_of s)) e h
+
+  -- and, unless it is want of memory, one of a search right after some of the matches
+  iteration_error : (ms : List Match) (fixed : Option (List ℕ)) (e : Error) → all_matches r text (whole text) ≡ ms → IsReplaceError (AnswersTemplate template_of) r text ms s fixed e →
+      (e ≡ errors.Memory → ⊥) → IsErrorOfIteration r text e
+  iteration_error ms _ _ all (of_search fixed done rest answers last e is following turns) other = (done, rest, all ∙ is, following)
+  iteration_error ms _ _ all (of_search_by_text t done rest e is following) other = (done, rest, all ∙ is, following)
+  iteration_error ms _ _ all (of_call fixed e last h) other = absurd (other (call_fails (map (captures_view r text) ms) s last e h))
+  iteration_error ms _ _ all (of_memory fixed) other = absurd (other refl)
+
+  pub iteration_error_if_err : {V : Type 0} (answer : Result V Error)
+      → IfErr answer (IsReplaceError (AnswersTemplate template_of) r text (all_matches r text (whole text)) s (text_without_sign (template_of s)))
+      → IfErr answer (λ e. (e ≡ errors.Memory → ⊥) → IsErrorOfIteration r text e)
+  iteration_error_if_err (Ok v) h = tt
+  iteration_error_if_err (Err e) h = iteration_error (all_matches r text (whole text)) (text_without_sign (template_of s)) e refl h

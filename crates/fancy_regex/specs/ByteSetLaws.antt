@@ -50,6 +50,14 @@ FindsOnlyIn o pattern set =
 abbrev pub MatchesRequire : RegexOptions → List ℕ → Bytes → Type 0
 MatchesRequire o pattern set = MatchesHave o pattern (λ text m. HoldsAll set text)
 
+-- A regex of the pattern with these options finds a match at a place, as a pattern set asks for it, only in a text that has each
+-- byte of the set.
+abbrev pub FindsOnlyWith : RegexOptions → List ℕ → Bytes → Type 0
+FindsOnlyWith o pattern set =
+    (text : List ℕ) (config : SearchConfig) (continue_at : Option ℕ) (p : ℕ) (m : Match) →
+    match_at (record (setting_in o text config) { continue_at = continue_at }) (pattern_in o pattern)
+    (record { first = p; stop = config.range_end; anchored = true; options = options_in o }) p ≡ Some m → HoldsAll set text
+
 -- the text of a class of the tree that `regex` refuses
 abbrev pub IsRefusedClassOf : RegexOptions → List ℕ → CompileError → Type 0
 IsRefusedClassOf o pattern (of_building.InnerError shown) =

@@ -4,6 +4,7 @@ ghost use Rattle.std.specs.Prelude.{◌≡◌, Some, string_bytes, IfOk, IfErr};
 ghost use Rattle.fancy_regex_meta.specs.Caps.{MetaKeepsCap};
 ghost use Rattle.fancy_regex_meta.specs.Defaults.{default_options};
 ghost use Rattle.fancy_regex_meta.specs.Refusals.{Accepts, Refuses};
+ghost use Rattle.fancy_regex_meta.specs.declared.error.Error.TheVariants.{Memory};
 
 use crate::options_builder::RegexOptionsBuilder;
 use fancy_regex_info::BytesMode;
@@ -26,6 +27,7 @@ impl RegexBuilder {
     pub fn new(alloc: Global, pattern: &str) -> Result<RegexBuilder>
         ensures pattern { IfOk result (λ b. string_bytes b.pattern ≡ pattern.now) }
         ensures options { IfOk result (λ b. b.options.options ≡ default_options) }
+        ensures fails { IfErr result (λ e. e ≡ Memory) }
     {
         Ok(RegexBuilder {
             pattern: String::from_str(alloc, pattern)?,
@@ -34,9 +36,9 @@ impl RegexBuilder {
     }
 
     /// Parses and compiles the pattern with these options. `ParseError` if the text is no pattern, with the first error and
-    /// its byte offset; `CompileError` if the pattern is refused, with one of the reasons that hold; `Memory` if memory runs
-    /// out. The builder can be used again, also after an error. If the pattern needs a program, that has at most
-    /// `max_prog_size` instructions.
+    /// its byte offset; `CompileError` if the pattern is refused, with one of the reasons that hold, `RepeatBoundsReversed`
+    /// before all others; `Memory` if memory runs out. The builder can be used again, also after an error. If the pattern needs
+    /// a program, that has at most `max_prog_size` instructions.
     pub fn build(&self, alloc: Global) -> Result<Regex>
         ensures pattern { IfOk result (λ regex. string_bytes regex.meta.pattern ≡ string_bytes self.now.pattern) }
         ensures options { IfOk result (λ regex. regex.meta.options ≡ self.now.options.options) }

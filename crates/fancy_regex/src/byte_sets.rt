@@ -6,7 +6,7 @@ ghost use Rattle.fancy_regex_bytes.specs.StartBytes as starts;
 ghost use Rattle.fancy_regex_bytes.specs.RequiredBytes as required;
 ghost use Rattle.fancy_regex_meta.specs.Patterns.{tree_in};
 ghost use Rattle.fancy_regex_meta.specs.Reading.{IsReadingError};
-ghost use Rattle.fancy_regex.specs.ByteSetLaws.{MatchesStartIn, FindsOnlyIn, MatchesRequire, IsStartBytesError};
+ghost use Rattle.fancy_regex.specs.ByteSetLaws.{MatchesStartIn, FindsOnlyIn, MatchesRequire, FindsOnlyWith, IsStartBytesError};
 
 use crate::options_builder::RegexOptionsBuilder;
 use fancy_regex_bytes::{ByteSet, required_bytes, start_bytes};
@@ -39,12 +39,13 @@ impl RegexOptionsBuilder {
         }
     }
 
-    /// Bytes that each haystack has in which the pattern matches, if it is parsed with these options; none are known of a
-    /// part that may be left out. The pattern is not compiled, and may be one that `build` refuses. `ParseError` if the text
-    /// is no pattern, with the first error and its byte offset; `Memory` if memory runs out.
+    /// Bytes that each haystack has in which the pattern matches, if it is parsed with these options, in a search or as a member
+    /// of a set; none are known of a part that may be left out. The pattern is not compiled, and may be one that `build` refuses.
+    /// `ParseError` if the text is no pattern, with the first error and its byte offset; `Memory` if memory runs out.
     pub fn required_bytes(&self, alloc: Global, pattern: &str) -> Result<ByteSet>
         ensures answer { IfOk result (λ set. has set ≡ required.required_bytes (tree_in self.now.options pattern.now)) }
         ensures required { IfOk result (λ set. MatchesRequire self.now.options pattern.now (has set)) }
+        ensures members { IfOk result (λ set. FindsOnlyWith self.now.options pattern.now (has set)) }
         ensures refused { IfErr result (λ e. IsReadingError self.now.options pattern.now e) }
     {
         let tree = self.options.parse(alloc, pattern)?;

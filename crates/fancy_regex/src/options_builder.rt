@@ -39,7 +39,8 @@ impl RegexOptionsBuilder {
     }
 
     /// Parses and compiles a pattern with these options. `ParseError` if the text is no pattern, with the first error and its
-    /// byte offset; `CompileError` if the pattern is refused, with one of the reasons that hold; `Memory` if memory runs out.
+    /// byte offset; `CompileError` if the pattern is refused, with one of the reasons that hold, `RepeatBoundsReversed` before
+    /// all others; `Memory` if memory runs out.
     /// The builder can be used again, also after an error. If the pattern needs a program, that has at most `max_prog_size`
     /// instructions.
     pub fn build(&self, alloc: Global, pattern: String) -> Result<Regex>

@@ -1,7 +1,8 @@
 -- Each refusal has its cause, and no cause is passed over.
-use Rattle.std.proofs.Common.{◌≡◌, ℕ, ◌+◌, ◌<◌, min, ◌⊎◌, ⊎_elim, inl, inr, Bool, true, false, not, ◌&&◌, ◌||◌, ◌==◌, nat_lt, List, map, length, refl, sym, ap, subst, ◌∙◌, arith, eqb-true, eq-eqb}
+use Rattle.std.proofs.Common.{◌≡◌, ℕ, ◌+◌, ◌<◌, min, ◌⊎◌, ⊎_elim, inl, inr, Bool, true, false, not, ◌&&◌, ◌||◌, ◌==◌, nat_lt, List, [], ◌∷◌, map, length, refl, sym, ap, subst, ◌∙◌, arith, eqb-true, eq-eqb}
 use borrow.Author.Tests.{ltb-true, lt-ltb}
 use Rattle.std.proofs.Math.Path.{fun_ext}
+use Rattle.std.specs.List.{list_any}
 use Rattle.fancy_regex_tree.specs.Tree.{Tree, repeat, backref, backref_with_level, backref_exists, subroutine_call, ast_group, ast_backref, ast_call, ast_condition}
 use Rattle.fancy_regex_tree.specs.Traversal.{nodes}
 use Rattle.fancy_regex_meaning.specs.Sizes.{unbounded, size, size_with, weight}
@@ -9,7 +10,7 @@ use Rattle.fancy_regex_info.specs.Analysis.{analysis}
 use Rattle.fancy_regex_analysis.specs.AnalysisErrors.{TreeHasError, is_too_heavy, is_always_empty, is_too_complex, is_never_matching, is_root_refused, is_root_error, ErrorHolds}
 use Rattle.fancy_regex_analysis.specs.TerminationFixpoint.{never_ends, is_never_ending}
 use Rattle.fancy_regex_info.specs.Infos.{InfoTree, properties_in}
-use Rattle.fancy_regex_analysis.specs.NodeErrors.{some_node, is_memory, is_invalid_node, shows, is_no_group, is_reversed, is_invalid}
+use Rattle.fancy_regex_analysis.specs.NodeErrors.{some_node, is_memory, is_reversed_repeat, has_reversed_repeat, is_invalid_node, is_invalid_reference, shows, is_no_group, is_reversed, is_invalid}
 use Rattle.fancy_regex_analysis.specs.UnsupportedParts.{is_unsupported, stops}
 use Rattle.fancy_regex_info.specs.References.{is_read}
 use Rattle.fancy_regex_info.specs.SizeFixpoint.{is_on_cycle}
@@ -19,13 +20,14 @@ use Rattle.fancy_regex_info.specs.Views.{size_at, pattern_in}
 use Rattle.fancy_regex_analysis.specs.EmittedParts.{some_emitted, IsWhole, SomeEmittedPart}
 use Rattle.fancy_regex_info.specs.declared.options.AnalyzeContext.{AnalyzeContext}
 use Rattle.fancy_regex_info.specs.declared.error.CompileError.{CompileError}
-use Rattle.fancy_regex_info.specs.declared.error.CompileError.TheVariants.{Memory, NamedBackrefOnly, LeftRecursiveSubroutineCall, NeverEndingRecursion, PatternTooComplex, PatternCanNeverMatch}
+use Rattle.fancy_regex_info.specs.declared.error.CompileError.TheVariants.{Memory, RepeatBoundsReversed, NamedBackrefOnly, LeftRecursiveSubroutineCall, NeverEndingRecursion, PatternTooComplex, PatternCanNeverMatch}
 use Rattle.fancy_regex_info.specs.declared.size.Size as code
 use Rattle.fancy_regex_analysis.specs.declared.emitted.Inside.{Inside}
 use Rattle.fancy_regex_info.proofs.AnalyzeNodeLemmas.{own}
 use Rattle.fancy_regex_analysis.proofs.EmittedPartLemmas.{whole_found}
 use Rattle.fancy_regex_info.proofs.ReachabilityLemmas.{or_left, or_right, or_cases}
 use Rattle.fancy_regex_analysis.proofs.AnyLemmas.{any_has, any_finds}
+use Rattle.fancy_regex_analysis.proofs.PartErrorLemmas.{or_none}
 use Rattle.fancy_regex_analysis.proofs.NodeListLemmas.{some_node_is}
 use Rattle.fancy_regex_analysis.proofs.PartLemmas.{some_written_keeps, stops_stopped}
 use Rattle.fancy_regex_analysis.proofs.LeftRecursionLemmas.{left_recursive, reached_again, target_inside}
@@ -84,6 +86,31 @@ pub no_node_shows : (n : ℕ) (e : CompileError) (t : Tree) → some_node (is_in
 no_node_shows n e t none h =
     clash (some_node (is_invalid_node n) t) (some_node_keeps (shows n e) (is_invalid_node n) (shows_faulty n e) t h) none
 
+neither : (a b : Bool) → (a || b) ≡ false → (a ≡ false) × (b ≡ false)
+neither true b h = cc
+neither false b h = (refl, h)
+
+valid_node : (n : ℕ) (t : Tree) → is_reversed_repeat t ≡ false → is_invalid_reference n t ≡ false → is_invalid_node n t ≡ false
+valid_node n (repeat t lo hi greedy) h k = h
+valid_node n t h k = k
+
+valid_nodes : (n : ℕ) (ts : List Tree) → list_any is_reversed_repeat ts ≡ false → list_any (is_invalid_reference n) ts ≡ false →
+    list_any (is_invalid_node n) ts ≡ false
+valid_nodes n [] h k = refl
+valid_nodes n (t ∷ ts) h k =
+    let left = neither (is_reversed_repeat t) (list_any is_reversed_repeat ts) h in
+    let right = neither (is_invalid_reference n t) (list_any (is_invalid_reference n) ts) k in
+    or_none (is_invalid_node n t) (list_any (is_invalid_node n) ts) (valid_node n t left.0 right.0) (valid_nodes n ts left.1 right.1)
+
+-- where no repeat is reversed and no reference is invalid no node is
+pub no_invalid_node : (n : ℕ) (t : Tree) → has_reversed_repeat t ≡ false → some_node (is_invalid_reference n) t ≡ false → some_node (is_invalid_node n) t ≡ false
+no_invalid_node n t h k =
+    some_node_is (is_invalid_node n) t ∙ valid_nodes n (nodes t) h (sym (some_node_is (is_invalid_reference n) t) ∙ k)
+
+reversed_shows : (n : ℕ) (t : Tree) → is_reversed_repeat t ≡ true → shows n RepeatBoundsReversed t ≡ true
+reversed_shows n (repeat t lo hi greedy) h = both_true (nat_lt hi lo) true h refl
+reversed_shows n t h = cc
+
 -- Each refusal holds.
 abbrev pub IsMemoryOrHolds : AnalyzeContext → Bool → Tree → CompileError → Type 0
 IsMemoryOrHolds context is_marked t e = (is_memory e ≡ true) ⊎ ErrorHolds context is_marked t e
@@ -100,6 +127,12 @@ module _ (context : AnalyzeContext) (is_marked : Bool) (t : Tree) where
 
   pub mark_error_holds : is_marked ≡ true → Here NamedBackrefOnly
   mark_error_holds h = inr (inl h)
+
+  pub reversed_error_holds : has_reversed_repeat t ≡ true → Here RepeatBoundsReversed
+  reversed_error_holds h =
+      let found = any_finds is_reversed_repeat (nodes t) h in
+      inr (inr (inl (some_node_is (shows (length groups) RepeatBoundsReversed) t
+      ∙ any_has (shows (length groups) RepeatBoundsReversed) (nodes t) found.0 found.2 (reversed_shows (length groups) found.0 found.1))))
 
   pub node_error_holds : (n : ℕ) (e : CompileError) → n ≡ length groups → (is_memory e || some_node (shows n e) t) ≡ true → Here e
   node_error_holds n e is h =

@@ -1,5 +1,7 @@
 -- Errors that apply to a node by itself.
 use Rattle.std.specs.Prelude.{ℕ, suc, ℤ, pos, negsuc, Bool, true, false, not, ◌&&◌, ◌||◌, ◌==◌, nat_lt, List, ◌∷◌, chars, string_bytes, decimal, bytes_eq}
+use Rattle.std.specs.List.{list_any}
+use Rattle.fancy_regex_tree.specs.Traversal.{nodes}
 use Rattle.fancy_regex_tree.specs.Tree.{Target, by_number, by_name, relative, Tree, Trees, concat, alt, group, look_around, repeat, atomic_group}
 use Rattle.fancy_regex_tree.specs.Tree.{backref, backref_with_level, backref_exists, conditional, subroutine_call, absent_repeater, absent_expression}
 use Rattle.fancy_regex_tree.specs.Tree.{absent_stopper, define_group, ast_group, ast_backref, ast_call, ast_condition, no_trees, more_trees}
@@ -51,6 +53,15 @@ abbrev pub is_unresolved : CompileError → Bool
 is_unresolved UnresolvedAstNode = true
 is_unresolved _ = false
 
+-- a repeat whose least count is above its greatest
+abbrev pub is_reversed_repeat : Tree → Bool
+is_reversed_repeat (repeat t lo hi greedy) = nat_lt hi lo
+is_reversed_repeat t = false
+
+-- the tree has such a repeat
+abbrev pub has_reversed_repeat : Tree → Bool
+has_reversed_repeat t = list_any is_reversed_repeat (nodes t)
+
 -- the cause with this number
 abbrev pub is_invalid : ℕ → CompileError → Bool
 is_invalid k (InvalidBackref n) = n == k
@@ -78,6 +89,11 @@ module _ (groups : ℕ) where
   is_invalid_node (ast_backref target casei level position) = true
   is_invalid_node (ast_condition target level position) = true
   is_invalid_node t = false
+
+  -- some cause holds of the node, which is no repeat
+  abbrev pub is_invalid_reference : Tree → Bool
+  is_invalid_reference (repeat t lo hi greedy) = false
+  is_invalid_reference t = is_invalid_node t
 
   -- this cause holds of it
   abbrev pub shows : CompileError → Tree → Bool

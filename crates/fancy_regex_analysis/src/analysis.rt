@@ -1,17 +1,18 @@
 //! The analysis of a whole pattern: all checks, then the analysis of each node.
 
-ghost use Rattle.std.specs.Prelude.{◌≡◌, ◌⊎◌, true, false, ◌||◌, ◌&&◌, map, IfOk, IfErr};
+ghost use Rattle.std.specs.Prelude.{◌≡◌, ◌⊎◌, true, false, ◌||◌, ◌&&◌, map, Err, IfOk, IfErr};
 ghost use Rattle.fancy_regex_tree.specs.Tree.{tree_of};
 ghost use Rattle.fancy_regex_info.specs.Analysis.{analysis};
 ghost use Rattle.fancy_regex_analysis.specs.AnalysisErrors.{ErrorHolds, is_root_refused, is_root_error, has_invalid_node, HasUnsupportedPart};
 ghost use Rattle.fancy_regex_analysis.specs.TerminationFixpoint.{never_ends, is_never_ending};
 ghost use Rattle.fancy_regex_info.specs.Infos.{info_of, properties_in};
-ghost use Rattle.fancy_regex_analysis.specs.NodeErrors.{is_memory};
+ghost use Rattle.fancy_regex_analysis.specs.NodeErrors.{is_memory, has_reversed_repeat};
 ghost use Rattle.fancy_regex_info.specs.declared.error.CompileError.{CompileError};
+ghost use Rattle.fancy_regex_info.specs.declared.error.CompileError.TheVariants.{RepeatBoundsReversed};
 ghost use Rattle.fancy_regex_info.specs.Views.{body_tree};
 
 use crate::left_recursion::check_left_recursion;
-use crate::nodes::check_nodes;
+use crate::nodes::{check_references, has_reversed_bounds};
 use crate::termination::{can_end_in, ending_groups};
 use crate::unsupported::check_emitted_parts;
 use fancy_regex_info::{
@@ -23,11 +24,11 @@ use std::alloc::Global;
 /// The greatest weight of a whole pattern, in states.
 const GREATEST_WEIGHT: u64 = 4_294_967_295;
 
-/// Analyzes each node of the tree. Refused are patterns with numbered references among named groups, references to missing
-/// groups, reversed quantifier bounds, unresolved nodes, never ending or left recursion, too great a weight, only empty
+/// Analyzes each node of the tree. Refused are patterns with reversed quantifier bounds, numbered references among named
+/// groups, references to missing groups, unresolved nodes, never ending or left recursion, too great a weight, only empty
 /// matches where these are excluded, variable look-behind, and unsupported features; every such pattern is refused, with
-/// any one of the errors that apply to it. The other error is `Memory`. Recursion is as deep as the tree, which is at
-/// most 832 for a parsed one.
+/// `RepeatBoundsReversed` if a quantifier's bounds are reversed, otherwise with any one of the errors that apply to it. The
+/// other error is `Memory`. Recursion is as deep as the tree, which is at most 832 for a parsed one.
 ///
 /// Where group 0 is an explicit group of the pattern, no span of the whole match is kept, so none can be compared with the
 /// empty one: the caller must not ask for `find_not_empty` together with `explicit_capture_group_0`.
@@ -39,16 +40,20 @@ pub fn analyze<'a>(
     requires { context.find_not_empty ≡ true → context.explicit_capture_group_0 ≡ false }
     ensures answer { IfOk result (λ info. info_of info ≡ analysis context.explicit_capture_group_0 (tree_of tree.now.expr)) }
     ensures refused { IfErr result (λ e. (is_memory e ≡ true) ⊎ ErrorHolds context tree.now.named_backref_only (tree_of tree.now.expr) e) }
+    ensures reversed { has_reversed_repeat (tree_of tree.now.expr) ≡ true → result ≡ Err RepeatBoundsReversed }
     ensures complete { IfOk result (λ _. (e : CompileError)
         → ErrorHolds context tree.now.named_backref_only (tree_of tree.now.expr) e → ⊥) }
     ensures nodes { IfOk result (λ _. has_invalid_node context.explicit_capture_group_0 (tree_of tree.now.expr) ≡ false) }
     ensures parts { IfOk result (λ _. HasUnsupportedPart context.explicit_capture_group_0 (tree_of tree.now.expr) → ⊥) }
 {
+    if has_reversed_bounds(&tree.expr) {
+        return Err(CompileError::RepeatBoundsReversed);
+    }
     if tree.named_backref_only {
         return Err(CompileError::NamedBackrefOnly);
     }
     let groups = groups_of(alloc, &tree.expr, context.explicit_capture_group_0)?;
-    check_nodes(alloc, &tree.expr, groups.len())?;
+    check_references(alloc, &tree.expr, groups.len())?;
     check_termination(alloc, &tree.expr, &groups)?;
     let sizes = group_call_sizes(alloc, &groups)?;
     let info = analyze_tree(alloc, &tree.expr, &groups, &sizes, context)?;

@@ -2,18 +2,39 @@
 
 ghost use Rattle.std.specs.Prelude.{◌≡◌, ℕ, true, false, not, ◌&&◌, ◌||◌, nat_lt, string_bytes, IfOk, IfErr};
 ghost use Rattle.fancy_regex_tree.specs.Tree.{tree_of, ast_tree_of, by_number, target_of};
-ghost use Rattle.fancy_regex_analysis.specs.NodeErrors.{some_node, is_memory, is_no_group, is_invalid_node, shows, is_invalid, is_not_found, names, signed};
+ghost use Rattle.fancy_regex_analysis.specs.NodeErrors.{some_node, is_memory, is_reversed_repeat, has_reversed_repeat, is_no_group, is_invalid_reference};
+ghost use Rattle.fancy_regex_analysis.specs.NodeErrors.{shows, is_invalid, is_not_found, names, signed};
 
 use fancy_regex_info::CompileError;
 use fancy_regex_tree::{AstNode, CaptureGroupTarget, Expr};
 use std::alloc::{AllocError, Global};
 
-/// Refuses a tree with a quantifier whose lower bound is above its upper (`RepeatBoundsReversed`), a reference or condition
-/// on a missing group or group 0 (`InvalidBackref`), a call of a missing group (`SubroutineCallTargetNotFound`), or an
-/// unresolved node (`UnresolvedAstNode`). The groups are those with numbers below `groups`. The other error is `Memory`.
-pub(crate) fn check_nodes(alloc: Global, expr: &Expr, groups: usize) -> Result<(), CompileError>
+/// Whether some quantifier's lower bound is above its upper bound. Allocates nothing; recursion is as deep as the tree.
+pub(crate) fn has_reversed_bounds(expr: &Expr) -> bool
+    ensures { result ≡ has_reversed_repeat (tree_of expr.now) }
+{
+    expr.any_node(|node| is_reversed_repeat(node))
+}
+
+fn is_reversed_repeat(node: &Expr) -> bool
+    ensures { result ≡ is_reversed_repeat (tree_of node.now) }
+{
+    match node {
+        Expr::Repeat { lo, hi, .. } => lo > hi,
+        _ => false,
+    }
+}
+
+/// Refuses a tree with a reference or condition on a missing group or group 0 (`InvalidBackref`), a call of a missing group
+/// (`SubroutineCallTargetNotFound`), or an unresolved node (`UnresolvedAstNode`). The groups are those with numbers below
+/// `groups`. The other error is `Memory`.
+pub(crate) fn check_references(
+    alloc: Global,
+    expr: &Expr,
+    groups: usize,
+) -> Result<(), CompileError>
     ensures refused { IfErr result (λ e. (is_memory e || some_node (shows groups e) (tree_of expr.now)) ≡ true) }
-    ensures complete { IfOk result (λ _. some_node (is_invalid_node groups) (tree_of expr.now) ≡ false) }
+    ensures complete { IfOk result (λ _. some_node (is_invalid_reference groups) (tree_of expr.now) ≡ false) }
 {
     let nodes = expr.preorder(alloc)?;
     for node in &nodes {
@@ -22,22 +43,16 @@ pub(crate) fn check_nodes(alloc: Global, expr: &Expr, groups: usize) -> Result<(
     Ok(())
 }
 
-/// Refuses a node that is invalid by itself, without regard to its descendants.
+/// Refuses a node that is an invalid reference or unresolved, without regard to its descendants.
 fn check_node(alloc: Global, node: &Expr, groups: usize) -> Result<(), CompileError>
     ensures refused { IfErr result (λ e. (is_memory e || shows groups e (tree_of node.now)) ≡ true) }
-    ensures complete { IfOk result (λ _. is_invalid_node groups (tree_of node.now) ≡ false) }
+    ensures complete { IfOk result (λ _. is_invalid_reference groups (tree_of node.now) ≡ false) }
 {
     match node {
         Expr::Backref { group, .. }
         | Expr::BackrefWithRelativeRecursionLevel { group, .. }
         | Expr::BackrefExistsCondition { group, .. } => check_reference(*group, groups),
         Expr::SubroutineCall(group) => check_call(alloc, *group, groups),
-        Expr::Repeat { lo, hi, .. } => {
-            if lo > hi {
-                return Err(CompileError::RepeatBoundsReversed);
-            }
-            Ok(())
-        }
         Expr::AstNode(node, _) => {
             let cause = unresolved(alloc, node)?;
             Err(cause)

@@ -20,7 +20,7 @@ use Rattle.fancy_regex_meaning.proofs.EachLemmas.{Each-weaker, Each-append, Each
 use Rattle.fancy_regex_bytes.specs.StartBytes.{is_keep_out, has_keep_out}
 
 abbrev pub SameStart : MatchState → MatchState → Type 0
-SameStart w v = v.kept ≡ w.kept
+SameStart w v = v.match_start ≡ w.match_start
 
 abbrev Keeps : Moves → Type 0
 Keeps moves = (w : MatchState) → Each (SameStart w) (moves w)

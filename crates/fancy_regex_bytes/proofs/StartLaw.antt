@@ -350,7 +350,7 @@ matches_start s t set known utf8 order find p m at e =
     let found = found_in_list match_of _ m e in
     let begins = Each-filter _ (is_admitted find) _ (ways_begin s t set known utf8 order p at) in
     let same = Each-filter _ (is_admitted find) _ (pattern_keeps_start s t tests.1 (start_way pattern p)) in
-    let kept : found.0.kept ≡ p = chosen_holds (SameStart (start_way pattern p)) find.options.longest _ same found.0 found.1 in
+    let kept : found.0.match_start ≡ p = chosen_holds (SameStart (start_way pattern p)) find.options.longest _ same found.0 found.1 in
     let here = chosen_holds (λ v. is_some_and (slice_get s.text p) set ≡ true) find.options.longest _ begins found.0 found.1 in
     (ap (λ (x : Match). x.start) (sym found.2) ∙ kept, here)
 

@@ -5,3 +5,4 @@ pub mod HirClassLemmas
 pub mod WordLemmas
 pub mod OneCharLemmas
 pub mod SkipLemmas
+pub mod RangeBitLemmas

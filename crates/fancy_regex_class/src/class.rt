@@ -1,11 +1,16 @@
-//! Matchers for character classes. Membership is decided once by `regex`'s parser, and is then a search in sorted ranges.
+//! Matchers for character classes. Membership is decided once by `regex`'s parser, and is then looked up: in a table of the ASCII
+//! characters, in a bitmap of those below U+10000 where the class has many ranges, or by a search in the sorted ranges.
 
-ghost use Rattle.std.specs.Prelude.{◌≡◌, ℕ, ◌<◌, false, [], ◌∷◌, ◌++◌, chars, string_bytes, IfOk, IfErr, IsTrue, slice_index_or};
+ghost use Rattle.std.specs.Prelude.{◌≡◌, ℕ, ◌<◌, false, [], ◌∷◌, ◌++◌, chars, string_bytes, IfOk, IfErr, IfSome, IsTrue, slice_index_or};
 ghost use Rattle.std.specs.Char.{IsScalar};
+ghost use Rattle.std.proofs.Props.{props};
 ghost use Rattle.regex_class.specs.Ranges.{in_ranges};
 ghost use Rattle.fancy_regex_class.specs.Classes.{class_text, is_class};
+ghost use Rattle.fancy_regex_class.specs.Bitmaps.{has_member};
 
+use crate::bitmap::Bitmap;
 use crate::matcher::{Refusal, members};
+use crate::range_bits::END;
 use regex_class::Class;
 use std::alloc::{AllocError, Global};
 use thiserror::Error;
@@ -32,12 +37,18 @@ impl From<AllocError> for ClassError {
     }
 }
 
-/// The members of a character class: sorted ranges of code points, and the answers for the 128 ASCII characters.
+/// The most ranges of a class without a bitmap. A search in so few takes as long as a look into a bitmap.
+const FEW_RANGES: usize = 8;
+
+/// The members of a character class: sorted ranges of code points, the answers for the 128 ASCII characters, and the members below
+/// U+10000 as bits if there are more than a few ranges.
 #[derive(Debug, Drop)]
 pub struct CharClassMatcher {
     class: Class,
     ascii: [bool; 128],
+    bitmap: Option<Bitmap>,
     ghost answers: { (c : ℕ) → c < 128 → slice_index_or ascii c false ≡ in_ranges class.ranges.items c },
+    ghost wide: { IfSome bitmap (λ b. (c : ℕ) → c < 65536 → has_member b c ≡ in_ranges class.ranges.items c) } by { Prim.hlevel props },
 }
 
 impl CharClassMatcher {
@@ -59,21 +70,33 @@ impl CharClassMatcher {
     {
         let written = class_text(alloc, text, casei, unicode)?;
         match members(alloc, &written) {
-            Ok(class) => Ok(CharClassMatcher::of(class)),
+            Ok(class) => {
+                let matcher = CharClassMatcher::of(alloc, class)?;
+                Ok(matcher)
+            }
             Err(Refusal::Memory) => Err(ClassError::Memory),
             Err(Refusal::Refused) => Err(ClassError::InnerError(String::from_str(alloc, text)?)),
         }
     }
 
-    /// Adds the answers for ASCII to the ranges.
-    fn of(class: Class) -> CharClassMatcher
-        ensures { (c : ℕ) → has result c ≡ in_ranges class.ranges.items c }
+    /// Adds the answers for ASCII and the bitmap to the ranges. The error is want of memory.
+    fn of(alloc: Global, class: Class) -> Result<CharClassMatcher, AllocError>
+        ensures { IfOk result (λ matcher. (c : ℕ) → has matcher c ≡ in_ranges class.ranges.items c) }
     {
         let mut ascii = [false; 128];
         for code in 0..128 {
             ascii[code] = class.contains(code as u32);
         }
-        CharClassMatcher { class, ascii }
+        let bitmap = if class.ranges.len() > FEW_RANGES {
+            Some(Bitmap::new(alloc, &class.ranges)?)
+        } else {
+            None
+        };
+        Ok(CharClassMatcher {
+            class,
+            ascii,
+            bitmap,
+        })
     }
 
     /// Whether the class contains the character.
@@ -83,10 +106,14 @@ impl CharClassMatcher {
     {
         let code = c as u32;
         if code < 128 {
-            self.ascii[code as usize]
-        } else {
-            self.class.contains(code)
+            return self.ascii[code as usize];
         }
+        if code < END {
+            if let Some(bitmap) = &self.bitmap {
+                return bitmap.has(code);
+            }
+        }
+        self.class.contains(code)
     }
 
     /// For each ASCII character, by its code, whether the class contains it.

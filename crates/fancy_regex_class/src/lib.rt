@@ -5,11 +5,13 @@
 
 ghost use Rattle.fancy_regex_class.specs.Classes.{RegexMatchesMembers};
 
+mod bitmap;
 mod class;
 mod counted;
 mod folding;
 mod input;
 mod matcher;
+mod range_bits;
 mod skip;
 
 pub use class::{CharClassMatcher, ClassError};

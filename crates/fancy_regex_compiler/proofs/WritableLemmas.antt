@@ -22,7 +22,7 @@ use Rattle.fancy_regex_info.specs.declared.error.CompileError.TheVariants.{Inval
 use Rattle.fancy_regex_program.specs.Programs.{RefersToGroups, CanBeWritten}
 use Rattle.fancy_regex_program.specs.Shapes.{KeepsNothing, IsAllowed, IsWritable}
 
--- where the kept start may not be set, it stays as it is
+-- where the match start may not be set, it stays as it is
 keeps_nothing : (unicode : Bool) (p : CorePattern) → IsAllowed unicode false p → KeepsNothing p
 keeps_nothing unicode nothing h = tt
 keeps_nothing unicode (read leaf) h = tt

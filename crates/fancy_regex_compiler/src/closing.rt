@@ -133,7 +133,7 @@ fn close_group(
     ensures { Closes (ends.Group saved_start start end) body.old body.new result }
 {
     body.flush_and_push(Insn::SaveCaptureGroupStart {
-        kept: saved_start,
+        saved: saved_start,
         slot: start,
     })?;
     body.push_insn(Insn::Save(end))?;

@@ -1,6 +1,6 @@
 //! The state of the compiler while it emits a program.
 
-ghost use Rattle.std.specs.Prelude.{◌≡◌, ◌+◌, ◌*◌, false, IfOk, IfErr};
+ghost use Rattle.std.specs.Prelude.{◌≡◌, ◌≤◌, ◌+◌, ◌*◌, ◌^◌, false, IfOk, IfErr};
 ghost use Rattle.fancy_regex_analysis.specs.AnalysisErrors.{is_too_complex};
 ghost use Rattle.fancy_regex_compiler.specs.Refusals.{IsMemoryOrTooComplex};
 
@@ -47,9 +47,10 @@ pub(crate) struct Scope {
     pub may_be_absent: bool,
 }
 
-/// The slot `count` slots after this one. The error is `Memory` if it exceeds `usize`.
+/// The slot `count` slots after this one. The error is `Memory`, only if it exceeds `usize`.
 pub(crate) fn past_slots(slot: usize, count: usize) -> Result<usize, CompileError>
     ensures value { IfOk result (λ after. after ≡ slot + count) }
+    ensures past { IfErr result (λ _. 2 ^ 64 ≤ slot + count) }
     ensures full { IfErr result (λ e. is_too_complex e ≡ false) }
     ensures refused { IfErr result IsMemoryOrTooComplex }
 {
@@ -59,9 +60,10 @@ pub(crate) fn past_slots(slot: usize, count: usize) -> Result<usize, CompileErro
     }
 }
 
-/// The first of the two slots of a group. The error is `Memory` if it exceeds `usize`.
+/// The first of the two slots of a group. The error is `Memory`, only if it exceeds `usize`.
 pub(crate) fn first_slot(group: usize) -> Result<usize, CompileError>
     ensures value { IfOk result (λ slot. slot ≡ 2 * group) }
+    ensures past { IfErr result (λ _. 2 ^ 64 ≤ 2 * group) }
     ensures full { IfErr result (λ e. is_too_complex e ≡ false) }
     ensures refused { IfErr result IsMemoryOrTooComplex }
 {

@@ -17,7 +17,7 @@ use Rattle.fancy_regex_desugar.specs.Delegates.{searched, is_delegated, begins_t
 use Rattle.fancy_regex_desugar.specs.CoreWays.{core_ways, core_choices}
 use Rattle.fancy_regex_desugar.specs.Unfolded.{repeated, Written, pat_for, cat_all, alt_all, body_of, first_way_of, look, node, branches, written, written_all, written_call, written_plain, written_tail, written_whole, core_pattern_of}
 use Rattle.fancy_regex_desugar.specs.DesugarLaws.{UnfoldedKeepsChoices, PatternKeepsChoices}
-use Rattle.fancy_regex_desugar.proofs.ThinnedLemmas.{Thins}
+use Rattle.fancy_regex_desugar.proofs.ThinnedLemmas.{Thins, thin_fewer}
 use Rattle.fancy_regex_desugar.proofs.WaysProofs.{Has, AllSame, FirstIsFound, found_first, first_way, same, same_all, same_calls}
 
 -- The pattern has at most these choices.
@@ -48,7 +48,7 @@ fewer_of_branch (v ∷ vs) f g k l h j w = h v
 
 fewer_after : (f g : Moves) (own less rest last : MatchState → ℕ) → Thins f g → ((w : MatchState) → less w ≤ own w) → ((w : MatchState) → last w ≤ rest w) →
     (w : MatchState) → and_then g less last w ≤ and_then f own rest w
-fewer_after f g own less rest last h j k w = omega (arith, j w, (h w).fewer last, sum_by-le-sum_by last rest (f w) k)
+fewer_after f g own less rest last h j k w = omega (arith, j w, thin_fewer last (f w) (g w) (h w), sum_by-le-sum_by last rest (f w) k)
 
 module _ (f g : Moves) (own less : MatchState → ℕ) (h : Thins f g) (j : (w : MatchState) → less w ≤ own w) where
   fewer_of_due : (n : ℕ) (rest last : MatchState → ℕ) → ((w : MatchState) → last w ≤ rest w) → (w : MatchState) →

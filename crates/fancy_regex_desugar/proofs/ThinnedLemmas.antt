@@ -1,30 +1,64 @@
 -- What a list of ways and a thinned one have in common, and what keeps ways thinned.
-use Rattle.std.proofs.Common.{◌≡◌, ℕ, zero, suc, ◌<◌, Bool, true, false, cond, List, [], ◌∷◌, ◌++◌, map, Option, Some, None, refl, sym, ap, ◌∙◌, subst, arith}
+use Rattle.std.proofs.Common.{◌≡◌, ℕ, zero, suc, ◌<◌, ◌≤◌, Bool, true, false, cond, List, [], ◌∷◌, ◌++◌, map, Option, Some, None, refl, sym, ap, ◌∙◌, subst, arith}
 use Rattle.std.specs.Prelude.{◌==◌, ◌&&◌, not, nat_le, nat_lt, is_some, option_map, sum_by}
 use Rattle.std.specs.Option.{option_or}
 use Rattle.std.specs.List.{find, flat_map, filter, list_all}
 use Rattle.std.proofs.lemmas.Bool.Decides.{nat_tests}
 use Rattle.std.proofs.lemmas.List.Folds.{find-append}
-use Rattle.std.proofs.lemmas.List.Sums.{sum_by-cons, sum_by-append, sum_by-le-sum_by}
+use Rattle.std.proofs.lemmas.List.Sums.{sum_by-cons}
 use mathlib.Core.Path.{fun_ext}
 use Rattle.fancy_regex_meaning.specs.Ways.{MatchState, Moves, first_only, is_none_of, prefer, due, up_to, loop}
 use Rattle.fancy_regex_meaning.specs.Searches.{first_item, first_some, first_longest, farther, chosen}
-use Rattle.fancy_regex_desugar.specs.Thinned.{Thinned}
+use Rattle.fancy_regex_desugar.specs.Thinned.{IsSublist, at_end, kept, left_out, Thinned}
 
 -- at each state
 abbrev pub Thins : Moves → Moves → Type 0
 Thins f g = (w : MatchState) → Thinned (f w) (g w)
 
+-- sub-lists
+sub_same : {A : Type 0} (xs : List A) → IsSublist xs xs
+sub_same [] = at_end
+sub_same (x ∷ xs) = kept (sub_same xs)
+
+sub_none : {A : Type 0} (xs : List A) → IsSublist xs []
+sub_none [] = at_end
+sub_none (x ∷ xs) = left_out (sub_none xs)
+
+sub_append : {A : Type 0} {ps qs us vs : List A} → IsSublist ps qs → IsSublist us vs → IsSublist (ps ++ us) (qs ++ vs)
+sub_append at_end k = k
+sub_append (kept h) k = kept (sub_append h k)
+sub_append (left_out h) k = left_out (sub_append h k)
+
+sub_flat_map : {A B : Type 0} (f g : A → List B) → ((x : A) → IsSublist (f x) (g x)) → {xs ys : List A} → IsSublist xs ys →
+    IsSublist (flat_map f xs) (flat_map g ys)
+sub_flat_map f g h at_end = at_end
+sub_flat_map f g h (kept {x = x} k) = sub_append (h x) (sub_flat_map f g h k)
+sub_flat_map f g h (left_out {x = x} k) = sub_append (sub_none (f x)) (sub_flat_map f g h k)
+
+sub_map : {A B : Type 0} (f : A → B) {xs ys : List A} → IsSublist xs ys → IsSublist (map f xs) (map f ys)
+sub_map f at_end = at_end
+sub_map f (kept h) = kept (sub_map f h)
+sub_map f (left_out h) = left_out (sub_map f h)
+
+sub_fewer : {A : Type 0} (weight : A → ℕ) {xs ys : List A} → IsSublist xs ys → sum_by weight ys ≤ sum_by weight xs
+sub_fewer weight at_end = omega arith
+sub_fewer weight (kept {x = x} {all = xs} {some = ys} h) = omega (arith, sum_by-cons weight x xs, sum_by-cons weight x ys, sub_fewer weight h)
+sub_fewer weight (left_out {x = x} {all = xs} h) = omega (arith, sum_by-cons weight x xs, sub_fewer weight h)
+
+-- a sum over a thinned list is at most that over the whole one
+pub thin_fewer : (weight : MatchState → ℕ) (vs ws : List MatchState) → Thinned vs ws → sum_by weight ws ≤ sum_by weight vs
+thin_fewer weight vs ws h = sub_fewer weight h.in_order
+
 pub thin_same : (ws : List MatchState) → Thinned ws ws
-thin_same ws = record { firsts = λ test. refl; fewer = λ weight. omega arith }
+thin_same ws = record { in_order = sub_same ws; firsts = λ test. refl }
 
 pub thin_equal : (vs ws : List MatchState) → vs ≡ ws → Thinned vs ws
 thin_equal vs ws e = subst (λ us. Thinned vs us) e (thin_same vs)
 
 pub thin_append : (ps qs us vs : List MatchState) → Thinned ps qs → Thinned us vs → Thinned (ps ++ us) (qs ++ vs)
 thin_append ps qs us vs h k = record {
+  in_order = sub_append h.in_order k.in_order;
   firsts = λ test. find-append test ps us ∙ (λ i. option_or (h.firsts test i) (k.firsts test i)) ∙ sym (find-append test qs vs);
-  fewer = λ weight. omega (arith, sum_by-append weight ps us, sum_by-append weight qs vs, h.fewer weight, k.fewer weight);
 }
 
 pub thin_prefer : (greedy : Bool) (ps qs us vs : List MatchState) → Thinned ps qs → Thinned us vs → Thinned (prefer greedy ps us) (prefer greedy qs vs)
@@ -55,11 +89,6 @@ find-flat_map test f (w ∷ ws) =
     by_value None = refl
     by_value (Some v) = refl
 
-sum_by-flat_map : (weight : MatchState → ℕ) (f : Moves) (ws : List MatchState) → sum_by weight (flat_map f ws) ≡ sum_by (λ w. sum_by weight (f w)) ws
-sum_by-flat_map weight f [] = refl
-sum_by-flat_map weight f (w ∷ ws) =
-    omega (arith, sum_by-append weight (f w) (flat_map f ws), sum_by-cons (λ v. sum_by weight (f v)) w ws, sum_by-flat_map weight f ws)
-
 -- what is found after the ways of a thinned list, where the same is found after each way
 pub same_found : (test : MatchState → Bool) (f g : Moves) → ((w : MatchState) → find test (f w) ≡ find test (g w)) → (vs ws : List MatchState) → Thinned vs ws →
     find test (flat_map f vs) ≡ find test (flat_map g ws)
@@ -71,14 +100,8 @@ same_found test f g h vs ws k =
 
 pub thin_flat_map : (f g : Moves) → Thins f g → (vs ws : List MatchState) → Thinned vs ws → Thinned (flat_map f vs) (flat_map g ws)
 thin_flat_map f g h vs ws k = record {
+  in_order = sub_flat_map f g (λ w. (h w).in_order) k.in_order;
   firsts = λ test. same_found test f g (λ w. (h w).firsts test) vs ws k;
-  fewer = λ weight. omega (
-    arith,
-    sum_by-flat_map weight f vs,
-    sum_by-flat_map weight g ws,
-    k.fewer (λ w. sum_by weight (g w)),
-    sum_by-le-sum_by (λ w. sum_by weight (g w)) (λ w. sum_by weight (f w)) vs (λ w. (h w).fewer weight),
-  );
 }
 
 find-map : (test : MatchState → Bool) (f : MatchState → MatchState) (ws : List MatchState) →
@@ -91,21 +114,17 @@ find-map test f (w ∷ ws) = by_test (test (f w)) (find-map test f ws)
     by_test true later = refl
     by_test false later = later
 
-sum_by-map : (weight : MatchState → ℕ) (f : MatchState → MatchState) (ws : List MatchState) → sum_by weight (map f ws) ≡ sum_by (λ w. weight (f w)) ws
-sum_by-map weight f [] = refl
-sum_by-map weight f (w ∷ ws) = omega (arith, sum_by-cons weight (f w) (map f ws), sum_by-cons (λ v. weight (f v)) w ws, sum_by-map weight f ws)
-
 pub thin_map : (f : MatchState → MatchState) (vs ws : List MatchState) → Thinned vs ws → Thinned (map f vs) (map f ws)
 thin_map f vs ws h = record {
+  in_order = sub_map f h.in_order;
   firsts = λ test. find-map test f vs ∙ ap (option_map f) (h.firsts (λ w. test (f w))) ∙ sym (find-map test f ws);
-  fewer = λ weight. omega (arith, sum_by-map weight f vs, sum_by-map weight f ws, h.fewer (λ w. weight (f w)));
 }
 
 -- any number of the same way, and one of it
 pub thin_repeated : (X : Type 0) (w : MatchState) (x : X) (xs : List X) → Thinned (map (λ y. w) (x ∷ xs)) (w ∷ [])
 thin_repeated X w x xs = record {
+  in_order = kept (sub_none (map (λ y. w) xs));
   firsts = λ test. by_test test (test w) refl;
-  fewer = λ weight. omega (arith, sum_by-cons weight w (map (λ y. w) xs), sum_by-cons weight w []);
 }
   where
     others : (test : MatchState → Bool) → test w ≡ false → (ys : List X) → find test (map (λ y. w) ys) ≡ None

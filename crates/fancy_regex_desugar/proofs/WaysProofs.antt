@@ -398,18 +398,18 @@ module _ (s : Setting) (groups : List Tree) (call : ℕ → Moves) (pat : ℕ �
 
 -- of the ways that end in range, where no more is asked of them
 in_range : (stop : ℕ) (ws : List MatchState) →
-    first_item (filter (λ v. nat_le v.position stop && not (false && v.kept == v.position)) ws) ≡ find (ends_until stop) ws
+    first_item (filter (λ v. nat_le v.position stop && not (false && v.match_start == v.position)) ws) ≡ find (ends_until stop) ws
 in_range stop [] = refl
 in_range stop (w ∷ ws) = by_test (nat_le w.position stop) (in_range stop ws)
   where
-    by_test : (b : Bool) → first_item (filter (λ v. nat_le v.position stop && not (false && v.kept == v.position)) ws) ≡ find (ends_until stop) ws →
-        first_item (cond (b && true) (w ∷ filter (λ v. nat_le v.position stop && not (false && v.kept == v.position)) ws)
-        (filter (λ v. nat_le v.position stop && not (false && v.kept == v.position)) ws)) ≡ cond b (Some w) (find (ends_until stop) ws)
+    by_test : (b : Bool) → first_item (filter (λ v. nat_le v.position stop && not (false && v.match_start == v.position)) ws) ≡ find (ends_until stop) ws →
+        first_item (cond (b && true) (w ∷ filter (λ v. nat_le v.position stop && not (false && v.match_start == v.position)) ws)
+        (filter (λ v. nat_le v.position stop && not (false && v.match_start == v.position)) ws)) ≡ cond b (Some w) (find (ends_until stop) ws)
     by_test true later = refl
     by_test false later = later
 
 abbrev admits : ℕ → Bool → MatchState → Bool
-admits stop not_empty v = nat_le v.position stop && not (not_empty && v.kept == v.position)
+admits stop not_empty v = nat_le v.position stop && not (not_empty && v.match_start == v.position)
 
 by_options : (s : Setting) (p : CorePattern) (w : MatchState) (all : List MatchState) (stop : ℕ) → Thinned all (core_ways s None p w) →
     find (ends_until stop) all ≡ find (ends_until stop) (core_ways s (Some stop) p w) → (longest not_empty : Bool) →

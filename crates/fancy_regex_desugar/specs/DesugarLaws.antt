@@ -13,8 +13,9 @@ use Rattle.fancy_regex_desugar.specs.Shapes.{StepsBackOnlyFirst, HasGroups}
 use Rattle.fancy_regex_desugar.specs.Thinned.{Thinned}
 use Rattle.fancy_regex_desugar.specs.Unfolded.{unfolded, unfolded_behind, core_pattern_of}
 
--- A desugared part has the ordered matches of its tree, both forwards from a position and, for look-behind, ending at it. Of equal ones,
--- which a look-ahead may leave, it may have the first alone. It has no tail, so this holds for every bound.
+-- A desugared part has a sub-list, in order, of the ordered matches of its tree, both forwards from a position and, for look-behind,
+-- ending at it. Only matches that repeat an earlier one are left out, as a look-ahead may leave them. It has no tail, so this holds for
+-- every bound.
 abbrev pub UnfoldedKeepsWays : Type 0
 UnfoldedKeepsWays = (s : Setting) (bound : Option ℕ) (groups : List Tree) (m : ℕ) (opened : List ℕ) (n : ℕ) (t : Tree) (w : MatchState) →
     Thinned ((meaning s groups (call_ways s groups m opened) n t).from w) (core_ways s bound (unfolded groups m opened n t) w)

@@ -40,7 +40,7 @@ enum Question {
 /// A pattern, what is changed in its tree, a question, and the answer. All trees have no group 3.
 struct Asked(&'static str, &'static [Change], Question, bool);
 
-static TREES: [Asked; 11] = [
+static TREES: [Asked; 12] = [
     // the summary of a well-formed tree agrees with its nodes
     Asked(
         "(a)\\1",
@@ -67,6 +67,7 @@ static TREES: [Asked; 11] = [
     Asked("a", &[Change::NoBranch], Question::IsWellFormed, false),
     // an anchored pattern begins with the start of the text, and cannot leave it out
     Asked("\\Aa", &[], Question::IsAnchored, true),
+    Asked("^a", &[], Question::IsAnchored, true),
     Asked("a", &[], Question::IsAnchored, false),
     Asked("\\A", &[Change::OptionalStart], Question::IsAnchored, false),
     // a call without a target is refused

@@ -1,11 +1,15 @@
 -- The calls that write a list: all matches of a text, the pieces between them, the replaced text, and the members of a set with their
 -- groups.
-use Rattle.std.specs.Prelude.{◌≡◌, ℕ, ℤ, List, length, Option, Some, None, Result, Ok, Err, string_bytes, IsUtf8}
+use Rattle.std.specs.Prelude.{◌≡◌, ◌≢◌, ℕ, ℤ, List, length, Option, Some, None, Result, Ok, Err, string_bytes, IsUtf8}
 use Rattle.fancy_regex_search.specs.declared.regex.Regex.{Regex}
+use Rattle.fancy_regex.specs.Error.{Error}
+use Rattle.fancy_regex.specs.Error.TheVariants.{Memory}
+use Rattle.fancy_regex.specs.IterationErrors.{IsErrorOfIteration}
+use Rattle.fancy_regex.specs.IterationLimits.{IterationStays}
 use Rattle.fancy_regex.specs.TextMatches.{matches_of, IsErrorOfSearch}
 use Rattle.fancy_regex.specs.ReplacedTexts.{replaced_in}
 use Rattle.fancy_regex_ffi_lists.specs.Groups.{AreMatchingGroups}
-use Rattle.fancy_regex_ffi_lists.specs.Lists.{gap_spans, match_spans, matching_members, IsMemberError}
+use Rattle.fancy_regex_ffi_lists.specs.Lists.{gap_spans, match_spans, matching_members, IsMemberError, SetStays}
 use Rattle.fancy_regex_ffi_lists.specs.declared.member.Member.{Member}
 use Rattle.fancy_regex_ffi_lists.specs.declared.spans.Span.{Span}
 use Rattle.fancy_regex_ffi.specs.Codes.{code_of, fault_status}
@@ -20,9 +24,14 @@ use Rattle.fancy_regex_ffi.specs.declared.contents.Subject.TheVariants as subjec
 use Rattle.fancy_regex_ffi.specs.declared.query.Query.{Query}
 use Rattle.fancy_regex_ffi.specs.declared.status.Status.TheVariants as statuses
 
+-- the error is one of a search right after some of the matches, or `Memory`
+abbrev pub IsErrorBetween : Regex → List ℕ → Error → Type 0
+IsErrorBetween regex text e = e ≢ Memory → IsErrorOfIteration regex.meta text e
+
 -- Why the matches of a text are not all found. The bytes that are to be UTF-8 are those of the text, and of the template if there is one.
 abbrev pub IsIterationFault : Regex → List ℕ → Type 0 → CallError → Type 0
-IsIterationFault regex text are_utf8 (faults.Regex e) = are_utf8 × IsErrorOfSearch regex.meta.options (string_bytes regex.meta.pattern) text e
+IsIterationFault regex text are_utf8 (faults.Regex e) =
+    are_utf8 × IsErrorOfSearch regex.meta.options (string_bytes regex.meta.pattern) text e × IsErrorBetween regex text e
 IsIterationFault regex text are_utf8 faults.NotUtf8 = are_utf8 → ⊥
 IsIterationFault regex text are_utf8 _ = ⊥
 
@@ -36,18 +45,18 @@ OfRegex Gives subjects.Nothing (Err fault) = fault ≡ faults.NoRegex
 
 -- the spans of all matches of the text
 abbrev pub AreMatchSpans : List ℕ → Regex → Result (List Span) CallError → Type 0
-AreMatchSpans text regex (Ok spans) = IsUtf8 text × (spans ≡ match_spans (matches_of regex text))
+AreMatchSpans text regex (Ok spans) = IsUtf8 text × IterationStays regex.meta text × (spans ≡ match_spans (matches_of regex text))
 AreMatchSpans text regex (Err fault) = IsIterationFault regex text (IsUtf8 text) fault
 
 -- the spans of all pieces of the text between its matches
 abbrev pub ArePieceSpans : List ℕ → Regex → Result (List Span) CallError → Type 0
-ArePieceSpans text regex (Ok spans) = IsUtf8 text × (spans ≡ gap_spans 0 (length text) (matches_of regex text))
+ArePieceSpans text regex (Ok spans) = IsUtf8 text × IterationStays regex.meta text × (spans ≡ gap_spans 0 (length text) (matches_of regex text))
 ArePieceSpans text regex (Err fault) = IsIterationFault regex text (IsUtf8 text) fault
 
 -- the text with each match replaced by what the template stands for there
 abbrev pub IsReplacedText : List ℕ → List ℕ → Regex → Result (List ℕ) CallError → Type 0
 IsReplacedText text template regex (Ok out) =
-    (IsUtf8 text × IsUtf8 template) × (out ≡ replaced_in regex.meta.options (string_bytes regex.meta.pattern) template text)
+    (IsUtf8 text × IsUtf8 template) × IterationStays regex.meta text × (out ≡ replaced_in regex.meta.options (string_bytes regex.meta.pattern) template text)
 IsReplacedText text template regex (Err fault) = IsIterationFault regex text (IsUtf8 text × IsUtf8 template) fault
 
 -- why a set does not answer
@@ -59,12 +68,12 @@ IsSetFault regexes text query fault = IsPlaceFault text query.position fault
 -- The members of a set that match at the earliest position at which one of them does, as the definitions give them, or why there is
 -- no answer.
 abbrev pub AreMembersIn : List Regex → List ℕ → Query → Result (List Member) CallError → Type 0
-AreMembersIn regexes text query (Ok members) = CanBegin text query.position × (members ≡ matching_members regexes text (config_of text query))
+AreMembersIn regexes text query (Ok members) = CanBegin text query.position × SetStays regexes text (config_of text query) × (members ≡ matching_members regexes text (config_of text query))
 AreMembersIn regexes text query (Err fault) = IsSetFault regexes text query fault
 
 -- The groups of those members, one after another, or why there is no answer.
 abbrev pub AreMemberGroupsIn : List Regex → List ℕ → Query → Result (List Member) CallError → Type 0
-AreMemberGroupsIn regexes text query (Ok groups) = CanBegin text query.position × AreMatchingGroups regexes text (config_of text query) groups
+AreMemberGroupsIn regexes text query (Ok groups) = CanBegin text query.position × SetStays regexes text (config_of text query) × AreMatchingGroups regexes text (config_of text query) groups
 AreMemberGroupsIn regexes text query (Err fault) = IsSetFault regexes text query fault
 
 -- what a call on a set answers; without a set it answers the fault that says so

@@ -6,7 +6,7 @@ use Rattle.fancy_regex_input.specs.declared.config.SearchConfig.{SearchConfig}
 use Rattle.fancy_regex_meaning.specs.Searches.{Match}
 use Rattle.fancy_regex_class.specs.RunInputs.{match_slots}
 use Rattle.fancy_regex_meta.specs.MetaMatches.{meta_match, meta_pattern}
-use Rattle.fancy_regex_meta.specs.SearchLimits.{IsMetaSearchError, meta_starts_tried, meta_uses_easy, max_looks}
+use Rattle.fancy_regex_meta.specs.SearchLimits.{IsMetaSearchError, MetaStaysInLimits, meta_starts_tried, meta_uses_easy, max_looks}
 use Rattle.fancy_regex_input.specs.SearchInputs.{whole}
 use Rattle.fancy_regex_search.specs.CaptureSpans.{span_in}
 use Rattle.fancy_regex_ffi_lists.specs.Groups.{IsGroupSpan}
@@ -52,9 +52,13 @@ IsSearchFault meta text query (faults.Regex e) = CanBegin text query.position ×
 IsSearchFault meta text query faults.NotUtf8 = IsUtf8 text → ⊥
 IsSearchFault meta text query fault = IsPlaceFault text query.position fault
 
+-- A search of a text answers: it can begin, and it stays within the limits on the kept program.
+abbrev pub Answers : MetaRegex → List ℕ → Query → Type 0
+Answers meta text query = CanBegin text query.position × MetaStaysInLimits meta text (config_of text query) false
+
 -- the match that the definitions give, or why there is no answer
 abbrev pub IsFoundIn : MetaRegex → List ℕ → Query → Result (Option (ℕ × ℕ)) CallError → Type 0
-IsFoundIn meta text query (Ok found) = CanBegin text query.position × (found ≡ found_by meta text query)
+IsFoundIn meta text query (Ok found) = Answers meta text query × (found ≡ found_by meta text query)
 IsFoundIn meta text query (Err fault) = IsSearchFault meta text query fault
 
 -- the match that the definitions give for what was built, or why there is no answer
@@ -98,8 +102,8 @@ AreGroupsFound meta text query spans = (found : Match) × (meta_match meta text 
 
 -- whether the definitions give a match, with the spans of its groups; or why there is no answer, and the spans are as they were
 abbrev pub IsCapturedIn : MetaRegex → List ℕ → Query → Result Bool CallError → List Span → List Span → Type 0
-IsCapturedIn meta text query (Ok true) old new = CanBegin text query.position × AreGroupsFound meta text query new
-IsCapturedIn meta text query (Ok false) old new = CanBegin text query.position × (found_by meta text query ≡ None) × (new ≡ old)
+IsCapturedIn meta text query (Ok true) old new = Answers meta text query × AreGroupsFound meta text query new
+IsCapturedIn meta text query (Ok false) old new = Answers meta text query × (found_by meta text query ≡ None) × (new ≡ old)
 IsCapturedIn meta text query (Err fault) old new = IsSearchFault meta text query fault × (new ≡ old)
 
 -- the same for what was built

@@ -1,10 +1,11 @@
 //! All matches of a text, the pieces between them, and the text with its matches replaced.
 
-ghost use Rattle.std.specs.Prelude.{◌≡◌, true, IfOk, IfErr, IsUtf8, string_bytes};
+ghost use Rattle.std.specs.Prelude.{◌≡◌, true, IfOk, IfErr, OnOk, IsUtf8, string_bytes};
 ghost use Rattle.std.specs.Cow.{cow_str_bytes};
+ghost use Rattle.fancy_regex.specs.IterationLimits.{IterationStays};
 ghost use Rattle.fancy_regex.specs.ReplacedTexts.{replaced_in};
 ghost use Rattle.fancy_regex.specs.TextMatches.{IsErrorOfSearch};
-ghost use Rattle.fancy_regex_ffi.specs.Lists.{AreMatchSpans, ArePieceSpans, IsReplacedText, OfRegex, listed};
+ghost use Rattle.fancy_regex_ffi.specs.Lists.{AreMatchSpans, ArePieceSpans, IsErrorBetween, IsReplacedText, OfRegex, listed};
 
 use crate::contents::Subject;
 use crate::fault::CallError;
@@ -83,6 +84,8 @@ fn replaced_text<'t>(
     ensures text { IfOk result (λ v. cow_str_bytes v
         ≡ replaced_in regex.now.meta.options (string_bytes regex.now.meta.pattern) template.now text.entry.now) }
     ensures fails { IfErr result (IsErrorOfSearch regex.now.meta.options (string_bytes regex.now.meta.pattern) text.entry.now) }
+    ensures stays { OnOk result (IterationStays regex.now.meta text.entry.now) }
+    ensures passes { IfErr result (IsErrorBetween regex.now text.entry.now) }
 {
     regex.replace_all(alloc, text, template)
 }

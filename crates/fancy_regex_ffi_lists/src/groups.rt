@@ -2,7 +2,7 @@
 
 ghost use Rattle.std.specs.Prelude.{◌≡◌, IfOk, IfErr, OnOk, IsCharBoundary};
 ghost use Rattle.fancy_regex_ffi_lists.specs.Groups.{IsGroupSpan, AreGroupsAdded, AreMatchingGroups};
-ghost use Rattle.fancy_regex_ffi_lists.specs.Lists.{config_at, IsMemberError};
+ghost use Rattle.fancy_regex_ffi_lists.specs.Lists.{config_at, IsMemberError, SetStays};
 
 use crate::member::Member;
 use crate::members::input_at;
@@ -25,6 +25,7 @@ pub fn set_groups(
     ensures groups { IfOk result (λ groups.
         AreMatchingGroups set.now.regexes.items text.now (config_at text.now position continues) groups.items) }
     ensures fails { IfErr result (IsMemberError set.now.regexes.items text.now (config_at text.now position continues)) }
+    ensures stays { OnOk result (SetStays set.now.regexes.items text.now (config_at text.now position continues)) }
 {
     let mut groups = Vec::new(alloc);
     let Some(mut found) = set.find_input(alloc, input_at(text, position, continues))? else {

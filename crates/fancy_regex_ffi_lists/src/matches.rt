@@ -1,6 +1,9 @@
 //! The matches of a text, and the pieces between them, as spans.
 
-ghost use Rattle.std.specs.Prelude.{◌≡◌, Some, IfOk, IfErr, length, string_bytes};
+ghost use Rattle.std.specs.Prelude.{◌≡◌, ◌≢◌, Some, IfOk, IfErr, OnOk, length, string_bytes};
+ghost use Rattle.fancy_regex.specs.Error.TheVariants.{Memory};
+ghost use Rattle.fancy_regex.specs.IterationErrors.{IsErrorOfIteration};
+ghost use Rattle.fancy_regex.specs.IterationLimits.{IterationStays};
 ghost use Rattle.fancy_regex.specs.TextMatches.{matches_of, IsErrorOfSearch};
 ghost use Rattle.fancy_regex_ffi_lists.specs.Lists.{match_spans, gap_spans};
 ghost use Rattle.fancy_regex_ffi_lists.specs.Spans.{span_of};
@@ -13,6 +16,8 @@ use std::alloc::Global;
 pub fn match_spans(alloc: Global, regex: &Regex, text: &str) -> Result<Vec<Span>>
     ensures spans { IfOk result (λ spans. spans.items ≡ match_spans (matches_of regex.now text.now)) }
     ensures fails { IfErr result (IsErrorOfSearch regex.now.meta.options (string_bytes regex.now.meta.pattern) text.now) }
+    ensures stays { OnOk result (IterationStays regex.now.meta text.now) }
+    ensures passes { IfErr result (λ e. e ≢ Memory → IsErrorOfIteration regex.now.meta text.now e) }
 {
     let mut spans = Vec::new(alloc);
     let mut matches = regex.find_iter(alloc, text);
@@ -34,6 +39,8 @@ fn span_at(found: Match<'_>) -> Span
 pub fn piece_spans(alloc: Global, regex: &Regex, text: &str) -> Result<Vec<Span>>
     ensures spans { IfOk result (λ spans. spans.items ≡ gap_spans 0 (length text.now) (matches_of regex.now text.now)) }
     ensures fails { IfErr result (IsErrorOfSearch regex.now.meta.options (string_bytes regex.now.meta.pattern) text.now) }
+    ensures stays { OnOk result (IterationStays regex.now.meta text.now) }
+    ensures passes { IfErr result (λ e. e ≢ Memory → IsErrorOfIteration regex.now.meta text.now e) }
 {
     let mut spans = Vec::new(alloc);
     let mut start = 0;

@@ -1,7 +1,7 @@
 //! The members of a set that match.
 
-ghost use Rattle.std.specs.Prelude.{◌≡◌, IfOk, IfErr, IsCharBoundary};
-ghost use Rattle.fancy_regex_ffi_lists.specs.Lists.{config_at, matching_members, IsMemberError};
+ghost use Rattle.std.specs.Prelude.{◌≡◌, IfOk, IfErr, OnOk, IsCharBoundary};
+ghost use Rattle.fancy_regex_ffi_lists.specs.Lists.{config_at, matching_members, IsMemberError, SetStays};
 
 use crate::member::Member;
 use fancy_regex::{RegexInput, RegexSet, RegexSetMatch, Result};
@@ -21,6 +21,7 @@ pub fn set_members(
     ensures members { IfOk result (λ members.
         members.items ≡ matching_members set.now.regexes.items text.now (config_at text.now position continues)) }
     ensures fails { IfErr result (IsMemberError set.now.regexes.items text.now (config_at text.now position continues)) }
+    ensures stays { OnOk result (SetStays set.now.regexes.items text.now (config_at text.now position continues)) }
 {
     let mut members = Vec::new(alloc);
     let Some(mut found) = set.find_input(alloc, input_at(text, position, continues))? else {

@@ -1,9 +1,10 @@
 -- A try depends on what follows only from its start on; and the equation of a loop.
 use Rattle.std.proofs.Common.{◌||◌, ◌⊎◌, true≢false, ◌≡◌, ℕ, zero, suc, ◌+◌, ◌*◌, ◌-◌, ◌<◌, ◌≤◌, Bool, true, false, refl, sym, ap, ap₂, ◌∙◌, inl, inr, ⊎_elim, arith, ltb-true, leb-true, lt-ltb, le-ltb}
 use Rattle.std.proofs.lemmas.Bool.{cases_lt, and_parts}
-use Rattle.fancy_regex_linear.specs.Meaning.{View, reads, is_unbounded}
+use Rattle.fancy_regex_states.specs.Attempts.{View, reads, AttemptResult, Continuation, guard, either, save}
+use Rattle.fancy_regex_linear.specs.Meaning.{is_unbounded}
 use Rattle.fancy_regex_linear.specs.Program.{never_empty}
-use Rattle.fancy_regex_linear.specs.Attempt.{AttemptResult, Continuation, guard, either, save, prefer, pick, iterations, times_try, upto_try, star_try, tail_try, attempt}
+use Rattle.fancy_regex_linear.specs.Attempt.{prefer, pick, iterations, times_try, upto_try, star_try, tail_try, attempt}
 use Rattle.fancy_regex_states.specs.declared.atom.Leaf.{Leaf}
 use Rattle.fancy_regex_linear.specs.Re.{Re, nothing, read, test, cat, alt, group, repeat}
 
@@ -140,7 +141,7 @@ module _ (view : View) (stop : ℕ) where
       moves _ _ i p (λ j a b. times_agree body ok n k k2 j b (λ l c d. h l (omega arith) d))
 
   pub attempt_moves : (t : Re) → never_empty t ≡ true → Moves (attempt view stop t)
-  unfolding attempt never_empty
+  unfolding attempt
   attempt_moves nothing e k k2 i p h = absurd (true≢false (sym e))
   attempt_moves (read leaf) e k k2 i p h =
       guard_cong _ _ _ (λ r. let lt = reads_below leaf i r in h (view.next i) lt.0 lt.1)

@@ -10,9 +10,9 @@ use Rattle.fancy_regex_states.specs.First.{state_at}
 use Rattle.fancy_regex_states.specs.declared.atom.Leaf.{Leaf}
 use Rattle.fancy_regex_states.specs.declared.state.State.TheVariants.{Read}
 use Rattle.fancy_regex_linear.specs.CharTests.{read_next}
-use Rattle.fancy_regex_linear.specs.Meaning.{Spot, View}
-use Rattle.fancy_regex_linear.specs.Attempt.{Trace, Continuation, write, trace_end}
-use Rattle.fancy_regex_linear.specs.Program.{visit}
+use Rattle.fancy_regex_states.specs.Attempts.{View, Trace, Continuation, write, visit}
+use Rattle.fancy_regex_linear.specs.Meaning.{Spot}
+use Rattle.fancy_regex_linear.specs.Attempt.{trace_end}
 use Rattle.fancy_regex_linear.specs.Search.{IsLoop, IsExit, IsStretch, HasInStretch, LeadsTo, Explains}
 use Rattle.fancy_regex_linear.specs.Ahead.{Begins, written, slots_with}
 use Rattle.fancy_regex_linear.proofs.WaysLemmas.{trace_end_write}

@@ -16,11 +16,12 @@ use Rattle.fancy_regex_meaning.specs.WayLaws.{Each}
 use Rattle.fancy_regex_meaning.proofs.EachLemmas.{Each-filter, Each-weaker, boundaries_within}
 use Rattle.fancy_regex_meaning.proofs.MatchStartProofs.{chosen_holds}
 use Rattle.fancy_regex_linear.specs.Re.{Re}
-use Rattle.fancy_regex_linear.specs.Meaning.{Spot, View, ending_by}
+use Rattle.fancy_regex_states.specs.Attempts.{View, Continuation, accept, NamesBelow, AllAgree}
+use Rattle.fancy_regex_linear.specs.Meaning.{Spot, ending_by}
 use Rattle.fancy_regex_linear.specs.Meaning as plain
-use Rattle.fancy_regex_linear.specs.Attempt.{Continuation, accept, attempt, better_spot, apply, trace_end}
-use Rattle.fancy_regex_linear.specs.Program.{emitted, NamesBelow, AgreeBut}
-use Rattle.fancy_regex_linear.specs.Search.{Closed, AllAgree}
+use Rattle.fancy_regex_linear.specs.Attempt.{attempt, better_spot, apply, trace_end}
+use Rattle.fancy_regex_linear.specs.Program.{emitted, AgreeBut}
+use Rattle.fancy_regex_linear.specs.Search.{Closed}
 use Rattle.fancy_regex_linear.specs.EasyPatterns.{span_of_match}
 use Rattle.fancy_regex_linear.specs.Find.{found_of_span, span_of_found, FoundMatch, earliest, attempted, places}
 use Rattle.fancy_regex_linear.specs.Plain.{IsPlain, classes, re_of}
@@ -212,23 +213,23 @@ module _ (unicode longest : Bool) (text : List ℕ) (input : RunInput) (states :
         ∙ sym (attempt_lists view stop re accept (record { at = p; slots = unset }))
         ∙ ap (λ r. trace_end unset r.answer) (sym (d.means p h))
 
-    start_same : (p : ℕ) → Each (λ v. v.kept ≡ p) (filter (is_admitted find) (ways_at s pattern find p))
+    start_same : (p : ℕ) → Each (λ v. v.match_start ≡ p) (filter (is_admitted find) (ways_at s pattern find p))
     unfolding ways
-    start_same p = Each-filter (λ v. v.kept ≡ p) (is_admitted find) _ (keeps_start s pattern.groups (call_ways s pattern.groups (max_open_calls pattern.groups) []) pattern.first_group pattern.tree is_plain (start_way pattern p))
+    start_same p = Each-filter (λ v. v.match_start ≡ p) (is_admitted find) _ (keeps_start s pattern.groups (call_ways s pattern.groups (max_open_calls pattern.groups) []) pattern.first_group pattern.tree is_plain (start_way pattern p))
 
-    same_here : (p : ℕ) (o : Option MatchState) (b : Option Spot) → option_map spot_of o ≡ b → ((v : MatchState) → o ≡ Some v → v.kept ≡ p)
+    same_here : (p : ℕ) (o : Option MatchState) (b : Option Spot) → option_map spot_of o ≡ b → ((v : MatchState) → o ≡ Some v → v.match_start ≡ p)
         → option_map of_match (option_map match_of o) ≡ option_map (λ w. of_found (record { start = p; way = w })) b
     same_here p None b e h = ap (option_map (λ w. of_found (record { start = p; way = w }))) e
     same_here p (Some v) b e h =
         ap₂ (λ (start : ℕ) (slots : List ℕ). Some ((start, v.position), slots)) (h v refl)
-        (places_here (pattern.first_group == 0) (group_slots v.pairs) p v.kept v.position (h v refl))
+        (places_here (pattern.first_group == 0) (group_slots v.pairs) p v.match_start v.position (h v refl))
         ∙ ap (option_map (λ w. of_found (record { start = p; way = w }))) e
 
     agree_at : (p : ℕ) → p ≤ stop → option_map of_match (match_at s pattern find p) ≡ option_map (λ w. of_found (record { start = p; way = w })) (from_place p)
     unfolding match_at
     agree_at p h =
         same_here p (chosen longest (filter (is_admitted find) (ways_at s pattern find p))) (from_place p) (wanted p h)
-        (λ v e. chosen_holds (λ v. v.kept ≡ p) longest _ (start_same p) v e)
+        (λ v e. chosen_holds (λ v. v.match_start ≡ p) longest _ (start_same p) v e)
 
     agree_all : (anchored : Bool) → input.first ≤ stop → Each (Agree of_match of_found (match_at s pattern find) from_place) (places text anchored input.first stop)
     agree_all true h = (agree_at input.first h, tt)

@@ -1,7 +1,8 @@
 -- Where ways end: the equation of a loop, and what a range admits.
 use Rattle.std.proofs.Common.{◌≡◌, ℕ, zero, suc, ◌*◌, ◌-◌, ◌<◌, ◌≤◌, Bool, true, false, ◌&&◌, List, [], ◌∷◌, ◌++◌, map, if◌then◌else◌, nat_lt, nat_le, set, refl, sym, ap, ap₂, ◌∙◌, ⊎_elim, arith, lt-ltb, le-ltb, le-leb, leb-true, ltb-true}
 use Rattle.std.proofs.lemmas.Bool.{cases_lt, lt-leb, and_parts}
-use Rattle.fancy_regex_linear.specs.Meaning.{Spot, View, each, in_order, after_iteration, loop_ways, times_ways, upto_ways, tail_ways, is_unbounded, reads, ways, ending_by}
+use Rattle.fancy_regex_states.specs.Attempts.{View, reads}
+use Rattle.fancy_regex_linear.specs.Meaning.{Spot, each, in_order, after_iteration, loop_ways, times_ways, upto_ways, tail_ways, is_unbounded, ways, ending_by}
 use Rattle.fancy_regex_linear.specs.Re.{Re, nothing, read, test, cat, alt, group, repeat}
 use Rattle.fancy_regex_states.specs.declared.atom.Leaf.{Leaf}
 

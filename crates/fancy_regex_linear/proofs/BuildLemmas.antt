@@ -121,7 +121,6 @@ module _ (unicode : Bool) (groups : List Tree) where
 
 -- a concatenation consumes a character if one of its children does
 pub row_moves : (xs : List Re) (x : Re) → never_empty (cats (xs ++ x ∷ [])) ≡ (never_empty (cats xs) || never_empty x)
-unfolding never_empty
 row_moves [] x = or-false (never_empty x)
 row_moves (y ∷ xs) x =
     ap (λ b. never_empty y || b) (row_moves xs x) ∙ sym (or_assoc (never_empty y) (never_empty (cats xs)) (never_empty x))
@@ -133,12 +132,12 @@ all_moves [] x = and-true (never_empty x)
 all_moves (y ∷ xs) x = ap (λ b. never_empty y && b) (all_moves xs x) ∙ sym (and_assoc (never_empty y) (all_move xs) (never_empty x))
 
 each_branch : (x : Re) (xs : List Re) → never_empty (alts (x ∷ xs)) ≡ all_move (x ∷ xs)
-unfolding all_move never_empty
+unfolding all_move
 each_branch x [] = sym (and-true (never_empty x))
 each_branch x (y ∷ ys) = ap (λ b. never_empty x && b) (each_branch y ys)
 
 pub branches_move : (xs : List Re) → never_empty (alts xs) ≡ (all_move xs && not (length xs == 0))
-unfolding all_move never_empty
+unfolding all_move
 branches_move [] = refl
 branches_move (x ∷ xs) =
     each_branch x xs ∙ sym (ap (λ b. all_move (x ∷ xs) && not b) (ne_eqb (suc (length xs)) 0 (omega arith)) ∙ and-true (all_move (x ∷ xs)))

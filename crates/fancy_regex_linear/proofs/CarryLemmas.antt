@@ -2,7 +2,8 @@
 use Rattle.std.proofs.Common.{◌≡◌, ℕ, zero, suc, ◌+◌, ◌*◌, ◌-◌, Bool, true, false, List, [], ◌∷◌, ◌++◌, map, if◌then◌else◌, nat_lt, set, refl, sym, ap, ap₂, ◌∙◌, arith}
 use Rattle.std.proofs.lemmas.List.{set_comm}
 use Rattle.fancy_regex_linear.specs.Re.{Re, nothing, read, test, cat, alt, group, repeat}
-use Rattle.fancy_regex_linear.specs.Meaning.{Spot, View, each, in_order, after_iteration, loop_ways, times_ways, upto_ways, tail_ways, is_unbounded, reads, ways}
+use Rattle.fancy_regex_states.specs.Attempts.{View, reads}
+use Rattle.fancy_regex_linear.specs.Meaning.{Spot, each, in_order, after_iteration, loop_ways, times_ways, upto_ways, tail_ways, is_unbounded, ways}
 
 -- the group k is not in the pattern
 abbrev pub Lacks : ℕ → Re → Type 0

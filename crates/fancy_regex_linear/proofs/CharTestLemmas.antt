@@ -18,7 +18,7 @@ use Rattle.fancy_regex_class.specs.Classes.{in_class}
 use Rattle.fancy_regex_class.specs.Matchers.{has}
 use Rattle.fancy_regex_class.specs.declared.class.CharClassMatcher.{CharClassMatcher}
 use Rattle.fancy_regex_class.proofs.AdjacentCharLemmas.{char_before_past}
-use Rattle.fancy_regex_linear.specs.CharTests.{ShowsAll}
+use Rattle.fancy_regex_states.specs.Attempts.{ShowsAll}
 use Rattle.fancy_regex_states.specs.CharTests.{leaf_matches_char, is_char, passes}
 use Rattle.fancy_regex_linear.specs.SettingView.{leaf_matches, view_of, assertion_of}
 use Rattle.fancy_regex_linear.specs.Easy.{HaveMatchers, rules_for}

@@ -4,7 +4,8 @@ use Rattle.std.proofs.lemmas.List.{set-get_or}
 use Rattle.std.proofs.lemmas.Bool.{cases_lt}
 use Rattle.fancy_regex_linear.specs.Meaning.{Spot}
 use Rattle.std.specs.Prelude.{is_some}
-use Rattle.fancy_regex_linear.specs.Attempt.{Trace, Continuation, AttemptResult, write, save, either, guard, failed, accept, score, better_trace, better_spot, apply, trace_end}
+use Rattle.fancy_regex_states.specs.Attempts.{Trace, Continuation, AttemptResult, write, save, either, guard, failed, accept, score, better_trace}
+use Rattle.fancy_regex_linear.specs.Attempt.{better_spot, apply, trace_end}
 use Rattle.fancy_regex_linear.specs.Visited.{Adds}
 use Rattle.fancy_regex_linear.specs.Search.{slots_at_bottom, pending, Reaches, IsAsGood, ReachesBelow, Covers, Dfs, resume_result}
 use Rattle.fancy_regex_linear.specs.declared.frame.Frame.{Frame}

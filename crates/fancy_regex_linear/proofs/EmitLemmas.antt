@@ -1,10 +1,10 @@
 -- The states of a tree do what trying it does.
 use Rattle.std.proofs.Common.{◌≡◌, ℕ, zero, suc, ◌+◌, ◌*◌, ◌<◌, ◌≤◌, ◌⊎◌, Bool, true, false, cond, List, [], ◌∷◌, length, nat_eq, refl, sym, ap, ap₂, ◌∙◌, inl, inr, ⊎_elim, arith, eq-eqb, ne_eqb, length-append}
 use Rattle.std.proofs.lemmas.Bool.{cases_lt}
-use Rattle.fancy_regex_linear.specs.Meaning.{View, reads}
-use Rattle.fancy_regex_linear.specs.Attempt.{Continuation, guard, either, save, prefer}
+use Rattle.fancy_regex_states.specs.Attempts.{View, reads, Continuation, guard, either, save, NamesBelow, visit, Agrees}
+use Rattle.fancy_regex_linear.specs.Attempt.{prefer}
 use Rattle.fancy_regex_states.specs.First.{state_at}
-use Rattle.fancy_regex_linear.specs.Program.{loop_head, push, NamesBelow, visit, Agrees, AgreeBut}
+use Rattle.fancy_regex_linear.specs.Program.{loop_head, push, AgreeBut}
 use Rattle.fancy_regex_states.specs.declared.state.State.{State}
 use Rattle.fancy_regex_states.specs.declared.state.State.TheVariants.{Split, Enter, Leave, Match}
 use Rattle.fancy_regex_states.specs.declared.state.State.TheVariants as S

@@ -1,7 +1,8 @@
 -- Frames that give way to what their pairs lead to.
 use Rattle.std.proofs.Common.{◌≡◌, ℕ, ◌<◌, ◌≤◌, Bool, true, false, if◌then◌else◌, List, ◌∷◌, Option, refl, sym, ap, ◌∙◌, subst, inl, inr, arith}
 use Rattle.fancy_regex_linear.specs.Meaning.{Spot}
-use Rattle.fancy_regex_linear.specs.Attempt.{Continuation, save, write, better_spot, trace_end}
+use Rattle.fancy_regex_states.specs.Attempts.{Continuation, save, write}
+use Rattle.fancy_regex_linear.specs.Attempt.{better_spot, trace_end}
 use Rattle.fancy_regex_linear.specs.Search.{slots_at_bottom, pending, Reaches, ReachesBelow, Dfs, After, LeadsTo, IsPair, with_step, IsStepWithin, AllWithin, Grows}
 use Rattle.fancy_regex_linear.specs.declared.frame.SearchStep.{SearchStep}
 use Rattle.fancy_regex_linear.specs.declared.frame.SearchStep.TheVariants.{Pair, Backtrack, Matched}

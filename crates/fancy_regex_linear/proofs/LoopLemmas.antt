@@ -13,9 +13,9 @@ use Rattle.fancy_regex_states.specs.declared.state.State.{State}
 use Rattle.fancy_regex_states.specs.declared.state.State.TheVariants.{Read}
 use Rattle.fancy_regex_states.specs.declared.state.State.TheVariants.{Match as End}
 use Rattle.fancy_regex_linear.specs.CharTests.{read_next}
-use Rattle.fancy_regex_linear.specs.Meaning.{Spot, View, reads}
-use Rattle.fancy_regex_linear.specs.Attempt.{Trace, Continuation, score, either, save, accept, better_trace, better_spot, apply, trace_end}
-use Rattle.fancy_regex_linear.specs.Program.{visit}
+use Rattle.fancy_regex_states.specs.Attempts.{View, reads, Trace, Continuation, score, either, save, accept, better_trace, visit}
+use Rattle.fancy_regex_linear.specs.Meaning.{Spot}
+use Rattle.fancy_regex_linear.specs.Attempt.{better_spot, apply, trace_end}
 use Rattle.fancy_regex_linear.specs.Visited.{Adds, AddsRun}
 use Rattle.fancy_regex_linear.specs.Search.{IsLoop, IsReader, IsExit, IsStretch, HasInStretch, GoesOn, LeadsTo, Explains, Dfs, After, Progresses, Reaches, pending, slots_at_bottom, with_step}
 use Rattle.fancy_regex_linear.specs.declared.frame.SearchStep.{SearchStep}

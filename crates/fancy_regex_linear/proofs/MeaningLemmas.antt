@@ -17,7 +17,8 @@ use Rattle.fancy_regex_meaning.specs.Ways as ways
 use Rattle.fancy_regex_class.specs.Classes.{folded}
 use Rattle.fancy_regex_linear.specs.Re.{Re, nothing, read, test, cat}
 use Rattle.fancy_regex_linear.specs.Re as re
-use Rattle.fancy_regex_linear.specs.Meaning.{Spot, View, each, in_order, after_iteration, loop_ways, times_ways, upto_ways, tail_ways, is_unbounded, reads}
+use Rattle.fancy_regex_states.specs.Attempts.{View, reads}
+use Rattle.fancy_regex_linear.specs.Meaning.{Spot, each, in_order, after_iteration, loop_ways, times_ways, upto_ways, tail_ways, is_unbounded}
 use Rattle.fancy_regex_linear.specs.Meaning as plain
 use Rattle.fancy_regex_linear.specs.Plain.{IsPlain, ArePlain, IsServed, test_of, served, has_no_iteration, unless, classes, row_classes, re_of, row_of, branches_of}
 use Rattle.fancy_regex_class.specs.RunInputs.{group_slots}

@@ -27,7 +27,6 @@ weight_served None = omega arith
 weight_served (Some t) = omega arith
 
 never_served : (o : Option Test) → never_empty (served o) ≡ false
-unfolding never_empty
 never_served None = refl
 never_served (Some t) = refl
 
@@ -47,7 +46,6 @@ out_light false x n h = h
 
 -- a repeat without iterations is never sure to move
 out_moves : (lo hi : ℕ) (greedy strict : Bool) (x : Re) → never_empty (unless (has_no_iteration lo hi) (re.repeat lo hi greedy strict x)) ≡ (nat_lt 0 lo && never_empty x)
-unfolding never_empty
 out_moves zero zero greedy strict x = refl
 out_moves zero (suc hi) greedy strict x = rw (ne_eqb (suc hi) 0 (omega arith)) refl
 out_moves (suc lo) hi greedy strict x = rw (ne_eqb (suc lo) 0 (omega arith)) refl
@@ -111,7 +109,7 @@ zero_test (suc n) = ne_eqb (suc n) 0 (omega arith) ∙ sym (ap not (lt-ltb 0 (su
 
 module _ (unicode : Bool) (groups : List Tree) (call : ℕ → Size) where
   mutual
-    unfolding re_of size_with never_empty
+    unfolding re_of size_with
 
     -- a plain tree may be empty exactly where its pattern may
     empties : (n k : ℕ) (t : Tree) → IsPlain t → ((size_with call t).least == 0) ≡ not (never_empty (re_of unicode groups n k t))

@@ -17,11 +17,8 @@ use Rattle.fancy_regex_states.specs.declared.rules.Rules.{Rules}
 use Rattle.fancy_regex_states.specs.declared.state.State.{State}
 use Rattle.fancy_regex_states.specs.declared.state.State.TheVariants.{Split, Enter, Leave, Match}
 use Rattle.fancy_regex_states.specs.declared.state.State.TheVariants as S
-use Rattle.fancy_regex_linear.specs.Meaning.{View, reads}
-use Rattle.fancy_regex_linear.specs.Attempt.{Continuation, Trace, write, score, better_trace}
-use Rattle.fancy_regex_linear.specs.CharTests.{Shows}
-use Rattle.fancy_regex_linear.specs.Program.{NamesBelow, visit}
-use Rattle.fancy_regex_linear.specs.Search.{AllAgree, AllFail, Reaches as Attains, Explains, RefusesAscii}
+use Rattle.fancy_regex_states.specs.Attempts.{View, reads, Continuation, Trace, write, score, better_trace, Shows, NamesBelow, visit, AllAgree}
+use Rattle.fancy_regex_linear.specs.Search.{AllFail, Reaches as Attains, Explains, RefusesAscii}
 use Rattle.fancy_regex_linear.specs.Visited.{Has}
 use Rattle.fancy_regex_class.proofs.AdjacentCharLemmas.{boundary_past_ascii}
 use Rattle.fancy_regex_linear.specs.Starts.{LeadsToVisited, LeadsInto, HasRefusedPair}

@@ -1,10 +1,10 @@
 -- The states of a repeat do what trying it does, whatever is repeated.
 use Rattle.std.proofs.Common.{◌≡◌, ℕ, zero, suc, ◌-◌, ◌<◌, ◌≤◌, ◌⊎◌, Bool, true, false, List, length, refl, sym, ap, ◌∙◌, inl, inr, ⊎_elim, arith, length-set, set, get_or-set_same, get_or-set_other}
 use Rattle.std.proofs.lemmas.Bool.{cases_lt, cases_eq}
-use Rattle.fancy_regex_linear.specs.Meaning.{View}
-use Rattle.fancy_regex_linear.specs.Attempt.{Continuation, prefer, pick, times_try, upto_try, star_try, tail_try}
+use Rattle.fancy_regex_states.specs.Attempts.{View, Continuation, NamesBelow, visit}
+use Rattle.fancy_regex_linear.specs.Attempt.{prefer, pick, times_try, upto_try, star_try, tail_try}
 use Rattle.fancy_regex_states.specs.First.{state_at}
-use Rattle.fancy_regex_linear.specs.Program.{loop_head, push, Emitter, BothEmitter, emitted_times, emitted_both_times, emitted_upto, emitted_both_upto, emitted_star, emitted_both_star, emitted_plus, emitted_both_plus, emitted_many, emitted_both_many, emitted_repeat, emitted_both_repeat, NamesBelow, visit, AgreeBut}
+use Rattle.fancy_regex_linear.specs.Program.{loop_head, push, Emitter, BothEmitter, emitted_times, emitted_both_times, emitted_upto, emitted_both_upto, emitted_star, emitted_both_star, emitted_plus, emitted_both_plus, emitted_many, emitted_both_many, emitted_repeat, emitted_both_repeat, AgreeBut}
 use Rattle.fancy_regex_states.specs.declared.state.State.{State}
 use Rattle.fancy_regex_states.specs.declared.state.State.TheVariants.{Match}
 use Rattle.fancy_regex_linear.proofs.AgreeLemmas.{prefer_cong, pick_same, pick_moved, pick_agree, Looks, Moves, star_agree, times_agree, upto_agree, star_unfold, plus_unfold}

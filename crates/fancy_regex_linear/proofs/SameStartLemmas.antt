@@ -13,19 +13,19 @@ use Rattle.fancy_regex_meaning.proofs.EachLemmas.{Each-weaker, Each-append, Each
 use Rattle.fancy_regex_linear.specs.Plain.{IsPlain, ArePlain}
 
 abbrev HaveStartOf : MatchState → List MatchState → Type 0
-HaveStartOf w vs = Each (λ v. v.kept ≡ w.kept) vs
+HaveStartOf w vs = Each (λ v. v.match_start ≡ w.match_start) vs
 
 abbrev KeepsStart : Moves → Type 0
 KeepsStart f = (w : MatchState) → HaveStartOf w (f w)
 
 follow : (w : MatchState) (f : Moves) (vs : List MatchState) → KeepsStart f → HaveStartOf w vs → HaveStartOf w (flat_map f vs)
 follow w f vs h k =
-    Each-flat_map (λ v. v.kept ≡ w.kept) (λ v. v.kept ≡ w.kept) f
-    (λ v e. Each-weaker (λ u. u.kept ≡ v.kept) (λ u. u.kept ≡ w.kept) (λ u q. q ∙ e) (f v) (h v)) vs k
+    Each-flat_map (λ v. v.match_start ≡ w.match_start) (λ v. v.match_start ≡ w.match_start) f
+    (λ v e. Each-weaker (λ u. u.match_start ≡ v.match_start) (λ u. u.match_start ≡ w.match_start) (λ u q. q ∙ e) (f v) (h v)) vs k
 
 in_turn : (g : Bool) (w : MatchState) (us vs : List MatchState) → HaveStartOf w us → HaveStartOf w vs → HaveStartOf w (prefer g us vs)
-in_turn true w us vs h k = Each-append (λ v. v.kept ≡ w.kept) us vs h k
-in_turn false w us vs h k = Each-append (λ v. v.kept ≡ w.kept) vs us k h
+in_turn true w us vs h k = Each-append (λ v. v.match_start ≡ w.match_start) us vs h k
+in_turn false w us vs h k = Each-append (λ v. v.match_start ≡ w.match_start) vs us k h
 
 due_keeps : (n : ℕ) (f g : Moves) → KeepsStart f → KeepsStart g → KeepsStart (due n f g)
 due_keeps zero f g h k w = k w
@@ -35,15 +35,15 @@ up_to_keeps : (n : ℕ) (g : Bool) (f : Moves) → KeepsStart f → KeepsStart (
 up_to_keeps zero g f h w = (refl, tt)
 up_to_keeps (suc n) g f h w = in_turn g w _ (w ∷ []) (follow w (up_to n g f) (f w) (up_to_keeps n g f h) (h w)) (refl, tt)
 
-iteration_keeps : (b : Bool) (w v : MatchState) (again : List MatchState) → v.kept ≡ w.kept → HaveStartOf v again → HaveStartOf w (if b then v ∷ [] else again)
+iteration_keeps : (b : Bool) (w v : MatchState) (again : List MatchState) → v.match_start ≡ w.match_start → HaveStartOf v again → HaveStartOf w (if b then v ∷ [] else again)
 iteration_keeps true w v again e h = (e, tt)
-iteration_keeps false w v again e h = Each-weaker (λ u. u.kept ≡ v.kept) (λ u. u.kept ≡ w.kept) (λ u q. q ∙ e) again h
+iteration_keeps false w v again e h = Each-weaker (λ u. u.match_start ≡ v.match_start) (λ u. u.match_start ≡ w.match_start) (λ u q. q ∙ e) again h
 
 loop_keeps : (n : ℕ) (g : Bool) (f : Moves) → KeepsStart f → KeepsStart (loop n g f)
 loop_keeps zero g f h w = tt
 loop_keeps (suc n) g f h w =
     in_turn g w _ (w ∷ [])
-    (Each-flat_map (λ v. v.kept ≡ w.kept) (λ v. v.kept ≡ w.kept) _
+    (Each-flat_map (λ v. v.match_start ≡ w.match_start) (λ v. v.match_start ≡ w.match_start) _
     (λ v e. iteration_keeps (v.position == w.position) w v (loop n g f v) e (loop_keeps n g f h v)) (f w) (h w))
     (refl, tt)
 
@@ -51,7 +51,7 @@ repeat_keeps : (s : Setting) (lo : ℕ) (bound : Option ℕ) (g : Bool) (f : Mov
 repeat_keeps s lo None g f h w = due_keeps lo f (loop (length s.text + 1) g f) h (loop_keeps (length s.text + 1) g f h) w
 repeat_keeps s lo (Some hi) g f h w = due_keeps lo f (up_to (hi - lo) g f) h (up_to_keeps (hi - lo) g f h) w
 
-if_keeps : (b : Bool) (w v : MatchState) → v.kept ≡ w.kept → HaveStartOf w (if b then v ∷ [] else [])
+if_keeps : (b : Bool) (w v : MatchState) → v.match_start ≡ w.match_start → HaveStartOf w (if b then v ∷ [] else [])
 if_keeps true w v e = (e, tt)
 if_keeps false w v e = tt
 
@@ -72,7 +72,7 @@ module _ (s : Setting) (groups : List Tree) (call : ℕ → Moves) where
     keeps_start n (concat ts) p w = row_keeps n ts p w
     keeps_start n (alt ts) p w = branches_keeps n ts p.1 w
     keeps_start n (group t) p w =
-        Each-map (λ v. v.kept ≡ w.kept) (λ v. v.kept ≡ w.kept) (λ v. ways.set_pair n (w.position, v.position) v) (λ v e. e) ((meaning s groups call (n + 1) t).from w) (keeps_start (n + 1) t p w)
+        Each-map (λ v. v.match_start ≡ w.match_start) (λ v. v.match_start ≡ w.match_start) (λ v. ways.set_pair n (w.position, v.position) v) (λ v e. e) ((meaning s groups call (n + 1) t).from w) (keeps_start (n + 1) t p w)
     keeps_start n (repeat t lo hi greedy) p w = repeat_keeps s lo (bound_of hi) greedy (meaning s groups call n t).from (keeps_start n t p) w
     keeps_start n _ p w = absurd p
 
@@ -84,4 +84,4 @@ module _ (s : Setting) (groups : List Tree) (call : ℕ → Moves) where
     branches_keeps : (n : ℕ) (ts : Trees) → ArePlain ts → KeepsStart (any_of (meanings s groups call n ts)).from
     branches_keeps n no_trees p w = tt
     branches_keeps n (more_trees t ts) p w =
-        Each-append (λ v. v.kept ≡ w.kept) ((meaning s groups call n t).from w) ((any_of (meanings s groups call (n + group_count t) ts)).from w) (keeps_start n t p.0 w) (branches_keeps (n + group_count t) ts p.1 w)
+        Each-append (λ v. v.match_start ≡ w.match_start) ((meaning s groups call n t).from w) ((any_of (meanings s groups call (n + group_count t) ts)).from w) (keeps_start n t p.0 w) (branches_keeps (n + group_count t) ts p.1 w)

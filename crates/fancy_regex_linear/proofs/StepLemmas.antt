@@ -6,10 +6,10 @@ use Rattle.std.proofs.lemmas.Str.{len_utf8_bounds}
 use Rattle.std.specs.Bool.{MatchBool}
 use Rattle.std.specs.Char.{len_utf8}
 use Rattle.std.specs.Prelude.{IfSome, IsCharBoundary}
-use Rattle.fancy_regex_linear.specs.Meaning.{Spot, View, reads}
-use Rattle.fancy_regex_linear.specs.Attempt.{Continuation, save, guard}
+use Rattle.fancy_regex_states.specs.Attempts.{View, reads, Continuation, save, guard, Shows}
+use Rattle.fancy_regex_linear.specs.Meaning.{Spot}
 use Rattle.fancy_regex_linear.specs.Visited.{Adds}
-use Rattle.fancy_regex_linear.specs.CharTests.{Shows, read_next}
+use Rattle.fancy_regex_linear.specs.CharTests.{read_next}
 use Rattle.fancy_regex_states.specs.CharTests.{leaf_matches_char}
 use Rattle.fancy_regex_linear.specs.Search.{Dfs, After, IsStepWithin, LeadsTo}
 use Rattle.fancy_regex_states.specs.declared.atom.Leaf.{Leaf}

@@ -1,8 +1,9 @@
 -- The states of a tree do what trying it does.
 use Rattle.std.proofs.Common.{◌≡◌, ℕ, ◌+◌, ◌*◌, ◌<◌, List, length, refl, sym, ap, ap₂, ◌∙◌, inr, ⊎_elim, arith}
 use Rattle.std.proofs.lemmas.Bool.{cases_lt}
-use Rattle.fancy_regex_linear.specs.Meaning.{View, is_unbounded}
-use Rattle.fancy_regex_linear.specs.Attempt.{AttemptResult, Continuation, guard, either, save, pick, attempt}
+use Rattle.fancy_regex_states.specs.Attempts.{View, AttemptResult, Continuation, guard, either, save}
+use Rattle.fancy_regex_linear.specs.Meaning.{is_unbounded}
+use Rattle.fancy_regex_linear.specs.Attempt.{pick, attempt}
 use Rattle.fancy_regex_linear.specs.Program.{IsSound, push, emitted, emitted_both, emitted_both_group, AgreeBut}
 use Rattle.fancy_regex_linear.specs.Re.{Re, nothing, read, test, cat, alt, group, repeat}
 use Rattle.fancy_regex_states.specs.declared.state.State.{State}

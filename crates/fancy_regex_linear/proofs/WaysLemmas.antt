@@ -1,9 +1,10 @@
 -- Trying a tree finds the first of its ways from which the rest goes on.
 use Rattle.std.proofs.Common.{◌≡◌, ℕ, zero, suc, ◌+◌, ◌*◌, ◌-◌, ◌<◌, ◌≤◌, Bool, true, false, List, [], ◌∷◌, ◌++◌, map, Option, Some, None, if◌then◌else◌, nat_lt, arith, set, refl, sym, ap, ap₂, ◌∙◌, ⊎_elim, lt-ltb, le-ltb}
 use Rattle.std.proofs.lemmas.Bool.{cases_lt}
-use Rattle.fancy_regex_linear.specs.Meaning.{Spot, View, each, in_order, after_iteration, loop_ways, times_ways, upto_ways, tail_ways, is_unbounded, reads, ways}
+use Rattle.fancy_regex_states.specs.Attempts.{View, reads, Trace, AttemptResult, Continuation, score, better, better_trace, failed, guard, write, save}
+use Rattle.fancy_regex_linear.specs.Meaning.{Spot, each, in_order, after_iteration, loop_ways, times_ways, upto_ways, tail_ways, is_unbounded, ways}
 use Rattle.fancy_regex_linear.specs.Attempt.{apply, trace_end}
-use Rattle.fancy_regex_linear.specs.Attempt.{Trace, AttemptResult, Continuation, score, better, better_trace, better_spot, failed, guard, write, save, prefer, pick, iterations, times_try, upto_try, tail_try, attempt}
+use Rattle.fancy_regex_linear.specs.Attempt.{better_spot, prefer, pick, iterations, times_try, upto_try, tail_try, attempt}
 use Rattle.fancy_regex_linear.specs.Re.{Re, nothing, read, test, cat, alt, group, repeat}
 use Rattle.fancy_regex_linear.proofs.AgreeLemmas.{pick_same, pick_moved}
 

@@ -4,8 +4,7 @@ use Rattle.regex_hir.specs.Text.{char_at}
 use Rattle.fancy_regex_states.specs.First.{state_at}
 use Rattle.fancy_regex_states.specs.declared.state.State.{State}
 use Rattle.fancy_regex_states.specs.declared.state.State.TheVariants.{Read, Enter}
-use Rattle.fancy_regex_linear.specs.Meaning.{View}
-use Rattle.fancy_regex_linear.specs.Attempt.{Trace, Continuation, write}
+use Rattle.fancy_regex_states.specs.Attempts.{View, Trace, Continuation, write}
 use Rattle.fancy_regex_linear.specs.Search.{IsLoop, IsExit, IsStretch, Explains}
 use Rattle.fancy_regex_linear.specs.declared.class_loop.Exit.TheVariants.{Reads}
 use Rattle.fancy_regex_linear.specs.declared.search.SearchContext.{SearchContext}

@@ -1,52 +1,11 @@
 -- An attempt to match a pattern at an offset: its answer, and the depth of its search.
 use Rattle.std.specs.Prelude.{true, false, ℕ, zero, suc, ◌+◌, ◌-◌, ◌*◌, Bool, List, [], ◌∷◌, Option, Some, None, if◌then◌else◌, nat_lt, slice_set}
 use Rattle.fancy_regex_linear.specs.Re.{Re, nothing, read, test, cat, alt, group, repeat}
-use Rattle.fancy_regex_linear.specs.Meaning.{Spot, View, reads, is_unbounded}
-
--- The trace of a successful attempt: its end, and each (slot, offset) that was written, oldest first.
-pub record Trace : Type 0 where
-  pub end : ℕ
-  pub writes : List (ℕ × ℕ)
-
--- the answer, and a number that falls along each edge of the search
-pub record AttemptResult : Type 0 where
-  pub answer : Option Trace
-  pub depth : ℕ
-
-abbrev pub Continuation : Type 0
-Continuation = ℕ → AttemptResult
-
--- how good an end is
-abbrev pub score : Bool → ℕ → ℕ
-score longest end = if longest then end else 0
-
--- the first, unless the second is there and better
-abbrev pub better : {A : Type 0} → (A → ℕ) → Option A → Option A → Option A
-better rank None b = b
-better rank (Some a) None = Some a
-better rank (Some a) (Some b) = if nat_lt (rank a) (rank b) then Some b else Some a
-
-abbrev pub better_trace : Bool → Option Trace → Option Trace → Option Trace
-better_trace longest = better (λ t. score longest t.end)
+use Rattle.fancy_regex_states.specs.Attempts.{View, Trace, AttemptResult, Continuation, score, better, failed, guard, save, either, reads}
+use Rattle.fancy_regex_linear.specs.Meaning.{Spot, is_unbounded}
 
 abbrev pub better_spot : Bool → Option Spot → Option Spot → Option Spot
 better_spot longest = better (λ s. score longest s.at)
-
-abbrev pub failed : AttemptResult
-failed = record { answer = None; depth = 0 }
-
-abbrev pub accept : Continuation
-accept i = record { answer = Some (record { end = i; writes = [] }); depth = 0 }
-
-abbrev pub guard : Bool → AttemptResult → AttemptResult
-guard b r = if b then record { answer = r.answer; depth = r.depth + 1 } else failed
-
-abbrev pub write : ℕ → ℕ → Option Trace → Option Trace
-write slot i None = None
-write slot i (Some t) = Some (record { end = t.end; writes = (slot, i) ∷ t.writes })
-
-abbrev pub save : ℕ → ℕ → AttemptResult → AttemptResult
-save slot i r = record { answer = write slot i r.answer; depth = r.depth + 1 }
 
 -- after a node that began at i: `same` where it matched the empty string, `moved` where it did not
 unfoldable pub pick : ℕ → Continuation → Continuation → Continuation
@@ -57,12 +16,9 @@ times_try body zero k i = k i
 times_try body (suc n) k i = body (times_try body n k) i
 
 module _ (longest : Bool) where
-  abbrev pub either : AttemptResult → AttemptResult → AttemptResult
-  either a b = record { answer = better_trace longest a.answer b.answer; depth = a.depth + b.depth + 1 }
-
   -- a greedy loop prefers another iteration, a lazy one prefers the exit
   abbrev pub prefer : Bool → AttemptResult → AttemptResult → AttemptResult
-  prefer greedy iteration exit = if greedy then either iteration exit else either exit iteration
+  prefer greedy iteration exit = if greedy then either longest iteration exit else either longest exit iteration
 
   -- A loop of at most n iterations that move.
   unfoldable pub iterations : Bool → (Continuation → Continuation) → Continuation → ℕ → Continuation

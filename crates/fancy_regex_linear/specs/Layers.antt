@@ -4,8 +4,9 @@ use Rattle.std.specs.Char.{len_utf8}
 use Rattle.regex_hir.specs.Text.{char_at}
 use Rattle.fancy_regex_class.specs.Looks.{looked_text, look_count, SameCounter}
 use Rattle.fancy_regex_class.specs.declared.counted.Counted.{Counted}
-use Rattle.fancy_regex_linear.specs.Meaning.{Spot, View}
-use Rattle.fancy_regex_linear.specs.Attempt.{Continuation, trace_end}
+use Rattle.fancy_regex_states.specs.Attempts.{View, Continuation}
+use Rattle.fancy_regex_linear.specs.Meaning.{Spot}
+use Rattle.fancy_regex_linear.specs.Attempt.{trace_end}
 use Rattle.fancy_regex_linear.specs.Visited.{Has, pair_count, visited_bound}
 use Rattle.fancy_regex_linear.specs.Search.{IsPair, Closed, AllWithin, AllFail, Explains, HasTable, HasMarks, Dfs, After, IsStepWithin, Progresses, top_first, end_spot}
 use Rattle.fancy_regex_linear.specs.declared.backtrack.BacktrackState.{BacktrackState}

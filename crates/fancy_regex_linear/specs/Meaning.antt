@@ -1,6 +1,7 @@
 -- What a pattern matches in a range: the list of its matches in the order of preference (the ways).
 use Rattle.std.specs.Prelude.{ℕ, zero, suc, ◌+◌, ◌-◌, ◌*◌, Bool, true, false, ◌&&◌, List, [], ◌∷◌, ◌++◌, map, if◌then◌else◌, nat_lt, nat_le, nat_eq, slice_set}
 use Rattle.fancy_regex_linear.specs.Re.{Re, nothing, read, test, cat, alt, group, repeat}
+use Rattle.fancy_regex_states.specs.Attempts.{View, reads}
 use Rattle.fancy_regex_states.specs.declared.atom.Leaf.{Leaf}
 use Rattle.fancy_regex_states.specs.declared.atom.Test.{Test}
 
@@ -8,16 +9,6 @@ use Rattle.fancy_regex_states.specs.declared.atom.Test.{Test}
 pub record Spot : Type 0 where
   pub at : ℕ
   pub slots : List ℕ
-
--- The text as a search reads it, and whether the first or the longest match is wanted.
-pub record View : Type 0 where
-  -- whether the leaf matches the character at this offset
-  pub has : Leaf → ℕ → Bool
-  -- the offset after that character
-  pub next : ℕ → ℕ
-  pub holds : Test → ℕ → Bool
-  -- leftmost-longest matching, instead of leftmost-first
-  pub longest : Bool
 
 abbrev pub each : {A B : Type 0} → (A → List B) → List A → List B
 each f [] = []
@@ -56,14 +47,10 @@ tail_ways true stop greedy body n s = loop_ways greedy body (stop - s.at) s
 tail_ways false stop greedy body n s = upto_ways greedy body n s
 
 module _ (view : View) (stop : ℕ) where
-  -- whether the leaf matches the character here, which ends by `stop`
-  unfoldable pub reads : Leaf → ℕ → Bool
-  reads leaf i = view.has leaf i && (nat_lt i (view.next i) && nat_le (view.next i) stop)
-
   -- the ways of a pattern from an offset, in the order of preference
   unfoldable pub ways : Re → Spot → List Spot
   ways nothing s = s ∷ []
-  ways (read leaf) s = if reads leaf s.at then record { at = view.next s.at; slots = s.slots } ∷ [] else []
+  ways (read leaf) s = if reads view stop leaf s.at then record { at = view.next s.at; slots = s.slots } ∷ [] else []
   ways (test check) s = if view.holds check s.at then s ∷ [] else []
   ways (cat a b) s = each (ways b) (ways a s)
   ways (alt a b) s = ways a s ++ ways b s

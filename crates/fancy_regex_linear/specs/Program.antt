@@ -1,8 +1,8 @@
 -- The states that a tree becomes.
 use Rattle.std.specs.Prelude.{◌≡◌, ℕ, zero, suc, ◌-◌, true, false, ◌&&◌, ◌||◌, max, nat_lt, ◌+◌, ◌*◌, ◌<◌, ◌≤◌, ◌⊎◌, Bool, List, [], ◌∷◌, ◌++◌, length, slice_set, if◌then◌else◌}
 use Rattle.fancy_regex_states.specs.First.{state_at}
-use Rattle.fancy_regex_linear.specs.Attempt.{Continuation, guard, either, save, accept}
-use Rattle.fancy_regex_linear.specs.Meaning.{View, reads, is_unbounded}
+use Rattle.fancy_regex_states.specs.Attempts.{Continuation, guard, either, save, accept, View, Agrees}
+use Rattle.fancy_regex_linear.specs.Meaning.{is_unbounded}
 use Rattle.fancy_regex_linear.specs.Re.{Re, nothing, read, test, cat, alt, group, repeat}
 use Rattle.fancy_regex_states.specs.declared.state.State.{State}
 use Rattle.fancy_regex_states.specs.declared.state.State.TheVariants.{Split, Enter, Leave, Match}
@@ -16,7 +16,7 @@ abbrev pub push : List State → State → List State
 push states state = states ++ state ∷ []
 
 -- each way of the pattern moves
-unfoldable pub never_empty : Re → Bool
+abbrev pub never_empty : Re → Bool
 never_empty nothing = false
 never_empty (read leaf) = true
 never_empty (test check) = false
@@ -213,30 +213,7 @@ weight (alt a b) = weight a + weight b + 3
 weight (group g a) = weight a + 2
 weight (repeat lo hi greedy strict a) = repeat_weight (is_unbounded hi) strict lo hi (weight a)
 
--- each state that this one names is below n
-abbrev pub NamesBelow : ℕ → State → Type 0
-NamesBelow n (S.Read leaf next) = next < n
-NamesBelow n (S.Look check next) = next < n
-NamesBelow n (Split first second) = (first < n) × (second < n)
-NamesBelow n (Enter g next) = next < n
-NamesBelow n (Leave g next) = next < n
-NamesBelow n Match = Unit {0}
-
 module _ (view : View) (stop : ℕ) where
-  -- what a state gives at i, where `go q` is what the state q gives
-  abbrev pub visit : (ℕ → Continuation) → State → Continuation
-  visit go (S.Read leaf next) i = guard (reads view stop leaf i) (go next (view.next i))
-  visit go (S.Look check next) i = guard (view.holds check i) (go next i)
-  visit go (Split first second) i = either view.longest (go first i) (go second i)
-  visit go (Enter g next) i = save (2 * g) i (go next i)
-  visit go (Leave g next) i = save (2 * g + 1) i (go next i)
-  visit go Match i = accept i
-
-  -- the state q does what `go q` says, as far as the states that it names do
-  pub record Agrees (go : ℕ → Continuation) (count q : ℕ) (state : State) : Type 0 where
-    pub names : NamesBelow count state
-    pub does : (i : ℕ) → i ≤ stop → go q i ≡ visit go state i
-
   -- all states do, but for the open ones
   abbrev pub AgreeBut : (ℕ → Type 0) → List State → (ℕ → Continuation) → Type 0
-  AgreeBut Open states go = (q : ℕ) → q < length states → Open q ⊎ Agrees go (length states) q (state_at states q)
+  AgreeBut Open states go = (q : ℕ) → q < length states → Open q ⊎ Agrees view stop go (length states) q (state_at states q)

@@ -1,11 +1,10 @@
 -- A depth-first search over pairs of a state and a position, which looks at each pair once.
 use Rattle.std.specs.Prelude.{◌≡◌, ℕ, ◌+◌, ◌<◌, ◌≤◌, ◌⊎◌, Bool, true, false, List, [], ◌∷◌, ◌++◌, length, Option, Some, None, slice_set, slice_index_or, IsCharBoundary, IfSome}
-use Rattle.fancy_regex_linear.specs.Meaning.{Spot, View}
-use Rattle.fancy_regex_linear.specs.Attempt.{Trace, Continuation, score, better_spot, trace_end}
+use Rattle.fancy_regex_states.specs.Attempts.{View, Trace, Continuation, score, NamesBelow, AllAgree, ShowsAll}
+use Rattle.fancy_regex_linear.specs.Meaning.{Spot}
+use Rattle.fancy_regex_linear.specs.Attempt.{better_spot, trace_end}
 use Rattle.fancy_regex_states.specs.First.{state_at, CannotBegin, IsTableOf}
 use Rattle.fancy_regex_class.specs.declared.class.CharClassMatcher.{CharClassMatcher}
-use Rattle.fancy_regex_linear.specs.Program.{NamesBelow, Agrees}
-use Rattle.fancy_regex_linear.specs.CharTests.{ShowsAll}
 use Rattle.fancy_regex_states.specs.declared.state.State.{State}
 use Rattle.fancy_regex_states.specs.declared.state.State.TheVariants.{Read, Split}
 use Rattle.fancy_regex_states.specs.declared.state.State.TheVariants.{Match as End}
@@ -65,10 +64,6 @@ abbrev pub AllWithin : List ℕ → ℕ → ℕ → ℕ → List Frame → Type 
 AllWithin text count stop base [] = Unit {0}
 AllWithin text count stop base (Explore q i ∷ rest) = IsPair text count stop base q i × AllWithin text count stop base rest
 AllWithin text count stop base (Restore slot old ∷ rest) = AllWithin text count stop base rest
-
--- all states do what `go` says
-abbrev pub AllAgree : View → ℕ → List State → (ℕ → Continuation) → Type 0
-AllAgree view stop states go = (q : ℕ) → q < length states → Agrees view stop go (length states) q (state_at states q)
 
 -- The view says what looks at the text show, and the states do what `go` says.
 pub record Explains (context : SearchContext) (text : List ℕ) (view : View) (go : ℕ → Continuation) : Type 0 where

@@ -6,7 +6,7 @@ use Rattle.fancy_regex_tree.specs.declared.expr.Assertion.{Assertion}
 use Rattle.fancy_regex_tree.specs.declared.expr.Assertion.TheVariants as A
 use Rattle.fancy_regex_meaning.specs.Positions.{position_after}
 use Rattle.fancy_regex_meaning.specs.Ways.{Setting, is_any, holds}
-use Rattle.fancy_regex_linear.specs.Meaning.{View}
+use Rattle.fancy_regex_states.specs.Attempts.{View}
 use Rattle.fancy_regex_states.specs.declared.atom.Leaf.{Leaf}
 use Rattle.fancy_regex_states.specs.declared.atom.Leaf.TheVariants.{Any, Char, Folded, Class}
 use Rattle.fancy_regex_states.specs.declared.atom.Test.{Test}

@@ -4,8 +4,9 @@ use Rattle.std.specs.Char.{len_utf8}
 use Rattle.regex_hir.specs.Text.{char_at}
 use Rattle.fancy_regex_class.specs.Looks.{HasMarkedAscii}
 use Rattle.fancy_regex_states.specs.First.{CannotFollow}
-use Rattle.fancy_regex_linear.specs.Meaning.{Spot, View}
-use Rattle.fancy_regex_linear.specs.Attempt.{Continuation, trace_end}
+use Rattle.fancy_regex_states.specs.Attempts.{View, Continuation}
+use Rattle.fancy_regex_linear.specs.Meaning.{Spot}
+use Rattle.fancy_regex_linear.specs.Attempt.{trace_end}
 use Rattle.fancy_regex_linear.specs.Find.{places_from}
 use Rattle.fancy_regex_linear.specs.Search.{Explains}
 use Rattle.fancy_regex_linear.specs.Visited.{Has}

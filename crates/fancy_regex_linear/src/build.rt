@@ -131,7 +131,7 @@ impl Translator {
     /// Translates an expression; its groups and classes are numbered after those so far. What is not easy is left out. The
     /// error is `InnerError` with the text of a class that `regex` refuses, or `Memory`.
     #[cycle(build)]
-    #[tactic(auto, unfolding(crate::specs::Plain::re_of, crate::specs::Plain::classes, fancy_regex_meaning::specs::Groups::group_count, crate::specs::Program::never_empty))]
+    #[tactic(auto, unfolding(crate::specs::Plain::re_of, crate::specs::Plain::classes, fancy_regex_meaning::specs::Groups::group_count))]
     pub fn translated(&mut self, expr: &Expr) -> Result<Translated, CompileError>
         ensures unicode { self.new.unicode ≡ self.old.unicode }
         ensures groups { IfOk result (λ _. IsPlain (tree_of expr.now)
@@ -255,7 +255,6 @@ impl Translator {
 
     /// Translates a capture group, which has the next number.
     #[cycle(build)]
-    #[tactic(auto, unfolding(crate::specs::Program::never_empty))]
     fn group(&mut self, child: &Expr) -> Result<Translated, CompileError>
         ensures unicode { self.new.unicode ≡ self.old.unicode }
         ensures groups { IfOk result (λ _. IsPlain (tree_of child.now)
@@ -282,7 +281,6 @@ impl Translator {
 
     /// Translates a quantifier. A body that is repeated zero times is left out, but its groups are counted.
     #[cycle(build)]
-    #[tactic(auto, unfolding(crate::specs::Program::never_empty))]
     fn repeat(
         &mut self,
         child: &Expr,

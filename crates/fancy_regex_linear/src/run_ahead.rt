@@ -4,8 +4,7 @@
 ghost use Rattle.std.specs.Prelude.{◌≡◌, ◌+◌, ◌-◌, ◌^◌, ◌<◌, ◌≤◌, ℕ, false, List, Option, None, length, min, IfSome, IsCharBoundary};
 ghost use Rattle.regex_hir.specs.Text.{char_at};
 ghost use Rattle.fancy_regex_class.specs.Looks.{looked_text, look_count, SameCounter};
-ghost use Rattle.fancy_regex_linear.specs.Meaning.{View};
-ghost use Rattle.fancy_regex_linear.specs.Attempt.{Continuation};
+ghost use Rattle.fancy_regex_states.specs.Attempts.{View, Continuation};
 ghost use Rattle.fancy_regex_linear.specs.Visited.{Has, visited_bound};
 ghost use Rattle.fancy_regex_linear.specs.Search.{Explains, IsLoop};
 ghost use Rattle.fancy_regex_linear.specs.Layers.{IsSearchContext};

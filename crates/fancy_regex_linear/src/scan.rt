@@ -5,8 +5,8 @@ ghost use Rattle.std.specs.Prelude.{◌≡◌, ◌+◌, ◌-◌, ◌^◌, ◌<�
 ghost use Rattle.std.specs.Char.{len_utf8};
 ghost use Rattle.regex_hir.specs.Text.{char_at};
 ghost use Rattle.fancy_regex_class.specs.Looks.{looked_text, look_count};
-ghost use Rattle.fancy_regex_linear.specs.Meaning.{View};
-ghost use Rattle.fancy_regex_linear.specs.Attempt.{Continuation, trace_end};
+ghost use Rattle.fancy_regex_states.specs.Attempts.{View, Continuation};
+ghost use Rattle.fancy_regex_linear.specs.Attempt.{trace_end};
 ghost use Rattle.fancy_regex_linear.specs.Search.{Explains, IsScan, end_spot};
 ghost use Rattle.fancy_regex_linear.specs.Layers.{IsSearchContext, IsOnlyLookedAt};
 ghost use Rattle.fancy_regex_linear.specs.Starts.{IsStart, EndsAt};

@@ -1,4 +1,4 @@
--- The kept start lies between where a pattern begins and where it leads.
+-- The match start lies between where a pattern begins and where it leads.
 use Rattle.std.proofs.Common.{◌≡◌, ℕ, zero, suc, ◌+◌, ◌-◌, ◌≤◌, Bool, true, false, cond, List, [], ◌∷◌, length, Option, Some, None, refl, subst, ◌∙◌, ⊎_elim, inl, inr, arith, ◌==◌, nat_lt}
 use Rattle.std.specs.Prelude.{◌&&◌, option_map}
 use Rattle.std.specs.List.{flat_map}
@@ -16,45 +16,45 @@ use Rattle.fancy_regex_meaning.specs.Ways.{MatchState, Moves, Meaning, Setting, 
 use Rattle.fancy_regex_meaning.specs.ItemLaws.{LooksOnward, PatternsAscend}
 use Rattle.fancy_regex_meaning.proofs.ListProofs.{items_ascend}
 use Rattle.fancy_regex_meaning.specs.Searches.{Input, Options, chosen, first_longest, farther, first_some, starts, first_match, search_from, all_items, Search, Match, match_at, match_of, first_item, is_admitted, start_way}
-use Rattle.fancy_regex_meaning.specs.WayLaws.{Each, KeptBetween, KeepsStart, MatchesAreSpans}
+use Rattle.fancy_regex_meaning.specs.WayLaws.{Each, HasStartBetween, KeepsStart, MatchesAreSpans}
 use Rattle.fancy_regex_meaning.proofs.EachLemmas.{Each-weaker, Each-append, Each-map, Each-flat_map, Each-filter, Each-cond, Each-for_some, Each-reverse, boundaries_pass}
 
 abbrev Keeps : Moves → Type 0
-Keeps moves = (w : MatchState) → Each (KeptBetween w) (moves w)
+Keeps moves = (w : MatchState) → Each (HasStartBetween w) (moves w)
 
-chain : (w v u : MatchState) → KeptBetween w v → KeptBetween v u → KeptBetween w u
+chain : (w v u : MatchState) → HasStartBetween w v → HasStartBetween v u → HasStartBetween w u
 chain w v u h k = (
   omega (arith, h.0, k.0),
   ⊎_elim
-      (λ (same : u.kept ≡ v.kept). ⊎_elim
-      (λ (first : v.kept ≡ w.kept). inl (same ∙ first))
-      (λ (moved : (w.position ≤ v.kept) × (v.kept ≤ v.position)). inr (omega (arith, moved.0, same), omega (arith, moved.1, same, k.0)))
+      (λ (same : u.match_start ≡ v.match_start). ⊎_elim
+      (λ (first : v.match_start ≡ w.match_start). inl (same ∙ first))
+      (λ (moved : (w.position ≤ v.match_start) × (v.match_start ≤ v.position)). inr (omega (arith, moved.0, same), omega (arith, moved.1, same, k.0)))
       h.1)
-      (λ (later : (v.position ≤ u.kept) × (u.kept ≤ u.position)). inr (omega (arith, later.0, h.0), later.1))
+      (λ (later : (v.position ≤ u.match_start) × (u.match_start ≤ u.position)). inr (omega (arith, later.0, h.0), later.1))
       k.1,
 )
 
--- further on in the text, with the same kept start
-onward : (w : MatchState) (q : ℕ) → w.position ≤ q → KeptBetween w (with_position w q)
+-- further on in the text, with the same match start
+onward : (w : MatchState) (q : ℕ) → w.position ≤ q → HasStartBetween w (with_position w q)
 onward w q h = (h, inl refl)
 
 kept_same : Keeps match_empty
 kept_same w = ((omega arith, inl refl), tt)
 
-follows : (w v : MatchState) (us : List MatchState) → KeptBetween w v → Each (KeptBetween v) us → Each (KeptBetween w) us
+follows : (w v : MatchState) (us : List MatchState) → HasStartBetween w v → Each (HasStartBetween v) us → Each (HasStartBetween w) us
 follows w v us h k = Each-weaker _ _ (λ u o. chain w v u h o) us k
 
 kept_flat_map : (f g : Moves) → Keeps f → Keeps g → Keeps (λ w. flat_map g (f w))
-kept_flat_map f g p q w = Each-flat_map (KeptBetween w) (KeptBetween w) g (λ v o. follows w v (g v) o (q v)) (f w) (p w)
+kept_flat_map f g p q w = Each-flat_map (HasStartBetween w) (HasStartBetween w) g (λ v o. follows w v (g v) o (q v)) (f w) (p w)
 
-kept_if : (b : Bool) (w v : MatchState) → KeptBetween w v → Each (KeptBetween w) (cond b (v ∷ []) [])
+kept_if : (b : Bool) (w v : MatchState) → HasStartBetween w v → Each (HasStartBetween w) (cond b (v ∷ []) [])
 kept_if b w v h = Each-cond _ b (v ∷ []) [] (h, tt) tt
 
 kept_stay : (test : MatchState → Bool) → Keeps (λ w. match_empty_if (test w) w)
 kept_stay test w = kept_if (test w) w w (omega arith, inl refl)
 
-kept_prefer : (greedy : Bool) (w : MatchState) (xs ys : List MatchState) → Each (KeptBetween w) xs → Each (KeptBetween w) ys →
-    Each (KeptBetween w) (prefer greedy xs ys)
+kept_prefer : (greedy : Bool) (w : MatchState) (xs ys : List MatchState) → Each (HasStartBetween w) xs → Each (HasStartBetween w) ys →
+    Each (HasStartBetween w) (prefer greedy xs ys)
 kept_prefer true w xs ys h k = Each-append _ xs ys h k
 kept_prefer false w xs ys h k = Each-append _ ys xs k h
 
@@ -71,12 +71,12 @@ kept_loop : (n : ℕ) (greedy : Bool) (body : Moves) → Keeps body → Keeps (l
 kept_loop zero greedy body p w = tt
 kept_loop (suc n) greedy body p w =
     kept_prefer greedy w _ _
-    (Each-flat_map (KeptBetween w) (KeptBetween w) _
+    (Each-flat_map (HasStartBetween w) (HasStartBetween w) _
     (λ v o. Each-cond _ (v.position == w.position) (v ∷ []) (loop n greedy body v) (o, tt) (follows w v _ o (kept_loop n greedy body p v)))
     (body w) (p w))
     (kept_same w)
 
-kept_pairs : (w : MatchState) (vs : List MatchState) → Each (KeptBetween w) (keep_only_pairs w vs)
+kept_pairs : (w : MatchState) (vs : List MatchState) → Each (HasStartBetween w) (keep_only_pairs w vs)
 kept_pairs w [] = tt
 kept_pairs w (v ∷ vs) = ((omega arith, inl refl), kept_pairs w vs)
 
@@ -86,12 +86,12 @@ kept_look LookAheadNeg m w = kept_stay (λ v. is_none_of (m.from v)) w
 kept_look LookBehind m w = kept_pairs w (m.behind w)
 kept_look LookBehindNeg m w = kept_stay (λ v. is_none_of (m.behind v)) w
 
-kept_first : (w : MatchState) (vs : List MatchState) → Each (KeptBetween w) vs → Each (KeptBetween w) (first_only vs)
+kept_first : (w : MatchState) (vs : List MatchState) → Each (HasStartBetween w) vs → Each (HasStartBetween w) (first_only vs)
 kept_first w [] h = tt
 kept_first w (v ∷ vs) h = (h.0, tt)
 
-kept_conditional : (w : MatchState) (vs : List MatchState) (a b : Moves) → Each (KeptBetween w) vs → Keeps a → Keeps b →
-    Each (KeptBetween w) (conditional vs a b w)
+kept_conditional : (w : MatchState) (vs : List MatchState) (a b : Moves) → Each (HasStartBetween w) vs → Keeps a → Keeps b →
+    Each (HasStartBetween w) (conditional vs a b w)
 kept_conditional w [] a b e p q = q w
 kept_conditional w (v ∷ vs) a b e p q = follows w v _ e.0 (p v)
 
@@ -104,7 +104,7 @@ kept_any [] h w = tt
 kept_any (m ∷ ms) h w = Each-append _ (m.from w) _ (h.0 w) (kept_any ms h.1 w)
 
 kept_group : (k : ℕ) (body : Moves) → Keeps body → Keeps (group k body)
-kept_group k body p w = Each-map (KeptBetween w) (KeptBetween w) _ (λ v o. o) (body w) (p w)
+kept_group k body p w = Each-map (HasStartBetween w) (HasStartBetween w) _ (λ v o. o) (body w) (p w)
 
 kept_here : Keeps reset_match_start
 kept_here w = ((omega arith, inr (omega arith, omega arith)), tt)
@@ -112,7 +112,7 @@ kept_here w = ((omega arith, inr (omega arith, omega arith)), tt)
 module _ (s : Setting) where
   kept_character : (test : ℕ → Bool) → Keeps (character s test)
   kept_character test w =
-      Each-for_some (KeptBetween w) _ (char_at s.text w.position) (λ c e. kept_if (test c) w _ (onward w _ (omega arith)))
+      Each-for_some (HasStartBetween w) _ (char_at s.text w.position) (λ c e. kept_if (test c) w _ (onward w _ (omega arith)))
 
   kept_newline : (unicode : Bool) → Keeps (general_newline_ways s unicode)
   kept_newline unicode w =
@@ -129,7 +129,7 @@ module _ (s : Setting) where
 
   kept_absent : (body : Moves) → Keeps (absent s body)
   kept_absent body w =
-      Each-map _ (KeptBetween w) (with_position w) (λ q k. onward w q k.0.0) _
+      Each-map _ (HasStartBetween w) (with_position w) (λ q k. onward w q k.0.0) _
       (Each-filter _ (is_free s body w) _ (Each-reverse _ _ (boundaries_pass s.text w.position (length s.text))))
 
   module _ (groups : List Tree) where
@@ -212,15 +212,15 @@ module _ (s : Setting) (pattern : Pattern) (find : Search) (p : ℕ) where
   start : MatchState
   start = start_way pattern p
 
-  between : (v : MatchState) → KeptBetween (start_way pattern p) v → (p ≤ v.kept) × (v.kept ≤ v.position)
-  between v h = ⊎_elim (λ (same : v.kept ≡ p). (omega arith, omega (arith, h.0))) (λ (moved : (p ≤ v.kept) × (v.kept ≤ v.position)). moved) h.1
+  between : (v : MatchState) → HasStartBetween (start_way pattern p) v → (p ≤ v.match_start) × (v.match_start ≤ v.position)
+  between v h = ⊎_elim (λ (same : v.match_start ≡ p). (omega arith, omega (arith, h.0))) (λ (moved : (p ≤ v.match_start) × (v.match_start ≤ v.position)). moved) h.1
 
   is_span : (m : Match) → match_at s pattern find p ≡ Some m → (p ≤ m.start) × (m.start ≤ m.end)
   unfolding match_at
   is_span m e =
       let found = found_in_list match_of _ m e in
       let all = Each-filter _ (is_admitted find) _ (keeps_start s pattern.groups pattern.first_group pattern.tree (start_way pattern p)) in
-      let kept = chosen_holds (KeptBetween (start_way pattern p)) find.options.longest _ all found.0 found.1 in
+      let kept = chosen_holds (HasStartBetween (start_way pattern p)) find.options.longest _ all found.0 found.1 in
       subst (λ (x : Match). (p ≤ x.start) × (x.start ≤ x.end)) found.2 (between found.0 kept)
 
 pub matches_are_spans : MatchesAreSpans

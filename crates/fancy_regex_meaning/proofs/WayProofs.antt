@@ -61,7 +61,7 @@ pub record Keeps (s : Setting) (Good : MatchState → Type 0) : Type 0 where
   pub before_char : (w : MatchState) (c : ℕ) → Good w → char_before s.text w.position ≡ Some c → Good (with_position w (w.position - len_utf8 c))
   pub goes_back : (w v : MatchState) → Good w → Good v → Good (record w { pairs = v.pairs })
   pub pair : (k : ℕ) (w v : MatchState) → Good w → Good v → w.position ≤ v.position → Good (set_pair k (w.position, v.position) v)
-  pub keep : (w : MatchState) → Good w → Good (record w { kept = w.position })
+  pub keep : (w : MatchState) → Good w → Good (record w { match_start = w.position })
   pub again : (k : ℕ) (casei : Bool) (a b : ℕ) (w : MatchState) → Good w → pair_of w k ≡ Some (a, b) →
       cond casei (spells_alike s a b w.position (w.position + (b - a))) (same_bytes s a b w.position (w.position + (b - a))) ≡ true →
       Good (with_position w (w.position + (b - a)))

@@ -53,14 +53,14 @@ chosen false ws = first_item ws
 chosen true ws = first_longest ws
 
 abbrev pub is_admitted : Search → MatchState → Bool
-is_admitted find w = nat_le w.position find.stop && not (find.options.find_not_empty && w.kept == w.position)
+is_admitted find w = nat_le w.position find.stop && not (find.options.find_not_empty && w.match_start == w.position)
 
 abbrev pub match_of : MatchState → Match
-match_of w = record { start = w.kept; end = w.position; pairs = w.pairs }
+match_of w = record { start = w.match_start; end = w.position; pairs = w.pairs }
 
 -- the initial state of an attempt at this position
 abbrev pub start_way : Pattern → ℕ → MatchState
-start_way pattern p = record { position = p; pairs = replicate (length pattern.groups) None; kept = p }
+start_way pattern p = record { position = p; pairs = replicate (length pattern.groups) None; match_start = p }
 
 module _ (s : Setting) (pattern : Pattern) (find : Search) where
   -- the ways of the whole pattern from this position

@@ -32,9 +32,9 @@ PreservesForward Good moves = (w : MatchState) → Good w → Each (IsForwardTo 
 abbrev pub Preserves : (MatchState → Type 0) → Moves → Type 0
 Preserves Good moves = (w : MatchState) → Good w → Each Good (moves w)
 
--- the kept start of a way, against that of one from which it comes
-abbrev pub KeptBetween : MatchState → MatchState → Type 0
-KeptBetween w v = (w.position ≤ v.position) × ((v.kept ≡ w.kept) ⊎ ((w.position ≤ v.kept) × (v.kept ≤ v.position)))
+-- the match start of a way, against that of one from which it comes
+abbrev pub HasStartBetween : MatchState → MatchState → Type 0
+HasStartBetween w v = (w.position ≤ v.position) × ((v.match_start ≡ w.match_start) ⊎ ((w.position ≤ v.match_start) × (v.match_start ≤ v.position)))
 
 -- the start and end of each set group are character boundaries
 abbrev pub HasGoodPairs : List ℕ → MatchState → Type 0
@@ -42,7 +42,7 @@ HasGoodPairs text w = (k a b : ℕ) → pair_of w k ≡ Some (a, b) → IsCharBo
 
 -- and so are its position and its match start
 abbrev pub HasCharBoundaries : List ℕ → MatchState → Type 0
-HasCharBoundaries text w = IsCharBoundary text w.position × HasGoodPairs text w × IsCharBoundary text w.kept
+HasCharBoundaries text w = IsCharBoundary text w.position × HasGoodPairs text w × IsCharBoundary text w.match_start
 
 module _ (s : Setting) (groups : List Tree) where
   -- in UTF-8, from a state on character boundaries, each way leads forward to such a state
@@ -51,7 +51,7 @@ module _ (s : Setting) (groups : List Tree) where
 
   -- a pattern leaves the match start as it was, or moves it to a position between its own start and end
   abbrev pub KeepsStart : Type 0
-  KeepsStart = (n : ℕ) (t : Tree) (w : MatchState) → Each (KeptBetween w) (ways s groups n t w)
+  KeepsStart = (n : ℕ) (t : Tree) (w : MatchState) → Each (HasStartBetween w) (ways s groups n t w)
 
   -- each way ends at or after its start, inside of the haystack
   abbrev pub WaysMoveForward : Type 0

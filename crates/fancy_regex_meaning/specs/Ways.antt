@@ -23,7 +23,7 @@ pub record MatchState : Type 0 where
   -- the start and the end of each group that is set, by its number
   pub pairs : Pairs
   -- the reported start of the match, which `\K` moves
-  pub kept : ℕ
+  pub match_start : ℕ
 
 -- from a state, the states that a node can lead to, the preferred one first
 abbrev pub Moves : Type 0
@@ -72,7 +72,7 @@ never_match w = []
 
 -- `\K`: the reported start of the match is the current position
 abbrev pub reset_match_start : Moves
-reset_match_start w = record w { kept = w.position } ∷ []
+reset_match_start w = record w { match_start = w.position } ∷ []
 
 -- matches the empty string if the test holds, and else fails
 abbrev pub match_empty_if : Bool → Moves

@@ -20,7 +20,7 @@ use Rattle.fancy_regex_meta.specs.Patterns.{read_as, reading_of}
 use Rattle.fancy_regex_meta.specs.PatternMatches.{names_in}
 use Rattle.fancy_regex_meta.specs.GroupNames.{AreGroupNumbersOf}
 use Rattle.fancy_regex_meta.specs.EasyPatterns.{uses_easy, pattern_uses_easy, is_easy_strategy}
-use Rattle.fancy_regex_meta.specs.Refusals.{context_of, compile_options_of, HasNoCause, IsTooLong, IsCompileRefusal, IsRefused, shown, by_runner, by_compiler, RefusesTree, IsAccepted, Refuses, Accepts}
+use Rattle.fancy_regex_meta.specs.Refusals.{context_of, compile_options_of, HasNoCause, IsTooLong, IsFirst, IsCompileRefusal, IsRefused, shown, by_runner, by_compiler, RefusesTree, IsAccepted, Refuses, Accepts}
 use Rattle.fancy_regex_meta.specs.declared.options.RegexOptions.{RegexOptions}
 use Rattle.fancy_regex_meta.specs.declared.strategy.Strategy.{Strategy}
 use Rattle.fancy_regex_meta.specs.declared.error.Error.{Error}
@@ -35,9 +35,10 @@ module _ (o : RegexOptions) (marked calls : Bool) (t : Tree) where
   memory_told : (cause : CompileError) → is_memory cause ≡ true → RefusesTree o marked calls t (from_compile_error cause)
   memory_told cause e = told_as cause (λ other. absurd (true≢false (sym e ∙ other)))
 
-  pub analysis_told : (cause : CompileError) → ((is_memory cause ≡ true) ⊎ ErrorHolds (context_of o) marked t cause) → RefusesTree o marked calls t (from_compile_error cause)
-  analysis_told cause (inl e) = memory_told cause e
-  analysis_told cause (inr h) = told_as cause (λ _. shown h)
+  pub analysis_told : (cause : CompileError) → ((is_memory cause ≡ true) ⊎ ErrorHolds (context_of o) marked t cause) →
+      IsFirst o marked calls t cause → RefusesTree o marked calls t (from_compile_error cause)
+  analysis_told cause (inl e) first = memory_told cause e
+  analysis_told cause (inr h) first = told_as cause (λ _. shown h first)
 
   engine_case : (b : Bool) (cause : CompileError) → uses_easy o t ≡ b → HasNoCause o marked calls t →
       (uses_easy o t ≡ true → IsCause (compile_options_of o calls) (pattern_of t) cause) → (uses_easy o t ≡ false → IsTooLong o marked calls t cause) →

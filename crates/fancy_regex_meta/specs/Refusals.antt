@@ -7,6 +7,7 @@ use Rattle.fancy_regex_tree.specs.ReferenceSummary.{named_backref_only, contains
 use Rattle.fancy_regex_meaning.specs.Choices.{program_nodes}
 use Rattle.fancy_regex_meaning.specs.Groups.{pattern_of}
 use Rattle.fancy_regex_analysis.specs.AnalysisErrors.{ErrorHolds, is_too_complex}
+use Rattle.fancy_regex_analysis.specs.NodeErrors.{has_reversed_repeat}
 use Rattle.fancy_regex_info.specs.declared.error.CompileError.{CompileError}
 use Rattle.fancy_regex_info.specs.declared.error.CompileError.TheVariants as of_building
 use Rattle.fancy_regex_info.specs.declared.options.AnalyzeContext.{AnalyzeContext}
@@ -51,10 +52,14 @@ module _ (o : RegexOptions) (marked calls : Bool) (t : Tree) where
   abbrev pub IsTooLong : CompileError → Type 0
   IsTooLong cause = is_too_complex cause ≡ true → IsPastCap o.max_prog_size (16 * (program_nodes (pattern_of t) + 1))
 
-  -- The reason is one of the analysis; or the analysis has none, and it is one of the linear-time matcher's construction or
-  -- of the compiler.
+  -- where some repeat's least count is above its greatest, that is the reason
+  abbrev pub IsFirst : CompileError → Type 0
+  IsFirst cause = has_reversed_repeat t ≡ true → cause ≡ of_building.RepeatBoundsReversed
+
+  -- The reason is one of the analysis, reversed bounds before all others; or the analysis has none, and it is one of the
+  -- linear-time matcher's construction or of the compiler.
   pub data IsRefused (cause : CompileError) : Type 0 where
-    shown : ErrorHolds (context_of o) marked t cause → IsRefused cause
+    shown : ErrorHolds (context_of o) marked t cause → IsFirst cause → IsRefused cause
     by_runner : uses_easy o t ≡ true → HasNoCause → IsCause (compile_options_of o calls) (pattern_of t) cause → IsRefused cause
     by_compiler : uses_easy o t ≡ false → HasNoCause → IsTooLong cause → IsCompileRefusal (compile_options_of o calls) t cause → IsRefused cause
 

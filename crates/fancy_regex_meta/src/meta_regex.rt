@@ -74,7 +74,7 @@ impl MetaRegex {
 
     /// Parses and compiles a pattern. If it needs a program, that has at most `max_prog_size` instructions. `ParseError` if the
     /// text is no pattern, with the first error and its byte offset; `CompileError` if the pattern is refused, with one of the
-    /// reasons that hold; `Memory` if memory runs out.
+    /// reasons that hold, `RepeatBoundsReversed` before all others; `Memory` if memory runs out.
     pub fn new(alloc: Global, pattern: String, options: &RegexOptions) -> Result<MetaRegex>
         ensures pattern { IfOk result (λ s. s.pattern ≡ pattern) }
         ensures options { IfOk result (λ s. s.options ≡ options.now) }

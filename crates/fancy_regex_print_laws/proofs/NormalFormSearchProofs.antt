@@ -30,7 +30,7 @@ match_stays s t find p printable classes =
     let form = normal_form t in
     ap (λ ws. option_map match_of (chosen find.options.longest (filter (is_admitted find) ws)))
     (ways_stay s t (t ∷ bodies t) (form ∷ bodies form) 1 (start_way (pattern_of t) p) printable classes
-    ∙ ap (λ k. ways s (form ∷ bodies form) 1 form (record { position = p; pairs = replicate k None; kept = p })) (same_groups t))
+    ∙ ap (λ k. ways s (form ∷ bodies form) 1 form (record { position = p; pairs = replicate k None; match_start = p })) (same_groups t))
 
 pub matches_stay : (s : Setting) → NormalFormKeepsFirstMatch s
 unfolding first_match

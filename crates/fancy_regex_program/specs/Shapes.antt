@@ -7,7 +7,7 @@ use Rattle.fancy_regex_linear.specs.Plain.{classes}
 use Rattle.fancy_regex_linear.specs.Refusals.{IsRead}
 use Rattle.fancy_regex_program.specs.Machine.{unset}
 
--- The kept start stays as it is.
+-- The match start stays as it is.
 abbrev pub KeepsNothing : CorePattern → Type 0
 KeepsNothing keep_out = ⊥
 KeepsNothing (cat a b) = KeepsNothing a × KeepsNothing b
@@ -46,8 +46,8 @@ abbrev pub IsReadable : Bool → CharacterTest → Type 0
 IsReadable unicode (class text casei) = IsTrue (is_class unicode text casei)
 IsReadable unicode _ = Unit {0}
 
--- What the compiler lets through, in Unicode mode or outside it, where the kept start may be set or not: an endless repeat's
--- least count can be counted past; neither a look-around nor an absent repeater sets the kept start; and the grammar of `regex`
+-- What the compiler lets through, in Unicode mode or outside it, where the match start may be set or not: an endless repeat's
+-- least count can be counted past; neither a look-around nor an absent repeater sets the match start; and the grammar of `regex`
 -- reads each class.
 abbrev pub IsAllowed : Bool → Bool → CorePattern → Type 0
 IsAllowed unicode keeps (read c) = IsReadable unicode c

@@ -1,4 +1,4 @@
-//! Parts of a pattern that are searched in linear time, instead of by instructions of their own.
+//! Parts of a pattern that the linear engine searches, in place of instructions of their own.
 
 ghost use Rattle.std.specs.Prelude.{◌≡◌, ◌≤◌, ◌+◌, true, false, length, Some, None, slice_get, chars, string_bytes, IfOk, IsTrue, IsCharBoundary};
 ghost use Rattle.std.specs.Option.{ForSome};
@@ -21,7 +21,7 @@ use std::alloc::{AllocError, Global};
 use std::fmt;
 
 /// A part of a pattern of which only the first match matters, or only whether there is one, with the states that it is searched with.
-/// Its search looks at each state and position at most once.
+/// The linear engine searches it, in a number of looks that the contract of that engine bounds.
 #[derive(Drop)]
 pub struct Delegate {
     pub(crate) alloc: Global,
@@ -53,8 +53,10 @@ impl Delegate {
         self.for_any
     }
 
-    /// The numbers of the capture groups in the part. There are none, so the range is empty.
+    /// The numbers of the capture groups in the part, which is searched as a pattern of its own, so that they count from 1. There are
+    /// none, so the range is empty.
     pub fn capture_groups(&self) -> CaptureGroupRange
+        ensures first { result.0 ≡ (pattern_of (tree_of self.now.part)).first_group }
         ensures count { result.0 + group_count (tree_of self.now.part) ≡ result.1 }
         ensures empty { result.0 ≡ result.1 }
     {
@@ -69,7 +71,7 @@ impl Delegate {
     }
 
     /// Whether it is known that no match of the part begins with this ASCII character.
-    pub(crate) fn refuses(&self, c: char) -> bool
+    pub fn refuses(&self, c: char) -> bool
         ensures { IsTrue result → body_refuses (in_class self.now.easy.unicode) (folded self.now.easy.unicode)
             (searched self.now.for_any (tree_of self.now.part)) c ≡ true }
     {

@@ -47,7 +47,7 @@ pub enum Insn {
     /// Copies the start of a group, saved while its body was matched, to the group's first slot.
     SaveCaptureGroupStart {
         /// The slot in which the start was saved.
-        kept: usize,
+        saved: usize,
         /// The group's first slot.
         slot: usize,
     },

@@ -68,7 +68,7 @@ fn has_slots(insn: &Insn, slots: usize) -> bool
         | Insn::EndAtomic(slot)
         | Insn::BackrefExistsCondition(slot) => *slot < slots,
         Insn::Save0 => 0 < slots,
-        Insn::SaveCaptureGroupStart { kept, slot } => *kept < slots && *slot < slots,
+        Insn::SaveCaptureGroupStart { saved, slot } => *saved < slots && *slot < slots,
         Insn::RepeatGr(repeat) | Insn::RepeatNg(repeat) => repeat.repeat < slots,
         Insn::RepeatEpsilonGr(repeat) | Insn::RepeatEpsilonNg(repeat) => {
             repeat.lo < usize::MAX && repeat.repeat < slots && repeat.check < slots
@@ -136,7 +136,7 @@ fn leads_inside(insn: &Insn, size: usize, pc: usize) -> bool
         | Insn::SplitUnanchored
         | Insn::Save(_)
         | Insn::Save0
-        | Insn::SaveCaptureGroupStart { kept: _, slot: _ }
+        | Insn::SaveCaptureGroupStart { saved: _, slot: _ }
         | Insn::Restore(_)
         | Insn::BeginRepeat(_)
         | Insn::GoBack(_)

@@ -97,7 +97,7 @@ module _ (code : List Op) (r : RunParameters) (whole : Bool) (count : ℕ) (utf8
       looked_run : (p : ℕ) (ps : List ℕ) (outer low : ℕ) (m : List ℕ) (rest : List Thread) (x : Continuation) → Down text w.position (p ∷ ps) → IsCharBoundary text p →
           get_or m slot 0 ≡ w.position → 2 * count ≤ low → low ≤ slot → slot + 2 + much ≤ length m →
           take (2 * count) m ≡ slots_of_way whole w → Pops code r whole count rest x → Exits code r whole count rest low m false w.position (end + 1) k →
-          (held : RunState) → Within whole (2 * count) (length rest) (λ j. exec code r j (record { kept = held.kept; limit = outer }) (thread end p (set m (slot + 1) held.limit) ∷ rest))
+          (held : RunState) → Within whole (2 * count) (length rest) (λ j. exec code r j (record { best_match = held.best_match; limit = outer }) (thread end p (set m (slot + 1) held.limit) ∷ rest))
           (end_looked (p ∷ ps) outer w k x (state code r whole count held))
       looked_run p ps outer low m rest x down cut start_is above_base above_low room fits pops exits held =
           let m1 = set m (slot + 1) held.limit in
@@ -108,7 +108,7 @@ module _ (code : List Op) (r : RunParameters) (whole : Bool) (count : ℕ) (utf8
           ends_run p ps held.limit low m1 rest x down cut (get_or-set_other m (slot + 1) slot held.limit 0 ne ∙ start_is) (get_or-set_same m (slot + 1) held.limit 0 there)
           above_base above_low (omega (arith, long)) (take-set-le (2 * count) m (slot + 1) held.limit (omega arith) ∙ fits) pops
           (exits_later code r whole count rest low m false w.position (end + 1) k exits rest m1 false w.position (above_refl rest) kept (λ e. e) (λ e. omega arith))
-          (record { kept = held.kept; limit = outer })
+          (record { best_match = held.best_match; limit = outer })
 
       -- the body at a place, and later further on
       tries : (q : ℕ) (m : List ℕ) (rest : List Thread) (y : Continuation) → IsCharBoundary text q → 2 * count ≤ slot → slot + 2 + much ≤ length m →
@@ -124,7 +124,7 @@ module _ (code : List Op) (r : RunParameters) (whole : Bool) (count : ℕ) (utf8
                 let h : Thread = thread (pc + 2 + length b) v.position n in
                 by_move code r whole count h stack (op.absent_limit (slot + 1)) (by_limit (lowers v.position)) (end_seen v z) at_limit sound'.cuts.0
                 (with_slot_is (slot + 1) h _ (omega (arith, same.long)))
-                (λ held. pops' (record { kept = held.kept; limit = Rattle.fancy_regex_program.specs.Machine.lower held.limit v.position }));
+                (λ held. pops' (record { best_match = held.best_match; limit = Rattle.fancy_regex_program.specs.Machine.lower held.limit v.position }));
           })
 
       -- it looks on from a place where its body was tried
@@ -158,7 +158,7 @@ module _ (code : List Op) (r : RunParameters) (whole : Bool) (count : ℕ) (utf8
           (tries q m rest (end_look g (q ∷ p ∷ ps) qs outer w k x) next.2 (omega arith) room fits further) in
           by_move code r whole count t rest (op.absent_scan end (slot + 1)) (by_limit (λ l. cond (nat_le l q) (out l) (on l))) (end_look g (p ∷ ps) (q ∷ qs) outer w k x) at_scan cut acts
           (λ held. elim (nat_le held.limit q) as (λ c. Within whole (2 * count) (length rest)
-          (λ j. in_front code (exec code r j) (record { kept = held.kept; limit = (cond c (out held.limit) (on held.limit)).limit }) (cond c (out held.limit) (on held.limit)).threads rest)
+          (λ j. in_front code (exec code r j) (record { best_match = held.best_match; limit = (cond c (out held.limit) (on held.limit)).limit }) (cond c (out held.limit) (on held.limit)).threads rest)
           (cond c (end_looked (p ∷ ps) outer w k x (state code r whole count held))
           (opens (g (with_position w q) end_seen (closes (end_look g (q ∷ p ∷ ps) qs outer w k x))) (state code r whole count held)))) [
             | true ↦ looked_run p ps outer low m rest x down cut start_is above_base above_low room fits pops exits held
@@ -203,7 +203,7 @@ module _ (code : List Op) (r : RunParameters) (whole : Bool) (count : ℕ) (utf8
         start_is limit_is above_base above_low (omega (arith, long)) fits1 pops exits1 in
         let tried = tries pc slot much b g body at.1.0 last.0 at_end w k sound w.position m1 rest y cut (omega arith) (omega (arith, long)) fits1 later in
         forked code r whole count (thread (pc + 2) w.position m1) (thread (pc + 1) w.position m1) rest (g (with_position w w.position) end_seen (closes y)) tried
-        (record { kept = held.kept; limit = unset }) in
+        (record { best_match = held.best_match; limit = unset }) in
         subst (λ l. Comes code r whole count (t ∷ rest) (end_absent g l w k x)) (sym all)
         (by_move code r whole count t rest (op.absent_begin slot (slot + 1)) (by_limit (begun slot (slot + 1) t)) continuation at.0 cut
         (with_slot_is slot t _ there ∙ with_slot_is (slot + 1) t _ (omega arith)) starts);

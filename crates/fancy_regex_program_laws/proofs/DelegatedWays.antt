@@ -9,7 +9,7 @@ use Rattle.std.proofs.lemmas.Option.{none-some, same_Some}
 use Rattle.fancy_regex_tree.specs.Tree.{Tree}
 use Rattle.fancy_regex_meaning.specs.Groups.{pattern_of}
 use Rattle.fancy_regex_meaning.specs.Ways.{MatchState, Setting, ways}
-use Rattle.fancy_regex_meaning.specs.WayLaws.{Each, KeptBetween, IsForwardTo, HasCharBoundaries}
+use Rattle.fancy_regex_meaning.specs.WayLaws.{Each, HasStartBetween, IsForwardTo, HasCharBoundaries}
 use Rattle.fancy_regex_meaning.specs.Searches.{first_item, start_way}
 use Rattle.fancy_regex_meaning.proofs.EachLemmas.{Each-filter}
 use Rattle.fancy_regex_meaning.proofs.ForwardProofs.{ways_cut_well}
@@ -37,7 +37,7 @@ pub ends_onward : (s : Setting) (t : Tree) (p q : ℕ) → first_end s t p ≡ S
 unfolding first_end
 ends_onward s t p q e =
     let pattern = pattern_of t in
-    let found = first_holds (KeptBetween (start_way pattern p)) (ways s pattern.groups pattern.first_group t (start_way pattern p))
+    let found = first_holds (HasStartBetween (start_way pattern p)) (ways s pattern.groups pattern.first_group t (start_way pattern p))
     (keeps_start s pattern.groups pattern.first_group t (start_way pattern p)) q e in
     let on : p ≤ found.0.position = found.1.0 in
     omega (arith, on, found.2)
@@ -60,8 +60,8 @@ ends_until_onward s t stop p q e =
     let pattern = pattern_of t in
     let alone = start_way pattern p in
     let all = ways s pattern.groups pattern.first_group t alone in
-    let found = first_holds (KeptBetween alone) (filter (ends_until stop) all)
-    (Each-filter (KeptBetween alone) (ends_until stop) all (keeps_start s pattern.groups pattern.first_group t alone)) q e in
+    let found = first_holds (HasStartBetween alone) (filter (ends_until stop) all)
+    (Each-filter (HasStartBetween alone) (ends_until stop) all (keeps_start s pattern.groups pattern.first_group t alone)) q e in
     let on : p ≤ found.0.position = found.1.0 in
     omega (arith, on, found.2)
 

@@ -20,7 +20,7 @@ pub record Outcome : Type 0 where
 
 -- The state that backtracking does not undo: the best match so far, and the limit of the current absent repeater.
 pub record PersistentState : Type 0 where
-  pub kept : Option FoundMatch
+  pub best_match : Option FoundMatch
   pub limit : ℕ
 
 -- what a run ends as from there, in that state
@@ -94,11 +94,11 @@ end_ends (q ∷ p ∷ ps) w k r = opens (k (with_position w q) (end_ends (p ∷ 
 
 -- a way of its body lowers the limit
 abbrev pub end_seen : SuccessContinuation
-end_seen v x state = x (record { kept = state.kept; limit = lower state.limit v.position })
+end_seen v x state = x (record { best_match = state.best_match; limit = lower state.limit v.position })
 
 -- those below the limit, where the limit was that one before
 abbrev pub end_looked : List ℕ → ℕ → Denotation
-end_looked done outer w k r state = end_ends (below state.limit done) w k r (record { kept = state.kept; limit = outer })
+end_looked done outer w k r state = end_ends (below state.limit done) w k r (record { best_match = state.best_match; limit = outer })
 
 -- the body is tried at the places that are left, in order; the places that are done stand last first
 abbrev pub end_look : Denotation → List ℕ → List ℕ → ℕ → Denotation
@@ -111,7 +111,7 @@ end_look g done (q ∷ qs) outer w k r state =
 abbrev pub end_absent : Denotation → List ℕ → Denotation
 end_absent g [] w k r state = r state
 end_absent g (p ∷ ps) w k r state =
-    opens (g (with_position w p) end_seen (closes (end_look g (p ∷ []) ps state.limit w k r))) (record { kept = state.kept; limit = unset })
+    opens (g (with_position w p) end_seen (closes (end_look g (p ∷ []) ps state.limit w k r))) (record { best_match = state.best_match; limit = unset })
 
 module _ (s : Setting) where
   abbrev pub end_text : Text → Denotation
@@ -129,7 +129,7 @@ module _ (s : Setting) where
     ending (general_newline unicode) w k r = end_to (match_newline s unicode w.position) w k r
     ending (check a) w k r = end_if (holds s a w.position) w k r
     ending continue w k r = end_if (is_some_and s.continue_at (λ g. g == w.position)) w k r
-    ending keep_out w k r = k (record w { kept = w.position }) r
+    ending keep_out w k r = k (record w { match_start = w.position }) r
     ending fail w k r = r
     ending (cat a b) w k r = ending a w (λ v x. ending b v k x) r
     ending (alt a b) w k r = opens (ending a w k (ending b w k r))

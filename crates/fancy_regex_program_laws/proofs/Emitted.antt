@@ -199,24 +199,24 @@ module _ (code : List Op) (r : RunParameters) (whole : Bool) (count : ℕ) (utf8
 
   -- the match is said to start here
   does_keep : (pc slot : ℕ) (free b : Bool) → whole ≡ b → (whole ≡ true → 1 ≤ count) → HasAt code pc (cond b (op.save 0 ∷ []) []) →
-      Does code r whole count pc (pc + length (cond b (op.save 0 ∷ []) [])) slot 0 free (λ w k x. k (record w { kept = w.position }) x)
+      Does code r whole count pc (pc + length (cond b (op.save 0 ∷ []) [])) slot 0 free (λ w k x. k (record w { match_start = w.position }) x)
   does_keep pc slot free true is some at = record {
     by = λ low w m rest x k above_base above_low room sound fits pops exits.
         let t : Thread = thread pc w.position m in
         let n = some is in
         let there : 0 < length m = omega arith in
         let fits0 : take (2 * count) m ≡ slots_of_way true w = fits ∙ ap (λ b. slots_of_way b w) is in
-        let fits1 = take_kept count m w w.position n fits0 ∙ ap (λ b. slots_of_way b (record w { kept = w.position })) (sym is) in
-        by_move code r whole count t rest (op.save 0) (goes (wrote 0 w.position t)) (k (record w { kept = w.position }) x) at.0 sound.cuts.0 (with_slot_is 0 t _ there)
-        (exits.go (record w { kept = w.position }) _ rest x (λ e. omega arith) (record { cuts = (sound.cuts.0, sound.cuts.1, sound.cuts.0); many = sound.many }) fits1
+        let fits1 = take_kept count m w w.position n fits0 ∙ ap (λ b. slots_of_way b (record w { match_start = w.position })) (sym is) in
+        by_move code r whole count t rest (op.save 0) (goes (wrote 0 w.position t)) (k (record w { match_start = w.position }) x) at.0 sound.cuts.0 (with_slot_is 0 t _ there)
+        (exits.go (record w { match_start = w.position }) _ rest x (λ e. omega arith) (record { cuts = (sound.cuts.0, sound.cuts.1, sound.cuts.0); many = sound.many }) fits1
         (same_set_below (2 * count) low m 0 w.position (omega arith)) (above_refl rest) pops);
   }
   does_keep pc slot free false is some at = record {
     by = λ low w m rest x k above_base above_low room sound fits pops exits.
-        let fits1 : take (2 * count) m ≡ slots_of_way whole (record w { kept = w.position }) =
-        fits ∙ ap (λ b. slots_of_way b w) is ∙ ap (λ b. slots_of_way b (record w { kept = w.position })) (sym is) in
-        comes_at code r whole count (pc + 0) pc w.position m rest (k (record w { kept = w.position }) x) (omega arith)
-        (exits.go (record w { kept = w.position }) m rest x (λ e. omega arith) (record { cuts = (sound.cuts.0, sound.cuts.1, sound.cuts.0); many = sound.many }) fits1
+        let fits1 : take (2 * count) m ≡ slots_of_way whole (record w { match_start = w.position }) =
+        fits ∙ ap (λ b. slots_of_way b w) is ∙ ap (λ b. slots_of_way b (record w { match_start = w.position })) (sym is) in
+        comes_at code r whole count (pc + 0) pc w.position m rest (k (record w { match_start = w.position }) x) (omega arith)
+        (exits.go (record w { match_start = w.position }) m rest x (λ e. omega arith) (record { cuts = (sound.cuts.0, sound.cuts.1, sound.cuts.0); many = sound.many }) fits1
         (same_refl (2 * count) low m) (above_refl rest) pops);
   }
 

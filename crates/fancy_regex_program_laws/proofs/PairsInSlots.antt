@@ -76,7 +76,7 @@ laid_start false w k apart lt = flat_start w.pairs k (2 * k) lt refl
 laid_start true w k apart lt =
     let far = apart refl in
     let ne : 2 * k ≡ 0 → ⊥ = λ (e : 2 * k ≡ 0). omega arith in
-    get_or-set_other (group_slots w.pairs) 0 (2 * k) w.kept 0 ne ∙ flat_start w.pairs k (2 * k) lt refl
+    get_or-set_other (group_slots w.pairs) 0 (2 * k) w.match_start 0 ne ∙ flat_start w.pairs k (2 * k) lt refl
 
 pub laid_end : (whole : Bool) (w : MatchState) (k : ℕ) → (whole ≡ true → 1 ≤ k) → k < length w.pairs →
     get_or (slots_of_way whole w) (2 * k + 1) 0 ≡ end_of (pair_of w k)
@@ -84,7 +84,7 @@ laid_end false w k apart lt = flat_end w.pairs k (2 * k + 1) lt refl
 laid_end true w k apart lt =
     let far = apart refl in
     let ne : 2 * k + 1 ≡ 0 → ⊥ = λ (e : 2 * k + 1 ≡ 0). omega arith in
-    get_or-set_other (group_slots w.pairs) 0 (2 * k + 1) w.kept 0 ne ∙ flat_end w.pairs k (2 * k + 1) lt refl
+    get_or-set_other (group_slots w.pairs) 0 (2 * k + 1) w.match_start 0 ne ∙ flat_end w.pairs k (2 * k + 1) lt refl
 
 laid_set : (whole : Bool) (v : MatchState) (k a b : ℕ) → (whole ≡ true → 1 ≤ k) → k < length v.pairs →
     set (set (slots_of_way whole v) (2 * k) a) (2 * k + 1) b ≡ slots_of_way whole (set_pair k (a, b) v)
@@ -93,9 +93,9 @@ laid_set true v k a b apart lt =
     let far = apart refl in
     let ne : 0 ≡ 2 * k → ⊥ = λ (e : 0 ≡ 2 * k). omega arith in
     let ne1 : 0 ≡ 2 * k + 1 → ⊥ = λ (e : 0 ≡ 2 * k + 1). omega arith in
-    ap (λ l. set l (2 * k + 1) b) (set_commutes (group_slots v.pairs) 0 (2 * k) v.kept a ne)
-    ∙ set_commutes (set (group_slots v.pairs) (2 * k) a) 0 (2 * k + 1) v.kept b ne1
-    ∙ ap (λ l. set l 0 v.kept) (sym (flat_set v.pairs k (2 * k) (2 * k + 1) a b lt refl refl))
+    ap (λ l. set l (2 * k + 1) b) (set_commutes (group_slots v.pairs) 0 (2 * k) v.match_start a ne)
+    ∙ set_commutes (set (group_slots v.pairs) (2 * k) a) 0 (2 * k + 1) v.match_start b ne1
+    ∙ ap (λ l. set l 0 v.match_start) (sym (flat_set v.pairs k (2 * k) (2 * k + 1) a b lt refl refl))
 
 -- the slots after a pair is written
 pub take_pair : (whole : Bool) (count : ℕ) (n : List ℕ) (v : MatchState) (k a b : ℕ) → (whole ≡ true → 1 ≤ k) → k < count → length v.pairs ≡ count →
@@ -107,6 +107,6 @@ take_pair whole count n v k a b apart lt many fits =
 
 -- the slots after the start is kept
 pub take_kept : (count : ℕ) (n : List ℕ) (v : MatchState) (p : ℕ) → 1 ≤ count → take (2 * count) n ≡ slots_of_way true v →
-    take (2 * count) (set n 0 p) ≡ slots_of_way true (record v { kept = p })
+    take (2 * count) (set n 0 p) ≡ slots_of_way true (record v { match_start = p })
 take_kept count n v p some fits =
-    take-set-lt (2 * count) n 0 p (omega arith) ∙ ap (λ x. set x 0 p) fits ∙ set_twice (group_slots v.pairs) 0 v.kept p
+    take-set-lt (2 * count) n 0 p (omega arith) ∙ ap (λ x. set x 0 p) fits ∙ set_twice (group_slots v.pairs) 0 v.match_start p

@@ -155,7 +155,7 @@ module _ (code : List Op) (r : RunParameters) (whole : Bool) (count : ℕ) where
 
   -- the state that backtracking does not undo, as outcomes have it
   abbrev pub state : RunState → PersistentState
-  state held = record { kept = option_map (found_by_thread whole base) held.kept; limit = held.limit }
+  state held = record { best_match = option_map (found_by_thread whole base) held.best_match; limit = held.limit }
 
   abbrev pub Comes : List Thread → Continuation → Type 0
   Comes ts f = (held : RunState) → Within whole base (under ts) (λ j. exec code r j held ts) (f (state held))
@@ -177,7 +177,7 @@ module _ (code : List Op) (r : RunParameters) (whole : Bool) (count : ℕ) where
             let e = c.by claim j le in
             record {
               ending = back e.ending;
-              comes = popped (is_some held.kept) (is_start (slice_get code t.pc)) (is_scan (slice_get code t.pc)) (Some (ended held.kept)) (exec code r j held (t ∷ rest)) plain.start plain.scan
+              comes = popped (is_some held.best_match) (is_start (slice_get code t.pc)) (is_scan (slice_get code t.pc)) (Some (ended held.best_match)) (exec code r j held (t ∷ rest)) plain.start plain.scan
                   ∙ ap (option_map back) e.comes;
               answer = e.answer;
               few = omega (arith, e.few);
@@ -196,7 +196,7 @@ module _ (code : List Op) (r : RunParameters) (whole : Bool) (count : ℕ) where
             let e = c.by claim j le in
             record {
               ending = e.ending;
-              comes = looked_on (is_some held.kept) (is_start (slice_get code t.pc)) (is_scan (slice_get code t.pc)) (Some (ended held.kept)) (exec code r j held (t ∷ rest)) start scan ∙ e.comes;
+              comes = looked_on (is_some held.best_match) (is_start (slice_get code t.pc)) (is_scan (slice_get code t.pc)) (Some (ended held.best_match)) (exec code r j held (t ∷ rest)) start scan ∙ e.comes;
               answer = e.answer;
               few = omega (arith, e.few);
               narrow = omega (arith, e.narrow);

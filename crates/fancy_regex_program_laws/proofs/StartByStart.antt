@@ -24,21 +24,21 @@ better None h = Some h
 better (Some b) h = cond (nat_lt b.position h.position) (Some h) (Some b)
 
 abbrev bests : Option FoundMatch → List FoundMatch → Option FoundMatch
-bests kept [] = kept
-bests kept (h ∷ hs) = bests (better kept h) hs
+bests best [] = best
+bests best (h ∷ hs) = bests (better best h) hs
 
 -- what is held with that way, and that limit
 abbrev pub holding : ℕ → Option FoundMatch → PersistentState
-holding l kept = record { kept = kept; limit = l }
+holding l best = record { best_match = best; limit = l }
 
 module _ (find : Search) (whole : Bool) where
   abbrev pub found_by_way : MatchState → FoundMatch
-  found_by_way w = record { position = w.position; start = cond whole w.kept 0; slots = slots_of_match whole w }
+  found_by_way w = record { position = w.position; start = cond whole w.match_start 0; slots = slots_of_match whole w }
 
   -- what follows a way at the program's end
   abbrev pub at_end : Bool → SuccessContinuation
   at_end longest v x state =
-      cond (is_admitted find v) (cond longest (x (holding state.limit (better state.kept (found_by_way v)))) (outcome_of (Some (found_by_way v)))) (x state)
+      cond (is_admitted find v) (cond longest (x (holding state.limit (better state.best_match (found_by_way v)))) (outcome_of (Some (found_by_way v)))) (x state)
 
   abbrev wanted : Trail → List MatchState
   wanted es = filter (is_admitted find) (states es)
@@ -49,40 +49,40 @@ module _ (find : Search) (whole : Bool) where
   claims_ways longest r h (Open ∷ es) state = claims_ways longest r h es state
   claims_ways longest r h (Close ∷ es) state = claims_ways longest r h es state
   claims_ways longest r h (At w ∷ es) state =
-      at_way (is_admitted find w) longest (claims_ways longest r h es (holding state.limit (better state.kept (found_by_way w)))) (claims_ways longest r h es state)
+      at_way (is_admitted find w) longest (claims_ways longest r h es (holding state.limit (better state.best_match (found_by_way w)))) (claims_ways longest r h es state)
     where
       rest : Continuation
       rest = folded (at_end longest) r es
 
-      at_way : (admitted last : Bool) → (rest (holding state.limit (better state.kept (found_by_way w)))).claimed ≡ true → (rest state).claimed ≡ true →
-          (cond admitted (cond last (rest (holding state.limit (better state.kept (found_by_way w)))) (outcome_of (Some (found_by_way w)))) (rest state)).claimed ≡ true
-      at_way true true kept passed = kept
-      at_way true false kept passed = refl
-      at_way false last kept passed = passed
+      at_way : (admitted last : Bool) → (rest (holding state.limit (better state.best_match (found_by_way w)))).claimed ≡ true → (rest state).claimed ≡ true →
+          (cond admitted (cond last (rest (holding state.limit (better state.best_match (found_by_way w)))) (outcome_of (Some (found_by_way w)))) (rest state)).claimed ≡ true
+      at_way true true claims passed = claims
+      at_way true false claims passed = refl
+      at_way false last claims passed = passed
 
   -- with longest, all ways are seen
-  all_answer : (r : Continuation) (es : Trail) (l : ℕ) (kept : Option FoundMatch) →
-      (folded (at_end true) r es (holding l kept)).answer ≡ (r (holding l (bests kept (map found_by_way (wanted es))))).answer
-  all_answer r [] l kept = refl
-  all_answer r (Open ∷ es) l kept = all_answer r es l kept
-  all_answer r (Close ∷ es) l kept = all_answer r es l kept
-  all_answer r (At w ∷ es) l kept =
-      elim (is_admitted find w) as (λ b. (cond b (folded (at_end true) r es (holding l (better kept (found_by_way w)))) (folded (at_end true) r es (holding l kept))).answer
-      ≡ (r (holding l (bests kept (map found_by_way (cond b (w ∷ wanted es) (wanted es)))))).answer) [
-        | true ↦ all_answer r es l (better kept (found_by_way w))
-        | false ↦ all_answer r es l kept
+  all_answer : (r : Continuation) (es : Trail) (l : ℕ) (best : Option FoundMatch) →
+      (folded (at_end true) r es (holding l best)).answer ≡ (r (holding l (bests best (map found_by_way (wanted es))))).answer
+  all_answer r [] l best = refl
+  all_answer r (Open ∷ es) l best = all_answer r es l best
+  all_answer r (Close ∷ es) l best = all_answer r es l best
+  all_answer r (At w ∷ es) l best =
+      elim (is_admitted find w) as (λ b. (cond b (folded (at_end true) r es (holding l (better best (found_by_way w)))) (folded (at_end true) r es (holding l best))).answer
+      ≡ (r (holding l (bests best (map found_by_way (cond b (w ∷ wanted es) (wanted es)))))).answer) [
+        | true ↦ all_answer r es l (better best (found_by_way w))
+        | false ↦ all_answer r es l best
       ]
 
-  all_opened : (r : Continuation) (es : Trail) (l : ℕ) (kept : Option FoundMatch) →
-      (folded (at_end true) r es (holding l kept)).branches ≤ opened es + (r (holding l (bests kept (map found_by_way (wanted es))))).branches
-  all_opened r [] l kept = omega arith
-  all_opened r (Open ∷ es) l kept = omega (arith, all_opened r es l kept)
-  all_opened r (Close ∷ es) l kept = omega (arith, all_opened r es l kept)
-  all_opened r (At w ∷ es) l kept =
-      elim (is_admitted find w) as (λ b. (cond b (folded (at_end true) r es (holding l (better kept (found_by_way w)))) (folded (at_end true) r es (holding l kept))).branches
-      ≤ opened es + (r (holding l (bests kept (map found_by_way (cond b (w ∷ wanted es) (wanted es)))))).branches) [
-        | true ↦ all_opened r es l (better kept (found_by_way w))
-        | false ↦ all_opened r es l kept
+  all_opened : (r : Continuation) (es : Trail) (l : ℕ) (best : Option FoundMatch) →
+      (folded (at_end true) r es (holding l best)).branches ≤ opened es + (r (holding l (bests best (map found_by_way (wanted es))))).branches
+  all_opened r [] l best = omega arith
+  all_opened r (Open ∷ es) l best = omega (arith, all_opened r es l best)
+  all_opened r (Close ∷ es) l best = omega (arith, all_opened r es l best)
+  all_opened r (At w ∷ es) l best =
+      elim (is_admitted find w) as (λ b. (cond b (folded (at_end true) r es (holding l (better best (found_by_way w)))) (folded (at_end true) r es (holding l best))).branches
+      ≤ opened es + (r (holding l (bests best (map found_by_way (cond b (w ∷ wanted es) (wanted es)))))).branches) [
+        | true ↦ all_opened r es l (better best (found_by_way w))
+        | false ↦ all_opened r es l best
       ]
 
   -- else the first
@@ -194,8 +194,8 @@ module _ (r : RunParameters) (p : CorePattern) (whole : Bool) (count : ℕ) (fir
 
   -- the outcome where the start before has no way left: a match that was found, or that of the other starts
   abbrev pub after : List ℕ → Continuation
-  after [] state = outcome_of state.kept
-  after (q ∷ qs) state = else_outcome state.kept (with_next qs (folded end_follow (after qs) (trail_from q)) state)
+  after [] state = outcome_of state.best_match
+  after (q ∷ qs) state = else_outcome state.best_match (with_next qs (folded end_follow (after qs) (trail_from q)) state)
 
   abbrev pub search_outcome : ℕ → List ℕ → Continuation
   search_outcome q qs = with_next qs (folded end_follow (after qs) (trail_from q))
@@ -207,13 +207,13 @@ module _ (r : RunParameters) (p : CorePattern) (whole : Bool) (count : ℕ) (fir
   after_claims : (qs : List ℕ) (state : PersistentState) → (after qs state).claimed ≡ true
   after_claims [] state = refl
   after_claims (q ∷ qs) state =
-      kept_or state.kept
+      best_or state.best_match
       (next_claims qs (folded end_follow (after qs) (trail_from q)) state
       (claims_ways r.find whole r.find.options.longest (after qs) (after_claims qs) (trail_from q) state))
     where
-      kept_or : (o : Option FoundMatch) → (search_outcome q qs state).claimed ≡ true → (else_outcome o (search_outcome q qs state)).claimed ≡ true
-      kept_or None h = h
-      kept_or (Some found) h = refl
+      best_or : (o : Option FoundMatch) → (search_outcome q qs state).claimed ≡ true → (else_outcome o (search_outcome q qs state)).claimed ≡ true
+      best_or None h = h
+      best_or (Some found) h = refl
 
   pub search_claims : (q : ℕ) (qs : List ℕ) (state : PersistentState) → (search_outcome q qs state).claimed ≡ true
   search_claims q qs state =

@@ -190,34 +190,34 @@ ends_trail (q ∷ []) w k r = refl
 ends_trail (q ∷ p ∷ ps) w k r = ap (λ x. opens (k (with_position w q) x)) (ends_trail (p ∷ ps) w k r)
 
 -- what the body's ways leave: a limit
-seen_trail : (k : SuccessContinuation) (r x : Continuation) (rest : ℕ → Trail) (kept : Option FoundMatch) (outer : ℕ) →
-    ((n : ℕ) → x (record { kept = kept; limit = n }) ≡ folded k r (rest n) (record { kept = kept; limit = outer })) → (es : Trail) (l : ℕ) →
-    folded end_seen x es (record { kept = kept; limit = l }) ≡ folded k r (silent es ++ rest (lowest l es)) (record { kept = kept; limit = outer })
-seen_trail k r x rest kept outer h [] l = h l
-seen_trail k r x rest kept outer h (Open ∷ es) l = ap one_more (seen_trail k r x rest kept outer h es l)
-seen_trail k r x rest kept outer h (Close ∷ es) l = ap one_less (seen_trail k r x rest kept outer h es l)
-seen_trail k r x rest kept outer h (At v ∷ es) l = seen_trail k r x rest kept outer h es (lower l v.position)
+seen_trail : (k : SuccessContinuation) (r x : Continuation) (rest : ℕ → Trail) (best : Option FoundMatch) (outer : ℕ) →
+    ((n : ℕ) → x (record { best_match = best; limit = n }) ≡ folded k r (rest n) (record { best_match = best; limit = outer })) → (es : Trail) (l : ℕ) →
+    folded end_seen x es (record { best_match = best; limit = l }) ≡ folded k r (silent es ++ rest (lowest l es)) (record { best_match = best; limit = outer })
+seen_trail k r x rest best outer h [] l = h l
+seen_trail k r x rest best outer h (Open ∷ es) l = ap one_more (seen_trail k r x rest best outer h es l)
+seen_trail k r x rest best outer h (Close ∷ es) l = ap one_less (seen_trail k r x rest best outer h es l)
+seen_trail k r x rest best outer h (At v ∷ es) l = seen_trail k r x rest best outer h es (lower l v.position)
 
-module _ (t : Trails) (w : MatchState) (k : SuccessContinuation) (r : Continuation) (kept : Option FoundMatch) (outer : ℕ) where
+module _ (t : Trails) (w : MatchState) (k : SuccessContinuation) (r : Continuation) (best : Option FoundMatch) (outer : ℕ) where
   abbrev before : PersistentState
-  before = record { kept = kept; limit = outer }
+  before = record { best_match = best; limit = outer }
 
-  look_trail : (done qs : List ℕ) (l : ℕ) → end_look (run_of t) done qs outer w k r (record { kept = kept; limit = l }) ≡ folded k r (trail_look t done qs l w) before
+  look_trail : (done qs : List ℕ) (l : ℕ) → end_look (run_of t) done qs outer w k r (record { best_match = best; limit = l }) ≡ folded k r (trail_look t done qs l w) before
   look_trail done [] l = ap (λ (x : Continuation). x before) (ends_trail (below l done) w k r)
   look_trail done (q ∷ qs) l =
       elim (nat_le l q) as (λ b. cond b (end_ends (below l done) w k r before)
-      (one_more (folded end_seen (closes (end_look (run_of t) (q ∷ done) qs outer w k r)) (t (with_position w q)) (record { kept = kept; limit = l })))
+      (one_more (folded end_seen (closes (end_look (run_of t) (q ∷ done) qs outer w k r)) (t (with_position w q)) (record { best_match = best; limit = l })))
       ≡ folded k r (cond b (trail_ends (below l done) w)
       (Open ∷ (silent (t (with_position w q)) ++ Close ∷ trail_look t (q ∷ done) qs (lowest l (t (with_position w q))) w))) before) [
         | true ↦ ap (λ (x : Continuation). x before) (ends_trail (below l done) w k r)
-        | false ↦ ap one_more (seen_trail k r (closes (end_look (run_of t) (q ∷ done) qs outer w k r)) (λ n. Close ∷ trail_look t (q ∷ done) qs n w) kept outer
+        | false ↦ ap one_more (seen_trail k r (closes (end_look (run_of t) (q ∷ done) qs outer w k r)) (λ n. Close ∷ trail_look t (q ∷ done) qs n w) best outer
             (λ n. ap one_less (look_trail (q ∷ done) qs n)) (t (with_position w q)) l)
       ]
 
   absent_trail : (ps : List ℕ) → end_absent (run_of t) ps w k r before ≡ folded k r (trail_absent t ps w) before
   absent_trail [] = refl
   absent_trail (p ∷ ps) =
-      ap one_more (seen_trail k r (closes (end_look (run_of t) (p ∷ []) ps outer w k r)) (λ n. Close ∷ trail_look t (p ∷ []) ps n w) kept outer
+      ap one_more (seen_trail k r (closes (end_look (run_of t) (p ∷ []) ps outer w k r)) (λ n. Close ∷ trail_look t (p ∷ []) ps n w) best outer
       (λ n. ap one_less (look_trail (p ∷ []) ps n)) (t (with_position w p)) unset)
 
 to_trail : (o : Option ℕ) (w : MatchState) (k : SuccessContinuation) (r : Continuation) → end_to o w k r ≡ folded k r (trail_to o w)
@@ -249,7 +249,7 @@ module _ (s : Setting) where
     trail (general_newline unicode) w = trail_to (match_newline s unicode w.position) w
     trail (check a) w = trail_if (holds s a w.position) w
     trail continue w = trail_if (is_some_and s.continue_at (λ g. g == w.position)) w
-    trail keep_out w = At (record w { kept = w.position }) ∷ []
+    trail keep_out w = At (record w { match_start = w.position }) ∷ []
     trail fail w = []
     trail (cat a b) w = spliced (trail b) (trail a w)
     trail (alt a b) w = Open ∷ (trail a w ++ trail b w)
@@ -309,4 +309,4 @@ module _ (s : Setting) where
         ∙ sym (folded_first k r (trail a) (trail b w) (trail c w)))
     ending_trail (absent a) w k r =
         ap (λ (g : Denotation). end_absent g (boundaries s.text w.position (length s.text)) w k r) (fun_ext (λ v. fun_ext (λ f. fun_ext (λ x. ending_trail a v f x))))
-        ∙ fun_ext (λ state. absent_trail (trail a) w k r state.kept state.limit (boundaries s.text w.position (length s.text)))
+        ∙ fun_ext (λ state. absent_trail (trail a) w k r state.best_match state.limit (boundaries s.text w.position (length s.text)))

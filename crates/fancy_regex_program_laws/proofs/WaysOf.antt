@@ -216,9 +216,9 @@ module _ (R : MatchState → MatchState → Type 0) (follows : Follows R) where
   keep_choice [] a b w h ha hb = hb w
   keep_choice (v ∷ vs) a b w h ha hb = Each-weaker (R v) (R w) (λ u d. follows.joins w v u h.0 d) (a v) (ha v)
 
--- the kept start is as it was
+-- the match start is as it was
 abbrev Kept : MatchState → MatchState → Type 0
-Kept w v = v.kept ≡ w.kept
+Kept w v = v.match_start ≡ w.match_start
 
 follows_kept : Follows Kept
 follows_kept = record { stays = λ w. refl; joins = λ u v w e d. d ∙ e }
@@ -334,8 +334,8 @@ module _ (s : Setting) (bound : Option ℕ) where
   restored : (w : MatchState) (vs : List MatchState) → Each (Kept w) vs → map (λ v. with_position v w.position) vs ≡ keep_only_pairs w vs
   restored w [] h = refl
   restored w (v ∷ vs) h =
-      ap (λ (l : List MatchState). record { position = w.position; pairs = v.pairs; kept = v.kept } ∷ l) (restored w vs h.1)
-      ∙ ap (λ k. record { position = w.position; pairs = v.pairs; kept = k } ∷ keep_only_pairs w vs) h.0
+      ap (λ (l : List MatchState). record { position = w.position; pairs = v.pairs; match_start = v.match_start } ∷ l) (restored w vs h.1)
+      ∙ ap (λ k. record { position = w.position; pairs = v.pairs; match_start = k } ∷ keep_only_pairs w vs) h.0
 
   states_char : (test : ℕ → Bool) (w : MatchState) → states (trail_to (match_char s.text test w.position) w) ≡ character s test w
   states_char test w = at (char_at s.text w.position)

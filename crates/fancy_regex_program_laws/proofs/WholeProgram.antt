@@ -179,11 +179,11 @@ module _ (r : RunParameters) (p : CorePattern) (whole anchored : Bool) (count : 
   -- what the slots of the groups hold at the end
   record Ended (v : MatchState) (n : List ℕ) : Type 0 where
     fits : take (2 * count) n ≡ slots_of_match whole v
-    start : whole ≡ true → (0 < length n) × (get_or n 0 0 ≡ v.kept)
+    start : whole ≡ true → (0 < length n) × (get_or n 0 0 ≡ v.match_start)
 
   is_kept : (v : MatchState) (n : List ℕ) (t : Thread) → t.slots ≡ n → Ended v n → (f : Bool) → (f ≡ true → whole ≡ true) →
       cond f (with_slot 0 t (cond (get_or t.slots 0 0 == t.position) fails (accepts t))) (accepts t)
-      ≡ cond f (cond (v.kept == t.position) fails (accepts t)) (accepts t)
+      ≡ cond f (cond (v.match_start == t.position) fails (accepts t)) (accepts t)
   is_kept v n t e h false spans = refl
   is_kept v n t e h true spans =
       let s = h.start (spans refl) in
@@ -192,8 +192,8 @@ module _ (r : RunParameters) (p : CorePattern) (whole anchored : Bool) (count : 
       ∙ ap (λ (l : List ℕ). cond (get_or l 0 0 == t.position) fails (accepts t)) e
       ∙ ap (λ k. cond (k == t.position) fails (accepts t)) s.1
 
-  farther_is : (kept : Option Thread) (t : Thread) (h : FoundMatch) → found_by_thread whole (2 * count) t ≡ h →
-      option_map (found_by_thread whole (2 * count)) (farther kept t) ≡ better (option_map (found_by_thread whole (2 * count)) kept) h
+  farther_is : (best : Option Thread) (t : Thread) (h : FoundMatch) → found_by_thread whole (2 * count) t ≡ h →
+      option_map (found_by_thread whole (2 * count)) (farther best t) ≡ better (option_map (found_by_thread whole (2 * count)) best) h
   farther_is None t h e = ap Some e
   farther_is (Some b) t h e =
       chosen (nat_lt b.position t.position) ∙ ap (λ (g : FoundMatch). cond (nat_lt b.position g.position) (Some g) (Some (found_by_thread whole (2 * count) b))) e
@@ -205,21 +205,21 @@ module _ (r : RunParameters) (p : CorePattern) (whole anchored : Bool) (count : 
   -- an admitted way, and one that is not
   ends : (t : Thread) (v : MatchState) (stack : List Thread) (x : Continuation) → found_by_thread whole (2 * count) t ≡ found_by_way r.find whole v → Pops code r whole count stack x → (a : Bool) →
       Follows code r whole count stack (cond a (accepts t) fails)
-      (λ state. cond a (cond r.find.options.longest (x (holding state.limit (better state.kept (found_by_way r.find whole v)))) (outcome_of (Some (found_by_way r.find whole v)))) (x state))
+      (λ state. cond a (cond r.find.options.longest (x (holding state.limit (better state.best_match (found_by_way r.find whole v)))) (outcome_of (Some (found_by_way r.find whole v)))) (x state))
   ends t v stack x e pops false = pops
   ends t v stack x e pops true = λ held.
       elim r.find.options.longest as (λ b. Within whole (2 * count) (length stack)
-      (λ j. cond b (pop code (exec code r j) (record { kept = farther held.kept t; limit = held.limit }) stack) (Some (ended (Some t))))
-      (cond b (x (holding held.limit (better (option_map (found_by_thread whole (2 * count)) held.kept) (found_by_way r.find whole v)))) (outcome_of (Some (found_by_way r.find whole v))))) [
-        | true ↦ subst (λ o. Within whole (2 * count) (length stack) (λ j. pop code (exec code r j) (record { kept = farther held.kept t; limit = held.limit }) stack) (x (holding held.limit o)))
-            (farther_is held.kept t (found_by_way r.find whole v) e) (pops (record { kept = farther held.kept t; limit = held.limit }))
+      (λ j. cond b (pop code (exec code r j) (record { best_match = farther held.best_match t; limit = held.limit }) stack) (Some (ended (Some t))))
+      (cond b (x (holding held.limit (better (option_map (found_by_thread whole (2 * count)) held.best_match) (found_by_way r.find whole v)))) (outcome_of (Some (found_by_way r.find whole v))))) [
+        | true ↦ subst (λ o. Within whole (2 * count) (length stack) (λ j. pop code (exec code r j) (record { best_match = farther held.best_match t; limit = held.limit }) stack) (x (holding held.limit o)))
+            (farther_is held.best_match t (found_by_way r.find whole v) e) (pops (record { best_match = farther held.best_match t; limit = held.limit }))
         | false ↦ record {
           fuel = 0;
           by = λ claim j le. record { ending = ended (Some t); comes = refl; answer = ap Some e; few = omega arith; narrow = omega arith };
         }
       ]
 
-  start_of_whole : (v : MatchState) (n : List ℕ) (b : Bool) → (b ≡ true → (0 < length n) × (get_or n 0 0 ≡ v.kept)) → cond b (get_or n 0 0) 0 ≡ cond b v.kept 0
+  start_of_whole : (v : MatchState) (n : List ℕ) (b : Bool) → (b ≡ true → (0 < length n) × (get_or n 0 0 ≡ v.match_start)) → cond b (get_or n 0 0) 0 ≡ cond b v.match_start 0
   start_of_whole v n true h = (h refl).1
   start_of_whole v n false h = refl
 
@@ -232,15 +232,15 @@ module _ (r : RunParameters) (p : CorePattern) (whole anchored : Bool) (count : 
       ∙ ap (λ q. record { position = v.position; start = q; slots = slots_of_match whole v }) (start_of_whole v n whole end.start) in
       let acts : act r (Some op.finish) (length stack) t ≡ cond (is_admitted r.find v) (accepts t) fails =
       ap (λ m. cond (nat_le v.position r.find.stop) m fails) (is_kept v n t refl end r.find.options.find_not_empty asked.spans)
-      ∙ admitted (nat_le v.position r.find.stop) r.find.options.find_not_empty (v.kept == v.position) fails (accepts t) in
+      ∙ admitted (nat_le v.position r.find.stop) r.find.options.find_not_empty (v.match_start == v.position) fails (accepts t) in
       by_move code r whole count t stack op.finish (cond (is_admitted r.find v) (accepts t) fails) (follow_end v x) at sound.cuts.0 acts
       (ends t v stack x same pops (is_admitted r.find v))
 
-  kept_there : (v : MatchState) (n : List ℕ) → whole ≡ true → length v.pairs ≡ count → take (2 * count) n ≡ slots_of_way whole v → get_or n 0 0 ≡ v.kept
+  kept_there : (v : MatchState) (n : List ℕ) → whole ≡ true → length v.pairs ≡ count → take (2 * count) n ≡ slots_of_way whole v → get_or n 0 0 ≡ v.match_start
   kept_there v n is many fits =
       let some = asked.groups is in
       let long : 0 < length (group_slots v.pairs) = omega (arith, length_flat v.pairs) in
-      sym (get_or-take (2 * count) n 0 0 (omega arith)) ∙ ap (λ l. get_or l 0 0) (fits ∙ ap (λ b. slots_of_way b v) is) ∙ get_or-set_same (group_slots v.pairs) 0 v.kept 0 long
+      sym (get_or-take (2 * count) n 0 0 (omega arith)) ∙ ap (λ l. get_or l 0 0) (fits ∙ ap (λ b. slots_of_way b v) is) ∙ get_or-set_same (group_slots v.pairs) 0 v.match_start 0 long
 
   close_comes : (b : Bool) → whole ≡ b → (pc : ℕ) → HasAt code pc (cond b (op.save 1 ∷ []) [] ++ op.finish ∷ []) → (v : MatchState) (n : List ℕ) (stack : List Thread) (x : Continuation) →
       2 * count ≤ length n → Sound r.setting.text count v → take (2 * count) n ≡ slots_of_way whole v → Pops code r whole count stack x →
@@ -254,7 +254,7 @@ module _ (r : RunParameters) (p : CorePattern) (whole anchored : Bool) (count : 
       let above : 0 < length n1 = omega (arith, long, there) in
       let fits1 : take (2 * count) n1 ≡ slots_of_match whole v =
       take-set-lt (2 * count) n 1 v.position (omega arith) ∙ ap (λ l. set l 1 v.position) fits ∙ sym (ap (λ b. cond b (set (slots_of_way whole v) 1 v.position) (slots_of_way whole v)) is) in
-      let start : get_or n1 0 0 ≡ v.kept = get_or-set_other n 1 0 v.position 0 (not_one 0 refl) ∙ kept_there v n is sound.many fits in
+      let start : get_or n1 0 0 ≡ v.match_start = get_or-set_other n 1 0 v.position 0 (not_one 0 refl) ∙ kept_there v n is sound.many fits in
       by_move code r whole count t stack (op.save 1) (goes (wrote 1 v.position t)) (follow_end v x) at.0 sound.cuts.0 (with_slot_is 1 t _ there)
       (finish_comes (pc + 1) v n1 stack x at.1.0 sound (record { fits = fits1; start = λ _. (above, start) }) pops)
   close_comes false is pc at v n stack x room sound fits pops =
@@ -316,36 +316,36 @@ module _ (r : RunParameters) (p : CorePattern) (whole anchored : Bool) (count : 
   nothing_left : Pops code r whole count [] (others [])
   nothing_left held = record {
     fuel = 0;
-    by = λ claim j le. record { ending = ended held.kept; comes = refl; answer = refl; few = omega arith; narrow = omega arith };
+    by = λ claim j le. record { ending = ended held.best_match; comes = refl; answer = refl; few = omega arith; narrow = omega arith };
   }
 
   -- at a later start, where the one before has no way left
   later_pops : (q : ℕ) (qs : List ℕ) → slice_get code 0 ≡ Some op.split_unanchored → Comes code r whole count (thread 0 q slots ∷ []) (outcome_from q qs) →
       Pops code r whole count (thread 0 q slots ∷ []) (others (q ∷ qs))
-  later_pops q qs at comes held = by_kept held.kept held.limit
+  later_pops q qs at comes held = by_best held.best_match held.limit
     where
-      by_kept : (kept : Option Thread) (l : ℕ) → Within whole (2 * count) 1 (λ j. pop code (exec code r j) (record { kept = kept; limit = l }) (thread 0 q slots ∷ []))
-          (others (q ∷ qs) (state code r whole count (record { kept = kept; limit = l })))
-      by_kept None l =
-          let c = comes (record { kept = None; limit = l }) in
+      by_best : (best : Option Thread) (l : ℕ) → Within whole (2 * count) 1 (λ j. pop code (exec code r j) (record { best_match = best; limit = l }) (thread 0 q slots ∷ []))
+          (others (q ∷ qs) (state code r whole count (record { best_match = best; limit = l })))
+      by_best None l =
+          let c = comes (record { best_match = None; limit = l }) in
           record {
             fuel = c.fuel;
             by = λ claim j le.
                 let e = c.by claim j le in
                 record {
                   ending = back e.ending;
-                  comes = ap (λ o. option_map (cond (is_scan o) (λ e. e) back) (exec code r j (record { kept = None; limit = l }) (thread 0 q slots ∷ []))) at ∙ ap (option_map back) e.comes;
+                  comes = ap (λ o. option_map (cond (is_scan o) (λ e. e) back) (exec code r j (record { best_match = None; limit = l }) (thread 0 q slots ∷ []))) at ∙ ap (option_map back) e.comes;
                   answer = e.answer;
                   few = omega (arith, e.few);
                   narrow = omega (arith, e.narrow);
                 };
           }
-      by_kept (Some kept) l = record {
+      by_best (Some best) l = record {
         fuel = 0;
         by = λ claim j le. record {
-          ending = ended (Some kept);
-          comes = ap (λ o. cond (is_start o) (Some (ended (Some kept)))
-              (option_map (cond (is_scan (slice_get code 0)) (λ e. e) back) (exec code r j (record { kept = Some kept; limit = l }) (thread 0 q slots ∷ [])))) at;
+          ending = ended (Some best);
+          comes = ap (λ o. cond (is_start o) (Some (ended (Some best)))
+              (option_map (cond (is_scan (slice_get code 0)) (λ e. e) back) (exec code r j (record { best_match = Some best; limit = l }) (thread 0 q slots ∷ [])))) at;
           answer = refl;
           few = omega arith;
           narrow = omega arith;

@@ -16,7 +16,7 @@ use Rattle.fancy_regex_program.specs.Shapes.{IsWritable}
 
 -- the state at a start position q: no group is set
 abbrev pub entry_way : ℕ → ℕ → MatchState
-entry_way count q = record { position = q; pairs = replicate count None; kept = q }
+entry_way count q = record { position = q; pairs = replicate count None; match_start = q }
 
 module _ (r : RunParameters) (p : CorePattern) (count : ℕ) where
   -- the preferred (or longest) admitted match from a start position
@@ -64,7 +64,7 @@ found_by_thread whole base t = record {
 
 -- the match that a way of the definitions stands for
 abbrev pub found_by_way : Bool → MatchState → FoundMatch
-found_by_way whole w = record { position = w.position; start = if whole then w.kept else 0; slots = slots_of_match whole w }
+found_by_way whole w = record { position = w.position; start = if whole then w.match_start else 0; slots = slots_of_match whole w }
 
 -- The result of a run: it is the match from the first start position that has one, with the spans of all groups. The number of backtracks and
 -- the largest number of pending branches are at most the number of choices of the search.

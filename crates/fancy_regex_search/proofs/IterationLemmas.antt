@@ -1,5 +1,5 @@
 -- A search after a match is one of the iteration that found it.
-use Rattle.std.proofs.Common.{◌≡◌, ℕ, ◌<◌, ◌≤◌, max, Bool, false, List, ◌∷◌, Option, Some, None, ◌==◌, if◌then◌else◌, subst, ap, sym, ◌∙◌}
+use Rattle.std.proofs.Common.{◌≡◌, ℕ, ◌<◌, ◌≤◌, max, Bool, false, List, [], ◌∷◌, refl, Option, Some, None, ◌==◌, if◌then◌else◌, subst, ap, sym, ◌∙◌}
 use Rattle.fancy_regex_meaning.specs.Positions.{position_after}
 use Rattle.fancy_regex_meaning.specs.Searches.{Match}
 use Rattle.fancy_regex_input.specs.declared.config.SearchConfig.{SearchConfig}
@@ -8,7 +8,7 @@ use Rattle.fancy_regex_meta.specs.declared.error.Error.{Error}
 use Rattle.fancy_regex_meta.specs.declared.meta_regex.MetaRegex.{MetaRegex}
 use Rattle.fancy_regex_search.specs.IterationErrors.{IsErrorAfter, IsIterationError}
 use Rattle.fancy_regex_search.specs.RemainingMatches.{next_start}
-use Rattle.fancy_regex_search.specs.IterationSearches.{MakesSearch, next, following, KeepsSearches, MakesSearchFrom, SkipsTo, at_once, skipped, KeepsSkips, continue_disabled_after, ComesAfter, no_item, one_item, ComesTo, PassesItem}
+use Rattle.fancy_regex_search.specs.IterationSearches.{MakesSearch, next, following, KeepsSearches, MakesSearchFrom, SkipsTo, at_once, skipped, KeepsSkips, continue_disabled_after, IsReturned, ComesAfter, no_item, one_item, ComesTo, PassesItem}
 use Rattle.fancy_regex_search.specs.declared.match_iter.IterState.{IterState}
 use Rattle.fancy_regex_search.proofs.RemainingLemmas.{found-same, nat_lt-yes, nat_lt-no}
 
@@ -86,38 +86,119 @@ skips_from s text a b l p off q o is h =
     let there = subst (λ (x : SearchConfig). SkipsTo text (meta_match_from s text x) x.range_start x.range_end l p off q o) is h in
     subst (λ (f : ℕ → Bool → Option Match). SkipsTo text f a.range_start a.range_end l p off q o) (found-same s text a b.start) there
 
-skips_to : (s : MetaRegex) (text : List ℕ) (a b : SearchConfig) (l : Option ℕ) (p : ℕ) (off : Bool) (q : ℕ) (o : Bool) → b ≡ record a { start = b.start } →
+pub skips_to : (s : MetaRegex) (text : List ℕ) (a b : SearchConfig) (l : Option ℕ) (p : ℕ) (off : Bool) (q : ℕ) (o : Bool) → b ≡ record a { start = b.start } →
     SkipsTo text (meta_match_from s text a) a.range_start a.range_end l p off q o → SkipsTo text (meta_match_from s text b) b.range_start b.range_end l p off q o
 skips_to s text a b l p off q o is h =
     let there = subst (λ (f : ℕ → Bool → Option Match). SkipsTo text f a.range_start a.range_end l p off q o) (sym (found-same s text a b.start)) h in
     subst (λ (x : SearchConfig). SkipsTo text (meta_match_from s text x) x.range_start x.range_end l p off q o) (sym is) there
 
--- what comes to a search by skipping first
-comes_before : (text : List ℕ) (find : ℕ → Bool → Option Match) (first end : ℕ) (items : List Match) (l : Option ℕ) (p : ℕ) (off : Bool) (q : ℕ) (o : Bool) →
-    ComesAfter text find first end items l p off q o → (l' : Option ℕ) (p' : ℕ) (off' : Bool) →
-    ((at : ℕ) (x : Bool) → SkipsTo text find first end l p off at x → SkipsTo text find first end l' p' off' at x) → ComesAfter text find first end items l' p' off' q o
-comes_before text find first end _ _ _ _ _ _ (no_item l p off q o skips) l' p' off' before = no_item l' p' off' q o (before q o skips)
-comes_before text find first end _ _ _ _ _ _ (one_item l p off at x m items q o skips inside found h) l' p' off' before =
-    one_item l' p' off' at x m items q o (before at x skips) inside found h
+same_found : (find : Option Match) (m k : Match) → find ≡ Some m → find ≡ Some k → m ≡ k
+same_found find m k e f = cc
+
+module _ (text : List ℕ) (find : ℕ → Bool → Option Match) (first end : ℕ) where
+  -- a search that finds a match to return is not skipped
+  not_skipped : (last : Option ℕ) (p : ℕ) (off : Bool) (at : ℕ) (x : Bool) → SkipsTo text find first end last p off at x → (m : Match) → find (max p first) off ≡ Some m → IsReturned last m →
+      (p ≡ at) × (off ≡ x)
+  not_skipped _ _ _ _ _ (at_once last p off) m found returned = (refl, refl)
+  not_skipped _ _ _ _ _ (skipped last p off k at x inside other empty same later) m found returned =
+      let is : k ≡ m = same_found (find (max p first) off) k m other found in
+      absurd (returned (subst (λ (n : Match). n.end ≤ n.start) is empty) (subst (λ (n : Match). last ≡ Some n.end) is same))
+
+  -- past a match that is skipped, a search that finds a match to return is come to
+  past_skipped : (last : Option ℕ) (p : ℕ) (off : Bool) (at : ℕ) (x : Bool) → SkipsTo text find first end last p off at x → (k : Match) → find (max p first) off ≡ Some k → k.end ≤ k.start →
+      last ≡ Some k.end → (m : Match) → find (max at first) x ≡ Some m → IsReturned last m →
+      SkipsTo text find first end (Some k.end) (next_start text k.start k.end) (continue_disabled_after (max p first) k) at x
+  past_skipped _ _ _ _ _ (at_once last p off) k other empty same m found returned =
+      let is : k ≡ m = same_found (find (max p first) off) k m other found in
+      absurd (returned (subst (λ (n : Match). n.end ≤ n.start) is empty) (subst (λ (n : Match). last ≡ Some n.end) is same))
+  past_skipped _ _ _ _ _ (skipped last p off j at x inside found-j empty-j same-j later) k other empty same m found returned =
+      subst (λ (n : Match). SkipsTo text find first end (Some n.end) (next_start text n.start n.end) (continue_disabled_after (max p first) n) at x)
+      (same_found (find (max p first) off) j k found-j other) later
+
+  -- two searches that are come to by skipping, and that find matches to return, are the same
+  same_search : (last : Option ℕ) (p : ℕ) (off : Bool) (at : ℕ) (x : Bool) → SkipsTo text find first end last p off at x → (m : Match) → find (max at first) x ≡ Some m → IsReturned last m →
+      (at' : ℕ) (x' : Bool) → SkipsTo text find first end last p off at' x' → (m' : Match) → find (max at' first) x' ≡ Some m' → IsReturned last m' → (at ≡ at') × (x ≡ x')
+  same_search _ _ _ _ _ (at_once last p off) m found returned at' x' there m' found' returned' = not_skipped last p off at' x' there m found returned
+  same_search _ _ _ _ _ (skipped last p off k at x inside other empty same later) m found returned at' x' there m' found' returned' =
+      same_search (Some k.end) (next_start text k.start k.end) (continue_disabled_after (max p first) k) at x later m found (subst (λ (l : Option ℕ). IsReturned l m) same returned)
+      at' x' (past_skipped last p off at' x' there k other empty same m' found' returned') m' found' (subst (λ (l : Option ℕ). IsReturned l m') same returned')
+
+  -- after no item a search is come to by skipping alone
+  pub no_more : (all : List Match) (last : Option ℕ) (p : ℕ) (off : Bool) (q : ℕ) (o : Bool) → ComesAfter text find first end all last p off q o → all ≡ [] → SkipsTo text find first end last p off q o
+  no_more _ _ _ _ _ _ (no_item last p off q o skips) none = skips
+  no_more _ _ _ _ _ _ (one_item last p off at x m items q o skips inside found returned rest) none = absurd (cc)
+
+  -- how a search is come to after a first item
+  record FirstItem (last : Option ℕ) (p : ℕ) (off : Bool) (m : Match) (items : List Match) (q : ℕ) (o : Bool) : Type 0 where
+    at : ℕ
+    flag : Bool
+    skips : SkipsTo text find first end last p off at flag
+    found : find (max at first) flag ≡ Some m
+    returned : IsReturned last m
+    rest : ComesAfter text find first end items (Some m.end) (next_start text m.start m.end) (continue_disabled_after (max at first) m) q o
+
+  first_item : (all : List Match) (last : Option ℕ) (p : ℕ) (off : Bool) (q : ℕ) (o : Bool) → ComesAfter text find first end all last p off q o → (m : Match) (items : List Match) → all ≡ m ∷ items →
+      FirstItem last p off m items q o
+  first_item _ _ _ _ _ _ (no_item last p off q o skips) m items is = absurd (cc)
+  first_item _ _ _ _ _ _ (one_item last p off at x n others q o skips inside found returned rest) m items is =
+      let same : n ≡ m = cc in
+      let alike : others ≡ items = cc in
+      let here : FirstItem last p off n others q o = record { at = at; flag = x; skips = skips; found = found; returned = returned; rest = rest } in
+      subst (λ (k : Match). FirstItem last p off k items q o) same (subst (λ (xs : List Match). FirstItem last p off n xs q o) alike here)
 
 -- the item of a state is that of a state that skips to it
-pub passes_before : (s : MetaRegex) (text : List ℕ) (a b new : SearchConfig) (before now after : IterState) (m : Match) → b ≡ record a { start = b.start } →
+pub passes_before : (s : MetaRegex) (text : List ℕ) (a b new : SearchConfig) (before now after : IterState) (m : Match) → b ≡ record a { start = b.start } → now.last ≡ before.last →
     KeepsSkips s text a before b now → PassesItem s text b now m new after → PassesItem s text a before m new after
-passes_before s text a b new before now after m is kept passes items q o h =
-    let there = passes items q o (comes_to s text a b items after.last new.start after.continue_disabled q o is h) in
-    comes_before text (meta_match_from s text a) a.range_start a.range_end (m ∷ items) now.last b.start now.continue_disabled q o
-    (comes_from s text a b (m ∷ items) now.last b.start now.continue_disabled q o is there) before.last a.start before.continue_disabled
-    (λ at x skips. kept at x (skips_to s text a b now.last b.start now.continue_disabled at x is skips))
+passes_before s text a b new before now after m is alike kept item =
+    let found = subst (λ (x : SearchConfig). meta_match_from s text x (max item.at x.range_start) item.off ≡ Some m) is item.found in
+    record {
+      at = item.at;
+      off = item.off;
+      skips = kept item.at item.off item.skips;
+      inside = subst (λ (x : SearchConfig). max item.at x.range_start ≤ x.range_end) is item.inside;
+      found = subst (λ (f : ℕ → Bool → Option Match). f (max item.at a.range_start) item.off ≡ Some m) (found-same s text a b.start) found;
+      returned = subst (λ (l : Option ℕ). IsReturned l m) alike item.returned;
+      last = item.last;
+      start = item.start;
+      flag = subst (λ (x : SearchConfig). after.continue_disabled ≡ continue_disabled_after (max item.at x.range_start) m) is item.flag;
+    }
 
 -- a step past a match
 pub item_passed : (s : MetaRegex) (text : List ℕ) (a b : SearchConfig) (before after : IterState) (m : Match) → max a.start a.range_start ≤ a.range_end →
-    meta_match_from s text a (max a.start a.range_start) before.continue_disabled ≡ Some m → b.start ≡ next_start text m.start m.end →
+    meta_match_from s text a (max a.start a.range_start) before.continue_disabled ≡ Some m → IsReturned before.last m → b.start ≡ next_start text m.start m.end →
     after.continue_disabled ≡ continue_disabled_after (max a.start a.range_start) m → after.last ≡ Some m.end → PassesItem s text a before m b after
-item_passed s text a b before after m inside found at flag end items q o h =
-    let first = subst (λ (l : Option ℕ). ComesTo s text a items l b.start after.continue_disabled q o) end h in
-    let second = subst (λ (k : ℕ). ComesTo s text a items (Some m.end) k after.continue_disabled q o) at first in
-    let third = subst (λ (x : Bool). ComesTo s text a items (Some m.end) (next_start text m.start m.end) x q o) flag second in
-    one_item before.last a.start before.continue_disabled a.start before.continue_disabled m items q o (at_once before.last a.start before.continue_disabled) inside found third
+item_passed s text a b before after m inside found returned at flag end = record {
+  at = a.start;
+  off = before.continue_disabled;
+  skips = at_once before.last a.start before.continue_disabled;
+  inside = inside;
+  found = found;
+  returned = returned;
+  last = end;
+  start = at;
+  flag = flag;
+}
+
+module _ (s : MetaRegex) (text : List ℕ) (a b : SearchConfig) (before after : IterState) (m : Match) (item : PassesItem s text a before m b after) (items : List Match) (q : ℕ) (o : Bool) where
+  -- what the state after an item comes to, the state before it comes to after this item
+  pub item_comes : ComesTo s text a items after.last b.start after.continue_disabled q o → ComesTo s text a (m ∷ items) before.last a.start before.continue_disabled q o
+  item_comes h =
+      let first = subst (λ (l : Option ℕ). ComesTo s text a items l b.start after.continue_disabled q o) item.last h in
+      let second = subst (λ (k : ℕ). ComesTo s text a items (Some m.end) k after.continue_disabled q o) item.start first in
+      let third = subst (λ (x : Bool). ComesTo s text a items (Some m.end) (next_start text m.start m.end) x q o) item.flag second in
+      one_item before.last a.start before.continue_disabled item.at item.off m items q o item.skips item.inside item.found item.returned third
+
+  -- and nothing else
+  pub item_only : ComesTo s text a (m ∷ items) before.last a.start before.continue_disabled q o → ComesTo s text a items after.last b.start after.continue_disabled q o
+  item_only h =
+      let find = meta_match_from s text a in
+      let there = first_item text find a.range_start a.range_end (m ∷ items) before.last a.start before.continue_disabled q o h m items refl in
+      let same = same_search text find a.range_start a.range_end before.last a.start before.continue_disabled there.at there.flag there.skips m there.found there.returned
+      item.at item.off item.skips m item.found item.returned in
+      let first = subst (λ (k : ℕ). ComesTo s text a items (Some m.end) (next_start text m.start m.end) (continue_disabled_after (max k a.range_start) m) q o) same.0 there.rest in
+      let second = subst (λ (x : Bool). ComesTo s text a items (Some m.end) (next_start text m.start m.end) x q o) (sym item.flag) first in
+      let third = subst (λ (k : ℕ). ComesTo s text a items (Some m.end) k after.continue_disabled q o) (sym item.start) second in
+      subst (λ (l : Option ℕ). ComesTo s text a items l b.start after.continue_disabled q o) (sym item.last) third
 
 -- what an iteration makes after skipped matches, it makes
 skips_then : (text : List ℕ) (find : ℕ → Bool → Option Match) (first end : ℕ) (l : Option ℕ) (p : ℕ) (off : Bool) (at : ℕ) (x : Bool) → SkipsTo text find first end l p off at x →
@@ -130,7 +211,7 @@ skips_then text find first end _ _ _ _ _ (skipped l p off m at x within found em
 pub comes_made : (text : List ℕ) (find : ℕ → Bool → Option Match) (first end : ℕ) (items : List Match) (l : Option ℕ) (p : ℕ) (off : Bool) (q : ℕ) (o : Bool) →
     ComesAfter text find first end items l p off q o → max q first ≤ end → MakesSearch text find first end p off q o
 comes_made text find first end _ _ _ _ _ _ (no_item l p off q o skips) inside = skips_made text find first end l p off q o skips inside
-comes_made text find first end _ _ _ _ _ _ (one_item l p off at x m items q o skips within found h) inside =
+comes_made text find first end _ _ _ _ _ _ (one_item l p off at x m items q o skips within found returned h) inside =
     skips_then text find first end l p off at x skips q o
     (following at x m q o within found (comes_made text find first end items (Some m.end) (next_start text m.start m.end) (continue_disabled_after (max at first) m) q o h inside))
 

@@ -10,3 +10,4 @@ pub mod ReplaceLemmas
 pub mod ResultLemmas
 pub mod GroupTextLemmas
 pub mod NameSearchLemmas
+pub mod IterationProgress

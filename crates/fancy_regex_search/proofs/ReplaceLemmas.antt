@@ -7,15 +7,15 @@ use Rattle.fancy_regex_input.specs.declared.config.SearchConfig.{SearchConfig}
 use Rattle.fancy_regex_meaning.specs.Searches.{Match, counted, pieces_from, replaced_from}
 use Rattle.fancy_regex_meaning.specs.ItemLaws.{alternately}
 use Rattle.fancy_regex_class.specs.RunInputs.{match_slots}
-use Rattle.fancy_regex_meta.specs.MetaMatches.{meta_pattern}
+use Rattle.fancy_regex_meta.specs.MetaMatches.{meta_match_from, meta_pattern}
 use Rattle.fancy_regex_meta.specs.SearchLimits.{IsMetaSearchError, MetaStaysInLimits}
 use Rattle.fancy_regex_meta.specs.declared.error.Error.TheVariants.{Memory}
 use Rattle.fancy_regex_search.specs.IterationErrors.{IsItemError, IsErrorAfter}
-use Rattle.fancy_regex_search.specs.IterationSearches.{at_once, no_item, ComesTo, PassesItem}
+use Rattle.fancy_regex_search.specs.IterationSearches.{no_item, ComesTo, PassesItem}
 use Rattle.fancy_regex_search.specs.IterationLimits.{SkipsStayInLimits, StaysAfter, ReplacementStays}
 use Rattle.fancy_regex_search.specs.declared.match_iter.IterState.{IterState}
 use Rattle.fancy_regex_input.specs.SearchInputs.{whole}
-use Rattle.fancy_regex_search.proofs.IterationLemmas.{comes_from, comes_to, skips_from}
+use Rattle.fancy_regex_search.proofs.IterationLemmas.{comes_from, comes_to, item_comes, item_only, no_more, skips_from, skips_to}
 use Rattle.fancy_regex_meta.specs.declared.error.Error.{Error}
 use Rattle.fancy_regex_meta.specs.declared.meta_regex.MetaRegex.{MetaRegex}
 use Rattle.fancy_regex_meta.specs.FoundParts.{wanted_groups}
@@ -78,7 +78,8 @@ pub still_all : (limit : ℕ) (ms : List Match) → still_replaced (limit_of lim
 still_all zero ms = refl
 still_all (suc n) ms = refl
 
--- One call for each of these matches has answered, and what the iteration comes to from here it comes to after them.
+-- One call for each of these matches has answered, and what the iteration comes to from here, and nothing else, it comes to after
+-- them.
 pub record Progress {S : Type 0} (Calls : S → CapturesView → Result (List ℕ) Error → S → Type 0) (r : MetaRegex) (text : List ℕ) (ms : List Match) (first : S)
     (config : SearchConfig) (state : IterState) (left : List Match) (s : S) : Type 0 where
   pub done : List Match
@@ -87,6 +88,8 @@ pub record Progress {S : Type 0} (Calls : S → CapturesView → Result (List �
   pub turns : AnswersInTurn Calls first (map (captures_view r text) done) answers s
   pub comes : (items : List Match) (q : ℕ) (o : Bool) → ComesTo r text (whole text) items state.last config.start state.continue_disabled q o →
       ComesTo r text (whole text) (done ++ items) None 0 false q o
+  pub only : (items : List Match) (q : ℕ) (o : Bool) → ComesTo r text (whole text) (done ++ items) None 0 false q o →
+      ComesTo r text (whole text) items state.last config.start state.continue_disabled q o
   pub kept : ((more rest : List Match) → left ≡ more ++ rest → StaysAfter r text (whole text) (done ++ more)) → ReplacementStays r text ms
 
 one_more : {S : Type 0} (Calls : S → CapturesView → Result (List ℕ) Error → S → Type 0) (s : S) (ms : List CapturesView) (ws : List (List ℕ)) (mid : S) (m : CapturesView) (w : List ℕ) (next : S) →
@@ -120,18 +123,15 @@ after_last P done left so none [] rest is = subst P (sym (append-nil done)) so
 after_last P done left so none (k ∷ more) rest is = absurd (never_empty k (more ++ rest) (sym is ∙ none))
 
 module _ {S : Type 0} (Calls : S → CapturesView → Result (List ℕ) Error → S → Type 0) (r : MetaRegex) (text : List ℕ) (ms : List Match) (first : S) where
-  -- the search after what is done stays within the limits
+  -- each search right after what is done stays within the limits
   stays_here : (config : SearchConfig) (state : IterState) (left : List Match) (s : S) → config ≡ record (whole text) { start = config.start } → SkipsStayInLimits r text config state →
       (so : Progress Calls r text ms first config state left s) → StaysAfter r text (whole text) so.done
-  stays_here config state left s is stays so = (
-    config.start,
-    state.continue_disabled,
-    subst (λ (xs : List Match). ComesTo r text (whole text) xs None 0 false config.start state.continue_disabled) (append-nil so.done)
-        (so.comes [] config.start state.continue_disabled (no_item state.last config.start state.continue_disabled config.start state.continue_disabled
-        (at_once state.last config.start state.continue_disabled))),
-    subst (λ (a : SearchConfig). MetaStaysInLimits r text (record a { start = config.start }) state.continue_disabled) is
-        (stays config.start state.continue_disabled (at_once state.last config.start state.continue_disabled)),
-  )
+  stays_here config state left s is stays so q o h =
+      let find = meta_match_from r text (whole text) in
+      let after = so.only [] q o (subst (λ (xs : List Match). ComesTo r text (whole text) xs None 0 false q o) (sym (append-nil so.done)) h) in
+      let skips = no_more text find (whole text).range_start (whole text).range_end [] state.last config.start state.continue_disabled q o after refl in
+      subst (λ (a : SearchConfig). MetaStaysInLimits r text (record a { start = q }) o) is
+      (stays q o (skips_to r text (whole text) config state.last config.start state.continue_disabled q o is skips))
 
   -- where no match is left, all searches stayed within the limits
   pub progress_stays : (config : SearchConfig) (state : IterState) (left : List Match) (s : S) → config ≡ record (whole text) { start = config.start } → SkipsStayInLimits r text config state →
@@ -150,6 +150,10 @@ module _ {S : Type 0} (Calls : S → CapturesView → Result (List ℕ) Error �
         let one = subst (λ (l : Option ℕ). ComesTo r text (whole text) items l config.start state.continue_disabled q o) last h in
         let two = subst (λ (x : Bool). ComesTo r text (whole text) items None config.start x q o) flag one in
         subst (λ (c : SearchConfig). ComesTo r text (whole text) items None c.start false q o) is two;
+    only = λ items q o h.
+        let one = subst (λ (c : SearchConfig). ComesTo r text (whole text) items None c.start false q o) (sym is) h in
+        let two = subst (λ (x : Bool). ComesTo r text (whole text) items None config.start x q o) (sym flag) one in
+        subst (λ (l : Option ℕ). ComesTo r text (whole text) items l config.start state.continue_disabled q o) (sym last) two;
     kept = λ h. h;
   }
 
@@ -164,16 +168,20 @@ module _ {S : Type 0} (Calls : S → CapturesView → Result (List ℕ) Error �
     turns = subst (λ (xs : List CapturesView). AnswersInTurn Calls first xs (so.answers ++ (w ∷ [])) next) (sym (views_more r text so.done m))
         (one_more Calls first (map (captures_view r text) so.done) so.answers s (captures_view r text m) w next so.turns call);
     comes = λ items q o h.
-        let here = passes items q o (comes_to r text (whole text) config items after.last new.start after.continue_disabled q o is h) in
+        let here = item_comes r text config new state after m passes items q o (comes_to r text (whole text) config items after.last new.start after.continue_disabled q o is h) in
         let there = so.comes (m ∷ items) q o (comes_from r text (whole text) config (m ∷ items) state.last config.start state.continue_disabled q o is here) in
         subst (λ (xs : List Match). ComesTo r text (whole text) xs None 0 false q o) (sym (append_assoc so.done (m ∷ []) items)) there;
+    only = λ items q o h.
+        let all = subst (λ (xs : List Match). ComesTo r text (whole text) xs None 0 false q o) (append_assoc so.done (m ∷ []) items) h in
+        let here = comes_to r text (whole text) config (m ∷ items) state.last config.start state.continue_disabled q o is (so.only (m ∷ items) q o all) in
+        comes_from r text (whole text) config items after.last new.start after.continue_disabled q o is (item_only r text config new state after m passes items q o here);
     kept = λ h. so.kept (after_next (StaysAfter r text (whole text)) so.done m left (stays_here config state (m ∷ left) s is stays so) h);
   }
 
-  -- an error of the next search
-  pub progress_fails : (config : SearchConfig) (state : IterState) (left : List Match) (s : S) (e : Error) → config ≡ record (whole text) { start = config.start } →
-      IsItemError r text config state e → Progress Calls r text ms first config state left s → IsReplaceErrorLeaving Calls r text ms first e s None
-  progress_fails config state left s e is h so =
+  -- an error of the next search is one right after what is done
+  pub progress_error : (config : SearchConfig) (state : IterState) (left : List Match) (s : S) (e : Error) → config ≡ record (whole text) { start = config.start } →
+      IsItemError r text config state e → (so : Progress Calls r text ms first config state left s) → IsErrorAfter r text (whole text) so.done e
+  progress_error config state left s e is h so =
       let following : IsErrorAfter r text (whole text) (so.done ++ []) e = (
         h.0,
         h.1,
@@ -181,7 +189,11 @@ module _ {S : Type 0} (Calls : S → CapturesView → Result (List ℕ) Error �
         subst (λ (a : SearchConfig). max h.0 a.range_start ≤ a.range_end) is h.3,
         subst (λ (a : SearchConfig). IsMetaSearchError r text (record a { start = h.0 }) h.1 e) is h.4,
       ) in
-      search_failed None so.done left so.answers so.is (subst (λ (xs : List Match). IsErrorAfter r text (whole text) xs e) (append-nil so.done) following) so.turns
+      subst (λ (xs : List Match). IsErrorAfter r text (whole text) xs e) (append-nil so.done) following
+
+  pub progress_fails : (config : SearchConfig) (state : IterState) (left : List Match) (s : S) (e : Error) → config ≡ record (whole text) { start = config.start } →
+      IsItemError r text config state e → Progress Calls r text ms first config state left s → IsReplaceErrorLeaving Calls r text ms first e s None
+  progress_fails config state left s e is h so = search_failed None so.done left so.answers so.is (progress_error config state left s e is h so) so.turns
 
   -- want of memory after the calls that answered
   pub progress_ran_out : (config : SearchConfig) (state : IterState) (left : List Match) (s : S) → Progress Calls r text ms first config state left s → IsReplaceErrorLeaving Calls r text ms first Memory s None

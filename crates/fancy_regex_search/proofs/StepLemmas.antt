@@ -17,7 +17,7 @@ use Rattle.fancy_regex_meta.specs.declared.meta_regex.MetaRegex.{MetaRegex}
 use Rattle.fancy_regex_meta.proofs.SearchLemmas.{none-past}
 use Rattle.fancy_regex_search.specs.RemainingMatches.{remaining_matches, remaining_searches, next_start}
 use Rattle.fancy_regex_search.specs.IterationSteps.{IsStep}
-use Rattle.fancy_regex_search.specs.IterationSearches.{continue_disabled_after}
+use Rattle.fancy_regex_search.specs.IterationSearches.{continue_disabled_after, IsReturned}
 use Rattle.fancy_regex_search.specs.declared.match_iter.IterState.{IterState}
 use Rattle.fancy_regex_search.specs.declared.match_iter.Step.TheVariants.{Item, Skip, End, Failed}
 use Rattle.fancy_regex_search.proofs.IterationLemmas.{passed, item_passed, skip_passed, long_next, empty_next, long_off, empty_off}
@@ -119,8 +119,9 @@ module _ (s : MetaRegex) (text : List ℕ) (a : SearchConfig) (before : IterStat
         -- the step past a match, by what is left after it
         item_step : (p : ℕ) → new ≡ record a { start = p } → a.start < p → p ≡ next_start text m.start m.end →
             remaining_matches s text a before ≡ m ∷ remaining_matches s text new after →
-            after.continue_disabled ≡ continue_disabled_after (max a.start a.range_start) m → SkipsStayInLimits s text a before → IsStep s text a before wanted (Item x) new after
-        item_step p is less at left flag kept =
+            after.continue_disabled ≡ continue_disabled_after (max a.start a.range_start) m → SkipsStayInLimits s text a before → IsReturned before.last m →
+            IsStep s text a before wanted (Item x) new after
+        item_step p is less at left flag kept returned =
             let start : new.start ≡ p = ap (λ (x : SearchConfig). x.start) is in
             let later : a.start < new.start = omega arith in
             let within : a.start ≤ length text = omega arith in
@@ -134,7 +135,7 @@ module _ (s : MetaRegex) (text : List ℕ) (a : SearchConfig) (before : IterStat
               stays = kept;
               passes = passed s text a new before.continue_disabled after.continue_disabled m p inside found is at flag;
               leaves = end ∙ ap (λ (k : ℕ). Some k) (sym parts.1);
-              returns = (m, left, item_passed s text a new before after m inside found (start ∙ at) flag end);
+              returns = (m, left, item_passed s text a new before after m inside found returned (start ∙ at) flag end);
               ends = on;
             }
 
@@ -145,7 +146,7 @@ module _ (s : MetaRegex) (text : List ℕ) (a : SearchConfig) (before : IterStat
             let here : new ≡ record a { start = m.end } = is ∙ ap (λ (k : ℕ). record a { start = k }) at in
             item_step p is later (at ∙ long_next text m.start m.end less)
             (left-item s text a more fits before going m inside found less ∙ ap (λ (xs : List Match). m ∷ xs) (moved s text a new m.end m.end false after here end flag on))
-            (flag ∙ long_off (max a.start a.range_start) m less) (long_stays s text a before stays m found less)
+            (flag ∙ long_off (max a.start a.range_start) m less) (long_stays s text a before stays m found less) (λ empty same. omega (arith, less, empty))
 
         module _ (p : ℕ) (empty : m.end ≤ m.start) (is : new ≡ record a { start = p }) (at : p ≡ position_after text m.end) (onward : m.end < position_after text m.end)
             (flag : after.continue_disabled ≡ (m.end == max a.start a.range_start)) where
@@ -164,6 +165,7 @@ module _ (s : MetaRegex) (text : List ℕ) (a : SearchConfig) (before : IterStat
               (left-empty s text a more fits before going m inside found onward empty unlike
               ∙ ap (λ (xs : List Match). m ∷ xs) (moved s text a new m.end (position_after text m.end) (m.end == max a.start a.range_start) after here end flag on))
               (flag ∙ empty_off (max a.start a.range_start) m empty) (empty_stays s text a before stays m found (unrepeated-is before.last m.end unlike))
+              (λ _. unrepeated-is before.last m.end unlike)
 
           pub skip_step : repeats before.last m.end ≡ true → IsStep s text a before wanted Skip new after
           skip_step alike =
@@ -186,6 +188,7 @@ module _ (s : MetaRegex) (text : List ℕ) (a : SearchConfig) (before : IterStat
                   on,
                   skip_passed s text a new before after m p inside found empty (repeated-is before.last m.end alike) is (at ∙ empty_next text m.start m.end empty)
                       (flag ∙ empty_off (max a.start a.range_start) m empty) end,
+                  end ∙ sym (repeated-is before.last m.end alike),
                 );
                 returns = tt;
                 ends = tt;

@@ -1,11 +1,13 @@
 -- Which errors an iteration may return.
-use Rattle.std.specs.Prelude.{ℕ, ◌≤◌, Bool, false, List, None, max}
+use Rattle.std.specs.Prelude.{◌≡◌, ℕ, ◌≤◌, Bool, false, List, ◌++◌, None, max}
 use Rattle.fancy_regex_meaning.specs.Searches.{Match}
+use Rattle.fancy_regex_input.specs.SearchInputs.{whole}
 use Rattle.fancy_regex_input.specs.declared.config.SearchConfig.{SearchConfig}
 use Rattle.fancy_regex_meta.specs.SearchLimits.{IsMetaSearchError}
 use Rattle.fancy_regex_meta.specs.declared.error.Error.{Error}
 use Rattle.fancy_regex_meta.specs.declared.meta_regex.MetaRegex.{MetaRegex}
 use Rattle.fancy_regex_search.specs.IterationSearches.{SkipsToFrom, MakesSearchFrom, ComesTo}
+use Rattle.fancy_regex_search.specs.RemainingMatches.{all_matches}
 use Rattle.fancy_regex_search.specs.declared.match_iter.IterState.{IterState}
 
 -- The error is one of a search that a call of `next` in this state makes for its own answer: the next search, or one after
@@ -27,3 +29,8 @@ abbrev pub IsErrorAfter : MetaRegex → List ℕ → SearchConfig → List Match
 IsErrorAfter s text config items e =
     (q : ℕ) × (o : Bool) × ComesTo s text config items None config.start false q o × (max q config.range_start ≤ config.range_end)
     × IsMetaSearchError s text (record config { start = q }) o e
+
+-- The error is one of a search that the iteration over a whole text makes right after some of its matches.
+abbrev pub IsErrorOfIteration : MetaRegex → List ℕ → Error → Type 0
+IsErrorOfIteration s text e =
+    (done : List Match) × (rest : List Match) × (all_matches s text (whole text) ≡ done ++ rest) × IsErrorAfter s text (whole text) done e

@@ -7,6 +7,7 @@ use Rattle.fancy_regex_input.specs.declared.config.SearchConfig.{SearchConfig}
 use Rattle.fancy_regex_meta.specs.SearchLimits.{MetaStaysInLimits}
 use Rattle.fancy_regex_meta.specs.declared.meta_regex.MetaRegex.{MetaRegex}
 use Rattle.fancy_regex_search.specs.IterationSearches.{SkipsToFrom, ComesTo}
+use Rattle.fancy_regex_search.specs.RemainingMatches.{all_matches}
 use Rattle.fancy_regex_search.specs.declared.match_iter.IterState.{IterState}
 
 -- Each search that a call of `next` in this state makes for its own answer stays within the limits: the next search, and the
@@ -24,12 +25,17 @@ NextStays s text config state result =
 abbrev pub PieceStays : {A E : Type 0} → MetaRegex → List ℕ → SearchConfig → IterState → Option (Result A E) → Type 0
 PieceStays s text config state result = IfSome result (λ item. IfOk item (λ _. state.is_done ≡ false → SkipsStayInLimits s text config state))
 
--- A search that an iteration from this configuration makes right after these items stays within the limits.
+-- Each search that an iteration from this configuration makes right after these items stays within the limits: the next one, and
+-- the one after each empty match that is skipped.
 abbrev pub StaysAfter : MetaRegex → List ℕ → SearchConfig → List Match → Type 0
 StaysAfter s text config items =
-    (q : ℕ) × (o : Bool) × ComesTo s text config items None config.start false q o × MetaStaysInLimits s text (record config { start = q }) o
+    (q : ℕ) (o : Bool) → ComesTo s text config items None config.start false q o → MetaStaysInLimits s text (record config { start = q }) o
 
 -- A replacement of these matches stays within the limits: it searches for each of them, after those before it, and once more
 -- after the last one.
 abbrev pub ReplacementStays : MetaRegex → List ℕ → List Match → Type 0
 ReplacementStays s text ms = (done rest : List Match) → ms ≡ done ++ rest → StaysAfter s text (whole text) done
+
+-- The iteration over a whole text stays within the limits: it searches for each match, and once more after the last one.
+abbrev pub IterationStays : MetaRegex → List ℕ → Type 0
+IterationStays s text = ReplacementStays s text (all_matches s text (whole text))

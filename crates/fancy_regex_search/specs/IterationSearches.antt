@@ -44,13 +44,17 @@ SkipsToFrom s text config state q o =
 abbrev pub KeepsSkips : MetaRegex → List ℕ → SearchConfig → IterState → SearchConfig → IterState → Type 0
 KeepsSkips s text old before new after = (q : ℕ) (o : Bool) → SkipsToFrom s text new after q o → SkipsToFrom s text old before q o
 
+-- An iteration returns a match, unless the match is empty and ends where the previous one ended.
+abbrev pub IsReturned : Option ℕ → Match → Type 0
+IsReturned last m = m.end ≤ m.start → last ≡ Some m.end → ⊥
+
 -- From the end of the previous match, the start of the next search and whether `\G` is disabled in it, an iteration returns these
 -- matches, one after the other, and comes from there to the search that starts at q by skipping matches alone.
 pub data ComesAfter (text : List ℕ) (find : ℕ → Bool → Option Match) (first end : ℕ) : List Match → Option ℕ → ℕ → Bool → ℕ → Bool → Type 0 where
   no_item : (last : Option ℕ) (p : ℕ) (continue_disabled : Bool) (q : ℕ) (o : Bool) → SkipsTo text find first end last p continue_disabled q o →
       ComesAfter text find first end [] last p continue_disabled q o
   one_item : (last : Option ℕ) (p : ℕ) (continue_disabled : Bool) (at : ℕ) (off : Bool) (m : Match) (items : List Match) (q : ℕ) (o : Bool) →
-      SkipsTo text find first end last p continue_disabled at off → max at first ≤ end → find (max at first) off ≡ Some m →
+      SkipsTo text find first end last p continue_disabled at off → max at first ≤ end → find (max at first) off ≡ Some m → IsReturned last m →
       ComesAfter text find first end items (Some m.end) (next_start text m.start m.end) (continue_disabled_after (max at first) m) q o →
       ComesAfter text find first end (m ∷ items) last p continue_disabled q o
 
@@ -59,8 +63,15 @@ abbrev pub ComesTo : MetaRegex → List ℕ → SearchConfig → List Match → 
 ComesTo s text config items last p continue_disabled q o =
     ComesAfter text (meta_match_from s text config) config.range_start config.range_end items last p continue_disabled q o
 
--- This match is the item between the two states: what the new one comes to after some items, the old one comes to after this
--- match and them.
-abbrev pub PassesItem : MetaRegex → List ℕ → SearchConfig → IterState → Match → SearchConfig → IterState → Type 0
-PassesItem s text old before m new after = (items : List Match) (q : ℕ) (o : Bool) →
-    ComesTo s text old items after.last new.start after.continue_disabled q o → ComesTo s text old (m ∷ items) before.last old.start before.continue_disabled q o
+-- This match is the item between the two states: the old one comes by skipping to a search that finds it and returns it, and the new
+-- one is that after it.
+pub record PassesItem (s : MetaRegex) (text : List ℕ) (old : SearchConfig) (before : IterState) (m : Match) (new : SearchConfig) (after : IterState) : Type 0 where
+  pub at : ℕ
+  pub off : Bool
+  pub skips : SkipsToFrom s text old before at off
+  pub inside : max at old.range_start ≤ old.range_end
+  pub found : meta_match_from s text old (max at old.range_start) off ≡ Some m
+  pub returned : IsReturned before.last m
+  pub last : after.last ≡ Some m.end
+  pub start : new.start ≡ next_start text m.start m.end
+  pub flag : after.continue_disabled ≡ continue_disabled_after (max at old.range_start) m

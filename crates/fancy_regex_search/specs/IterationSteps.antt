@@ -63,11 +63,11 @@ module _ (s : MetaRegex) (text : List ℕ) (old : SearchConfig) (before : IterSt
   StepPasses End new after = Unit {0}
   StepPasses (Failed e) new after = Unit {0}
 
-  -- What a step leaves: the end of an item as the last end; after a skip an iteration that goes on; and an iteration that was
+  -- What a step leaves: the end of an item as the last end; after a skip an iteration that goes on, with the same last end; and an iteration that was
   -- over, or whose search found nothing.
   abbrev pub StepLeaves : Step → SearchConfig → IterState → Type 0
   StepLeaves (Item x) new after = after.last ≡ Some x.end
-  StepLeaves Skip new after = (before.is_done ≡ false) × (after.is_done ≡ false) × KeepsSkips s text old before new after
+  StepLeaves Skip new after = (before.is_done ≡ false) × (after.is_done ≡ false) × KeepsSkips s text old before new after × (after.last ≡ before.last)
   StepLeaves End new after = (after.continue_disabled ≡ before.continue_disabled)
       × (before.is_done ≡ false → meta_match_from s text old (max old.start old.range_start) before.continue_disabled ≡ None)
   StepLeaves (Failed e) new after = Unit {0}

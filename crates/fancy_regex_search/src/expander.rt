@@ -1,6 +1,6 @@
 //! `Expander`: expands, checks and escapes replacement templates; and the free `escape`, for texts in patterns.
 
-ghost use Rattle.std.specs.Prelude.{◌≡◌, ◌++◌, ◌↔◌, ◌≢◌, chars, false, Some, None, string_bytes, IfOk, IfErr, IsOk, OnOk, OnErr};
+ghost use Rattle.std.specs.Prelude.{◌≡◌, ◌++◌, ◌↔◌, ◌≢◌, chars, true, false, Some, None, string_bytes, IfOk, IfErr, IsOk, OnOk, OnErr};
 ghost use Rattle.std.specs.Cow.{cow_str_bytes, IsBorrowedStr};
 ghost use Rattle.std.specs.Io.KnownBytes.{Appends};
 ghost use Rattle.fancy_regex_template.specs.Parts.{is_no_sign, parts};
@@ -18,7 +18,7 @@ use crate::captures::Captures;
 use crate::regex::Regex;
 use crate::template_check::{RegexGroups, fault_error};
 use fancy_regex_meta::Result;
-use fancy_regex_template::{TemplateSyntax, check_template, escape_pattern, escape_template};
+use fancy_regex_template::{Sink, TemplateSyntax, check_template, escape_pattern, escape_template};
 use std::alloc::Global;
 use std::borrow::CowStr;
 use std::io::{self, Write};
@@ -114,7 +114,7 @@ impl Expander {
     }
 
     /// Writes what the template stands for in a match. It fails only where the writer fails or takes no byte; a beginning of
-    /// the expansion is written then.
+    /// the expansion is written then, but not all of it.
     pub fn write_expansion<W: Write>(
         &self,
         dst: &mut W,
@@ -126,8 +126,7 @@ impl Expander {
         ensures err { OnErr result (AppendsBeginning (W.contents dst.old) (W.contents dst.new)
             (expanded self.now.syntax captures.now.regex.now.meta captures.now.haystack.now captures.now.slots.items template.now)) }
     {
-        let texts = captures.texts();
-        fancy_regex_template::write_expansion(dst, self.syntax, template, &texts)
+        write_to_sink(&mut Sink::new(dst), self.syntax, template, captures)
     }
 
     /// Appends the bytes of what the template stands for in a match. `Memory` if memory runs out, and the buffer is as it was.
@@ -146,6 +145,25 @@ impl Expander {
         fancy_regex_template::append_expansion_bytes(self.syntax, template, &texts, dst)?;
         Ok(())
     }
+}
+
+/// Writes what the template stands for in a match to a sink. It fails only where the last write failed, or took no byte although
+/// some were left; a beginning of the expansion is written then, but not all of it.
+fn write_to_sink<W: Write>(
+    sink: &mut Sink<'_, W>,
+    syntax: TemplateSyntax,
+    template: &str,
+    captures: &Captures<'_, &str>,
+) -> io::Result<()>
+    ensures same_writer { sink.new.writer.ghost_name ≡ sink.old.writer.ghost_name }
+    ensures ok { OnOk result (Appends (W.contents sink.old.writer.now) (W.contents sink.new.writer.now)
+        (expanded syntax captures.now.regex.now.meta captures.now.haystack.now captures.now.slots.items template.now)) }
+    ensures err { OnErr result (AppendsBeginning (W.contents sink.old.writer.now) (W.contents sink.new.writer.now)
+        (expanded syntax captures.now.regex.now.meta captures.now.haystack.now captures.now.slots.items template.now)) }
+    ensures failed { OnErr result (sink.new.has_failed ≡ true) }
+{
+    let texts = captures.texts();
+    fancy_regex_template::write_expansion(sink, syntax, template, &texts)
 }
 
 impl<'r, 't> Captures<'r, &'t str> {

@@ -7,7 +7,7 @@ ghost use Rattle.fancy_regex_search.specs.IterationLimits.{NextStays};
 ghost use Rattle.fancy_regex_search.specs.IterationSearches.{KeepsSearches};
 ghost use Rattle.fancy_regex_search.specs.RemainingMatches.{remaining_matches, all_matches, remaining_searches, Yields};
 ghost use Rattle.fancy_regex_search.specs.CaptureSpans.{span_in};
-ghost use Rattle.fancy_regex_search.specs.IterationSteps.{IsLeftByNone, NextMoves, NextEnds, NextKeeps};
+ghost use Rattle.fancy_regex_search.specs.IterationSteps.{IsLeftByNone, NextMoves, NextEnds, NextKeeps, NextReturns};
 
 use crate::group_spans::whole_match;
 use crate::match_iter::MatchIter;
@@ -85,7 +85,9 @@ impl<'r, S: Input> Iterator for Matches<'r, S> {
         × IfNone r (IsLeftByNone s.match_iter.regex.now.meta (S.text s.match_iter.input.haystack) s.match_iter.input.config
         s.match_iter.state
         t.match_iter.input.config t.match_iter.state)
-        × NextStays s.match_iter.regex.now.meta (S.text s.match_iter.input.haystack) s.match_iter.input.config s.match_iter.state r };
+        × NextStays s.match_iter.regex.now.meta (S.text s.match_iter.input.haystack) s.match_iter.input.config s.match_iter.state r
+        × NextReturns s.match_iter.regex.now.meta (S.text s.match_iter.input.haystack) s.match_iter.input.config s.match_iter.state r
+        t.match_iter.input.config t.match_iter.state };
 
     ghost remaining = { λ s. at_most (remaining_searches (S.text s.match_iter.input.haystack) s.match_iter.input.config
         s.match_iter.state) };

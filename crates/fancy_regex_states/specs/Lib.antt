@@ -1,2 +1,3 @@
 pub mod CharTests
 pub mod First
+pub mod Attempts

@@ -1,5 +1,5 @@
 -- Texts that are written one after another.
-use Rattle.std.proofs.Common.{◌≡◌, ℕ, ◌+◌, List, ◌++◌, length, take, Option, Some, None, sym, ap, ◌∙◌, subst, append_assoc, append-nil, arith, [], Result, Ok, Err, chars, IsUtf8, encode_utf8_all}
+use Rattle.std.proofs.Common.{◌≡◌, ℕ, ◌+◌, ◌≤◌, List, ◌++◌, length, take, Option, Some, None, sym, ap, ◌∙◌, subst, append_assoc, append-nil, arith, [], Result, Ok, Err, chars, IsUtf8, encode_utf8_all}
 use Rattle.std.specs.Io.KnownBytes.{Appends}
 use Rattle.std.specs.Result.{OnErr}
 use Rattle.std.proofs.lemmas.List.{length-append, take-append-le}
@@ -17,13 +17,14 @@ Appends-more (Some x) (Some y) (Some z) xs ys p q = q ∙ ap (λ v. v ++ ys) p �
 Appends-at : (a b : Option (List ℕ)) (xs ys : List ℕ) → xs ≡ ys → Appends a b xs → Appends a b ys
 Appends-at a b xs ys e p = subst (λ (zs : List ℕ). Appends a b zs) e p
 
--- the first of several texts were written, and a beginning of the next
+-- the first of several texts were written, and a beginning of the next, but not all of it
 pub beginning : (a b c : Option (List ℕ)) (xs ys zs all : List ℕ) → xs ++ (ys ++ zs) ≡ all → Appends a b xs → AppendsBeginning b c ys → AppendsBeginning a c all
-beginning a b c xs ys zs all e p (n, le, q) = (
-  length xs + n,
-  omega (arith, ap length e, length-append xs (ys ++ zs), length-append ys zs),
-  Appends-at a c (xs ++ take n ys) (take (length xs + n) all) (sym (take-append-add xs (ys ++ zs) n ∙ ap (λ v. xs ++ v) (take-append-le n ys zs le)) ∙ ap (take (length xs + n)) e) (Appends-more a b c xs (take n ys) p q),
-)
+beginning a b c xs ys zs all e p (n, less, q) =
+    let le : n ≤ length ys = omega (arith, less) in (
+      length xs + n,
+      omega (arith, ap length e, length-append xs (ys ++ zs), length-append ys zs),
+      Appends-at a c (xs ++ take n ys) (take (length xs + n) all) (sym (take-append-add xs (ys ++ zs) n ∙ ap (λ v. xs ++ v) (take-append-le n ys zs le)) ∙ ap (take (length xs + n)) e) (Appends-more a b c xs (take n ys) p q),
+    )
 
 -- one more text, as characters
 pub one_more : (done : Text) (r : List ℕ) → IsUtf8 r → encode_utf8_all done ++ r ≡ encode_utf8_all (done ++ chars r)

@@ -9,6 +9,7 @@ mod groups;
 mod laws;
 mod numbers;
 mod parts;
+mod sink;
 mod syntax;
 mod write;
 
@@ -22,5 +23,6 @@ pub use laws::{
 };
 pub use numbers::number_of;
 pub use parts::{TemplatePart, TemplateParts, template_parts};
+pub use sink::Sink;
 pub use syntax::TemplateSyntax;
 pub use write::{append_expansion_bytes, write_expansion};

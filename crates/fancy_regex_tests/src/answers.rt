@@ -1,7 +1,7 @@
 //! What regexes answer to calls that a table of cases cannot ask, each by a function that tells whether the answer is right.
 
 use crate::calls::stays_at_the_item;
-use crate::replacement::{borrows, counts, stops, swaps};
+use crate::replacement::{asks_once, borrows, calls_for_the_replaced, counts, stops, swaps};
 use crate::templates::{takes_cows, takes_strings, writes};
 use fancy_regex::Regex;
 use std::alloc::Global;
@@ -9,7 +9,9 @@ use std::alloc::Global;
 /// What is asked of a regex.
 #[derive(Clone, Copy)]
 enum Question {
+    AsksOnce,
     Borrows,
+    CallsForTheReplaced,
     Counts,
     StaysAtTheItem,
     Stops,
@@ -20,15 +22,17 @@ enum Question {
 }
 
 /// Patterns, and what is asked of their regexes.
-static QUESTIONS: [(&str, Question); 8] = [
+static QUESTIONS: [(&str, Question); 10] = [
+    ("a", Question::AsksOnce),
     ("x", Question::Borrows),
+    ("a", Question::CallsForTheReplaced),
     ("a", Question::Counts),
     ("a", Question::StaysAtTheItem),
     ("a", Question::Stops),
     ("([^,\\s]+),\\s+(\\S+)", Question::Swaps),
     ("(b)", Question::TakesCows),
     ("(b)", Question::TakesStrings),
-    ("(a)", Question::Writes),
+    ("(a)()|(b)", Question::Writes),
 ];
 
 /// Whether the regex of a pattern answers rightly.
@@ -37,7 +41,9 @@ fn is_right(alloc: Global, pattern: &str, question: Question) -> bool {
         return false;
     };
     match question {
+        Question::AsksOnce => asks_once(alloc, &regex),
         Question::Borrows => borrows(alloc, &regex),
+        Question::CallsForTheReplaced => calls_for_the_replaced(alloc, &regex),
         Question::Counts => counts(alloc, &regex),
         Question::StaysAtTheItem => stays_at_the_item(alloc, &regex),
         Question::Stops => stops(alloc, &regex),

@@ -1,8 +1,13 @@
-//! Replacements by functions, and the text without a match.
+//! Replacements by functions, by a replacer that has one text, and the text without a match.
+
+ghost use Rattle.std.specs.Prelude.{Some, codes};
+ghost use Rattle.std.proofs.Common.{rules};
+ghost use Rattle.fancy_regex.specs.Replacements.{AnswersText};
 
 use fancy_regex::{Captures, Error, FnReplacer, NoExpand, Regex, Replacer, Result, RuntimeError};
 use std::alloc::Global;
 use std::borrow::CowStr;
+use std::cell::Cell;
 
 /// Whether a text was made, and is this one.
 pub fn is_made(made: Result<CowStr<'_>>, wanted: &str) -> bool {
@@ -60,4 +65,120 @@ pub fn stops(alloc: Global, regex: &Regex) -> bool {
     let made = regex.replace_all(alloc, "aaa", fails);
     let is_passed_on = matches!(&made, Err(Error::RuntimeError(RuntimeError::StackOverflow)));
     is_passed_on && calls == 2
+}
+
+/// One of the calls that replace matches.
+#[derive(Clone, Copy)]
+enum Replacement {
+    Replace,
+    Replacen(usize),
+    ReplaceAll,
+    TryReplacen(usize),
+}
+
+/// Replacements of `a` in `banana`, how many calls each makes, and what it makes of the text.
+static CALLS: [(Replacement, u8, &str); 6] = [
+    (Replacement::Replace, 1, "bonana"),
+    (Replacement::Replacen(1), 1, "bonana"),
+    (Replacement::Replacen(2), 2, "bonona"),
+    (Replacement::ReplaceAll, 3, "bonono"),
+    (Replacement::TryReplacen(1), 1, "bonana"),
+    (Replacement::TryReplacen(2), 2, "bonona"),
+];
+
+/// What a replacement makes of a text.
+fn replaced<'t, R: Replacer>(
+    alloc: Global,
+    regex: &Regex,
+    text: &'t str,
+    replacement: Replacement,
+    replacer: R,
+) -> Result<CowStr<'t>>
+    requires { R.is_ready replacer }
+{
+    match replacement {
+        Replacement::Replace => regex.replace(alloc, text, replacer),
+        Replacement::Replacen(limit) => regex.replacen(alloc, text, limit, replacer),
+        Replacement::ReplaceAll => regex.replace_all(alloc, text, replacer),
+        Replacement::TryReplacen(limit) => regex.try_replacen(alloc, text, limit, replacer),
+    }
+}
+
+/// Whether a replacement of `a` calls its function so often.
+fn makes_calls(
+    alloc: Global,
+    regex: &Regex,
+    replacement: Replacement,
+    wanted: u8,
+    text: &str,
+) -> bool {
+    let mut calls = 0u8;
+    let count = FnReplacer::new(|_: &Captures<'_, &str>| -> Result<String> {
+        calls = calls.wrapping_add(1);
+        Ok(String::from_str(alloc, "o")?)
+    });
+    let made = replaced(alloc, regex, "banana", replacement, count);
+    is_made(made, text) && calls == wanted
+}
+
+/// Whether each replacement of `a` calls its function for the matches that it replaces alone.
+pub fn calls_for_the_replaced(alloc: Global, regex: &Regex) -> bool {
+    for (replacement, calls, text) in CALLS.iter() {
+        if !makes_calls(alloc, regex, *replacement, *calls, text) {
+            return false;
+        }
+    }
+    true
+}
+
+/// A replacer that has the text `o`, and notes how often it is asked for it and how often it is called.
+#[derive(Drop)]
+struct Noting<'n> {
+    asked: &'n Cell<u8>,
+    called: &'n Cell<u8>,
+}
+
+impl Replacer for Noting<'_> {
+    ghost answers = { AnswersText (λ _. codes "o") };
+
+    ghost fixed_text = { λ _. Some (codes "o") };
+
+    ghost fixed_text_is_answered = { Prim.search rules };
+
+    fn replace_append(
+        &mut self,
+        _alloc: Global,
+        _captures: &Captures<'_, &str>,
+        dst: &mut String,
+    ) -> Result<()> {
+        self.called.set(self.called.get().wrapping_add(1));
+        dst.push_str("o")?;
+        Ok(())
+    }
+
+    fn no_expansion(&self) -> Option<CowStr<'_>> {
+        self.asked.set(self.asked.get().wrapping_add(1));
+        Some(CowStr::Borrowed("o"))
+    }
+}
+
+/// Whether each replacement of `a` by a replacer that has a text asks for it once and calls nothing, also where it is lent.
+pub fn asks_once(alloc: Global, regex: &Regex) -> bool {
+    for (replacement, _, text) in CALLS.iter() {
+        let asked = Cell::new(0u8);
+        let called = Cell::new(0u8);
+        let mut noting = Noting {
+            asked: &asked,
+            called: &called,
+        };
+        let lent = replaced(alloc, regex, "banana", *replacement, noting.by_ref());
+        let by_reference = is_made(lent, text);
+        let is_asked = asked.get() == 1;
+        let given = replaced(alloc, regex, "banana", *replacement, noting);
+        let by_value = is_made(given, text);
+        if !by_reference || !by_value || !is_asked || asked.get() != 2 || called.get() != 0 {
+            return false;
+        }
+    }
+    true
 }

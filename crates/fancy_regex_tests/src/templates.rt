@@ -23,12 +23,13 @@ pub fn takes_cows(alloc: Global, regex: &Regex) -> bool {
     by_reference && by_value
 }
 
-/// Whether a writer gets the expansion of a template for a match of `(a)`.
+/// Whether a writer gets the expansion of a template for a match of `(a)()|(b)`, in which a group is empty, one took no part and one
+/// does not exist.
 pub fn writes(alloc: Global, regex: &Regex) -> bool {
     let Ok(Some(captures)) = regex.captures(alloc, "a") else {
         return false;
     };
     let mut bytes: Vec<u8> = Vec::new(alloc);
-    let written = Expander::default().write_expansion(&mut bytes, "${1}!", &captures);
+    let written = Expander::default().write_expansion(&mut bytes, "$2$3${1}!$9", &captures);
     written.is_ok() && bytes.as_slice() == b"a!".as_slice()
 }

@@ -1,6 +1,7 @@
-//! The texts of errors that no pattern leads to.
+//! The texts of errors that no pattern leads to, and of a regex, and those that the library for C writes.
 
-use fancy_regex::{CompileError, Error, ParseError, RuntimeError};
+use fancy_regex::{CompileError, Error, ParseError, Regex, RuntimeError};
+use fancy_regex_ffi_lists::write_error;
 use std::alloc::{AllocError, Global};
 use std::fmt::Display;
 use std::test::Fail;
@@ -48,4 +49,45 @@ fn errors_have_their_texts(rt: HostRuntime) -> Result<(), Fail> {
     let is_shown = show_payloads(rt.alloc())?;
     assert!(rt; is_shown && others_have_texts(rt.alloc()));
     Ok(())
+}
+
+#[test]
+fn a_regex_shows_its_pattern(rt: HostRuntime) -> Result<(), Fail> {
+    let regex = Regex::new(rt.alloc(), "(a)\\1")?;
+    assert!(rt; is_text(rt.alloc(), &regex, "(a)\\1"));
+    Ok(())
+}
+
+/// Errors of the library for C, and their texts.
+const WRITTEN: [(Error, &str); 4] = [
+    (
+        Error::ParseError(4, ParseError::UnclosedOpenParen),
+        "Parsing error at position 4: Opening parenthesis without closing parenthesis",
+    ),
+    (
+        Error::CompileError(CompileError::NeverEndingRecursion),
+        "Error compiling regex: never ending recursion",
+    ),
+    (
+        Error::RuntimeError(RuntimeError::BacktrackLimitExceeded),
+        "Error executing regex: backtrack limit exceeded",
+    ),
+    (Error::Memory, "Out of memory"),
+];
+
+/// Whether an error is written as this text.
+fn is_written(error: &Error, wanted: &str) -> bool {
+    let mut room = [0u8; 128];
+    let length = write_error(error, &mut room);
+    match room.get(..length) {
+        Some(text) => text == wanted.as_bytes(),
+        None => false,
+    }
+}
+
+#[test]
+fn errors_are_written_for_c(rt: HostRuntime) {
+    for (error, text) in WRITTEN.iter() {
+        assert!(rt; is_written(error, text), "{text}");
+    }
 }

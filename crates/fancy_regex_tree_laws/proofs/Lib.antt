@@ -4,6 +4,7 @@ pub mod PatternBounds
 pub mod GroupRanks
 pub mod ResolvedGroupProofs
 pub mod ParsedGroupProofs
+pub mod ParsedNodeProofs
 pub mod WeightUnits
 pub mod BranchWeights
 pub mod ConstructWeights

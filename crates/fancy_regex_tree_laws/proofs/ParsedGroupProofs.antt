@@ -1,4 +1,4 @@
--- No group has a number before references are resolved.
+-- No group has a number before references are resolved, each alternation has a branch, and each literal is one character.
 use Rattle.std.proofs.Common.{◌≡◌, ℕ, Bool, true, false, not, ◌&&◌, List, [], ◌∷◌, ◌++◌, length, Ok, Err, refl, ap, sym, ◌∙◌, subst, suc, Some, None, is_some, ◌↔◌}
 use Rattle.std.specs.List.{list_any, list_all}
 use Rattle.std.proofs.lemmas.Bool.{and_parts, false≢true}
@@ -13,6 +13,7 @@ use Rattle.fancy_regex_lex.specs.declared.token.QuantifierSuffix.{QuantifierSuff
 use Rattle.fancy_regex_tree.specs.declared.parser_config.ParserConfig.{ParserConfig}
 use Rattle.fancy_regex_tree.specs.Tree.{Tree, empty, concat, alt, trees}
 use Rattle.fancy_regex_tree.specs.Traversal.{nodes, all_nodes}
+use Rattle.fancy_regex_tree.specs.Printable.{is_one_character}
 use Rattle.fancy_regex_tree.specs.TreeBuilders.{is_empty_tree, without_empty, joined, branch_of, all_branches, pattern_of}
 use Rattle.fancy_regex_tree.specs.Atoms.{place, escape_tree}
 use Rattle.fancy_regex_tree.specs.Quantifiers.{Atom}
@@ -25,12 +26,13 @@ use Rattle.fancy_regex_grammar.specs.Patterns.{bare_condition, if_reference, if_
 use Rattle.fancy_regex_grammar.specs.Patterns.{with_quantifiers, IsBranch, no_more_pieces, and_piece, IsBranches, last_branch, and_branch}
 use Rattle.fancy_regex_grammar.proofs.PatternProofs.{patterns_are_exact}
 use Rattle.fancy_regex_tree_laws.specs.ResolvedGroups.{counted_bodies, group_bodies, is_group, is_resolved_node, HasNoNumberedGroups, ParsedLaw}
+use Rattle.fancy_regex_tree_laws.specs.ParsedNodes.{is_parsed_node}
 use Rattle.fancy_regex_tree_laws.specs.References.{HasName}
 use Rattle.fancy_regex_tree_laws.proofs.GroupRanks.{further}
 use Rattle.fancy_regex_tree_laws.proofs.ResolvedGroupProofs.{ok_same, after, turns, groups_are_many, no_group, all_hold}
 
 abbrev is_free : Tree → Bool
-is_free t = not (is_group t)
+is_free t = not (is_group t) && is_parsed_node t
 
 abbrev Free : Tree → Type 0
 Free t = list_all is_free (nodes t) ≡ true
@@ -97,6 +99,7 @@ absent_free ([] ∷ d ∷ bs) h = bounded_free ([] ∷ d ∷ bs) h
 absent_free ((t ∷ ts) ∷ d ∷ bs) h = bounded_free ((t ∷ ts) ∷ d ∷ bs) h
 
 escape_free : (p : ParserConfig) (f : Flags) (position : ℕ) (e : Escape) → Free (escape_tree p f position e)
+unfolding is_one_character
 escape_free p f position (char_escape c) = refl
 escape_free p f position (byte_escape b) = refl
 escape_free p f position (class_escape t) = refl
@@ -124,6 +127,8 @@ quantified_free h (and_quantifier s q m u more) = quantified_free (under_free h 
 
 module _ (p : ParserConfig) where
   mutual
+    unfolding is_one_character
+
     atom_free : {n : ℕ} {in_look : Bool} {f g : Flags} {t rest : Text} {e : Atom} → IsAtom p n in_look f t e g rest → Free e.tree
     atom_free dot = refl
     atom_free caret = refl
@@ -161,26 +166,42 @@ unmarked : (b : Bool) → not b ≡ true → b ≡ false
 unmarked true h = sym h
 unmarked false h = refl
 
-read_free : (oniguruma unicode : Bool) (f : Flags) (t : Text) (tree : Tree) → parse_pattern oniguruma unicode f t ≡ Ok tree → HasNoNumberedGroups tree
+-- the tree of a pattern before references are resolved
+pub record IsReadTree (tree : Tree) : Type 0 where
+  pub unnumbered : HasNoNumberedGroups tree
+  pub well_made : list_all is_parsed_node (nodes tree) ≡ true
+
+kept_of_all : (ts : List Tree) → list_all is_free ts ≡ true → list_all is_parsed_node ts ≡ true
+kept_of_all [] h = refl
+kept_of_all (t ∷ ts) h =
+    let parts = and_parts (is_free t) (list_all is_free ts) h in
+    let node = (and_parts (not (is_group t)) (is_parsed_node t) parts.0).1 in
+    (λ i. node i && kept_of_all ts parts.1 i)
+
+read_free : (oniguruma unicode : Bool) (f : Flags) (t : Text) (tree : Tree) → parse_pattern oniguruma unicode f t ≡ Ok tree → IsReadTree tree
 read_free oniguruma unicode f t tree h =
     let p : ParserConfig = record { size = bytes t; oniguruma = oniguruma; unicode = unicode } in
     let found = (patterns_are_exact oniguruma unicode f t).sound tree h in
     let free : Free tree = subst (λ u. Free u) (sym found.tree) (pattern_free found.body (rows_free p found.derivation)) in
-    All-weaker (λ u. is_free u ≡ true) (λ u. is_group u ≡ false) (λ u k. unmarked (is_group u) k) (nodes tree) (all_hold is_free (nodes tree) free)
+    record {
+      unnumbered = All-weaker (λ u. is_free u ≡ true) (λ u. is_group u ≡ false) (λ u k. unmarked (is_group u) (and_parts (not (is_group u)) (is_parsed_node u) k).0)
+          (nodes tree) (all_hold is_free (nodes tree) free);
+      well_made = kept_of_all (nodes tree) free;
+    }
 
 was_read : {A : Type 0} (size : ℕ) (r : ParseOutcome A) (a : A) → with_position size r ≡ Ok a → r ≡ Ok a
 was_read size (Ok x) a h = ap Ok (ok_same x a h)
 was_read size (Err e) a h = cc
 
 -- how a whole text is read
-record Steps (o : Options) (t : Text) (found : Parsed) : Type 0 where
-  read : HasNoNumberedGroups found.unresolved
+pub record Steps (o : Options) (t : Text) (found : Parsed) : Type 0 where
+  pub read : IsReadTree found.unresolved
   ignoring : found.ignored ≡ ignores o (openings found.unresolved)
   names : found.names ≡ counted found.ignored (openings found.unresolved)
-  following : ℕ
-  resolving : resolved found.ignored (last_named found.names) 0 found.unresolved ≡ Ok (found.tree, following)
+  pub following : ℕ
+  pub resolving : resolved found.ignored (last_named found.names) 0 found.unresolved ≡ Ok (found.tree, following)
 
-steps : (o : Options) (t : Text) (found : Parsed) → parse o t ≡ Ok found → Steps o t found
+pub steps : (o : Options) (t : Text) (found : Parsed) → parse o t ≡ Ok found → Steps o t found
 unfolding parse
 steps o t found h =
     let first = after (with_position (bytes t) (parse_pattern o.oniguruma o.unicode o.flags t)) (resolve_references o) found h in
@@ -216,7 +237,7 @@ parsed_law = record {
   nothing_left = λ o t found h.
       let s = steps o t found h in
       all_hold is_resolved_node (nodes found.tree) (turns found.ignored (last_named found.names) 0 found.unresolved (found.tree, s.following) s.resolving).done;
-  as_read = λ o t found h. (steps o t found h).read;
+  as_read = λ o t found h. (steps o t found h).read.unnumbered;
   bodies = λ o t found h.
       let s = steps o t found h in
       (turns found.ignored (last_named found.names) 0 found.unresolved (found.tree, s.following) s.resolving).groups;
@@ -226,6 +247,6 @@ parsed_law = record {
       let s = steps o t found h in
       groups_are_many found.ignored (last_named found.names) 0 (counted_bodies found.ignored found.unresolved) (group_bodies found.tree)
       (turns found.ignored (last_named found.names) 0 found.unresolved (found.tree, s.following) s.resolving).groups
-      ∙ no_group found.ignored (nodes found.unresolved) s.read
+      ∙ no_group found.ignored (nodes found.unresolved) s.read.unnumbered
       ∙ ap length (sym s.names);
 }

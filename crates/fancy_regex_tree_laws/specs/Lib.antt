@@ -1,4 +1,5 @@
 pub mod ParseBounds
+pub mod ParsedNodes
 pub mod References
 pub mod ResolvedGroups
 pub mod UncountedRepeats

@@ -1,8 +1,9 @@
-//! Laws of parsed trees: bounds on their size, depth and weight, positions of parse errors, group numbers, and the groups that
-//! references refer to. Laws only: every function here has an empty body, and its `ensures` clauses state the law.
+//! Laws of parsed trees: bounds on their size, depth and weight, positions of parse errors, what nodes there are, group numbers, and
+//! the groups that references refer to. Laws only: every function here has an empty body, and its `ensures` clauses state the law.
 #![tactic(auto)]
 
 ghost use Rattle.fancy_regex_tree_laws.specs.ParseBounds.{ParseErrorsAreInside, PositionsAreInside, TreesAreBounded};
+ghost use Rattle.fancy_regex_tree_laws.specs.ParsedNodes.{NodesAreParsed};
 ghost use Rattle.fancy_regex_tree_laws.specs.References.{CountedLaw, LastNamedLaw, NumbersLaw, RelativeLaw};
 ghost use Rattle.fancy_regex_tree_laws.specs.ResolvedGroups.{GroupsLaw, ParsedLaw, ResolvedLaw};
 ghost use Rattle.fancy_regex_tree_laws.specs.WeightBounds.{WeightsAreBounded};
@@ -13,6 +14,11 @@ pub fn parse_bounds()
     ensures trees { TreesAreBounded }
     ensures faults { ParseErrorsAreInside }
     ensures positions { PositionsAreInside }
+{}
+
+/// In a parsed tree each alternation has a branch, and each literal is one character.
+pub fn node_law()
+    ensures { NodesAreParsed }
 {}
 
 /// How capture groups are numbered, which groups have a number, and which group a name, a number or a signed number refers to.

@@ -22,8 +22,8 @@ fn append_insn(out: &mut String, insn: &Insn) -> Result<(), AllocError> {
         Insn::Jmp(to) => write!(out, "[Jmp({to})]"),
         Insn::Save(slot) => write!(out, "[Save({slot})]"),
         Insn::Save0 => write!(out, "[Save0]"),
-        Insn::SaveCaptureGroupStart { kept, slot } => {
-            write!(out, "[SaveCaptureGroupStart({kept},{slot})]")
+        Insn::SaveCaptureGroupStart { saved, slot } => {
+            write!(out, "[SaveCaptureGroupStart({saved},{slot})]")
         }
         Insn::Restore(slot) => write!(out, "[Restore({slot})]"),
         Insn::GoBack(count) => write!(out, "[GoBack({count})]"),

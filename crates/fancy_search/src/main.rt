@@ -7,7 +7,7 @@ ghost use Rattle.std.specs.Prelude.{◌≡◌};
 ghost use Rattle.std.specs.Process as process;
 ghost use Rattle.fancy_search_run.specs.ExitStatus.{exit_status_of};
 
-use fancy_search_run::{Fault, Source, Status, exit_status, run_from};
+use fancy_search_run::{Fault, Sink, Source, Status, exit_status, run_from, tell};
 use std::env;
 use std::io::ErrorKind;
 use std::process::ExitCode;
@@ -18,7 +18,8 @@ const NO_TEXT: &str = "error: invalid UTF-8 was detected in one or more argument
 fn main(rt: HostRuntime) -> ExitCode {
     let answer = answer(&rt);
     if let Err(fault) = &answer {
-        tell(&rt, fault);
+        // If the write fails, there is no reader to tell, and the exit status still reports the fault.
+        let _ = tell(fault, &mut rt.stdout(), &mut rt.stderr());
     }
     exit_code(&answer)
 }
@@ -30,21 +31,17 @@ fn exit_code(answer: &Result<Status, Fault>) -> ExitCode
     ExitCode::from(exit_status(answer))
 }
 
-/// Prints help on standard output, every other fault on standard error. If the write fails, there is no reader to tell, and the
-/// exit status still reports the fault.
-fn tell(rt: &HostRuntime, fault: &Fault) {
-    let _ = match fault {
-        Fault::Help(text) => print!(rt; "{text}"),
-        _ => eprintln!(rt; "fancy_search: {fault}"),
-    };
-}
-
 /// Runs on the words, standard input and standard output of the process.
 fn answer(rt: &HostRuntime) -> Result<Status, Fault> {
     let words = words(rt)?;
     let mut stdin = rt.stdin();
-    let mut source = Source::new(&mut stdin);
-    run_from(rt.alloc(), &words, &mut source, &mut rt.stdout())
+    let mut stdout = rt.stdout();
+    run_from(
+        rt.alloc(),
+        &words,
+        &mut Source::new(&mut stdin),
+        &mut Sink::new(&mut stdout),
+    )
 }
 
 /// The words after the program's name. `Fault::Words` if one is not UTF-8, `Fault::Memory` if memory runs out.

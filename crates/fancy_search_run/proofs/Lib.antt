@@ -1,3 +1,4 @@
 pub mod AnswerLemmas
 pub mod Bytes
 pub mod Outcomes
+pub mod ReadingLemmas

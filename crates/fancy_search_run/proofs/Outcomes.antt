@@ -1,7 +1,7 @@
 -- How a call ends by what its parts did.
-use Rattle.std.proofs.Common.{◌≡◌, ℕ, Bool, true, List, [], Option, Some, None, Result, Ok, Err, refl, subst}
+use Rattle.std.proofs.Common.{◌≡◌, ℕ, true, List, [], Option, Some, None, Result, Ok, Err, refl, subst}
 use Rattle.std.proofs.lemmas.Bool.{false≢true}
-use Rattle.std.specs.Prelude.{IfSome}
+use Rattle.std.specs.Prelude.{IfErr, IfSome}
 use Rattle.fancy_regex.specs.RegexOptions.{RegexOptions}
 use Rattle.fancy_search_words.specs.Requests.{Request, Command, Refuses, requested}
 use Rattle.fancy_search_words.specs.Requests as commands
@@ -10,11 +10,13 @@ use Rattle.fancy_search_words.specs.declared.refusal.Refusal.{Refusal}
 use Rattle.fancy_search_words.specs.declared.refusal.Refusal.TheVariants as refusals
 use Rattle.fancy_search_run.specs.Answers.{IsFault, IsSearchFault, IsPrintFault, IsSetFault}
 use Rattle.fancy_search_run.specs.FaultConversions.{fault_of_refusal}
-use Rattle.fancy_search_run.specs.Reading.{IsReadFault}
+use Rattle.fancy_search_run.specs.Reading.{AfterReading, IsReadFault}
 use Rattle.fancy_search_run.specs.Requests.{regex_options, reads_input}
 use Rattle.fancy_search_run.specs.RunOutcome.{Outcome, IsTextFor, RefusesWords}
 use Rattle.fancy_search_run.specs.declared.fault.Fault.{Fault}
 use Rattle.fancy_search_run.specs.declared.fault.Fault.TheVariants as faults
+use Rattle.fancy_search_run.specs.declared.source.LastRead.{LastRead}
+use Rattle.fancy_search_run.specs.declared.source.LastRead.TheVariants.{Failure}
 use Rattle.fancy_search_run.specs.declared.status.Status.{Status}
 
 -- an input that is the reader's, where that is known
@@ -114,16 +116,39 @@ outcome_of_input request old new known bytes r = go request.command
     go (commands.set ps) k h = (bytes, k refl, h)
     go (commands.print p) k h = let input = some_input known in (input.0, input.1, unread request.options p old new bytes input.0 r h)
 
-pub outcome_reading : (request : Request) (old new : Option (List ℕ)) (text : List ℕ) (has_ended : Bool) (f : Fault) → IsReadFault has_ended f
+pub outcome_reading : (request : Request) (old new : Option (List ℕ)) (text : List ℕ) (last : LastRead) (f : Fault) → IsReadFault last f
     → (f ≡ faults.Input → reads_input request.command ≡ true) → Outcome request old new text (Err f)
-outcome_reading request old new text has_ended faults.Input h k = k refl
-outcome_reading request old new text has_ended faults.Memory h k = tt
-outcome_reading request old new text has_ended faults.NotReprinted h k = absurd h
-outcome_reading request old new text has_ended (faults.Regex error) h k = absurd h
-outcome_reading request old new text has_ended (faults.Words t) h k = absurd h
-outcome_reading request old new text has_ended (faults.Help t) h k = absurd h
-outcome_reading request old new text has_ended faults.NotUtf8 h k = absurd h
-outcome_reading request old new text has_ended faults.Output h k = absurd h
+outcome_reading request old new text last faults.Input h k = k refl
+outcome_reading request old new text last faults.Memory h k = tt
+outcome_reading request old new text last faults.NotReprinted h k = absurd h
+outcome_reading request old new text last (faults.Regex error) h k = absurd h
+outcome_reading request old new text last (faults.Words t) h k = absurd h
+outcome_reading request old new text last (faults.Help t) h k = absurd h
+outcome_reading request old new text last faults.NotUtf8 h k = absurd h
+outcome_reading request old new text last faults.Output h k = absurd h
+
+-- a fault of reading, and the last read
+pub after_failure : (ended : Type 0) (last : LastRead) (f : Fault) → IsReadFault last f → AfterReading (last ≡ Failure) ended (Err f)
+after_failure ended last faults.Input h = h
+after_failure ended last faults.Memory h = tt
+after_failure ended last faults.NotReprinted h = absurd h
+after_failure ended last (faults.Regex error) h = absurd h
+after_failure ended last (faults.Words t) h = absurd h
+after_failure ended last (faults.Help t) h = absurd h
+after_failure ended last faults.NotUtf8 h = absurd h
+after_failure ended last faults.Output h = absurd h
+
+-- an answer, and any fault but one of reading, once the end is told
+pub after_end : (failed ended : Type 0) (r : Result Status Fault) → IfErr r (λ f. f ≡ faults.Input → ⊥) → ended → AfterReading failed ended r
+after_end failed ended (Ok status) h e = e
+after_end failed ended (Err faults.Input) h e = absurd (h refl)
+after_end failed ended (Err faults.Memory) h e = tt
+after_end failed ended (Err faults.NotReprinted) h e = e
+after_end failed ended (Err (faults.Regex error)) h e = e
+after_end failed ended (Err (faults.Words t)) h e = e
+after_end failed ended (Err (faults.Help t)) h e = e
+after_end failed ended (Err faults.NotUtf8) h e = e
+after_end failed ended (Err faults.Output) h e = e
 
 pub refuses_words : (words : List (List ℕ)) (r : Refusal) → Refuses words r → RefusesWords words (Err (fault_of_refusal r))
 refuses_words words (refusals.Words t) h = h
@@ -139,3 +164,10 @@ pub outcome_words : (request : Request) (old new : Option (List ℕ)) (text : Li
 outcome_words request old new text words (refusals.Words t) h e = absurd (some_is_not_none _ request e h.0)
 outcome_words request old new text words (refusals.Help t) h e = absurd (some_is_not_none _ request e h.0)
 outcome_words request old new text words refusals.Memory h e = tt
+
+-- nor are they, for want of memory, whatever was read
+pub after_words : (failed ended : Type 0) (request : Request) (words : List (List ℕ)) (r : Refusal) → Refuses words r → requested words ≡ Some request
+    → AfterReading failed ended (Err (fault_of_refusal r))
+after_words failed ended request words (refusals.Words t) h e = absurd (some_is_not_none _ request e h.0)
+after_words failed ended request words (refusals.Help t) h e = absurd (some_is_not_none _ request e h.0)
+after_words failed ended request words refusals.Memory h e = tt

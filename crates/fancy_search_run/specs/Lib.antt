@@ -2,6 +2,8 @@ pub mod Answers
 pub mod ExitStatus
 pub mod FaultConversions
 pub mod FaultTexts
+pub mod Messages
 pub mod Reading
 pub mod Requests
 pub mod RunOutcome
+pub mod Writing

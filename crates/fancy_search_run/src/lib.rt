@@ -6,12 +6,17 @@
 mod answer;
 mod fault;
 mod input;
+mod message;
 mod output;
 mod pattern;
 mod program;
+mod sink;
+mod source;
 mod status;
 
 pub use fault::Fault;
-pub use input::Source;
+pub use message::tell;
 pub use program::{run, run_from};
+pub use sink::Sink;
+pub use source::{LastRead, Source};
 pub use status::{Status, exit_status};

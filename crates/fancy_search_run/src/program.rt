@@ -2,16 +2,19 @@
 
 ghost use Rattle.std.specs.Prelude.{◌≡◌, ◌≢◌, ℕ, List, [], true, false, map, None, Some, IfOk, IfErr, IfSome, OnOk};
 ghost use Rattle.std.specs.Io.KnownBytes.{IsAtEnd};
-ghost use Rattle.fancy_search_run.specs.Reading.{IsReadFault};
+ghost use Rattle.fancy_search_run.specs.Reading.{AfterReading, IsReadFault, after_read};
 ghost use Rattle.fancy_search_run.specs.RunOutcome.{Outcome, RefusesWords};
 ghost use Rattle.fancy_search_run.specs.Requests.{reads_input};
 ghost use Rattle.fancy_search_run.specs.declared.fault.Fault.TheVariants.{Input, Output};
+ghost use Rattle.fancy_search_run.specs.declared.source.LastRead.TheVariants.{End, Failure};
 ghost use Rattle.fancy_search_words.specs.Requests.{Request, requested, command_of, request_of_arguments};
 
 use crate::answer::answer_for;
 use crate::fault::Fault;
-use crate::input::{Source, read_to_end};
+use crate::input::read_to_end;
 use crate::output::write_all;
+use crate::sink::Sink;
+use crate::source::Source;
 use crate::status::Status;
 use fancy_search_words::{Arguments, Subcommand, read_words};
 use std::alloc::Global;
@@ -41,37 +44,47 @@ pub fn run<S: AsStr, R: Read, W: Write>(
         (input : List ℕ) × IfSome (R.remaining reader.old) (λ xs. input ≡ xs)
         × Outcome request (W.contents writer.old) (W.contents writer.new) input result }
     ensures end { (request : Request) → requested (map S.text words.now) ≡ Some request → reads_input request.command ≡ true
-        → OnOk result (IsAtEnd (R.remaining reader.new)) }
+        → AfterReading (Unit {0}) (IsAtEnd (R.remaining reader.new)) result }
     ensures unread { (request : Request) → requested (map S.text words.now) ≡ Some request → reads_input request.command ≡ false
         → reader.new ≡ reader.old }
     ensures untouched { IfErr result (λ f. f ≢ Output → writer.new ≡ writer.old) }
 {
-    run_from(alloc, words, &mut Source::new(reader), writer)
+    run_from(
+        alloc,
+        words,
+        &mut Source::new(reader),
+        &mut Sink::new(writer),
+    )
 }
 
-/// `run` on a source: `Fault::Input` is the fault only if the last read did not tell the end.
+/// `run` on a source and a sink, which note what reads and writes gave. `Fault::Input` is the fault only if a read failed, and
+/// `Fault::Output` only if a write failed or took no byte although some were left. An answer, and a fault of what comes after
+/// reading, come only if the last read told the end and none failed; an answer only if no write failed.
 pub fn run_from<S: AsStr, R: Read, W: Write>(
     alloc: Global,
     words: &[S],
     source: &mut Source<'_, R>,
-    writer: &mut W,
+    sink: &mut Sink<'_, W>,
 ) -> Result<Status, Fault>
     ensures same_reader { source.new.reader.ghost_name ≡ source.old.reader.ghost_name }
+    ensures same_writer { sink.new.writer.ghost_name ≡ sink.old.writer.ghost_name }
     ensures words { requested (map S.text words.now) ≡ None →
         RefusesWords (map S.text words.now) result × (source.new.reader.now ≡ source.old.reader.now) }
     ensures outcome { (request : Request) → requested (map S.text words.now) ≡ Some request →
         (input : List ℕ) × IfSome (R.remaining source.old.reader.now) (λ xs. input ≡ xs)
-        × Outcome request (W.contents writer.old) (W.contents writer.new) input result }
+        × Outcome request (W.contents sink.old.writer.now) (W.contents sink.new.writer.now) input result }
     ensures end { (request : Request) → requested (map S.text words.now) ≡ Some request → reads_input request.command ≡ true
-        → OnOk result (IsAtEnd (R.remaining source.new.reader.now) × (source.new.has_ended ≡ true)) }
+        → AfterReading (source.new.last ≡ Failure) (IsAtEnd (R.remaining source.new.reader.now)
+        × (source.new.last ≡ after_read source.old.last End)) result }
     ensures unread { (request : Request) → requested (map S.text words.now) ≡ Some request → reads_input request.command ≡ false
         → source.new.reader.now ≡ source.old.reader.now }
-    ensures input { IfErr result (λ f. f ≡ Input → source.new.has_ended ≡ false) }
-    ensures untouched { IfErr result (λ f. f ≢ Output → writer.new ≡ writer.old) }
+    ensures output { IfErr result (λ f. f ≡ Output → sink.new.has_failed ≡ true) }
+    ensures unfailed { OnOk result (sink.new.has_failed ≡ sink.old.has_failed) }
+    ensures untouched { IfErr result (λ f. f ≢ Output → sink.new.writer.now ≡ sink.old.writer.now) }
 {
     let arguments = read_words(alloc, words)?;
     let input = input_for(alloc, &arguments.subcommand, source)?;
-    respond(alloc, arguments, &input, writer)
+    respond(alloc, arguments, &input, sink)
 }
 
 /// The input of a subcommand: all bytes up to the end of the source; none for `print`, which leaves the source as it is.
@@ -85,10 +98,10 @@ fn input_for<R: Read>(
     ensures read { reads_input (command_of subcommand.now) ≡ true →
         IfOk result (λ v. IfSome (R.remaining source.old.reader.now) (λ xs. v.items ≡ xs)) }
     ensures end { reads_input (command_of subcommand.now) ≡ true →
-        OnOk result (IsAtEnd (R.remaining source.new.reader.now) × (source.new.has_ended ≡ true)) }
+        OnOk result (IsAtEnd (R.remaining source.new.reader.now) × (source.new.last ≡ after_read source.old.last End)) }
     ensures unread { reads_input (command_of subcommand.now) ≡ false →
         (source.new.reader.now ≡ source.old.reader.now) × IfOk result (λ v. v.items ≡ []) }
-    ensures fault { IfErr result (λ f. IsReadFault source.new.has_ended f × (f ≡ Input → reads_input (command_of subcommand.now) ≡ true)) }
+    ensures fault { IfErr result (λ f. IsReadFault source.new.last f × (f ≡ Input → reads_input (command_of subcommand.now) ≡ true)) }
 {
     match subcommand {
         Subcommand::Print(_) => Ok(Vec::new(alloc)),
@@ -101,17 +114,21 @@ fn respond<W: Write>(
     alloc: Global,
     arguments: Arguments<'_>,
     input: &[u8],
-    writer: &mut W,
+    sink: &mut Sink<'_, W>,
 ) -> Result<Status, Fault>
     requires { reads_input (command_of arguments.subcommand) ≡ false → input.now ≡ [] }
-    ensures outcome { Outcome (request_of_arguments arguments.entry) (W.contents writer.old) (W.contents writer.new) input.now result }
+    ensures same_writer { sink.new.writer.ghost_name ≡ sink.old.writer.ghost_name }
+    ensures outcome { Outcome (request_of_arguments arguments.entry) (W.contents sink.old.writer.now) (W.contents sink.new.writer.now)
+        input.now result }
     ensures input { IfErr result (λ f. f ≢ Input) }
-    ensures untouched { IfErr result (λ f. f ≢ Output → writer.new ≡ writer.old) }
+    ensures output { IfErr result (λ f. f ≡ Output → sink.new.has_failed ≡ true) }
+    ensures unfailed { OnOk result (sink.new.has_failed ≡ sink.old.has_failed) }
+    ensures untouched { IfErr result (λ f. f ≢ Output → sink.new.writer.now ≡ sink.old.writer.now) }
 {
     let Ok(text) = str::from_utf8(input) else {
         return Err(Fault::NotUtf8);
     };
     let answer = answer_for(alloc, arguments, text)?;
-    write_all(writer, answer.output.as_str().as_bytes())?;
+    write_all(sink, answer.output.as_str().as_bytes())?;
     Ok(answer.status)
 }

@@ -1,7 +1,7 @@
 //! Calls of the program, with readers and writers that fail, and the texts and statuses of faults.
 
 use fancy_regex::{CompileError, Error, ParseError, RuntimeError};
-use fancy_search_run::{Fault, Source, Status, exit_status, run_from};
+use fancy_search_run::{Fault, LastRead, Sink, Source, Status, exit_status, run, run_from, tell};
 use std::alloc::{AllocError, Global};
 use std::io;
 use std::io::{ErrorKind, Read, Write};
@@ -117,31 +117,57 @@ fn is_full_of(writer: &Narrow, text: &str) -> bool {
     writer.taken.len() == writer.room && text.as_bytes().starts_with(writer.taken.as_slice())
 }
 
+/// A writer with room for so many bytes.
+fn writer_with_room(alloc: Global, room: usize, fails: bool) -> Narrow {
+    Narrow {
+        taken: Vec::new(alloc),
+        room,
+        fails,
+    }
+}
+
+/// What the last read of an input gives to a call that is through with it.
+fn last_read_of(input: Input) -> LastRead {
+    match input {
+        Input::Whole(_) => LastRead::End,
+        Input::Broken(_) => LastRead::Failure,
+        Input::Unread => LastRead::NotYet,
+    }
+}
+
 /// Whether a call ends as it has to where its writer has room for so many bytes.
 fn ends_rightly(alloc: Global, call: &ProgramCall, room: usize, fails: bool) -> bool {
     let ProgramCall(words, input, status, told, written) = *call;
     let mut reader = Given::new(input);
-    let mut writer = Narrow {
-        taken: Vec::new(alloc),
-        room,
-        fails,
-    };
+    let mut writer = writer_with_room(alloc, room, fails);
     let mut source = Source::new(&mut reader);
-    let was_new = !source.has_ended();
-    let ended = run_from(alloc, words, &mut source, &mut writer);
-    let is_read = source.has_ended() == matches!(input, Input::Whole(_));
+    let mut sink = Sink::new(&mut writer);
+    let was_new = source.last_read() == LastRead::NotYet && !sink.has_failed();
+    let ended = run_from(alloc, words, &mut source, &mut sink);
+    let is_read = source.last_read() == last_read_of(input);
+    let is_full = room < written.len();
+    let is_noted = sink.has_failed() == is_full;
     let is_asked = reader.was_asked != matches!(input, Input::Unread);
-    let (status, told) = if room < written.len() {
+    let (status, told) = if is_full {
         (2, "cannot write output")
     } else {
         (status, told)
     };
     was_new
         && is_read
+        && is_noted
         && is_asked
         && is_full_of(&writer, written)
         && exit_status(&ended) == status
         && is_told(alloc, &ended, told)
+}
+
+/// Whether a call ends the same without notes of its reads and writes.
+fn runs_rightly(alloc: Global, call: &ProgramCall) -> bool {
+    let ProgramCall(words, input, _, told, written) = *call;
+    let mut writer = writer_with_room(alloc, written.len(), true);
+    let ended = run(alloc, words, &mut Given::new(input), &mut writer);
+    is_full_of(&writer, written) && is_told(alloc, &ended, told)
 }
 
 /// Whether a call ends as it has to with room for its output, and with less.
@@ -152,7 +178,7 @@ pub fn is_right(alloc: Global, call: &ProgramCall) -> bool {
             return false;
         }
     }
-    true
+    runs_rightly(alloc, call)
 }
 
 /// Faults, with their texts and the exit statuses.
@@ -179,11 +205,38 @@ const FAULTS: [(Result<Status, Fault>, &str, u8); 8] = [
     (Err(Fault::Memory), "Out of memory", 2),
 ];
 
-/// Whether the faults of words show the texts that they hold.
+/// Whether a fault has this text, and is told by these bytes on the output and on the errors.
+fn is_told_by(alloc: Global, fault: &Fault, text: &str, output: &[u8], errors: &[u8]) -> bool {
+    let mut written: Vec<u8> = Vec::new(alloc);
+    let mut told: Vec<u8> = Vec::new(alloc);
+    let is_done = tell(fault, &mut written, &mut told).is_ok();
+    is_done
+        && written.as_slice() == output
+        && told.as_slice() == errors
+        && is_text(alloc, fault, text)
+}
+
+/// Whether the faults of words show the texts that they hold, help on the output and others on the errors.
 fn shows_texts_of_words(alloc: Global) -> Result<bool, AllocError> {
     let words = Fault::Words(String::from_str(alloc, "w")?);
     let help = Fault::Help(String::from_str(alloc, "h")?);
-    Ok(is_text(alloc, &words, "w") && is_text(alloc, &help, "h"))
+    let is_shown = is_told_by(alloc, &words, "w", b"", b"fancy_search: w\n");
+    Ok(is_shown && is_told_by(alloc, &help, "h", b"h", b""))
+}
+
+/// Whether an input above so many bytes is read whole and written whole.
+fn carries(alloc: Global, count: usize) -> Result<bool, AllocError> {
+    let input = vec![in alloc; b'a'; count]?;
+    let mut output: Vec<u8> = Vec::new(alloc);
+    let mut reader = input.as_slice();
+    let ended = run(alloc, &["replace", "b", "c"], &mut reader, &mut output);
+    Ok(matches!(ended, Ok(Status::Done)) && output.as_slice() == input.as_slice())
+}
+
+#[test]
+fn large_inputs_are_carried(rt: HostRuntime) -> Result<(), Fail> {
+    assert!(rt; carries(rt.alloc(), 200_000)?);
+    Ok(())
 }
 
 #[test]

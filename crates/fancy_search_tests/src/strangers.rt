@@ -4,7 +4,7 @@
 use crate::program::Input::{Broken, Unread, Whole};
 use crate::program::{ProgramCall, is_right};
 
-static CALLS: [ProgramCall; 34] = [
+static CALLS: [ProgramCall; 35] = [
     // The first fault.
     ProgramCall(&["find", "a"], Whole(b"\xFF"), 2, "input is not UTF-8", ""),
     ProgramCall(&["find", ")"], Whole(b"\xFF"), 2, "input is not UTF-8", ""),
@@ -80,6 +80,7 @@ static CALLS: [ProgramCall; 34] = [
         "",
     ),
     ProgramCall(&["find", "b"], Broken(b"b"), 2, "cannot read input", ""),
+    ProgramCall(&["find", "b"], Broken(b"\xFF"), 2, "cannot read input", ""),
     // Words that do not parse, and a call for help.
     ProgramCall(&[], Unread, 2, "words", ""),
     ProgramCall(&["find"], Unread, 2, "words", ""),

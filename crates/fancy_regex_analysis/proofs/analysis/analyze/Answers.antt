@@ -9,20 +9,24 @@ use Rattle.fancy_regex_analysis.specs.NodeErrors.{some_node, is_invalid_node}
 use Rattle.fancy_regex_analysis.specs.UnsupportedParts.{is_unsupported}
 use Rattle.fancy_regex_analysis.specs.EmittedParts.{some_emitted, IsWhole}
 use Rattle.fancy_regex_analysis.specs.declared.emitted.Inside.{Inside}
-use Rattle.fancy_regex_analysis.proofs.AnalysisErrorLemmas.{IsMemoryOrHolds, node_error_holds, root_error_holds, start_error_holds, part_error_holds, none_passed, no_stopped_part}
+use Rattle.fancy_regex_analysis.proofs.AnalysisErrorLemmas.{IsMemoryOrHolds, no_invalid_node, reversed_error_holds, node_error_holds, root_error_holds, start_error_holds, part_error_holds, none_passed, no_stopped_part}
 use Rattle.fancy_regex_analysis.proofs.PartErrorLemmas.{gives}
 use Rattle.fancy_regex_info.proofs.AnalyzeTreeLemmas.{length_trees}
 use Rattle.fancy_regex_analysis.proofs.analysis.analyze.Goals as goal
 
-pub returns-in_err-check_nodes-clause-refused : goal.returns-in_err-check_nodes-clause-refused
-returns-in_err-check_nodes-clause-refused c =
-    let e = c.in_err-check_nodes.field-0.0 in
+pub returns-then-has_reversed_bounds-clause-refused : goal.returns-then-has_reversed_bounds-clause-refused
+returns-then-has_reversed_bounds-clause-refused c =
+    reversed_error_holds c.args.context c.args.tree.now.named_backref_only (tree_of c.args.tree.now.expr) (sym c.has_reversed_bounds.ensures ∙ c.if-has_reversed_bounds.true)
+
+pub returns-in_err-check_references-clause-refused : goal.returns-in_err-check_references-clause-refused
+returns-in_err-check_references-clause-refused c =
+    let e = c.in_err-check_references.field-0.0 in
     let t = tree_of c.args.tree.now.expr in
     let mark = c.args.tree.now.named_backref_only in
     let gs = c.in_ok-groups.groups in
-    gives c.from_residual-in_err-check_nodes.result e (IsMemoryOrHolds c.args.context mark t) c.from_residual-in_err-check_nodes.ensures.1
+    gives c.from_residual-in_err-check_references.result e (IsMemoryOrHolds c.args.context mark t) c.from_residual-in_err-check_references.ensures.1
     (node_error_holds c.args.context mark t c.len.result e
-    (omega (arith, c.len.ensures, gs.ok.0, length_trees gs.items, ap length c.in_ok-groups.ensures)) c.in_err-check_nodes.ensures.refused)
+    (omega (arith, c.len.ensures, gs.ok.0, length_trees gs.items, ap length c.in_ok-groups.ensures)) c.in_err-check_references.ensures.refused)
 
 pub returns-in_err-check_root-clause-refused : goal.returns-in_err-check_root-clause-refused
 returns-in_err-check_root-clause-refused c =
@@ -73,7 +77,8 @@ returns-clause-complete c =
     none_passed c.args.context mark t (map body_tree gs) sizes (info_of c.in_ok-info.info) c.len.result
     (ap (map body_tree) c.deref-5.ensures.value ∙ c.in_ok-groups.ensures) known c.in_ok-info.ensures
     (omega (arith, c.len.ensures, own.ok.0, length_trees own.items, ap length c.in_ok-groups.ensures))
-    c.if-tree.false c.in_ok-check_nodes.ensures.complete
+    c.if-tree.false
+    (no_invalid_node c.len.result t (sym c.has_reversed_bounds.ensures ∙ c.if-has_reversed_bounds.false) c.in_ok-check_references.ensures.complete)
     (ap (λ g. never_ends (map body_tree g) t) (c.deref-5.ensures.value ∙ sym c.deref.ensures.value) ∙ c.in_ok-check_termination.ensures.complete)
     c.in_ok-check_root.ensures.complete
     (λ k lt. c.in_ok-check_left_recursion.ensures.complete k (omega (arith, lt, length_trees gs)))
@@ -88,7 +93,7 @@ returns-clause-nodes c =
     let own = c.in_ok-groups.groups in
     subst (λ n. some_node (is_invalid_node n) t ≡ false)
     (omega (arith, c.len.ensures, own.ok.0, length_trees own.items, ap length c.in_ok-groups.ensures))
-    c.in_ok-check_nodes.ensures.complete
+    (no_invalid_node c.len.result t (sym c.has_reversed_bounds.ensures ∙ c.if-has_reversed_bounds.false) c.in_ok-check_references.ensures.complete)
 
 pub returns-clause-parts : goal.returns-clause-parts
 returns-clause-parts c =

@@ -3,7 +3,7 @@ use Rattle.std.proofs.lemmas.Result.{err_from_is_err_and}
 use Rattle.fancy_regex.specs.SetAnswers.{found_from}
 use Rattle.fancy_regex_ffi_lists.specs.Lists.{config_at, member_found, members_found}
 use Rattle.fancy_regex_ffi_lists.proofs.ListLemmas.{members_more, members_all}
-use Rattle.fancy_regex_ffi_lists.proofs.MemberLemmas.{IsShownAs, answer_error_is, error_at_answer, left_first, left_next, left_none, set_error_is}
+use Rattle.fancy_regex_ffi_lists.proofs.MemberLemmas.{IsShownAs, all_in_limits, answer_error_is, error_at_answer, left_first, left_next, left_none, set_error_is, set_stays, set_without_answer_stays}
 use Rattle.fancy_regex_ffi_lists.proofs.members.set_members.Goals as goal
 
 pub returns-in_err-found-clause-fails : goal.returns-in_err-found-clause-fails
@@ -91,3 +91,21 @@ returns-clause-members c =
     let told = rw (inv.set, inv.text, inv.config) at c.in_default-next.ensures.steps.2 in
     let none = left_none (λ x f. IsShownAs (x.pattern, (x.matched.start, x.matched.end)) f) c.args.set.now.regexes.items c.args.text.now config s.members.position s.first s.next _ inv.left inv.is_left told in
     members_all _ _ inv.left none inv.members
+
+pub returns-in_default-clause-stays : goal.returns-in_default-clause-stays
+returns-in_default-clause-stays c =
+    let told = rw (c.in_default.is, c.input_at.ensures.haystack, c.input_at.ensures.config) at c.in_ok-found.ensures.answer in
+    let stays = rw (c.in_default.is, c.input_at.ensures.haystack, c.input_at.ensures.config) at c.in_ok-found.ensures.stays in
+    set_without_answer_stays c.args.set.now.regexes.items c.args.text.now (config_at c.args.text.now c.args.position c.args.continues) told stays
+
+pub returns-clause-stays : goal.returns-clause-stays
+returns-clause-stays c =
+    let s = c.loop-member.found in
+    let inv = c.loop-member.invariant in
+    let regexes = c.args.set.now.regexes.items in
+    let text = c.args.text.now in
+    let config = config_at text c.args.position c.args.continues in
+    let told = rw (inv.set, inv.text, inv.config) at c.in_default-next.ensures.steps.2 in
+    let passed = rw (inv.set, inv.text, inv.config) at c.in_default-next.ensures.steps.3 in
+    set_stays regexes text config inv.answer s.members.position inv.is_answer inv.at inv.before
+    (all_in_limits regexes text config s.members.position s.first s.next c.next.new.self.next inv.here told passed)

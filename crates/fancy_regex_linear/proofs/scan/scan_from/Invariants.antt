@@ -1,7 +1,6 @@
 use Rattle.std.proofs.Common.{◌≡◌, ℕ, ◌+◌, ◌-◌, ◌^◌, ◌≤◌, min, IsCharBoundary}
 use Rattle.fancy_regex_class.specs.Looks.{looked_text, look_count, SameCounter}
-use Rattle.fancy_regex_linear.specs.Meaning.{View}
-use Rattle.fancy_regex_linear.specs.Attempt.{Continuation}
+use Rattle.fancy_regex_states.specs.Attempts.{View, Continuation}
 use Rattle.fancy_regex_linear.specs.Search.{Explains}
 use Rattle.fancy_regex_linear.specs.Starts.{EndsAt}
 use Rattle.fancy_regex_linear.proofs.scan.scan_from.Given as goal

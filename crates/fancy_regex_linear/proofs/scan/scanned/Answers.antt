@@ -2,7 +2,7 @@ use Rattle.std.proofs.Common.{◌≡◌, ◌∙◌, ℕ, sym, ap, subst}
 use Rattle.regex_hir.specs.Text.{char_before}
 use Rattle.fancy_regex_class.specs.Looks.{looked_text}
 use Rattle.fancy_regex_linear.specs.Attempt.{trace_end, apply}
-use Rattle.fancy_regex_linear.specs.Program.{visit}
+use Rattle.fancy_regex_states.specs.Attempts.{visit}
 use Rattle.fancy_regex_linear.specs.CharTests.{read_next}
 use Rattle.fancy_regex_linear.specs.Search.{IsScan, LeadsTo}
 use Rattle.fancy_regex_linear.specs.declared.frame.SearchStep.TheVariants.{Pair}

@@ -2,7 +2,7 @@ use Rattle.std.proofs.Common.{◌∙◌, ◌*◌, ◌+◌, false, ap, length}
 use Rattle.std.proofs.lemmas.List.{get_or_default}
 use Rattle.fancy_regex_states.specs.declared.state.State.TheVariants.{Match, Read}
 use Rattle.fancy_regex_states.specs.declared.atom.Leaf.TheVariants.{Any}
-use Rattle.fancy_regex_linear.specs.Program.{visit as state_visit}
+use Rattle.fancy_regex_states.specs.Attempts.{visit as state_visit}
 use Rattle.fancy_regex_linear.proofs.StepLemmas.{read_leads, read_within}
 use Rattle.fancy_regex_linear.proofs.LeadLemmas.{saved_fails, unless_leads, unless_within}
 use Rattle.fancy_regex_linear.proofs.search.ahead.Goals as goal

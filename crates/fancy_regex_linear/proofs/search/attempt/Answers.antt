@@ -2,8 +2,8 @@ use Rattle.std.proofs.Common.{◌≡◌, ℕ, ◌+◌, ◌-◌, ◌≤◌, ◌�
 use Rattle.std.proofs.lemmas.List.{nil_from_length}
 use Rattle.std.specs.Prelude.{is_some}
 use Rattle.fancy_regex_class.specs.Looks.{looked_text}
-use Rattle.fancy_regex_linear.specs.Meaning.{View}
-use Rattle.fancy_regex_linear.specs.Attempt.{Continuation, better_spot, trace_end}
+use Rattle.fancy_regex_states.specs.Attempts.{View, Continuation}
+use Rattle.fancy_regex_linear.specs.Attempt.{better_spot, trace_end}
 use Rattle.fancy_regex_linear.specs.Visited.{Has, pair_count}
 use Rattle.fancy_regex_linear.specs.Search.{AllFail, Explains, Dfs, top_first, end_spot}
 use Rattle.fancy_regex_linear.proofs.VisitedLemmas.{pair_count_cap}

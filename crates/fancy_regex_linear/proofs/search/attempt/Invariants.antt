@@ -1,7 +1,7 @@
 use Rattle.std.proofs.Common.{◌≡◌, ℕ, ◌+◌, ◌-◌, ◌*◌, ◌≤◌, ◌∷◌, false, None, length, vec_len}
 use Rattle.fancy_regex_class.specs.Looks.{looked_text, look_count}
-use Rattle.fancy_regex_linear.specs.Meaning.{View}
-use Rattle.fancy_regex_linear.specs.Attempt.{Continuation, trace_end}
+use Rattle.fancy_regex_states.specs.Attempts.{View, Continuation}
+use Rattle.fancy_regex_linear.specs.Attempt.{trace_end}
 use Rattle.fancy_regex_linear.specs.Visited.{Has, pair_count}
 use Rattle.fancy_regex_linear.specs.Search.{AllFail, Explains, Dfs, top_first, end_spot}
 use Rattle.fancy_regex_linear.specs.Layers.{IsAtPair, IsOnlyLookedAt}

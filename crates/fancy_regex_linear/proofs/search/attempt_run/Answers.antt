@@ -1,8 +1,8 @@
 use Rattle.std.proofs.Common.{◌≡◌, ◌∙◌, ℕ, vec_len, Bool, true, false, true≢false, Option, Some, None, refl, sym, ap}
 use Rattle.std.specs.Prelude.{is_some, not}
 use Rattle.fancy_regex_class.specs.Looks.{looked_text}
-use Rattle.fancy_regex_linear.specs.Meaning.{View}
-use Rattle.fancy_regex_linear.specs.Attempt.{Continuation, trace_end}
+use Rattle.fancy_regex_states.specs.Attempts.{View, Continuation}
+use Rattle.fancy_regex_linear.specs.Attempt.{trace_end}
 use Rattle.fancy_regex_linear.specs.Visited.{Has}
 use Rattle.fancy_regex_linear.specs.Search.{AllFail, Explains, end_spot}
 use Rattle.fancy_regex_linear.specs.Ahead.{written, slots_with}

@@ -1,6 +1,5 @@
 use Rattle.std.proofs.Common.{ℕ}
-use Rattle.fancy_regex_linear.specs.Meaning.{View}
-use Rattle.fancy_regex_linear.specs.Attempt.{Continuation}
+use Rattle.fancy_regex_states.specs.Attempts.{View, Continuation}
 use Rattle.fancy_regex_linear.specs.Visited.{Has}
 use Rattle.fancy_regex_linear.specs.Search.{AllFail}
 use Rattle.fancy_regex_linear.proofs.search.attempt_start.Goals as goal

@@ -1,7 +1,8 @@
 use Rattle.std.proofs.Common.{◌≡◌, ℕ, ◌+◌, ◌-◌, ◌*◌, ◌^◌, ◌≤◌, ◌∙◌, min, List, Option, Some, None, refl, sym, ap, ap₂, subst, arith, length}
 use Rattle.fancy_regex_class.specs.Looks.{looked_text, look_count}
-use Rattle.fancy_regex_linear.specs.Meaning.{Spot, View}
-use Rattle.fancy_regex_linear.specs.Attempt.{Continuation, trace_end}
+use Rattle.fancy_regex_states.specs.Attempts.{View, Continuation}
+use Rattle.fancy_regex_linear.specs.Meaning.{Spot}
+use Rattle.fancy_regex_linear.specs.Attempt.{trace_end}
 use Rattle.fancy_regex_linear.specs.Find.{earliest, attempted, places, places_from}
 use Rattle.fancy_regex_linear.specs.Starts.{places_left, spot_from}
 use Rattle.fancy_regex_linear.specs.Visited.{Has, visited_bound}

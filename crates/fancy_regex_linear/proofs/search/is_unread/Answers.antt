@@ -2,7 +2,7 @@ use Rattle.std.proofs.Common.{◌∙◌, false, ap, sym}
 use Rattle.std.proofs.lemmas.List.{get_or_default}
 use Rattle.fancy_regex_states.specs.declared.state.State.TheVariants.{Match, Read}
 use Rattle.fancy_regex_states.specs.declared.atom.Leaf.TheVariants.{Any}
-use Rattle.fancy_regex_linear.specs.Program.{visit as state_visit}
+use Rattle.fancy_regex_states.specs.Attempts.{visit as state_visit}
 use Rattle.fancy_regex_linear.proofs.StepLemmas.{read_leads}
 use Rattle.fancy_regex_linear.proofs.search.is_unread.Goals as goal
 

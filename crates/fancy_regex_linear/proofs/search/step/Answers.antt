@@ -1,5 +1,5 @@
 use Rattle.std.proofs.Common.{◌≡◌, ◌∙◌, ◌+◌, ◌*◌, false, true, ap, ap₂, sym, length, arith}
-use Rattle.fancy_regex_linear.specs.Program.{visit as state_visit}
+use Rattle.fancy_regex_states.specs.Attempts.{visit as state_visit}
 use Rattle.regex_hir.specs.Text.{char_before}
 use Rattle.fancy_regex_class.specs.Looks.{looked_text}
 use Rattle.fancy_regex_states.specs.CharTests.{passes}

@@ -1,7 +1,6 @@
 use Rattle.std.proofs.Common.{◌≡◌, ℕ, ◌+◌, ◌-◌, ◌^◌, ◌≤◌, List, min, IsCharBoundary}
 use Rattle.fancy_regex_class.specs.Looks.{looked_text, look_count, SameCounter}
-use Rattle.fancy_regex_linear.specs.Meaning.{View}
-use Rattle.fancy_regex_linear.specs.Attempt.{Continuation}
+use Rattle.fancy_regex_states.specs.Attempts.{View, Continuation}
 use Rattle.fancy_regex_linear.specs.Find.{earliest, attempted, places}
 use Rattle.fancy_regex_linear.specs.Starts.{spot_from}
 use Rattle.fancy_regex_linear.specs.Search.{AllFail, Explains}

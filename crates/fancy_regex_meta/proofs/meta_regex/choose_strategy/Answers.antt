@@ -22,7 +22,8 @@ returns-in_err-info-clause-refused c =
     let o = c.args.options.now in
     let tree = c.args.tree.now in
     let p = err_from_is_err_and c.from_residual.result c.from_residual.ensures.1 in
-    rw (p.1, p.2) (analysis_told o tree.named_backref_only tree.contains_subroutines (tree_of tree.expr) c.in_err-info.field-0.0 c.in_err-info.ensures.refused)
+    rw (p.1, p.2) (analysis_told o tree.named_backref_only tree.contains_subroutines (tree_of tree.expr) c.in_err-info.field-0.0 c.in_err-info.ensures.refused
+    (λ reversed. let same = c.in_err-info.ensures.reversed reversed in cc))
 
 pub returns-in_err-strategy-clause-refused : goal.returns-in_err-strategy-clause-refused
 returns-in_err-strategy-clause-refused c =

@@ -11,6 +11,8 @@ abbrev pub invariant-loop-part : goal.invariant-loop-part
 invariant-loop-part g l =
     (goal.iterator-loop-part g).can_next l.part-iterator
     × (goal.iterator-loop-part g).is_finite l.part-iterator
-    × ((done : Text) × Appends (g.W.Write.contents l.fn.writer) (g.W.Write.contents l.writer) (encode_utf8_all done)
+    × (l.sink.writer.ghost_name ≡ l.fn.sink.writer.ghost_name)
+    × (l.sink.has_failed ≡ l.fn.sink.has_failed)
+    × ((done : Text) × Appends (g.W.Write.contents l.fn.sink.writer.now) (g.W.Write.contents l.sink.writer.now) (encode_utf8_all done)
     × (done ++ parts_text l.syntax (g.G.GroupTexts.texts l.groups) (remaining_parts l.part-iterator)
     ≡ parts_text l.syntax (g.G.GroupTexts.texts l.groups) (parts l.syntax (chars l.template))))

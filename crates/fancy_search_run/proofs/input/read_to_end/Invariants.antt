@@ -1,10 +1,16 @@
-use Rattle.std.proofs.Common.{◌≡◌, ◌<◌, false}
+use Rattle.std.proofs.Common.{◌≡◌, ◌-◌, ◌^◌, length}
 use Rattle.std.specs.Io.KnownBytes.{Consumes}
+use Rattle.fancy_search_run.specs.Reading.{after_read}
+use Rattle.fancy_search_run.specs.declared.source.LastRead.TheVariants.{End}
 use Rattle.fancy_search_run.proofs.input.read_to_end.Given as goal
 
--- the bytes so far are those that the reader has lost, and it has told no end
-abbrev pub invariant-loop : goal.invariant-loop
-invariant-loop g l =
+-- the bytes so far are those that the reader has lost
+abbrev pub invariant-loop-bytes : goal.invariant-loop-bytes
+invariant-loop-bytes g l =
     Consumes (g.R.Read.remaining l.fn.source.reader.now) (g.R.Read.remaining l.source.reader.now) l.bytes.items
     × (l.source.reader.ghost_name ≡ l.fn.source.reader.ghost_name)
-    × (0 < l.counter → l.source.has_ended ≡ false)
+    × (after_read l.source.last End ≡ after_read l.fn.source.last End)
+
+-- each read that gives bytes leaves room for fewer
+abbrev pub decreases-loop-bytes : goal.decreases-loop-bytes
+decreases-loop-bytes g l = 2 ^ 63 - length l.bytes.items

@@ -12,10 +12,14 @@ loop-done-preserved g c =
     let n = c.in-Ok.n in
     let inv = c.loop-done.invariant in
     let C = g.W.Write.contents in
+    let first = C c.args.sink.now.writer.now in
+    let here = C c.loop-done.sink.writer.now in
+    let next = C c.write.new.self.writer.now in
     let within : n ≤ length bs - done = search rules in
-    let wrote : Appends (C c.loop-done.writer) (C c.write.new.self) (take n (drop done bs)) =
-    subst (λ (xs : List ℕ). Appends (C c.loop-done.writer) (C c.write.new.self) xs) (take-take n (length bs - done) (drop done bs) within) c.in-Ok.ensures.bytes in (
-      subst (λ (xs : List ℕ). Appends (C c.args.writer.now) (C c.write.new.self) xs) (sym (take-add done n bs))
-          (Appends-more (C c.args.writer.now) (C c.loop-done.writer) (C c.write.new.self) (take done bs) (take n (drop done bs)) inv.0 wrote),
+    let wrote : Appends here next (take n (drop done bs)) =
+    subst (λ (xs : List ℕ). Appends here next xs) (take-take n (length bs - done) (drop done bs) within) c.in-Ok.ensures.bytes in (
+      search rules,
+      subst (λ (xs : List ℕ). Appends first next xs) (sym (take-add done n bs)) (Appends-more first here next (take done bs) (take n (drop done bs)) inv.1 wrote),
+      search rules,
       search rules,
     )

@@ -14,7 +14,7 @@ returns-in_err-answer-clause-outcome g c =
     let p = err_from_is_err_and c.from_residual.result c.from_residual.ensures.1 in
     let C = g.W.Write.contents in
     let request = request_of_arguments c.args.arguments in
-    rw (p.1, p.2) (outcome_fault request (C c.args.writer.now) (C c.args.writer.now) c.args.input.now (λ reads. c.in-Ok.ensures.cases.1) _ (rw c.in-Ok.ensures.cases.0 at c.in_err-answer.ensures))
+    rw (p.1, p.2) (outcome_fault request (C c.args.sink.now.writer.now) (C c.args.sink.now.writer.now) c.args.input.now (λ reads. c.in-Ok.ensures.cases.1) _ (rw c.in-Ok.ensures.cases.0 at c.in_err-answer.ensures))
 
 pub returns-in_err-answer-clause-input : goal.returns-in_err-answer-clause-input
 returns-in_err-answer-clause-input g c =
@@ -28,8 +28,8 @@ returns-in_err-write_all-clause-outcome g c =
     let output = cow_str_bytes c.in_ok-answer.answer.output in
     let due : IsDue (regex_options c.args.arguments.options) (command_of c.args.arguments.subcommand) c.args.input.now output c.in_ok-answer.answer.status =
     rw c.in-Ok.ensures.cases.0 at c.in_ok-answer.ensures in
-    let wrote : AppendsPrefix (C c.args.writer.now) (C c.write_all.new.writer) output =
-    subst (λ (bs : List ℕ). AppendsPrefix (C c.args.writer.now) (C c.write_all.new.writer) bs) (c.as_bytes.ensures.value ∙ c.as_str.ensures.value) c.in_err-write_all.ensures.err in
+    let wrote : AppendsPrefix (C c.args.sink.now.writer.now) (C c.write_all.new.sink.writer.now) output =
+    subst (λ (bs : List ℕ). AppendsPrefix (C c.args.sink.now.writer.now) (C c.write_all.new.sink.writer.now) bs) (c.as_bytes.ensures.value ∙ c.as_str.ensures.value) c.in_err-write_all.ensures.err in
     rw (p.1, p.2, c.in_err-write_all.ensures.fault) (output, c.in_ok-answer.answer.status, ((λ reads. c.in-Ok.ensures.cases.1), due), wrote)
 
 pub returns-clause-outcome : goal.returns-clause-outcome
@@ -38,6 +38,6 @@ returns-clause-outcome g c =
     let output = cow_str_bytes c.in_ok-answer.answer.output in
     let due : IsDue (regex_options c.args.arguments.options) (command_of c.args.arguments.subcommand) c.args.input.now output c.in_ok-answer.answer.status =
     rw c.in-Ok.ensures.cases.0 at c.in_ok-answer.ensures in
-    let wrote : Appends (C c.args.writer.now) (C c.write_all.new.writer) output =
-    subst (λ (bs : List ℕ). Appends (C c.args.writer.now) (C c.write_all.new.writer) bs) (c.as_bytes.ensures.value ∙ c.as_str.ensures.value) c.in_ok-write_all.ensures.ok in
+    let wrote : Appends (C c.args.sink.now.writer.now) (C c.write_all.new.sink.writer.now) output =
+    subst (λ (bs : List ℕ). Appends (C c.args.sink.now.writer.now) (C c.write_all.new.sink.writer.now) bs) (c.as_bytes.ensures.value ∙ c.as_str.ensures.value) c.in_ok-write_all.ensures.ok in
     (output, ((λ reads. c.in-Ok.ensures.cases.1), due), wrote)

@@ -7,7 +7,7 @@ use Rattle.fancy_regex_class.proofs.class.CharClassMatcher.new.Goals as goal
 pub returns-in-Ok-clause-members : goal.returns-in-Ok-clause-members
 unfolding in_class
 returns-in-Ok-clause-members c = λ d scalar.
-    c.of.ensures d ∙ c.in-Ok.ensures.members d scalar
+    c.in_ok-matcher-in-Ok.ensures d ∙ c.in-Ok.ensures.members d scalar
     ∙ ap (λ t. text_matches_char t d) (ap chars c.deref.ensures ∙ c.in_ok-written.ensures)
 
 pub returns-clause-refused : goal.returns-clause-refused

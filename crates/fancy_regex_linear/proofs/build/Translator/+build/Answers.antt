@@ -42,7 +42,6 @@ repeat-returns-clause-shape t c = λ plain groups.
     ∙ ap₂ (λ (b : Bool) (x : Re). re.repeat c.args.lo c.args.hi c.args.greedy b x) flag body)
 
 pub row-loop-i-init : goal.row-loop-i-init
-unfolding never_empty
 row-loop-i-init t c = record { built = rw c.new-parts.ensures.items (row_none c.args.self.now); moves = rw c.new-parts.ensures.items refl }
 
 pub row-loop-i-preserved : goal.row-loop-i-preserved

@@ -1,16 +1,14 @@
-use Rattle.std.proofs.Common.{◌≡◌, List, ℕ, subst}
+use Rattle.std.proofs.Common.{rules}
 use Rattle.fancy_regex_template.specs.Writing.{AppendsBeginning}
 use Rattle.fancy_regex_search.specs.GroupTexts.{expanded}
-use Rattle.fancy_regex_search.proofs.ResultLemmas.{err_then}
+use Rattle.fancy_regex_search.proofs.ResultLemmas.{on_err_at}
 use Rattle.fancy_regex_search.proofs.expander.Expander.write_expansion.Goals as goal
 
+-- the writer is as the sink leaves it
 pub returns-clause-err : goal.returns-clause-err
 returns-clause-err g c =
-    let same = c.texts-texts.ensures in
-    let texts = c.texts-texts.result in
     let captures = c.args.captures.now in
-    let bytes : expanded c.args.self.now.syntax texts.regex.now.meta texts.haystack.now texts.slots.now c.args.template.now
-    ≡ expanded c.args.self.now.syntax captures.regex.now.meta captures.haystack.now captures.slots.items c.args.template.now =
-    λ i. expanded c.args.self.now.syntax (same.0 i).meta (same.1 i) (same.2 i) c.args.template.now in
-    err_then c.write_expansion.result c.write_expansion.ensures.err
-    (λ _ h. subst (λ (x : List ℕ). AppendsBeginning (g.W.Write.contents c.args.dst.now) (g.W.Write.contents c.write_expansion.new.writer) x) bytes h)
+    let C = g.W.Write.contents in
+    on_err_at
+    (λ old new. AppendsBeginning (C old) (C new) (expanded c.args.self.now.syntax captures.regex.now.meta captures.haystack.now captures.slots.items c.args.template.now))
+    c.write_to_sink.result _ _ _ _ c.new.ensures.bytes (search rules) c.write_to_sink.ensures.err

@@ -23,7 +23,7 @@ returns-in-Item-clause-returns g c =
     let left = rw inv.regex at inv.left in (
       step.returns.0,
       left ∙ step.returns.1,
-      passes_before s text old.input.config now.input.config new.input.config old.state now.state new.state step.returns.0 inv.config inv.skips step.returns.2,
+      passes_before s text old.input.config now.input.config new.input.config old.state now.state new.state step.returns.0 inv.config inv.last inv.skips step.returns.2,
     )
 
 pub returns-in-Failed-clause-fails : goal.returns-in-Failed-clause-fails

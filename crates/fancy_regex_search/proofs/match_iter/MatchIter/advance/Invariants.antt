@@ -21,6 +21,7 @@ invariant-loop-found g l =
       skips : KeepsSkips o.regex.now.meta text o.input.config o.state s.input.config s.state;
       stays : SkipsStayInLimits o.regex.now.meta text s.input.config s.state → SkipsStayInLimits o.regex.now.meta text o.input.config o.state;
       done : s.state.is_done ≡ o.state.is_done;
+      last : s.state.last ≡ o.state.last;
       over : o.state.is_done ≡ true → s.input.config ≡ o.input.config;
     }
 

@@ -1,0 +1,2 @@
+pub mod GroupCounts
+pub mod WellFormedProofs

@@ -1,0 +1,93 @@
+//! Long runs, large counts, many groups, and long texts that are searched and made: while memory is ample, each has its answer, and
+//! none is told as want of memory.
+
+use fancy_regex::{NoExpand, Regex, RegexBuilder, Result};
+use std::alloc::Global;
+
+/// A text that is made of another one so many times.
+#[derive(Clone, Copy)]
+struct Repeated(&'static str, usize);
+
+/// A pattern, a text, and where the match of a search ends, if there is one. The search may go back 1,000,000,000 times.
+struct Search(Repeated, Repeated, Option<usize>);
+
+static SEARCHES: [Search; 8] = [
+    // more than 100,000,000 steps of the machine
+    Search(
+        Repeated("(?:(?:(?=a)(?=a)){1000}){1000}(?=b)", 1),
+        Repeated("a", 40),
+        None,
+    ),
+    // counts, for the machine and for the linear engine
+    Search(
+        Repeated("(?!b)(?:ab){100000}", 1),
+        Repeated("ab", 100_000),
+        Some(200_000),
+    ),
+    Search(
+        Repeated("(?!b)a{100000,}", 1),
+        Repeated("a", 100_001),
+        Some(100_001),
+    ),
+    Search(
+        Repeated("(?!b)a{0,1000000}", 1),
+        Repeated("a", 1_000),
+        Some(1_000),
+    ),
+    Search(Repeated("a{10000}", 1), Repeated("a", 10_000), Some(10_000)),
+    // more groups than 16 bits count
+    Search(
+        Repeated("(?!b)(a)", 70_000),
+        Repeated("a", 70_000),
+        Some(70_000),
+    ),
+    // long texts, for the linear engine and for the machine
+    Search(
+        Repeated("(?:a|b|ab)*bc", 1),
+        Repeated("ab", 5_000_000),
+        None,
+    ),
+    Search(Repeated("(\\w)\\1", 1), Repeated("ab", 5_000_000), None),
+];
+
+/// Where the first match ends.
+fn found_end(alloc: Global, row: &Search) -> Result<Option<usize>> {
+    let Search(Repeated(pattern, patterns), Repeated(text, texts), _) = row;
+    let pattern = pattern.repeat(alloc, *patterns)?;
+    let text = text.repeat(alloc, *texts)?;
+    let mut builder = RegexBuilder::new(alloc, &pattern)?;
+    let regex = builder.backtrack_limit(1_000_000_000).build(alloc)?;
+    match regex.find(alloc, text.as_str())? {
+        Some(found) => Ok(Some(found.end())),
+        None => Ok(None),
+    }
+}
+
+/// Whether a search has its answer.
+fn is_right(alloc: Global, row: &Search) -> bool {
+    match found_end(alloc, row) {
+        Ok(end) => end == row.2,
+        Err(_) => false,
+    }
+}
+
+#[test]
+fn searches_answer_while_memory_is_ample(rt: HostRuntime) {
+    let wrong = SEARCHES.iter().position(|row| !is_right(rt.alloc(), row));
+    assert_eq!(rt; wrong, None);
+}
+
+/// Whether each `a` of a long text is replaced.
+fn replaces_all(alloc: Global) -> Result<bool> {
+    let text = "ab".repeat(alloc, 100_000)?;
+    let wanted = "xyzb".repeat(alloc, 100_000)?;
+    let regex = Regex::new(alloc, "a")?;
+    let made = regex.replace_all(alloc, text.as_str(), NoExpand("xyz"))?;
+    Ok(made.as_str() == wanted.as_str())
+}
+
+#[test]
+fn a_long_text_is_made_while_memory_is_ample(rt: HostRuntime) {
+    let is_made = replaces_all(rt.alloc());
+    assert!(rt; matches!(is_made, Ok(true)));
+}

@@ -1,0 +1,11 @@
+pub mod EndLemmas
+pub mod CloseLemmas
+pub mod StepLemmas
+pub mod TargetLemmas
+pub mod Adding
+pub mod MakingLemmas
+pub mod MakerLemmas
+pub mod PlaceLemmas
+pub mod TableLemmas
+pub mod AlphabetLemmas
+pub mod MadeLemmas

@@ -1,0 +1,5 @@
+use Rattle.fancy_regex_table.specs.Making.{AreReadings}
+use Rattle.fancy_regex_table.proofs.begun.readings_of.Given as goal
+
+abbrev pub invariant-loop-k : goal.invariant-loop-k
+invariant-loop-k l = AreReadings l.pattern.reader.states.now l.before l.own l.later l.readings.items

@@ -1,0 +1,12 @@
+pub mod Sorts
+pub mod Ends
+pub mod Sets
+pub mod Meanings
+pub mod Cells
+pub mod Making
+pub mod Readings
+pub mod Rows
+pub mod Made
+pub mod Alphabets
+pub mod Tables
+pub mod ByClass

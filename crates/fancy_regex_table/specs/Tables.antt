@@ -1,0 +1,120 @@
+-- What a table says of a search.
+use Rattle.std.specs.Prelude.{◌≡◌, ◌⊎◌, ◌<◌, ◌≤◌, ◌+◌, ℕ, Bool, false, List, Option, Some, None, slice_get, slice_index, length, Vec, IsCharBoundary, IsUtf8}
+use Rattle.std.specs.declared.alloc.Global.{Global}
+use Rattle.regex_hir.specs.Text.{char_at, char_before}
+use Rattle.fancy_regex_states.specs.Attempts.{ShowsAll}
+use Rattle.fancy_regex_states.specs.First.{state_at}
+use Rattle.fancy_regex_states.specs.declared.rules.Rules.{Rules}
+use Rattle.fancy_regex_table.specs.Cells.{Parts, Search, IsIn, IsRight, NoneBefore, IsFirstMatch, sort_before}
+use Rattle.fancy_regex_table.specs.Made.{AreFresh}
+use Rattle.fancy_regex_table.specs.Making.{ReadsAlike}
+use Rattle.fancy_regex_table.specs.Meanings.{IsMeaning}
+use Rattle.fancy_regex_table.specs.Sorts.{sort_at, AreAsked}
+use Rattle.fancy_regex_table.specs.declared.columns.Column.{Column}
+use Rattle.fancy_regex_table.specs.declared.row.Cell.{Cell}
+use Rattle.fancy_regex_table.specs.declared.rows.FreshRow.{FreshRow}
+use Rattle.fancy_regex_table.specs.declared.row.Row.{Row}
+use Rattle.fancy_regex_table.specs.declared.sort.Asked.{Asked}
+use Rattle.fancy_regex_table.specs.declared.sort.Sort.{Sort}
+use Rattle.fancy_regex_table.specs.declared.table.Passed.{Passed}
+use Rattle.fancy_regex_table.specs.declared.table.Passed.TheVariants as P
+use Rattle.fancy_regex_table.specs.declared.table.Place.{Place}
+use Rattle.fancy_regex_table.specs.declared.table.Step.{Step}
+use Rattle.fancy_regex_table.specs.declared.table.Step.TheVariants as W
+use Rattle.fancy_regex_table.specs.declared.table.Table.{Table}
+
+-- the class of this number is that of the character
+pub record HasColumn (parts : Parts) (columns : List Column) (asked : Asked) (c : Option ℕ) (class : ℕ) : Type 0 where
+  pub column : Column
+  pub is_there : slice_get columns class ≡ Some column
+  pub sort : column.sort ≡ sort_at asked parts.unicode c
+  pub alike : (q : ℕ) → q < length parts.states → ReadsAlike parts.unicode parts.matchers c column.sample (state_at parts.states q)
+
+-- the cell is that of a row and a class, and right
+pub record IsCellAt (parts : Parts) (rows : List Row) (columns : List Column) (class number : ℕ) (cell : Cell) : Type 0 where
+  pub row : Row
+  pub column : Column
+  pub row_is : slice_get rows number ≡ Some row
+  pub column_is : slice_get columns class ≡ Some column
+  pub right : IsRight parts rows row column.sort column.sample cell
+
+-- the cells, class by class
+abbrev pub AreCells : Parts → List Row → List Column → List (Vec Cell Global) → Type 0
+AreCells parts rows columns cells = (class : ℕ) (made : Vec Cell Global) (number : ℕ) (cell : Cell) → slice_get cells class ≡ Some made
+    → slice_get made.items number ≡ Some cell → IsCellAt parts rows columns class number cell
+
+-- each cell of the table is right
+pub record IsTable (parts : Parts) (table : Table) : Type 0 where
+  pub rows : List Row
+  pub columns : List Column
+  pub unicode : table.unicode ≡ parts.unicode
+  pub asks : AreAsked table.asked parts.states
+  pub cells : AreCells parts rows columns table.cells.items
+  pub fresh : AreFresh rows table.fresh.items
+  pub ascii : (c : ℕ) → c < 128 → HasColumn parts columns table.asked (Some c) (slice_index table.ascii c)
+  pub end : HasColumn parts columns table.asked None 0
+
+-- The search is one of this text by these states, and no end of the text is hidden from it.
+pub record IsSearchOf (parts : Parts) (rules : Rules) (s : Search) : Type 0 where
+  pub meaning : IsMeaning parts.states s.view s.stop s.go
+  pub shows : ShowsAll parts.matchers rules s.text s.view
+  pub unicode : rules.unicode ≡ parts.unicode
+  pub start_shown : rules.no_start_text ≡ false
+  pub end_shown : rules.no_end_text ≡ false
+  pub entry : s.entry ≡ parts.entry
+  pub utf8 : IsUtf8 s.text
+  pub inside : s.stop ≤ length s.text
+
+-- a place in the range at which a search goes on
+pub record IsPlaceOf (s : Search) (at read : ℕ) : Type 0 where
+  pub low : s.from ≤ at
+  pub order : at ≤ read
+  pub high : read ≤ s.stop
+  pub boundary : IsCharBoundary s.text at
+  pub early : NoneBefore s at
+
+-- what was found is so
+abbrev pub IsPassed : Search → Passed → Type 0
+IsPassed s (P.Match start end read) = IsFirstMatch s start end × (start ≤ read) × (read ≤ s.stop)
+IsPassed s P.Ended = NoneBefore s (s.stop + 1)
+IsPassed s (P.Idle at) = IsPlaceOf s at at × (s.from < at)
+IsPassed s (P.Unknown from read) = IsPlaceOf s from read
+
+-- a search that stands at this place
+pub record Stands (asked : Asked) (unicode : Bool) (rows : List Row) (s : Search) (place : Place) : Type 0 where
+  pub row : Row
+  pub is_there : slice_get rows place.row ≡ Some row
+  pub sort : sort_before row ≡ sort_at asked unicode (char_before s.text place.at)
+  pub is_in : IsIn s row place.at place.start place.last
+  pub low : s.from ≤ place.start
+  pub order : place.start ≤ place.at
+  pub high : place.at ≤ s.stop
+  pub boundary : IsCharBoundary s.text place.at
+  pub start_boundary : IsCharBoundary s.text place.start
+
+abbrev pub IsStepped : Asked → Bool → List Row → Search → Step → Type 0
+IsStepped asked unicode rows s (W.On place) = Stands asked unicode rows s place
+IsStepped asked unicode rows s (W.Done passed) = IsPassed s passed
+
+-- a step on is one over an ASCII character
+abbrev pub IsOnward : ℕ → ℕ → Step → Type 0
+IsOnward at byte (W.On place) = (place.at ≡ at + 1) × (byte < 128)
+IsOnward at byte (W.Done passed) = Unit {0}
+
+-- an ASCII character stands here
+pub record IsAsciiAt (text : List ℕ) (at c : ℕ) : Type 0 where
+  pub here : char_at text at ≡ Some c
+  pub before_next : char_before text (at + 1) ≡ Some c
+  pub boundary_next : IsCharBoundary text (at + 1)
+
+-- a row for searches that begin after a character of this sort
+pub record IsFreshRow (fresh : List FreshRow) (sort : Sort) (number : ℕ) : Type 0 where
+  pub place : ℕ
+  pub row : FreshRow
+  pub is_there : slice_get fresh place ≡ Some row
+  pub sort_is : row.before ≡ sort
+  pub number_is : row.row ≡ number
+
+-- the start, or this place in a row for searches that begin
+abbrev pub IsStartAt : List FreshRow → Place → ℕ → Type 0
+IsStartAt fresh place result = (result ≡ place.start) ⊎ ((result ≡ place.at) × ((sort : Sort) × IsFreshRow fresh sort place.row))

@@ -1,0 +1,18 @@
+//! A table that finds where a match starts and ends in one pass over a text. It is made once, with the pattern, and never changes.
+#![tactic(auto)]
+
+mod alphabet;
+mod begun;
+mod by_class;
+mod close;
+mod columns;
+mod maker;
+mod pattern;
+mod row;
+mod rows;
+mod sort;
+mod step;
+mod table;
+mod target;
+
+pub use table::{Passed, Table};

@@ -1,0 +1,237 @@
+//! The making of a table's cells.
+
+ghost use Rattle.std.specs.Prelude.{◌≡◌, ◌<◌, ℕ, List, true, Some, IfOk, slice_get, length};
+ghost use Rattle.fancy_regex_table.specs.Cells.{Parts, IsRight, sort_before};
+ghost use Rattle.fancy_regex_table.specs.Making.{parts_of, BeginsWith, IsBegun, AreHomes, IsRightTarget, AreRightCells};
+ghost use Rattle.fancy_regex_table.specs.Made.{AreReadingsOf, AreRightRows, IsCellTo, AreFresh, IsMadeOf};
+ghost use Rattle.fancy_regex_table.specs.declared.columns.Column.{Column as ColumnValue};
+ghost use Rattle.fancy_regex_table.specs.declared.row.Row.{Row as RowValue};
+ghost use Rattle.fancy_regex_table.specs.declared.row.Row.TheVariants.{Fresh};
+
+use crate::begun::{Begun, Home, Reading, begun_at, reading_at, readings_of};
+use crate::columns::Column;
+use crate::pattern::Pattern;
+use crate::row::{Cell, Row};
+use crate::rows::{FreshRow, Rows};
+use crate::sort::Sort;
+use crate::target::{Target, fresh_target, open_target};
+use std::alloc::{AllocError, Global};
+
+/// The most rows.
+const MOST_ROWS: usize = 2000;
+
+/// The rows of a table.
+#[derive(Drop)]
+pub struct Made {
+    /// For each row the cells, one for each class of characters.
+    pub cells: Vec<Vec<Cell>>,
+    /// The rows for searches that begin, by the sort of the character before.
+    pub fresh: Vec<FreshRow>,
+}
+
+/// The cell of the fresh row with this sort before, if it is known.
+fn fresh_cell(rows: &Rows, cells: &[Vec<Cell>], before: Sort, column: usize) -> Cell
+    ensures { (parts : Parts) (columns : List ColumnValue) → AreRightRows parts columns rows.now.list.items cells.now
+        → (it : ColumnValue) → slice_get columns column ≡ Some it
+        → IsRight parts rows.now.list.items (Fresh before) it.sort it.sample result }
+{
+    for i in 0..cells.len() {
+        let made: &[Cell] = &cells[i];
+        if i < rows.list.len() && column < made.len() && is_fresh(&rows.list[i], before) {
+            return made[column];
+        }
+    }
+    Cell::Unknown
+}
+
+/// Whether the row is the fresh one with this sort before.
+fn is_fresh(row: &Row, before: Sort) -> bool
+    ensures { result ≡ true → row.now ≡ Fresh before }
+{
+    match row {
+        Row::Fresh { before: it } => *it == before,
+        Row::Open { .. } => false,
+    }
+}
+
+/// What the states of the row lead to, if it is not fresh. The error is want of memory.
+fn readings_at(
+    alloc: Global,
+    pattern: &Pattern,
+    row: &Row,
+    columns: &[Column],
+    steps: &mut usize,
+) -> Result<Vec<Reading>, AllocError>
+    ensures { IfOk result (λ readings. AreReadingsOf pattern.now.reader.states.now row.now readings.items) }
+{
+    match row {
+        Row::Fresh { .. } => Ok(Vec::new(alloc)),
+        Row::Open {
+            before,
+            own,
+            later,
+            ..
+        } => readings_of(alloc, pattern, *before, own, later, columns, steps),
+    }
+}
+
+/// What the cell of this row and column leads to. The error is want of memory.
+fn target_of(
+    alloc: Global,
+    pattern: &Pattern,
+    row: &Row,
+    readings: &[Reading],
+    column: Column,
+    begun: &Begun,
+    fresh: Cell,
+) -> Result<Target, AllocError>
+    ensures { IfOk result (λ target. (rows : List RowValue) → AreReadingsOf pattern.now.reader.states.now row.now readings.now
+        → IsBegun (parts_of pattern.now) (sort_before row.now) column.sort column.sample begun.now
+        → IsRight (parts_of pattern.now) rows (Fresh (sort_before row.now)) column.sort column.sample fresh
+        → IsRightTarget (parts_of pattern.now) rows row.now column.sort column.sample target) }
+{
+    match row {
+        Row::Fresh { .. } => {
+            let target = fresh_target(alloc, begun, column.sort)?;
+            Ok(target)
+        }
+        Row::Open { found, .. } => {
+            let Some(reading) = reading_at(readings, column.sort) else {
+                return Ok(Target::Cell(Cell::Unknown));
+            };
+            let target = open_target(alloc, pattern, *found, reading, column.sample, begun, fresh)?;
+            Ok(target)
+        }
+    }
+}
+
+/// The cell that leads there; unknown where there is no room for the row. The error is want of memory.
+fn cell_to(rows: &mut Rows, target: Target) -> Result<Cell, AllocError>
+    ensures grows { BeginsWith rows.new.list.items rows.old.list.items }
+    ensures cell { IfOk result (IsCellTo rows.old.list.items rows.new.list.items target) }
+{
+    match target {
+        Target::Cell(cell) => Ok(cell),
+        Target::Row { row, begins, ends } => {
+            let Some(number) = rows.number_of(row)? else {
+                return Ok(Cell::Unknown);
+            };
+            if number > 65_535 {
+                return Ok(Cell::Unknown);
+            }
+            Ok(Cell::Next {
+                row: number as u16,
+                begins,
+                ends,
+            })
+        }
+    }
+}
+
+/// The cell of a row and a column. The error is want of memory.
+fn cell_of(
+    alloc: Global,
+    pattern: &Pattern,
+    rows: &mut Rows,
+    number: usize,
+    readings: &[Reading],
+    columns: &[Column],
+    place: usize,
+    homes: &[Home],
+    cells: &[Vec<Cell>],
+) -> Result<Cell, AllocError>
+    requires row { number < length rows.old.list.items }
+    requires column { place < length columns.now }
+    ensures grows { BeginsWith rows.new.list.items rows.old.list.items }
+    ensures cell { IfOk result (λ cell. AreHomes (parts_of pattern.now) columns.now homes.now
+        → AreRightRows (parts_of pattern.now) columns.now rows.old.list.items cells.now
+        → (row : RowValue) → slice_get rows.old.list.items number ≡ Some row
+        → AreReadingsOf pattern.now.reader.states.now row readings.now
+        → (column : ColumnValue) → slice_get columns.now place ≡ Some column
+        → IsRight (parts_of pattern.now) rows.new.list.items row column.sort column.sample cell) }
+{
+    let row = &rows.list[number];
+    let before = row.before();
+    let Some(begun) = begun_at(homes, before, place) else {
+        return Ok(Cell::Unknown);
+    };
+    let fresh = fresh_cell(rows, cells, before, place);
+    let column = columns[place];
+    let target = target_of(alloc, pattern, row, readings, column, begun, fresh)?;
+    let cell = cell_to(rows, target)?;
+    Ok(cell)
+}
+
+/// The cells of a row, one for each column. The error is want of memory.
+pub fn cells_of(
+    alloc: Global,
+    pattern: &Pattern,
+    rows: &mut Rows,
+    number: usize,
+    columns: &[Column],
+    homes: &[Home],
+    cells: &[Vec<Cell>],
+    steps: &mut usize,
+) -> Result<Vec<Cell>, AllocError>
+    requires { number < length rows.old.list.items }
+    ensures grows { BeginsWith rows.new.list.items rows.old.list.items }
+    ensures made { IfOk result (λ made. AreHomes (parts_of pattern.now) columns.now homes.now
+        → AreRightRows (parts_of pattern.now) columns.now rows.old.list.items cells.now
+        → (row : RowValue) → slice_get rows.old.list.items number ≡ Some row
+        → AreRightCells (parts_of pattern.now) columns.now rows.new.list.items row made.items) }
+{
+    let readings = readings_at(alloc, pattern, &rows.list[number], columns, steps)?;
+    let mut made = Vec::new(alloc);
+    for k in 0..columns.len() {
+        let cell = cell_of(
+            alloc, pattern, rows, number, &readings, columns, k, homes, cells,
+        )?;
+        made.push(cell)?;
+    }
+    Ok(made)
+}
+
+/// The rows for searches that begin. The error is want of memory.
+fn fresh_rows(alloc: Global, homes: &[Home], rows: &mut Rows) -> Result<Vec<FreshRow>, AllocError>
+    ensures { IfOk result (λ fresh. AreFresh rows.new.list.items fresh.items) }
+{
+    let mut fresh = Vec::new(alloc);
+    for i in 0..homes.len() {
+        let before = homes[i].before;
+        let found = rows.number_of(Row::Fresh { before })?;
+        if let Some(row) = found {
+            fresh.push(FreshRow { before, row })?;
+        }
+    }
+    Ok(fresh)
+}
+
+/// The rows of a table, as many as can be made in so many steps. The error is want of memory.
+pub fn rows_of(
+    alloc: Global,
+    pattern: &Pattern,
+    columns: &[Column],
+    homes: &[Home],
+    steps: &mut usize,
+) -> Result<Made, AllocError>
+    ensures { IfOk result (λ made. AreHomes (parts_of pattern.now) columns.now homes.now
+        → IsMadeOf (parts_of pattern.now) columns.now made.cells.items made.fresh.items) }
+{
+    let states = pattern.reader.states.len();
+    let mut rows = Rows::new(
+        alloc,
+        MOST_ROWS.min(states.saturating_mul(4).saturating_add(64)),
+    )?;
+    let fresh = fresh_rows(alloc, homes, &mut rows)?;
+    let mut cells = Vec::new(alloc);
+    for number in 0..MOST_ROWS {
+        if number >= rows.list.len() {
+            break;
+        }
+        let made = cells_of(
+            alloc, pattern, &mut rows, number, columns, homes, &cells, steps,
+        )?;
+        cells.push(made)?;
+    }
+    Ok(Made { cells, fresh })
+}

@@ -1,0 +1,134 @@
+//! What the assertions of a pattern ask about the characters around a place.
+
+ghost use Rattle.std.specs.Prelude.{◌≡◌, ◌<◌, ℕ, Bool};
+ghost use Rattle.regex_hir.specs.Text.{is_some_and};
+ghost use Rattle.fancy_regex_states.specs.CharTests.{is_char as is_char_of, is_word_char as is_word_code};
+ghost use Rattle.fancy_regex_table.specs.Sorts.{sort_at, holds_between, asks_for_edges as asks_edges, asks_for_lines as asks_lines, AreAsked, AsksMore, IsAsked};
+
+use fancy_regex_class::is_word;
+use fancy_regex_states::{State, Test};
+
+/// What the assertions of a pattern ask about a character.
+#[derive(Clone, Copy)]
+pub struct Asked {
+    /// Whether it is one at all, and not an end of the text.
+    pub edges: bool,
+    /// Whether it ends a line.
+    pub lines: bool,
+    /// Whether it is a word character.
+    pub words: bool,
+}
+
+/// What is known of a character, or of an end of the text, as far as the assertions ask: all else is false.
+#[derive(Clone, Copy, PartialEq, Eq)]
+pub struct Sort {
+    /// It is an end of the text.
+    pub edge: bool,
+    /// It is `\n`.
+    pub newline: bool,
+    /// It is `\r`.
+    pub carriage_return: bool,
+    /// It is a word character.
+    pub word: bool,
+}
+
+/// The sort of a character; `None` is an end of the text.
+pub fn sort_of(asked: Asked, unicode: bool, c: Option<char>) -> Sort
+    ensures { result ≡ sort_at asked unicode c }
+{
+    Sort {
+        edge: asked.edges && c.is_none(),
+        newline: asked.lines && is_char('\n', c),
+        carriage_return: asked.lines && is_char('\r', c),
+        word: asked.words && is_word_char(unicode, c),
+    }
+}
+
+fn is_char(wanted: char, c: Option<char>) -> bool
+    ensures { result ≡ is_char_of wanted c }
+{
+    match c {
+        Some(c) => c == wanted,
+        None => false,
+    }
+}
+
+fn is_word_char(unicode: bool, c: Option<char>) -> bool
+    ensures { result ≡ is_some_and c (is_word_code unicode) }
+{
+    match c {
+        Some(c) => is_word(c, unicode),
+        None => false,
+    }
+}
+
+/// Whether the assertion holds between characters of these sorts, where no end of the text is hidden.
+pub fn holds(test: Test, before: Sort, after: Sort) -> bool
+    ensures { result ≡ holds_between test before after }
+{
+    match test {
+        Test::StartText => before.edge,
+        Test::EndText => after.edge,
+        Test::StartLine { crlf } => {
+            before.edge || before.newline || (crlf && before.carriage_return && !after.newline)
+        }
+        Test::EndLine { crlf: false } => after.edge || after.newline,
+        Test::EndLine { crlf: true } => {
+            after.edge || after.carriage_return || (after.newline && !before.carriage_return)
+        }
+        Test::WordBoundary => before.word != after.word,
+        Test::NotWordBoundary => before.word == after.word,
+        Test::LeftWordBoundary => !before.word && after.word,
+        Test::RightWordBoundary => before.word && !after.word,
+    }
+}
+
+/// Whether the assertion asks where the text begins or ends.
+fn asks_for_edges(test: Test) -> bool
+    ensures { result ≡ asks_edges test }
+{
+    match test {
+        Test::StartText | Test::EndText | Test::StartLine { .. } | Test::EndLine { .. } => true,
+        _ => false,
+    }
+}
+
+/// Whether the assertion asks where lines end.
+fn asks_for_lines(test: Test) -> bool
+    ensures { result ≡ asks_lines test }
+{
+    match test {
+        Test::StartLine { .. } | Test::EndLine { .. } => true,
+        _ => false,
+    }
+}
+
+/// What all assertions of the states ask.
+pub fn asked_by(states: &[State]) -> Asked
+    ensures { AreAsked result states.now }
+{
+    let mut asked = Asked {
+        edges: false,
+        lines: false,
+        words: false,
+    };
+    for i in 0..states.len() {
+        asked = with_state(asked, states[i]);
+    }
+    asked
+}
+
+/// What is asked, with what this state asks.
+fn with_state(asked: Asked, state: State) -> Asked
+    ensures more { AsksMore asked result }
+    ensures state { IsAsked result state }
+{
+    match state {
+        State::Look { test, .. } => Asked {
+            edges: asked.edges || asks_for_edges(test),
+            lines: asked.lines || asks_for_lines(test),
+            words: asked.words || !asks_for_edges(test),
+        },
+        _ => asked,
+    }
+}

@@ -1,0 +1,263 @@
+//! The table, and the pass over a text by it.
+
+ghost use Rattle.std.specs.Prelude.{◌≡◌, ◌+◌, ◌^◌, ◌<◌, ◌≤◌, ℕ, true, IfOk, IfSome, IsCharBoundary, length};
+ghost use Rattle.regex_hir.specs.Text.{char_before};
+ghost use Rattle.fancy_regex_states.specs.declared.rules.Rules.{Rules};
+ghost use Rattle.fancy_regex_table.specs.Cells.{Parts, Search, begun_at as noted_at};
+
+use crate::alphabet::Alphabet;
+use crate::begun::homes_of;
+use crate::by_class::{by_class, cell_at};
+use crate::columns::columns_of;
+use crate::maker::rows_of;
+use crate::pattern::Pattern;
+use crate::row::Cell;
+use crate::rows::FreshRow;
+use crate::sort::{Asked, sort_of};
+use crate::step::Reader;
+use fancy_regex_class::CharClassMatcher;
+use fancy_regex_states::State;
+use std::alloc::{AllocError, Global};
+
+/// The most steps over states that may be taken to make a table.
+const MOST_STEPS: usize = 1_000_000;
+
+/// What a pass over a text found. `read` is the byte offset up to which the text was read.
+#[derive(Clone, Copy)]
+pub enum Passed {
+    /// The first match.
+    Match {
+        start: usize,
+        end: usize,
+        read: usize,
+    },
+    /// No match.
+    Ended,
+    /// No match starts before this place, and no attempt is under way there.
+    Idle {
+        at: usize,
+    },
+    /// No match starts before `from`.
+    Unknown {
+        from: usize,
+        read: usize,
+    },
+}
+
+/// Where a pass stands.
+#[derive(Clone, Copy)]
+struct Place {
+    row: usize,
+    at: usize,
+    /// Where the first attempt began that is under way.
+    start: usize,
+    /// Where its match ended that was noted last.
+    last: usize,
+}
+
+/// What comes after a character.
+#[derive(Clone, Copy)]
+enum Step {
+    On(Place),
+    Done(Passed),
+}
+
+/// A table of the states of a pattern, by which a search goes through a text.
+#[derive(Drop)]
+pub struct Table {
+    /// For each class of characters the cells, one for each row. The first class is the end of the text.
+    cells: Vec<Vec<Cell>>,
+    /// The number of each ASCII character's class.
+    ascii: [u8; 128],
+    asked: Asked,
+    unicode: bool,
+    fresh: Vec<FreshRow>,
+}
+
+impl Table {
+    ghost use Rattle.fancy_regex_table.specs.Tables.{IsTable, IsSearchOf, IsPassed, Stands, IsStepped, IsStartAt, IsFreshRow, IsOnward, IsAsciiAt};
+    ghost use Rattle.fancy_regex_table.specs.Cells.{Tells};
+    ghost use Rattle.fancy_regex_table.specs.Sorts.{sort_at};
+    ghost use Rattle.fancy_regex_table.specs.declared.sort.Sort.{Sort as SortValue};
+
+    /// The table of these states, from the number of the entry. The error is want of memory.
+    pub fn new(
+        alloc: Global,
+        states: &[State],
+        entry: usize,
+        matchers: &[CharClassMatcher],
+        unicode: bool,
+    ) -> Result<Table, AllocError>
+        ensures { IfOk result (IsTable (record { states = states.now; entry = entry; matchers = matchers.now; unicode = unicode })) }
+    {
+        let reader = Reader {
+            states,
+            matchers,
+            unicode,
+        };
+        let pattern = Pattern { reader, entry };
+        let alphabet = Alphabet::new(alloc, &reader)?;
+        let columns = columns_of(alloc, &alphabet, unicode)?;
+        let mut steps = MOST_STEPS;
+        let homes = homes_of(alloc, &pattern, &columns, &mut steps)?;
+        let made = rows_of(alloc, &pattern, &columns, &homes, &mut steps)?;
+        let cells = by_class(alloc, &made.cells, columns.len())?;
+        Ok(Table {
+            cells,
+            ascii: alphabet.ascii,
+            asked: alphabet.asked,
+            unicode,
+            fresh: made.fresh,
+        })
+    }
+
+    /// Goes through the text from the byte offset `from`, after the character `before`, up to `stop`. With `at_end` that is the end of
+    /// the text.
+    #[inline(always)]
+    pub fn pass(
+        &self,
+        text: &str,
+        from: usize,
+        before: Option<char>,
+        stop: usize,
+        at_end: bool,
+    ) -> Passed
+        requires range { (from ≤ stop) × (stop ≤ length text.now) }
+        requires boundary { IsCharBoundary text.now from }
+        requires before { before ≡ char_before text.now from }
+        requires end { at_end ≡ true → stop ≡ length text.now }
+        ensures { (parts : Parts) (rules : Rules) (s : Search) → IsTable parts self.now → IsSearchOf parts rules s
+            → s.text ≡ text.now → s.from ≡ from → s.stop ≡ stop → IsPassed s result }
+    {
+        let Some(row) = self.fresh_row(before) else {
+            return Passed::Unknown { from, read: from };
+        };
+        let bytes = text.as_bytes();
+        let mut place = Place {
+            row,
+            at: from,
+            start: from,
+            last: from,
+        };
+        'chars: while place.at < stop {
+            match self.step(bytes[place.at], place) {
+                Step::On(next) => place = next,
+                Step::Done(passed) => return passed,
+            }
+        }
+        self.at_stop(place, at_end)
+    }
+
+    /// The row for a search that begins after this character.
+    fn fresh_row(&self, before: Option<char>) -> Option<usize>
+        ensures { IfSome result (IsFreshRow self.now.fresh.items (sort_at self.now.asked self.now.unicode before)) }
+    {
+        let sort = sort_of(self.asked, self.unicode, before);
+        for i in 0..self.fresh.len() {
+            let it = self.fresh[i];
+            if it.before == sort {
+                return Some(it.row);
+            }
+        }
+        None
+    }
+
+    /// Where the first attempt began, or the place itself in a row for searches that begin.
+    fn start_at(&self, place: Place) -> usize
+        ensures { IsStartAt self.now.fresh.items place result }
+    {
+        for i in 0..self.fresh.len() {
+            let it = self.fresh[i];
+            if it.row == place.row {
+                return place.at;
+            }
+        }
+        place.start
+    }
+
+    /// That nothing more is known at the place.
+    fn unknown(&self, place: Place) -> Passed
+        ensures { (parts : Parts) (s : Search) (table : IsTable parts self.now)
+            → Stands self.now.asked self.now.unicode table.rows s place → IsPassed s result }
+    {
+        Passed::Unknown {
+            from: self.start_at(place),
+            read: place.at,
+        }
+    }
+
+    /// What a cell says that leads to no row, but for `Idle`.
+    fn ended(&self, cell: Cell, place: Place) -> Passed
+        ensures { (parts : Parts) (s : Search) (table : IsTable parts self.now) (after : SortValue) (next : ℕ)
+            → Stands self.now.asked self.now.unicode table.rows s place
+            → Tells s table.rows after place.at next place.start place.last cell → IsPassed s result }
+    {
+        match cell {
+            Cell::Empty => Passed::Match {
+                start: place.at,
+                end: place.at,
+                read: place.at,
+            },
+            Cell::EndsHere => Passed::Match {
+                start: place.start,
+                end: place.at,
+                read: place.at,
+            },
+            Cell::EndsEarlier => Passed::Match {
+                start: place.start,
+                end: place.last,
+                read: place.at,
+            },
+            Cell::Next { .. } | Cell::Unknown | Cell::Idle => self.unknown(place),
+        }
+    }
+
+    /// What is found at the end of the range. With `at_end` that is the end of the text.
+    fn at_stop(&self, place: Place, at_end: bool) -> Passed
+        ensures { (parts : Parts) (rules : Rules) (s : Search) (table : IsTable parts self.now) → IsSearchOf parts rules s
+            → place.at ≡ s.stop → (at_end ≡ true → s.stop ≡ length s.text)
+            → Stands self.now.asked self.now.unicode table.rows s place → IsPassed s result }
+    {
+        if !at_end {
+            return self.unknown(place);
+        }
+        match cell_at(&self.cells, 0, place.row) {
+            Cell::Idle => Passed::Ended,
+            cell => self.ended(cell, place),
+        }
+    }
+
+    /// What the character at the place leads to, whose first byte this is.
+    #[inline(always)]
+    fn step(&self, byte: u8, place: Place) -> Step
+        requires { place.at + 1 < 2 ^ 64 }
+        ensures onward { IsOnward place.at byte result }
+        ensures stepped { (parts : Parts) (rules : Rules) (s : Search) (table : IsTable parts self.now) → IsSearchOf parts rules s
+            → (byte < 128 → IsAsciiAt s.text place.at byte) → place.at < s.stop
+            → Stands self.now.asked self.now.unicode table.rows s place
+            → IsStepped self.now.asked self.now.unicode table.rows s result }
+    {
+        if byte >= 128 {
+            return Step::Done(self.unknown(place));
+        }
+        let cell = cell_at(&self.cells, self.ascii[byte as usize] as usize, place.row);
+        match cell {
+            Cell::Next { row, begins, ends } => Step::On(Place {
+                row: row as usize,
+                at: place.at + 1,
+                start: begun_at(begins, place.at, place.start),
+                last: begun_at(ends, place.at, place.last),
+            }),
+            Cell::Idle => Step::Done(Passed::Idle { at: place.at + 1 }),
+            _ => Step::Done(self.ended(cell, place)),
+        }
+    }
+}
+
+/// What was noted, or this place if it is to be noted.
+#[inline(always)]
+fn begun_at(is_noted: bool, at: usize, before: usize) -> usize
+    ensures { result ≡ noted_at is_noted at before }
+{
+    if is_noted { at } else { before }
+}

@@ -1,0 +1,46 @@
+//! `Sink`: a writer that notes whether a write failed.
+
+ghost use Rattle.std.specs.Prelude.{◌≡◌, ◌||◌, false, length};
+ghost use Rattle.std.specs.Io.{WritesAtMost};
+ghost use Rattle.std.specs.Io.KnownBytes.{WriteAppends};
+ghost use Rattle.fancy_regex_template.specs.Writing.{fails_to_write};
+
+use std::io;
+use std::io::Write;
+
+/// A writer, and whether one of its writes failed: it returned an error, or took no byte although there were some.
+#[derive(Drop)]
+pub struct Sink<'w, W> {
+    writer: &'w mut W,
+    has_failed: bool,
+}
+
+impl<'w, W: Write> Sink<'w, W> {
+    /// The sink of a writer, before its first write.
+    pub fn new(writer: &'w mut W) -> Sink<'w, W>
+        ensures same_writer { result.writer.ghost_name ≡ writer.entry.ghost_name }
+        ensures bytes { result.writer.now ≡ writer.old }
+        ensures failed { result.has_failed ≡ false }
+    {
+        Sink {
+            writer,
+            has_failed: false,
+        }
+    }
+
+    /// One write of these bytes, which takes some of them.
+    pub(crate) fn write(&mut self, bytes: &[u8]) -> io::Result<usize>
+        ensures same_writer { self.new.writer.ghost_name ≡ self.old.writer.ghost_name }
+        ensures bound { WritesAtMost result bytes.now }
+        ensures bytes { WriteAppends (W.contents self.old.writer.now) (W.contents self.new.writer.now) result bytes.now }
+        ensures failed { self.new.has_failed ≡ (self.old.has_failed || fails_to_write result bytes.now) }
+    {
+        let result = self.writer.write(bytes);
+        let fails = match &result {
+            Ok(count) => *count == 0 && !bytes.is_empty(),
+            Err(_) => true,
+        };
+        self.has_failed = self.has_failed || fails;
+        result
+    }
+}
