@@ -11,8 +11,8 @@ use Rattle.fancy_regex_desugar.proofs.ProgramSizeProofs.{pattern_size_is_bounded
 use Rattle.fancy_regex_info.specs.Views.{pattern_in}
 use Rattle.fancy_regex_program.specs.Code.{waits, flushed, code_of, opening, closing, program_of}
 use Rattle.fancy_regex_program.specs.Ops.{op_of}
-use Rattle.fancy_regex_program.specs.Programs.{IsMadeFrom}
-use Rattle.fancy_regex_program.specs.declared.prog.Prog.{Prog}
+use Rattle.fancy_regex_compiled.specs.Programs.{IsMadeFrom}
+use Rattle.fancy_regex_compiled.specs.declared.prog.Prog.{Prog}
 use Rattle.fancy_regex_compiler.proofs.RoomLemmas.{code_fits}
 
 opening_long : (has_member : Text → Bool → ℕ → Bool) (fold : ℕ → ℕ) (whole anchored : Bool) → length (opening has_member fold whole anchored) ≤ 2

@@ -10,12 +10,12 @@ use Rattle.fancy_regex_program.specs.Ops.{Op, ops_of}
 use Rattle.fancy_regex_program.specs.Code.{flushed, slots_in, waits, code_of, opening, closing, program_of}
 use Rattle.fancy_regex_info.specs.Views.{pattern_in}
 use Rattle.fancy_regex_compiler.specs.Known.{info_whole, info_call, most_calls_in, groups_in, pat_with, pat_in}
-use Rattle.fancy_regex_program.specs.Programs.{IsWhole, IsMadeFrom, IsWritableIfAllowed, RefersToGroups}
+use Rattle.fancy_regex_compiled.specs.Programs.{IsWhole, IsMadeFrom, IsWritableIfAllowed, RefersToGroups}
 use Rattle.fancy_regex_program.specs.Shapes.{IsAllowed, IsWritable}
 use Rattle.fancy_regex_program.specs.ValidPrograms.{IsValidProgram}
 use Rattle.fancy_regex_program.specs.declared.insn.Insn.{Insn}
 use Rattle.fancy_regex_compiler.specs.Writing.{Draft, closed_draft, with_pat}
-use Rattle.fancy_regex_program.specs.declared.prog.Prog.{Prog}
+use Rattle.fancy_regex_compiled.specs.declared.prog.Prog.{Prog}
 use Rattle.fancy_regex_program.proofs.ValidCode.{program_is_valid}
 use Rattle.fancy_regex_analysis.proofs.AnalysisErrorLemmas.{no_node_shows}
 use Rattle.fancy_regex_info.specs.declared.error.CompileError.TheVariants.{InvalidBackref}

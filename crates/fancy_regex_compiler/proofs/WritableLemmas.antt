@@ -19,7 +19,7 @@ use Rattle.fancy_regex_desugar.proofs.StepBackProofs.{pattern_steps_back_only_fi
 use Rattle.fancy_regex_analysis.specs.NodeErrors.{some_node, some_node_of, shows, is_no_group}
 use Rattle.fancy_regex_info.specs.Views.{pattern_in}
 use Rattle.fancy_regex_info.specs.declared.error.CompileError.TheVariants.{InvalidBackref}
-use Rattle.fancy_regex_program.specs.Programs.{RefersToGroups, CanBeWritten}
+use Rattle.fancy_regex_compiled.specs.Programs.{RefersToGroups, CanBeWritten}
 use Rattle.fancy_regex_program.specs.Shapes.{KeepsNothing, IsAllowed, IsWritable}
 
 -- where the match start may not be set, it stays as it is

@@ -3,7 +3,7 @@
 use fancy_regex_analysis::analyze;
 use fancy_regex_compiler::compile;
 use fancy_regex_info::{AnalyzeContext, CompileOptions};
-use fancy_regex_program::Prog;
+use fancy_regex_compiled::Prog;
 use fancy_regex_tree::Expr;
 use std::alloc::Global;
 

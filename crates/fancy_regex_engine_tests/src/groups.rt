@@ -6,7 +6,7 @@ use fancy_regex_info::CompileOptions;
 use fancy_regex_machine::{
     RunMemory, RunOptions, RuntimeError, run, run_default, run_in, run_spans_in,
 };
-use fancy_regex_program::Prog;
+use fancy_regex_compiled::Prog;
 use std::alloc::Global;
 
 /// How a run has to end.

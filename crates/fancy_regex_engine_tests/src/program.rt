@@ -2,7 +2,8 @@
 
 use crate::compiled::{Text, program};
 use fancy_regex_info::CompileOptions;
-use fancy_regex_program::{CaptureGroupRange, Insn, Prog};
+use fancy_regex_compiled::Prog;
+use fancy_regex_program::{CaptureGroupRange, Insn};
 use std::alloc::Global;
 
 /// An instruction.

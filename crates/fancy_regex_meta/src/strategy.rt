@@ -29,7 +29,7 @@ use fancy_regex_compiler::compile;
 use fancy_regex_info::{CompileError, CompileOptions, Info};
 use fancy_regex_linear::Easy;
 use fancy_regex_machine::{RunOptions, run_in, run_spans_in};
-use fancy_regex_program::Prog;
+use fancy_regex_compiled::Prog;
 use std::alloc::Global;
 
 /// What executes a compiled pattern.
@@ -66,7 +66,7 @@ fn compile_options(options: &RegexOptions, calls: bool) -> CompileOptions
 }
 
 impl Strategy {
-    ghost use Rattle.fancy_regex_program.specs.Programs.{RefersToGroups};
+    ghost use Rattle.fancy_regex_compiled.specs.Programs.{RefersToGroups};
     ghost use Rattle.fancy_regex_meta.specs.Strategies.{Executes, RunsUnder, StrategyKeepsCap, is_whole, search_of};
     ghost use Rattle.fancy_regex_meta.specs.EasyPatterns.{uses_easy, is_easy_strategy};
     ghost use Rattle.fancy_regex_meta.specs.FoundParts.{found_parts, wanted_parts};

@@ -5,12 +5,11 @@ pub mod CharLoops
 pub mod RepeatedCharacterLemmas
 pub mod FailingPlaces
 pub mod FailingStarts
-pub mod FirstTestLemmas
+pub mod StartsInRow
 pub mod LookBehindStarts
 pub mod NewlineLemmas
 pub mod StartLemmas
 pub mod LeadingLoopLemmas
 pub mod TextLemmas
 pub mod WalkLemmas
-pub mod Exec
 pub mod RunLemmas

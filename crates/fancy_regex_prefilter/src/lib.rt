@@ -10,7 +10,6 @@ pub mod budget;
 pub mod char_loops;
 pub mod cursor;
 pub mod failing_starts;
-mod first_tests;
 pub mod instructions;
 mod leading_loops;
 pub mod look_behind_starts;

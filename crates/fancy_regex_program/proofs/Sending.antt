@@ -1,4 +1,4 @@
--- A program may go to another thread, and so may each instruction and each delegated part. The toolchain writes no such proof for a type that holds a tree, since trees hold trees.
+-- An instruction may go to another thread, and so may each delegated part. The toolchain writes no such proof for a type that holds a tree, since trees hold trees.
 use denote.Param.Send.{IsSend, IsSync, sendable}
 use Rattle.std.proofs.Crossing.{crosses}
 use Rattle.fancy_regex_tree.proofs.expr.Absent.TheLaws.TheKnot as tree
@@ -13,7 +13,6 @@ use Rattle.fancy_regex_bytes.proofs.byte_set.ByteSet.TheSendSync as byte_set
 use Rattle.fancy_regex_linear.proofs.easy.Easy.TheSendSync as easy
 use Rattle.fancy_regex_program.specs.contracts.delegate.Delegate as delegate
 use Rattle.fancy_regex_program.specs.contracts.insn.Insn as insn
-use Rattle.fancy_regex_program.specs.contracts.prog.Prog as program
 use Rattle.fancy_regex_program.proofs.insn.AbsentRepeater.TheSendSync as absent
 use Rattle.fancy_regex_program.proofs.insn.Repeat.TheSendSync as repeat
 use Rattle.fancy_regex_program.proofs.insn.RepeatEpsilon.TheSendSync as unbounded
@@ -32,7 +31,7 @@ delegate_send = search (expr_send, byte_set.the_field_send, easy.the_field_send,
 delegate_sync : IsSync delegate.the_row
 delegate_sync = search (expr_sync, byte_set.the_field_sync, easy.the_field_sync, crosses, sendable) depth 60 fits 20000
 
-insn_send : IsSend insn.the_row
+pub insn_send : IsSend insn.the_row
 insn_send =
     search (
       delegate_send,
@@ -47,7 +46,3 @@ insn_send =
       crosses,
       sendable,
     ) depth 60 fits 20000
-
--- a program, as it lies in a struct
-pub program_send : IsSend program.the_field.row
-program_send = search (insn_send, crosses, sendable) depth 60 fits 20000

@@ -8,7 +8,6 @@ pub mod Shapes
 pub mod Caps
 pub mod BodyStarts
 pub mod Parts
-pub mod Programs
 pub mod Starts
 pub mod StartPaths
 pub mod SpanCode

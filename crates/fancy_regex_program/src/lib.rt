@@ -8,7 +8,6 @@ mod body_starts;
 mod delegate;
 mod delegate_builder;
 mod insn;
-mod prog;
 mod range;
 mod reading;
 mod spans;
@@ -17,8 +16,8 @@ mod validity;
 
 pub use delegate::Delegate;
 pub use insn::{AbsentRepeater, Insn, Repeat, RepeatEpsilon};
-pub use prog::Prog;
 pub use range::CaptureGroupRange;
 pub use reading::is_uncounted;
-pub use spans::SpanCode;
+pub use spans::{SpanCode, span_code};
+pub use starts::ascii_starts;
 pub use validity::is_valid_program;

@@ -1,6 +1,7 @@
 //! Programs as text.
 
-use fancy_regex_program::{Insn, Prog};
+use fancy_regex_compiled::Prog;
+use fancy_regex_program::Insn;
 use std::alloc::AllocError;
 use std::fmt::Write;
 

@@ -14,7 +14,7 @@ use Rattle.fancy_regex_compiler.proofs.WholeLemmas.{made_from, pat_gathered, cle
 use Rattle.fancy_regex_desugar.specs.ProgramSizes.{room}
 use Rattle.fancy_regex_desugar.proofs.ProgramSizeProofs.{pattern_size_is_bounded}
 use Rattle.fancy_regex_analysis.proofs.PartErrorLemmas.{gives}
-use Rattle.fancy_regex_program.specs.Programs.{IsTooLong}
+use Rattle.fancy_regex_compiled.specs.Programs.{IsTooLong}
 use Rattle.fancy_regex_program.specs.Shapes.{IsAllowed}
 use Rattle.fancy_regex_compiler.specs.Refusals.{IsClear, IsRefusal}
 use Rattle.fancy_regex_info.specs.Analysis.{analysis}

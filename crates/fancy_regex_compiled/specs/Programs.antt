@@ -19,7 +19,7 @@ use Rattle.fancy_regex_program.specs.Code.{slots_in, program_of}
 use Rattle.fancy_regex_program.specs.Ops.{ops_of}
 use Rattle.fancy_regex_program.specs.Shapes.{IsAllowed, IsWritable}
 use Rattle.fancy_regex_program.specs.declared.insn.Insn.{Insn}
-use Rattle.fancy_regex_program.specs.declared.prog.Prog.{Prog}
+use Rattle.fancy_regex_compiled.specs.declared.prog.Prog.{Prog}
 
 -- These are the instructions of a pattern with so many groups, and the slots that they need.
 pub record IsWhole (unicode whole anchored : Bool) (groups : ℕ) (p : CorePattern) (insns : List Insn) (slots : ℕ) : Type 0 where
