@@ -2,7 +2,7 @@
 
 use crate::look_behind_starts::LeadingLookBehind;
 use fancy_regex_class::RunInput;
-use fancy_regex_plan::StartCosts;
+use fancy_regex_plan::Plan;
 use fancy_regex_program::Insn;
 
 /// What a run reads: the program, the text, where a match may start and end, and which matches are admitted. Offsets are byte
@@ -14,7 +14,7 @@ pub struct RunContext<'r> {
     /// For each ASCII character, whether a match may start before it.
     pub ascii_starts: &'r [bool; 128],
     /// The starts at which the program fails, by the characters around them.
-    pub start_costs: &'r StartCosts,
+    pub plan: &'r Plan,
     /// How the program begins, if that is with a negative look-behind of one character.
     pub look_behind: Option<LeadingLookBehind<'r>>,
     /// The whole text.
