@@ -1,5 +1,5 @@
-//! Compiled programs: the instructions of a pattern with the tables that are made of them, of the characters before which a match may
-//! start, of the starts at which a run fails, and of the instructions for runs that answer only the span of a match.
+//! Compiled programs: the instructions of a pattern, the table of the ASCII characters that a match may start with, the plan, and the
+//! program for runs that answer only the span of a match.
 #![tactic(auto)]
 
 mod prog;

@@ -5,6 +5,7 @@
 
 mod absent;
 mod advance;
+mod ahead;
 mod alternative_loops;
 mod char_loops;
 mod error;

@@ -13,7 +13,7 @@ pub struct RunContext<'r> {
     pub body: &'r [Insn],
     /// For each ASCII character, whether a match may start before it.
     pub ascii_starts: &'r [bool; 128],
-    /// The starts at which the program fails, by the characters around them.
+    /// What is known of the program, by the characters around a place.
     pub plan: &'r Plan,
     /// How the program begins, if that is with a negative look-behind of one character.
     pub look_behind: Option<LeadingLookBehind<'r>>,
