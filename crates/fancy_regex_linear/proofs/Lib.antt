@@ -26,3 +26,4 @@ pub mod TranslationLemmas
 pub mod ServedLemmas
 pub mod AheadLemmas
 pub mod LayerLemmas
+pub mod SettleLemmas

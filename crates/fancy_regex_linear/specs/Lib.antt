@@ -16,3 +16,5 @@ pub mod Refusals
 pub mod Translation
 pub mod Ahead
 pub mod Layers
+pub mod Settled
+pub mod EasyTables

@@ -6,8 +6,10 @@ ghost use Rattle.fancy_regex_linear.specs.Find.{found_of_span};
 ghost use Rattle.fancy_regex_tree.specs.Tree.{Tree};
 ghost use Rattle.fancy_regex_states.specs.First.{IsTableOf};
 ghost use Rattle.fancy_regex_linear.specs.Search.{RefusesAscii};
+ghost use Rattle.fancy_regex_table.specs.Tables.{IsTable};
 
 use crate::build::Translator;
+use crate::by_table::TableSearch;
 use crate::emit::emit;
 use crate::memory::SearchMemory;
 use crate::search::{SearchContext, earliest_match};
@@ -16,6 +18,7 @@ use crate::state::add;
 use fancy_regex_class::{CharClassMatcher, Counted, RunInput, Steps};
 use fancy_regex_info::{BytesMode, CompileError, CompileOptions, Info};
 use fancy_regex_states::{FirstChars, Rules, State};
+use fancy_regex_table::Table;
 use std::alloc::{AllocError, Global};
 
 /// The greatest weight of a whole pattern.
@@ -37,13 +40,17 @@ pub struct Easy {
     first: Option<FirstChars>,
     /// For each ASCII character whether it is known that no match begins with it, after another character.
     refused: [bool; 128],
+    /// The table that goes through the text, where the first match is wanted.
+    rows: Option<Table>,
     ghost made: { IsMade states.items entry },
     ghost table: { ∥ IfSome first (IsTableOf unicode matchers.items states.items entry) ∥₁ },
     ghost marks: { ∥ RefusesAscii unicode matchers.items states.items entry refused ∥₁ },
+    ghost cells: { ∥ IfSome rows (IsTable (record { states = states.items; entry = entry; matchers = matchers.items; unicode = unicode })) ∥₁ },
 }
 
 impl Easy {
     ghost use Rattle.fancy_regex_linear.specs.EasyPatterns.{IsEasyOf, IsMatchSlots, IsMatchSpan, LooksAtMost, LooksAtLeast};
+    ghost use Rattle.fancy_regex_linear.specs.EasyTables.{IsTableFor};
     ghost use Rattle.fancy_regex_linear.specs.Refusals.{IsTaken, IsCause};
     ghost use Rattle.fancy_regex_info.specs.Analysis.{analysis};
     ghost use Rattle.fancy_regex_info.specs.Infos.{info_of};
@@ -82,6 +89,7 @@ impl Easy {
         let entry = emit(&translated.node, &mut states, 0)?;
         let first = FirstChars::new(alloc, &states, entry, &translator.matchers, options.unicode)?;
         let refused = refused_ascii(&first, &translator.matchers, options.unicode);
+        let rows = table_of(alloc, &states, entry, &translator.matchers, options)?;
         Ok(Easy {
             states,
             entry,
@@ -92,6 +100,7 @@ impl Easy {
             longest: options.leftmost_longest,
             first,
             refused,
+            rows,
         })
     }
 
@@ -136,7 +145,7 @@ impl Easy {
         ensures at_least { IfOk result (λ _. LooksAtLeast self.now text.now input.now steps.old steps.new) }
         ensures counts { steps.old ≤ steps.new }
     {
-        match self.find_span_in(text, input, steps, memory)? {
+        match self.span_in(text, input, steps, memory, false)? {
             Some((start, end)) => {
                 let slots = memory.take_answer(alloc)?;
                 Ok(Some(self.places(slots, start, end)))
@@ -157,7 +166,28 @@ impl Easy {
         requires first { IsCharBoundary text.now input.now.first }
         requires range { input.now.range.end ≤ length text.now }
         ensures answer { IfOk result (IsMatchSpan self.now text.now input.now) }
-        ensures slots { IfOk result (λ found. IsMatchSlots self.now text.now input.now
+        ensures at_most { LooksAtMost self.now input.now steps.old steps.new }
+        ensures at_least { IfOk result (λ _. LooksAtLeast self.now text.now input.now steps.old steps.new) }
+        ensures counts { steps.old ≤ steps.new }
+    {
+        let span = self.span_in(text, input, steps, memory, true)?;
+        Ok(span)
+    }
+
+    /// Searches the text as `search_in` does, and answers where the match starts and ends. The slots of the match are in the
+    /// memory, unless the span alone is wanted.
+    fn span_in(
+        &self,
+        text: &str,
+        input: &RunInput,
+        steps: &mut Steps,
+        memory: &mut SearchMemory,
+        span_only: bool,
+    ) -> Result<Option<(usize, usize)>, AllocError>
+        requires first { IsCharBoundary text.now input.now.first }
+        requires range { input.now.range.end ≤ length text.now }
+        ensures answer { IfOk result (IsMatchSpan self.now text.now input.now) }
+        ensures slots { IfOk result (λ found. span_only ≡ false → IsMatchSlots self.now text.now input.now
             (option_map (found_slots self.now.whole) (found_of_span found memory.new.backtrack.slots.items))) }
         ensures at_most { LooksAtMost self.now input.now steps.old steps.new }
         ensures at_least { IfOk result (λ _. LooksAtLeast self.now text.now input.now steps.old steps.new) }
@@ -180,8 +210,34 @@ impl Easy {
             refused: &self.refused,
         };
         let mut counted = Counted::new(text, steps);
-        let span = earliest_match(&context, &mut counted, input.first, input.anchored, memory)?;
+        let span = earliest_match(
+            &context,
+            &mut counted,
+            input.first,
+            input.anchored,
+            self.table_search(text, input),
+            memory,
+            span_only,
+        )?;
         Ok(span)
+    }
+
+    /// The table of the pattern and this text, if the search can be done by it: it wants the first match and tries all starts up to the
+    /// end of the text, and no end of it is hidden.
+    fn table_search<'t>(&'t self, text: &'t str, input: &RunInput) -> Option<TableSearch<'t>>
+        requires { input.now.range.end ≤ length text.now }
+        ensures { IfSome result (IsTableFor self.now text.now input.now) }
+    {
+        if self.longest || input.no_start_text || input.no_end_text {
+            return None;
+        }
+        if input.range.end < text.len() {
+            return None;
+        }
+        match &self.rows {
+            Some(table) => Some(TableSearch { table, text }),
+            None => None,
+        }
     }
 
     /// The flags of a search of this pattern.
@@ -206,6 +262,28 @@ impl Easy {
         }
         slots
     }
+}
+
+/// The table of the states, where the first match is wanted. The error is want of memory.
+fn table_of(
+    alloc: Global,
+    states: &[State],
+    entry: usize,
+    matchers: &[CharClassMatcher],
+    options: &CompileOptions,
+) -> Result<Option<Table>, AllocError>
+    ensures { IfOk result (λ table. IfSome table (IsTable (record {
+      states = states.now;
+      entry = entry;
+      matchers = matchers.now;
+      unicode = options.now.unicode;
+    }))) }
+{
+    if options.leftmost_longest {
+        return Ok(None);
+    }
+    let table = Table::new(alloc, states, entry, matchers, options.unicode)?;
+    Ok(Some(table))
 }
 
 /// Writes to a slot, if it exists.

@@ -96,10 +96,35 @@ abbrev pub IsStepped : Asked → Bool → List Row → Search → Step → Type 
 IsStepped asked unicode rows s (W.On place) = Stands asked unicode rows s place
 IsStepped asked unicode rows s (W.Done passed) = IsPassed s passed
 
+-- what was found lies between the first attempt and the place
+abbrev pub IsLeft : Place → Passed → Type 0
+IsLeft place (P.Match start end read) = (place.start ≤ start) × (start ≤ read) × (read ≡ place.at)
+IsLeft place P.Ended = Unit {0}
+IsLeft place (P.Idle next) = ⊥
+IsLeft place (P.Unknown from read) = (place.start ≤ from) × (from ≤ read) × (read ≡ place.at)
+
+-- it does so, or the search goes on after an ASCII character
+abbrev pub IsDoneAt : Place → ℕ → Passed → Type 0
+IsDoneAt place byte (P.Match start end read) = IsLeft place (P.Match start end read)
+IsDoneAt place byte P.Ended = Unit {0}
+IsDoneAt place byte (P.Idle next) = (next ≡ place.at + 1) × (byte < 128)
+IsDoneAt place byte (P.Unknown from read) = IsLeft place (P.Unknown from read)
+
 -- a step on is one over an ASCII character
-abbrev pub IsOnward : ℕ → ℕ → Step → Type 0
-IsOnward at byte (W.On place) = (place.at ≡ at + 1) × (byte < 128)
-IsOnward at byte (W.Done passed) = Unit {0}
+abbrev pub IsOnward : Place → ℕ → Step → Type 0
+IsOnward place byte (W.On next) = (next.at ≡ place.at + 1) × (place.start ≤ next.start) × (next.start ≤ place.at) × (byte < 128)
+IsOnward place byte (W.Done passed) = IsDoneAt place byte passed
+
+-- a character begins at each place from the first to the second
+abbrev pub AreBoundaries : List ℕ → ℕ → ℕ → Type 0
+AreBoundaries text low high = (i : ℕ) → low ≤ i → i ≤ high → IsCharBoundary text i
+
+-- what was found lies in the range
+abbrev pub IsInRange : List ℕ → ℕ → ℕ → Passed → Type 0
+IsInRange text low stop (P.Match start end read) = (low ≤ start) × (start ≤ read) × (read ≤ stop) × IsCharBoundary text start
+IsInRange text low stop P.Ended = Unit {0}
+IsInRange text low stop (P.Idle next) = (low < next) × (next ≤ stop) × IsCharBoundary text next
+IsInRange text low stop (P.Unknown from read) = (low ≤ from) × (from ≤ read) × (read ≤ stop) × AreBoundaries text low read
 
 -- an ASCII character stands here
 pub record IsAsciiAt (text : List ℕ) (at c : ℕ) : Type 0 where

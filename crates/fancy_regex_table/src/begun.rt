@@ -87,7 +87,11 @@ pub fn readings_of(
                 let work = reads
                     .saturating_add(CELL_WORK)
                     .saturating_mul(columns.len().saturating_add(reads));
-                *steps = steps.saturating_sub(work);
+                if work > *steps {
+                    *steps = 0;
+                    return Ok(readings);
+                }
+                *steps -= work;
                 readings.push(reading)?;
             }
         }

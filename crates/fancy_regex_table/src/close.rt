@@ -61,7 +61,7 @@ pub fn close(
     ensures { IfOk result (λ found. IfSome found (IsClosing states.now before after from.now)) }
 {
     let mut seen = StateSet::new(alloc, states.len())?;
-    let mut stack: Vec<usize> = from.iter().rev().copied().collect(alloc)?;
+    let mut stack = reversed(alloc, from)?;
     let mut reads = Vec::new(alloc);
     'states: for _ in 0..*steps {
         *steps = steps.saturating_sub(1);
@@ -85,6 +85,16 @@ pub fn close(
         }
     }
     Ok(None)
+}
+
+/// The states, the last one first. The error is want of memory.
+fn reversed(alloc: Global, states: &[usize]) -> Result<Vec<usize>, AllocError>
+    ensures { IfOk result (λ list. list.items ≡ reverse states.now) }
+{
+    let mut list = Vec::new(alloc);
+    list.extend_from_slice(states)?;
+    list.reverse();
+    Ok(list)
 }
 
 /// Adds the state `id` to those that read, or what it leads to to the stack; returns whether it is the final state. The error is

@@ -75,7 +75,7 @@ pub struct Table {
 }
 
 impl Table {
-    ghost use Rattle.fancy_regex_table.specs.Tables.{IsTable, IsSearchOf, IsPassed, Stands, IsStepped, IsStartAt, IsFreshRow, IsOnward, IsAsciiAt};
+    ghost use Rattle.fancy_regex_table.specs.Tables.{IsTable, IsSearchOf, IsPassed, Stands, IsStepped, IsStartAt, IsFreshRow, IsOnward, IsAsciiAt, IsLeft, IsInRange};
     ghost use Rattle.fancy_regex_table.specs.Cells.{Tells};
     ghost use Rattle.fancy_regex_table.specs.Sorts.{sort_at};
     ghost use Rattle.fancy_regex_table.specs.declared.sort.Sort.{Sort as SortValue};
@@ -126,8 +126,9 @@ impl Table {
         requires boundary { IsCharBoundary text.now from }
         requires before { before ≡ char_before text.now from }
         requires end { at_end ≡ true → stop ≡ length text.now }
-        ensures { (parts : Parts) (rules : Rules) (s : Search) → IsTable parts self.now → IsSearchOf parts rules s
+        ensures passed { (parts : Parts) (rules : Rules) (s : Search) → IsTable parts self.now → IsSearchOf parts rules s
             → s.text ≡ text.now → s.from ≡ from → s.stop ≡ stop → IsPassed s result }
+        ensures range { IsInRange text.now from stop result }
     {
         let Some(row) = self.fresh_row(before) else {
             return Passed::Unknown { from, read: from };
@@ -177,8 +178,10 @@ impl Table {
 
     /// That nothing more is known at the place.
     fn unknown(&self, place: Place) -> Passed
-        ensures { (parts : Parts) (s : Search) (table : IsTable parts self.now)
+        requires { place.start ≤ place.at }
+        ensures passed { (parts : Parts) (s : Search) (table : IsTable parts self.now)
             → Stands self.now.asked self.now.unicode table.rows s place → IsPassed s result }
+        ensures left { IsLeft place result }
     {
         Passed::Unknown {
             from: self.start_at(place),
@@ -188,9 +191,11 @@ impl Table {
 
     /// What a cell says that leads to no row, but for `Idle`.
     fn ended(&self, cell: Cell, place: Place) -> Passed
-        ensures { (parts : Parts) (s : Search) (table : IsTable parts self.now) (after : SortValue) (next : ℕ)
+        requires { place.start ≤ place.at }
+        ensures passed { (parts : Parts) (s : Search) (table : IsTable parts self.now) (after : SortValue) (next : ℕ)
             → Stands self.now.asked self.now.unicode table.rows s place
             → Tells s table.rows after place.at next place.start place.last cell → IsPassed s result }
+        ensures left { IsLeft place result }
     {
         match cell {
             Cell::Empty => Passed::Match {
@@ -214,9 +219,11 @@ impl Table {
 
     /// What is found at the end of the range. With `at_end` that is the end of the text.
     fn at_stop(&self, place: Place, at_end: bool) -> Passed
-        ensures { (parts : Parts) (rules : Rules) (s : Search) (table : IsTable parts self.now) → IsSearchOf parts rules s
+        requires { place.start ≤ place.at }
+        ensures passed { (parts : Parts) (rules : Rules) (s : Search) (table : IsTable parts self.now) → IsSearchOf parts rules s
             → place.at ≡ s.stop → (at_end ≡ true → s.stop ≡ length s.text)
             → Stands self.now.asked self.now.unicode table.rows s place → IsPassed s result }
+        ensures left { IsLeft place result }
     {
         if !at_end {
             return self.unknown(place);
@@ -230,8 +237,9 @@ impl Table {
     /// What the character at the place leads to, whose first byte this is.
     #[inline(always)]
     fn step(&self, byte: u8, place: Place) -> Step
-        requires { place.at + 1 < 2 ^ 64 }
-        ensures onward { IsOnward place.at byte result }
+        requires next { place.at + 1 < 2 ^ 64 }
+        requires order { place.start ≤ place.at }
+        ensures onward { IsOnward place byte result }
         ensures stepped { (parts : Parts) (rules : Rules) (s : Search) (table : IsTable parts self.now) → IsSearchOf parts rules s
             → (byte < 128 → IsAsciiAt s.text place.at byte) → place.at < s.stop
             → Stands self.now.asked self.now.unicode table.rows s place

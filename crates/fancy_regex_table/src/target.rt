@@ -34,7 +34,8 @@ pub fn fresh_target(alloc: Global, begun: &Begun, after: Sort) -> Result<Target,
         }
         return Ok(Target::Cell(Cell::Idle));
     }
-    let own: Vec<usize> = begun.nexts.iter().copied().collect(alloc)?;
+    let mut own = Vec::new(alloc);
+    own.extend_from_slice(&begun.nexts)?;
     Ok(Target::Row {
         row: Row::Open {
             before: after,

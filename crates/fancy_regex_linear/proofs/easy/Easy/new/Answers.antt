@@ -29,6 +29,7 @@ invariant_of-result c = record {
   made = is_made (shape c.in_ok-translated.translated.node) c.emit.new.states.items c.in_ok-entry.entry c.in_ok-translated.ensures.sound (states (goal.at.invariant_of-result c).In_ok-entry);
   table = ∣ rw (c.deref.ensures.value, c.deref-2.ensures.value) at c.in_ok-first.ensures ∣₁;
   marks = ∣ rw c.deref-3.ensures.value at c.refused_ascii-refused.ensures c.emit.new.states.items c.in_ok-entry.entry ∣ rw (c.deref.ensures.value, c.deref-2.ensures.value) at c.in_ok-first.ensures ∣₁ ∣₁;
+  cells = ∣ rw (c.deref-4.ensures.value, c.deref-5.ensures.value) at c.in_ok-rows.ensures ∣₁;
 }
 
 pub returns-clause-made : goal.returns-clause-made

@@ -1,0 +1,187 @@
+//! Starts that are settled by the table of the pattern, which goes through the text once.
+
+ghost use Rattle.std.specs.Prelude.{◌≡◌, ◌-◌, ◌+◌, ◌<◌, ◌≤◌, ◌^◌, ℕ, Bool, false, Option, Some, None, length, min, IfOk, OnOk, IfSome, IsCharBoundary};
+ghost use Rattle.regex_hir.specs.Text.{char_before as char_before_of};
+ghost use Rattle.fancy_regex_class.specs.Looks.{looked_text, look_count};
+ghost use Rattle.fancy_regex_states.specs.Attempts.{View, Continuation};
+ghost use Rattle.fancy_regex_table.specs.Tables.{AreBoundaries};
+ghost use Rattle.fancy_regex_linear.specs.Layers.{IsSearchContext, IsBetweenAttempts, IsAttempt};
+ghost use Rattle.fancy_regex_linear.specs.Search.{Explains};
+ghost use Rattle.fancy_regex_linear.specs.Settled.{IsAtStart, IsLoaded, IsSettled, IsSettledAfter, IsSettling, IsTableSearch, IsTried, FailBetween};
+
+use crate::memory::SearchMemory;
+use crate::search::{SearchContext, attempt_start};
+use crate::settle::Settled;
+use crate::starts::{Start, start_after};
+use fancy_regex_class::Counted;
+use fancy_regex_table::{Passed, Table};
+use std::alloc::AllocError;
+
+/// The table of a pattern, and the text that it goes through.
+#[derive(Clone, Copy)]
+pub struct TableSearch<'p> {
+    pub table: &'p Table,
+    pub text: &'p str,
+}
+
+/// Settles the starts from this one on as far as the table tells something of them. `None` says nothing, and costs no look. Each
+/// character that the table reads costs one, but for the first, at which the search has looked. The error is want of memory.
+#[inline(always)]
+pub fn by_table(
+    context: &SearchContext,
+    text: &mut Counted,
+    table: Option<TableSearch>,
+    place: Start,
+    anchored: bool,
+    memory: &mut SearchMemory,
+    span_only: bool,
+) -> Result<Option<Settled>, AllocError>
+    requires context { IsSearchContext context.now }
+    requires start { IsAtStart context.now (looked_text text.old) anchored place memory.old }
+    requires table { IfSome table (IsTableSearch context.now (looked_text text.old)) }
+    ensures settled { IfOk result (λ found. IfSome found (IsSettled context.now (looked_text text.old) (look_count text.old) (look_count text.new)
+        anchored span_only place memory.old memory.new)) }
+    ensures same { IfOk result (λ found. found ≡ None → (look_count text.new ≡ look_count text.old) × (memory.new ≡ memory.old)) }
+    ensures settling { IsSettling context.now text.old text.new place memory.old memory.new }
+{
+    let Some(it) = table else {
+        return Ok(None);
+    };
+    if anchored || !is_ascii(place.after) {
+        return Ok(None);
+    }
+    let before = char_before(it.text, place.at);
+    match it.table.pass(it.text, place.at, before, context.stop, true) {
+        Passed::Match { start, end, read } => {
+            text.count_reads(read - place.at);
+            load_match(context, text, start, memory, span_only)?;
+            Ok(Some(Settled::Found { start, end }))
+        }
+        Passed::Ended => {
+            text.count_reads(context.stop - place.at);
+            Ok(Some(Settled::On { next: None }))
+        }
+        Passed::Idle { at } => {
+            text.count_reads(at - place.at - 1);
+            Ok(Some(Settled::On { next: Some(at) }))
+        }
+        Passed::Unknown { from, read } => {
+            if read == place.at {
+                return Ok(None);
+            }
+            let settled = by_attempts(context, text, place, from, read, memory)?;
+            Ok(Some(settled))
+        }
+    }
+}
+
+/// Whether an ASCII character stands here.
+#[inline(always)]
+fn is_ascii(c: Option<char>) -> bool {
+    match c {
+        Some(c) => (c as u32) < 128,
+        None => false,
+    }
+}
+
+/// Leaves the slots of the match that starts here in the memory, unless the span alone is wanted. The error is want of memory.
+fn load_match(
+    context: &SearchContext,
+    text: &mut Counted,
+    start: usize,
+    memory: &mut SearchMemory,
+    span_only: bool,
+) -> Result<(), AllocError>
+    requires context { IsSearchContext context.now }
+    requires range { (memory.old.visited.base ≤ start) × (start ≤ context.now.stop) }
+    requires boundary { IsCharBoundary (looked_text text.old) start }
+    requires between { IsBetweenAttempts context.now memory.old }
+    ensures loaded { OnOk result (IsLoaded context.now (looked_text text.old) span_only start memory.old memory.new) }
+    ensures attempt { IsAttempt context.now text.old text.new memory.old memory.new start }
+{
+    if span_only {
+        return Ok(());
+    }
+    let _ = attempt_start(context, text, start, memory)?;
+    Ok(())
+}
+
+/// Settles the starts up to `read` and that one, where the table has read the text up to there and no match starts before `from`, by
+/// attempts. The error is want of memory.
+fn by_attempts(
+    context: &SearchContext,
+    text: &mut Counted,
+    place: Start,
+    from: usize,
+    read: usize,
+    memory: &mut SearchMemory,
+) -> Result<Settled, AllocError>
+    requires context { IsSearchContext context.now }
+    requires start { IsAtStart context.now (looked_text text.old) false place memory.old }
+    requires range { (place.at ≤ from) × (from ≤ read) × (place.at < read) × (read ≤ context.now.stop) }
+    requires boundaries { AreBoundaries (looked_text text.old) place.at read }
+    ensures settled { IfOk result (λ settled. (span_only : Bool) → IsSettledAfter context.now (looked_text text.old) (look_count text.old)
+        (look_count text.new) span_only place from memory.old memory.new settled) }
+    ensures settling { IsSettling context.now text.old text.new place memory.old memory.new }
+{
+    text.count_reads(read - place.at - 1);
+    let (_, after) = text.look(read);
+    let next = start_after(read, after, false, context.stop);
+    match first_tried(context, text, from, read, memory)? {
+        Some((start, end)) => Ok(Settled::Found { start, end }),
+        None => Ok(Settled::On { next }),
+    }
+}
+
+/// The first start from `from` up to `last` that matches, and where the match ends, with its slots in the memory. The starts are a
+/// byte apart. The error is want of memory.
+fn first_tried(
+    context: &SearchContext,
+    text: &mut Counted,
+    from: usize,
+    last: usize,
+    memory: &mut SearchMemory,
+) -> Result<Option<(usize, usize)>, AllocError>
+    requires context { IsSearchContext context.now }
+    requires range { (memory.old.visited.base ≤ from) × (from ≤ last) × (last ≤ context.now.stop) }
+    requires boundaries { AreBoundaries (looked_text text.old) from last }
+    requires between { IsBetweenAttempts context.now memory.old }
+    ensures tried { IfOk result (IsTried context.now (looked_text text.old) memory.old memory.new from last) }
+    ensures attempt { IsAttempt context.now text.old text.new memory.old memory.new last }
+{
+    let mut start = from;
+    'starts: loop {
+        if let Some(end) = attempt_start(context, text, start, memory)? {
+            return Ok(Some((start, end)));
+        }
+        if start >= last {
+            return Ok(None);
+        }
+        start += 1;
+    }
+}
+
+/// The character that ends at the byte offset `position`. An ASCII character is read as one byte.
+#[inline(always)]
+fn char_before(text: &str, position: usize) -> Option<char>
+    requires { IsCharBoundary text.now position }
+    ensures { result ≡ char_before_of text.now position }
+{
+    if position == 0 {
+        return None;
+    }
+    let byte = text.as_bytes()[position - 1];
+    if byte < 128 {
+        return Some(byte as char);
+    }
+    decode_before(text, position)
+}
+
+/// The character that ends at the byte offset `position`, of any length.
+fn decode_before(text: &str, position: usize) -> Option<char>
+    requires { IsCharBoundary text.now position }
+    ensures { result ≡ char_before_of text.now position }
+{
+    let (front, _) = text.split_at(position);
+    front.chars().next_back()
+}
