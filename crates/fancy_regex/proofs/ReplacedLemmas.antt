@@ -10,7 +10,7 @@ use Rattle.fancy_regex_search.specs.RemainingMatches.{all_matches}
 use Rattle.fancy_regex_meta.specs.declared.error.Error.{Error}
 use Rattle.fancy_regex_meta.specs.declared.error.Error.TheVariants as errors
 use Rattle.fancy_regex_search.specs.GroupTexts.{AnswersTemplate, text_without_sign}
-use Rattle.fancy_regex_search.specs.Replacements.{CapturesView, AnswersInTurn, FailsInTurn, here, later, IsReplacedBy, by_calls, by_text, IsReplaceError, of_search, of_search_by_text, of_call, of_memory, captures_view}
+use Rattle.fancy_regex_search.specs.Replacements.{CapturesView, AnswersInTurn, FailsInTurn, IsReplacedBy, by_calls, by_text, IsReplaceError, of_search, of_search_by_text, of_call, of_memory, captures_view}
 use Rattle.fancy_regex_search.specs.TemplateLaws.{template_text}
 use Rattle.fancy_regex_search.proofs.IterationLemmas.{error_made}
 use Rattle.fancy_regex.specs.TextMatches.{IsErrorOfSearch}
@@ -57,14 +57,13 @@ module _ {S : Type 0} (template_of : S → List ℕ) (r : MetaRegex) (text : Lis
   replaced_is out h = of_replaced (all_matches r text (whole text)) out (text_without_sign (template_of s)) refl h ∙ ap (λ ms. replaced_from text by 0 ms) (all_are r text)
 
   -- a call fails for want of memory alone
-  call_fails : (ms : List CapturesView) (t last : S) (e : Error) → FailsInTurn (AnswersTemplate template_of) t ms e last → e ≡ errors.Memory
-  call_fails _ _ _ _ (here t last m rest e h) = h.0
-  call_fails _ _ _ _ (later t next last m rest w e call h) = call_fails rest next last e h
+  call_fails : (ms : List Match) (t last : S) (e : Error) → FailsInTurn (AnswersTemplate template_of) r text ms t e last → e ≡ errors.Memory
+  call_fails ms t last e h = h.call.0
 
   pub error_is : (ms : List Match) (fixed : Option (List ℕ)) (e : Error) → IsReplaceError (AnswersTemplate template_of) r text ms s fixed e → IsErrorOfSearch r.options (string_bytes r.pattern) text e
   error_is ms _ _ (of_search fixed done rest answers last e is following turns) = iteration_error_is r text e (error_made r text (whole text) done e following)
   error_is ms _ _ (of_search_by_text t done rest e is following) = iteration_error_is r text e (error_made r text (whole text) done e following)
-  error_is ms _ _ (of_call fixed e last h) = subst (λ (x : Error). IsErrorOfSearch r.options (string_bytes r.pattern) text x) (sym (call_fails (map (captures_view r text) ms) s last e h)) (memory_is_error r.options (string_bytes r.pattern) text)
+  error_is ms _ _ (of_call fixed e last h) = subst (λ (x : Error). IsErrorOfSearch r.options (string_bytes r.pattern) text x) (sym (call_fails ms s last e h)) (memory_is_error r.options (string_bytes r.pattern) text)
   error_is ms _ _ (of_memory fixed) = memory_is_error r.options (string_bytes r.pattern) text
 
   -- where a call answers what replaces the matches, it answers the text of the definitions
@@ -86,7 +85,7 @@ module _ {S : Type 0} (template_of : S → List ℕ) (r : MetaRegex) (text : Lis
       (e ≡ errors.Memory → ⊥) → IsErrorOfIteration r text e
   iteration_error ms _ _ all (of_search fixed done rest answers last e is following turns) other = (done, rest, all ∙ is, following)
   iteration_error ms _ _ all (of_search_by_text t done rest e is following) other = (done, rest, all ∙ is, following)
-  iteration_error ms _ _ all (of_call fixed e last h) other = absurd (other (call_fails (map (captures_view r text) ms) s last e h))
+  iteration_error ms _ _ all (of_call fixed e last h) other = absurd (other (call_fails ms s last e h))
   iteration_error ms _ _ all (of_memory fixed) other = absurd (other refl)
 
   pub iteration_error_if_err : {V : Type 0} (answer : Result V Error)

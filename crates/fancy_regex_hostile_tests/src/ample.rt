@@ -11,14 +11,23 @@ struct Repeated(&'static str, usize);
 /// A pattern, a text, and where the match of a search ends, if there is one. The search may go back 1,000,000,000 times.
 struct Search(Repeated, Repeated, Option<usize>);
 
-static SEARCHES: [Search; 8] = [
-    // more than 100,000,000 steps of the machine
+/// More than 100,000,000 steps of the machine, and long texts for the linear engine and for the machine.
+static LONG: [Search; 3] = [
     Search(
         Repeated("(?:(?:(?=a)(?=a)){1000}){1000}(?=b)", 1),
         Repeated("a", 40),
         None,
     ),
-    // counts, for the machine and for the linear engine
+    Search(
+        Repeated("(?:a|b|ab)*bc", 1),
+        Repeated("ab", 5_000_000),
+        None,
+    ),
+    Search(Repeated("(\\w)\\1", 1), Repeated("ab", 5_000_000), None),
+];
+
+/// Counts, and more groups than 16 bits count, for the machine and for the linear engine.
+static LARGE: [Search; 6] = [
     Search(
         Repeated("(?!b)(?:ab){100000}", 1),
         Repeated("ab", 100_000),
@@ -35,19 +44,12 @@ static SEARCHES: [Search; 8] = [
         Some(1_000),
     ),
     Search(Repeated("a{10000}", 1), Repeated("a", 10_000), Some(10_000)),
-    // more groups than 16 bits count
     Search(
         Repeated("(?!b)(a)", 70_000),
         Repeated("a", 70_000),
         Some(70_000),
     ),
-    // long texts, for the linear engine and for the machine
-    Search(
-        Repeated("(?:a|b|ab)*bc", 1),
-        Repeated("ab", 5_000_000),
-        None,
-    ),
-    Search(Repeated("(\\w)\\1", 1), Repeated("ab", 5_000_000), None),
+    Search(Repeated("(a)", 70_000), Repeated("b", 1), None),
 ];
 
 /// Where the first match ends.
@@ -72,8 +74,14 @@ fn is_right(alloc: Global, row: &Search) -> bool {
 }
 
 #[test]
-fn searches_answer_while_memory_is_ample(rt: HostRuntime) {
-    let wrong = SEARCHES.iter().position(|row| !is_right(rt.alloc(), row));
+fn long_searches_answer_while_memory_is_ample(rt: HostRuntime) {
+    let wrong = LONG.iter().position(|row| !is_right(rt.alloc(), row));
+    assert_eq!(rt; wrong, None);
+}
+
+#[test]
+fn large_patterns_answer_while_memory_is_ample(rt: HostRuntime) {
+    let wrong = LARGE.iter().position(|row| !is_right(rt.alloc(), row));
     assert_eq!(rt; wrong, None);
 }
 

@@ -11,8 +11,8 @@ use Rattle.fancy_regex_meta.specs.MetaMatches.{meta_match_from, meta_pattern}
 use Rattle.fancy_regex_meta.specs.SearchLimits.{IsMetaSearchError, MetaStaysInLimits}
 use Rattle.fancy_regex_meta.specs.declared.error.Error.TheVariants.{Memory}
 use Rattle.fancy_regex_search.specs.IterationErrors.{IsItemError, IsErrorAfter}
-use Rattle.fancy_regex_search.specs.IterationSearches.{no_item, ComesTo, PassesItem}
-use Rattle.fancy_regex_search.specs.IterationLimits.{SkipsStayInLimits, StaysAfter, ReplacementStays}
+use Rattle.fancy_regex_search.specs.IterationSearches.{no_item, ComesTo, SkipsToFrom, PassesItem}
+use Rattle.fancy_regex_search.specs.IterationLimits.{SkipsStayInLimits, StaysAfter, StaysFor, ReplacementStays}
 use Rattle.fancy_regex_search.specs.declared.match_iter.IterState.{IterState}
 use Rattle.fancy_regex_input.specs.SearchInputs.{whole}
 use Rattle.fancy_regex_search.proofs.IterationLemmas.{comes_from, comes_to, item_comes, item_only, no_more, skips_from, skips_to}
@@ -21,16 +21,15 @@ use Rattle.fancy_regex_meta.specs.declared.meta_regex.MetaRegex.{MetaRegex}
 use Rattle.fancy_regex_meta.specs.FoundParts.{wanted_groups}
 use Rattle.fancy_regex_meta.specs.declared.found.MatchDetail.{MatchDetail}
 use Rattle.fancy_regex_meta.specs.declared.found.MatchDetail.TheVariants.{Span, Groups}
-use Rattle.fancy_regex_search.specs.Replacements.{CapturesView, captures_view, AnswersBy, IsReplacedByCalls, FailsInTurn, here, later, AnswersInTurn, AnswersText, still_replaced, is_spent, limit_of, IsReplacedBy, by_calls, by_text, IsReplacedLeaving, left_by_calls, left_by_text, IsReplaceError, of_search, of_search_by_text, of_call, of_memory, IsReplaceErrorLeaving, search_failed, search_failed_by_text, call_failed, memory_ran_out}
+use Rattle.fancy_regex_search.specs.Replacements.{CapturesView, captures_view, AnswersBy, IsReplacedByCalls, FailsInTurn, AnswersInTurn, AnswersText, still_replaced, is_spent, limit_of, IsReplacedBy, by_calls, by_text, IsReplacedLeaving, left_by_calls, left_by_text, IsReplaceError, of_search, of_search_by_text, of_call, of_memory, IsReplaceErrorLeaving, search_failed, search_failed_by_text, call_failed, memory_ran_out}
 
 -- What is still to be replaced from an offset on, after a text that is out, completes the replacement of all of these matches.
 pub record Completes {S : Type 0} (Calls : S → CapturesView → Result (List ℕ) Error → S → Type 0) (r : MetaRegex) (text : List ℕ) (ms : List Match) (first : S) (p : ℕ) (left : List Match) (s : S) (out : List ℕ) : Type 0 where
   pub replaces : (more : List ℕ) (last : S) → IsReplacedByCalls Calls r text p left s more last → IsReplacedByCalls Calls r text 0 ms first (out ++ more) last
-  pub fails : (e : Error) (last : S) → FailsInTurn Calls s (map (captures_view r text) left) e last → FailsInTurn Calls first (map (captures_view r text) ms) e last
 
 module _ {S : Type 0} (Calls : S → CapturesView → Result (List ℕ) Error → S → Type 0) (r : MetaRegex) (text : List ℕ) (ms : List Match) (first : S) where
   pub completes_first : Completes Calls r text ms first 0 ms first []
-  completes_first = record { replaces = λ more last h. h; fails = λ e last h. h }
+  completes_first = record { replaces = λ more last h. h }
 
   pub completes_next : (p : ℕ) (m : Match) (left : List Match) (s next : S) (out w : List ℕ) → Completes Calls r text ms first p (m ∷ left) s out → Calls s (captures_view r text m) (Ok w) next →
       Completes Calls r text ms first m.end left next ((out ++ slice_range text p m.start) ++ w)
@@ -40,7 +39,6 @@ module _ {S : Type 0} (Calls : S → CapturesView → Result (List ℕ) Error �
         let e : ((out ++ gap) ++ w) ++ more ≡ out ++ (gap ++ (w ++ more)) = simp append_assoc in
         subst (λ (all : List ℕ). IsReplacedByCalls Calls r text 0 ms first all last) (sym e)
         (so.replaces (gap ++ (w ++ more)) last (w ∷ h.0, (next, call, h.1), ap (λ (x : List ℕ). gap ++ (w ++ x)) h.2));
-    fails = λ e last h. so.fails e last (later s next last (captures_view r text m) (map (captures_view r text) left) w e call h);
   }
 
   pub completes_last : (p : ℕ) (s : S) (out : List ℕ) → Completes Calls r text ms first p [] s out → IsReplacedByCalls Calls r text 0 ms first (out ++ drop p text) s
@@ -90,7 +88,7 @@ pub record Progress {S : Type 0} (Calls : S → CapturesView → Result (List �
       ComesTo r text (whole text) (done ++ items) None 0 false q o
   pub only : (items : List Match) (q : ℕ) (o : Bool) → ComesTo r text (whole text) (done ++ items) None 0 false q o →
       ComesTo r text (whole text) items state.last config.start state.continue_disabled q o
-  pub kept : ((more rest : List Match) → left ≡ more ++ rest → StaysAfter r text (whole text) (done ++ more)) → ReplacementStays r text ms
+  pub stays : StaysFor r text (whole text) done
 
 one_more : {S : Type 0} (Calls : S → CapturesView → Result (List ℕ) Error → S → Type 0) (s : S) (ms : List CapturesView) (ws : List (List ℕ)) (mid : S) (m : CapturesView) (w : List ℕ) (next : S) →
     AnswersInTurn Calls s ms ws mid → Calls mid m (Ok w) next → AnswersInTurn Calls s (ms ++ (m ∷ [])) (ws ++ (w ∷ [])) next
@@ -110,33 +108,56 @@ first_same m n xs ys e = ap (λ (l : List Match). elim l [ [] ↦ m | x ∷ more
 rest_same : (m n : Match) (xs ys : List Match) → m ∷ xs ≡ n ∷ ys → xs ≡ ys
 rest_same m n xs ys e = ap (λ (l : List Match). elim l [ [] ↦ xs | x ∷ more ↦ more ]) e
 
--- what holds after what is done, and after one match more and each beginning of the rest, holds after each beginning
-after_next : (P : List Match → Type 0) (done : List Match) (m : Match) (left : List Match) → P done →
-    ((more rest : List Match) → left ≡ more ++ rest → P ((done ++ (m ∷ [])) ++ more)) → (more rest : List Match) → m ∷ left ≡ more ++ rest → P (done ++ more)
-after_next P done m left so h [] rest is = subst P (sym (append-nil done)) so
-after_next P done m left so h (k ∷ more) rest is =
-    subst P (append_assoc done (m ∷ []) more ∙ ap (λ (x : Match). done ++ (x ∷ more)) (first_same m k left (more ++ rest) is))
-    (h more rest (rest_same m k left (more ++ rest) is))
+no_split : (done : List Match) (m : Match) (rest : List Match) → [] ≡ done ++ (m ∷ rest) → ⊥
+no_split [] m rest is = never_empty m rest (sym is)
+no_split (k ∷ done) m rest is = never_empty k (done ++ (m ∷ rest)) (sym is)
 
-after_last : (P : List Match → Type 0) (done left : List Match) → P done → left ≡ [] → (more rest : List Match) → left ≡ more ++ rest → P (done ++ more)
-after_last P done left so none [] rest is = subst P (sym (append-nil done)) so
-after_last P done left so none (k ∷ more) rest is = absurd (never_empty k (more ++ rest) (sym is ∙ none))
+-- what holds of a list, and of each beginning before one of its matches, holds of each before a match of the list with one match more
+before_each : (P : List Match → Type 0) (all : List Match) (m : Match) → P all → ((done : List Match) (k : Match) (rest : List Match) → all ≡ done ++ (k ∷ rest) → P done) →
+    (done : List Match) (k : Match) (rest : List Match) → all ++ (m ∷ []) ≡ done ++ (k ∷ rest) → P done
+before_each P [] m so h [] k rest is = so
+before_each P [] m so h (j ∷ done) k rest is = absurd (no_split done k rest (rest_same m j [] (done ++ (k ∷ rest)) is))
+before_each P (n ∷ all) m so h [] k rest is = h [] n all refl
+before_each P (n ∷ all) m so h (j ∷ done) k rest is =
+    let Q : List Match → Type 0 = λ xs. P (n ∷ xs) in
+    let there : P (n ∷ done) = before_each Q all m so (λ more i others same. h (n ∷ more) i others (ap (λ (xs : List Match). n ∷ xs) same)) done k rest
+    (rest_same n j (all ++ (m ∷ [])) (done ++ (k ∷ rest)) is) in
+    subst (λ (x : Match). P (x ∷ done)) (first_same n j (all ++ (m ∷ [])) (done ++ (k ∷ rest)) is) there
+
+-- and of each beginning of the list
+each_beginning : (P : List Match → Type 0) (all : List Match) → P all → ((done : List Match) (k : Match) (rest : List Match) → all ≡ done ++ (k ∷ rest) → P done) →
+    (done rest : List Match) → all ≡ done ++ rest → P done
+each_beginning P all so h done [] is = subst P (is ∙ append-nil done) so
+each_beginning P all so h done (k ∷ rest) is = h done k rest is
 
 module _ {S : Type 0} (Calls : S → CapturesView → Result (List ℕ) Error → S → Type 0) (r : MetaRegex) (text : List ℕ) (ms : List Match) (first : S) where
+  -- a search right after what is done is come to by skipping
+  skips_here : (config : SearchConfig) (state : IterState) (left : List Match) (s : S) → config ≡ record (whole text) { start = config.start } →
+      (so : Progress Calls r text ms first config state left s) (q : ℕ) (o : Bool) → ComesTo r text (whole text) so.done None 0 false q o → SkipsToFrom r text config state q o
+  skips_here config state left s is so q o h =
+      let find = meta_match_from r text (whole text) in
+      let after = so.only [] q o (subst (λ (xs : List Match). ComesTo r text (whole text) xs None 0 false q o) (sym (append-nil so.done)) h) in
+      let skips = no_more text find (whole text).range_start (whole text).range_end [] state.last config.start state.continue_disabled q o after refl in
+      skips_to r text (whole text) config state.last config.start state.continue_disabled q o is skips
+
   -- each search right after what is done stays within the limits
   stays_here : (config : SearchConfig) (state : IterState) (left : List Match) (s : S) → config ≡ record (whole text) { start = config.start } → SkipsStayInLimits r text config state →
       (so : Progress Calls r text ms first config state left s) → StaysAfter r text (whole text) so.done
   stays_here config state left s is stays so q o h =
-      let find = meta_match_from r text (whole text) in
-      let after = so.only [] q o (subst (λ (xs : List Match). ComesTo r text (whole text) xs None 0 false q o) (sym (append-nil so.done)) h) in
-      let skips = no_more text find (whole text).range_start (whole text).range_end [] state.last config.start state.continue_disabled q o after refl in
-      subst (λ (a : SearchConfig). MetaStaysInLimits r text (record a { start = q }) o) is
-      (stays q o (skips_to r text (whole text) config state.last config.start state.continue_disabled q o is skips))
+      subst (λ (a : SearchConfig). MetaStaysInLimits r text (record a { start = q }) o) is (stays q o (skips_here config state left s is so q o h))
+
+  -- so does each one for what is done and one match more
+  stays_past : (config : SearchConfig) (state : IterState) (m : Match) (left : List Match) (s : S) → config ≡ record (whole text) { start = config.start } → SkipsStayInLimits r text config state →
+      (so : Progress Calls r text ms first config state (m ∷ left) s) → StaysFor r text (whole text) (so.done ++ (m ∷ []))
+  stays_past config state m left s is stays so =
+      before_each (StaysAfter r text (whole text)) so.done m (stays_here config state (m ∷ left) s is stays so) so.stays
 
   -- where no match is left, all searches stayed within the limits
   pub progress_stays : (config : SearchConfig) (state : IterState) (left : List Match) (s : S) → config ≡ record (whole text) { start = config.start } → SkipsStayInLimits r text config state →
       left ≡ [] → Progress Calls r text ms first config state left s → ReplacementStays r text ms
-  progress_stays config state left s is stays none so = so.kept (after_last (StaysAfter r text (whole text)) so.done left (stays_here config state left s is stays so) none)
+  progress_stays config state left s is stays none so done rest split =
+      let all : ms ≡ so.done = so.is ∙ ap (λ (xs : List Match). so.done ++ xs) none ∙ append-nil so.done in
+      each_beginning (StaysAfter r text (whole text)) so.done (stays_here config state left s is stays so) so.stays done rest (sym all ∙ split)
 
   -- before the first search
   pub progress_first : (config : SearchConfig) (state : IterState) → config ≡ whole text → state.last ≡ None → state.continue_disabled ≡ false →
@@ -154,7 +175,7 @@ module _ {S : Type 0} (Calls : S → CapturesView → Result (List ℕ) Error �
         let one = subst (λ (c : SearchConfig). ComesTo r text (whole text) items None c.start false q o) (sym is) h in
         let two = subst (λ (x : Bool). ComesTo r text (whole text) items None config.start x q o) (sym flag) one in
         subst (λ (l : Option ℕ). ComesTo r text (whole text) items l config.start state.continue_disabled q o) (sym last) two;
-    kept = λ h. h;
+    stays = λ done m rest split. absurd (no_split done m rest split);
   }
 
   -- past a match for which a call has answered
@@ -175,21 +196,22 @@ module _ {S : Type 0} (Calls : S → CapturesView → Result (List ℕ) Error �
         let all = subst (λ (xs : List Match). ComesTo r text (whole text) xs None 0 false q o) (append_assoc so.done (m ∷ []) items) h in
         let here = comes_to r text (whole text) config (m ∷ items) state.last config.start state.continue_disabled q o is (so.only (m ∷ items) q o all) in
         comes_from r text (whole text) config items after.last new.start after.continue_disabled q o is (item_only r text config new state after m passes items q o here);
-    kept = λ h. so.kept (after_next (StaysAfter r text (whole text)) so.done m left (stays_here config state (m ∷ left) s is stays so) h);
+    stays = stays_past config state m left s is stays so;
   }
 
   -- an error of the next search is one right after what is done
   pub progress_error : (config : SearchConfig) (state : IterState) (left : List Match) (s : S) (e : Error) → config ≡ record (whole text) { start = config.start } →
       IsItemError r text config state e → (so : Progress Calls r text ms first config state left s) → IsErrorAfter r text (whole text) so.done e
   progress_error config state left s e is h so =
-      let following : IsErrorAfter r text (whole text) (so.done ++ []) e = (
+      let comes = so.comes [] h.0 h.1 (no_item state.last config.start state.continue_disabled h.0 h.1 (skips_from r text (whole text) config state.last config.start state.continue_disabled h.0 h.1 is h.2)) in (
         h.0,
         h.1,
-        so.comes [] h.0 h.1 (no_item state.last config.start state.continue_disabled h.0 h.1 (skips_from r text (whole text) config state.last config.start state.continue_disabled h.0 h.1 is h.2)),
+        subst (λ (xs : List Match). ComesTo r text (whole text) xs None 0 false h.0 h.1) (append-nil so.done) comes,
         subst (λ (a : SearchConfig). max h.0 a.range_start ≤ a.range_end) is h.3,
         subst (λ (a : SearchConfig). IsMetaSearchError r text (record a { start = h.0 }) h.1 e) is h.4,
-      ) in
-      subst (λ (xs : List Match). IsErrorAfter r text (whole text) xs e) (append-nil so.done) following
+        so.stays,
+        λ at o to less. subst (λ (a : SearchConfig). MetaStaysInLimits r text (record a { start = at }) o) is (h.5 at o (skips_here config state left s is so at o to) less),
+      )
 
   pub progress_fails : (config : SearchConfig) (state : IterState) (left : List Match) (s : S) (e : Error) → config ≡ record (whole text) { start = config.start } →
       IsItemError r text config state e → Progress Calls r text ms first config state left s → IsReplaceErrorLeaving Calls r text ms first e s None
@@ -218,9 +240,8 @@ module _ {S : Type 0} (Calls : S → CapturesView → Result (List ℕ) Error �
 
 -- calls that fail for want of memory alone
 fails_for_memory : {S : Type 0} (Calls : S → CapturesView → Result (List ℕ) Error → S → Type 0) (only : (s : S) (m : CapturesView) (e : Error) (next : S) → Calls s m (Err e) next → e ≡ Memory)
-    (s : S) (ms : List CapturesView) (e : Error) (last : S) → FailsInTurn Calls s ms e last → e ≡ Memory
-fails_for_memory Calls only _ _ e _ (here s last m ms _ call) = only s m e last call
-fails_for_memory Calls only _ _ e _ (later s next last m ms w _ call h) = fails_for_memory Calls only next ms e last h
+    (r : MetaRegex) (text : List ℕ) (ms : List Match) (s : S) (e : Error) (last : S) → FailsInTurn Calls r text ms s e last → e ≡ Memory
+fails_for_memory Calls only r text ms s e last h = only h.before (captures_view r text h.at) e last h.call
 
 -- an error of a replacement by calls that fail for want of memory alone is one of any replacement with one text for all matches
 text_fails : {S T : Type 0} (Calls : S → CapturesView → Result (List ℕ) Error → S → Type 0) (Others : T → CapturesView → Result (List ℕ) Error → T → Type 0)
@@ -229,7 +250,7 @@ text_fails : {S T : Type 0} (Calls : S → CapturesView → Result (List ℕ) Er
 text_fails Calls Others only r text ms s last t _ shown_text e (search_failed fixed done rest answers is following turns) = search_failed_by_text shown_text done rest is following refl
 text_fails Calls Others only r text ms s last t _ shown_text e (search_failed_by_text fixed done rest is following same) = search_failed_by_text shown_text done rest is following refl
 text_fails Calls Others only r text ms s last t _ shown_text e (call_failed fixed h) =
-    memory_ran_out (Some shown_text) [] ms [] (fails_for_memory Calls only s (map (captures_view r text) ms) e last h) refl refl
+    memory_ran_out (Some shown_text) [] ms [] (fails_for_memory Calls only r text ms s e last h) refl refl
 text_fails Calls Others only r text ms s last t _ shown_text e (memory_ran_out fixed done rest answers is split turns) = memory_ran_out (Some shown_text) [] ms [] is refl refl
 
 -- an error of a replacement by calls, whatever the replacer says of its text
@@ -303,6 +324,27 @@ progress_gap {S} Calls r text ms first config new state after left left' before 
     let passes : PassesItem r text config state m new after = subst (λ (n : Match). PassesItem r text config state n new after) same returns.2 in
     progress_next Calls r text ms first config new state after m (still_replaced left' others) s next w moved passes stays call
     (subst (λ (xs : List Match). Progress Calls r text ms first config state xs s) split so)
+
+-- the call fails for the match that the iteration returned
+pub progress_call_fails : {S : Type 0} (Calls : S → CapturesView → Result (List ℕ) Error → S → Type 0) (r : MetaRegex) (text : List ℕ) (ms : List Match) (first : S) (config : SearchConfig)
+    (state : IterState) (left left' : Option ℕ) (before others : List Match) (s last : S) (e : Error) (m : Match) → before ≡ m ∷ others → is_spent left ≡ false →
+    left' ≡ option_map (λ n. n - 1) left → config ≡ record (whole text) { start = config.start } →
+    SkipsStayInLimits r text config state → Calls s (captures_view r text m) (Err e) last →
+    Progress Calls r text ms first config state (still_replaced left before) s → FailsInTurn Calls r text ms first e last
+progress_call_fails {S} Calls r text ms first config state left left' before others s last e m is unspent less moved stays call so =
+    let split : still_replaced left before ≡ m ∷ still_replaced left' others = still_more left left' before m others unspent less is in
+    let here = subst (λ (xs : List Match). Progress Calls r text ms first config state xs s) split so in
+    record {
+      done = here.done;
+      at = m;
+      rest = still_replaced left' others;
+      answers = here.answers;
+      before = s;
+      is = here.is;
+      turns = here.turns;
+      call = call;
+      stays = stays_past Calls r text ms first config state m (still_replaced left' others) s moved stays here;
+    }
 
 -- before the first call of a replacement with this limit
 pub completes_init : {S : Type 0} (Calls : S → CapturesView → Result (List ℕ) Error → S → Type 0) (r : MetaRegex) (text : List ℕ) (limit : ℕ) (first : S) (p : ℕ)

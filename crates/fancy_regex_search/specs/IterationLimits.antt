@@ -1,5 +1,5 @@
 -- Within which limits an iteration answers.
-use Rattle.std.specs.Prelude.{◌≡◌, ℕ, Bool, false, List, ◌++◌, MatchOption, IfSome, IfOk, Option, None}
+use Rattle.std.specs.Prelude.{◌≡◌, ℕ, ◌<◌, Bool, false, List, ◌∷◌, ◌++◌, MatchOption, IfSome, IfOk, Option, None}
 use Rattle.std.specs.declared.result.Result.{Result}
 use Rattle.fancy_regex_meaning.specs.Searches.{Match}
 use Rattle.fancy_regex_input.specs.SearchInputs.{whole}
@@ -14,6 +14,10 @@ use Rattle.fancy_regex_search.specs.declared.match_iter.IterState.{IterState}
 -- one after each empty match that is skipped since it ends where the previous match ended.
 abbrev pub SkipsStayInLimits : MetaRegex → List ℕ → SearchConfig → IterState → Type 0
 SkipsStayInLimits s text config state = (q : ℕ) (o : Bool) → SkipsToFrom s text config state q o → MetaStaysInLimits s text (record config { start = q }) o
+
+-- The same of those that start before q.
+abbrev pub SkipsStayUntil : MetaRegex → List ℕ → SearchConfig → IterState → ℕ → Type 0
+SkipsStayUntil s text config state q = (at : ℕ) (o : Bool) → SkipsToFrom s text config state at o → at < q → MetaStaysInLimits s text (record config { start = at }) o
 
 -- A call of `next` returns a match, and `None` where the iteration was not over, only where each search that it makes stays
 -- within the limits.
@@ -30,6 +34,15 @@ PieceStays s text config state result = IfSome result (λ item. IfOk item (λ _.
 abbrev pub StaysAfter : MetaRegex → List ℕ → SearchConfig → List Match → Type 0
 StaysAfter s text config items =
     (q : ℕ) (o : Bool) → ComesTo s text config items None config.start false q o → MetaStaysInLimits s text (record config { start = q }) o
+
+-- The same of those that start before q.
+abbrev pub StaysAfterUntil : MetaRegex → List ℕ → SearchConfig → List Match → ℕ → Type 0
+StaysAfterUntil s text config items q =
+    (at : ℕ) (o : Bool) → ComesTo s text config items None config.start false at o → at < q → MetaStaysInLimits s text (record config { start = at }) o
+
+-- Each search that an iteration from this configuration makes until it has returned these items stays within the limits.
+abbrev pub StaysFor : MetaRegex → List ℕ → SearchConfig → List Match → Type 0
+StaysFor s text config items = (done : List Match) (m : Match) (rest : List Match) → items ≡ done ++ (m ∷ rest) → StaysAfter s text config done
 
 -- A replacement of these matches stays within the limits: it searches for each of them, after those before it, and once more
 -- after the last one.

@@ -13,7 +13,7 @@ use Rattle.fancy_regex_meta.specs.SearchLimits.{IsMetaSearchError}
 use Rattle.fancy_regex_meta.specs.declared.meta_regex.MetaRegex.{MetaRegex}
 use Rattle.fancy_regex_search.specs.RemainingMatches.{next_start, remaining_matches, remaining_searches}
 use Rattle.fancy_regex_search.specs.IterationSearches.{SkipsToFrom, KeepsSearches, KeepsSkips, PassesItem}
-use Rattle.fancy_regex_search.specs.IterationLimits.{SkipsStayInLimits}
+use Rattle.fancy_regex_search.specs.IterationLimits.{SkipsStayInLimits, SkipsStayUntil}
 use Rattle.fancy_regex_search.specs.CaptureSpans.{IsFoundOf}
 use Rattle.fancy_regex_search.specs.declared.match_iter.IterState.{IterState}
 use Rattle.fancy_regex_search.specs.declared.match_iter.Step.{Step}
@@ -80,10 +80,10 @@ module _ (s : MetaRegex) (text : List ℕ) (old : SearchConfig) (before : IterSt
   StepReturns (Failed e) new after = Unit {0}
 
   -- A step that finds something, or nothing, makes a search that stays within the limits; so does each one that comes after it
-  -- by skipping alone, where those of the state after a skip do.
+  -- by skipping alone and starts before some place, where those of the state after a skip do.
   abbrev pub StepStays : Step → SearchConfig → IterState → Type 0
   StepStays (Item x) new after = SkipsStayInLimits s text old before
-  StepStays Skip new after = SkipsStayInLimits s text new after → SkipsStayInLimits s text old before
+  StepStays Skip new after = (q : ℕ) → SkipsStayUntil s text new after q → SkipsStayUntil s text old before q
   StepStays End new after = before.is_done ≡ false → SkipsStayInLimits s text old before
   StepStays (Failed e) new after = Unit {0}
 

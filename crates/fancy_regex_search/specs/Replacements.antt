@@ -13,6 +13,7 @@ use Rattle.fancy_regex_meta.specs.declared.found.MatchDetail.{MatchDetail}
 use Rattle.fancy_regex_meta.specs.declared.found.MatchDetail.TheVariants.{Span, Groups}
 use Rattle.fancy_regex_input.specs.SearchInputs.{whole}
 use Rattle.fancy_regex_search.specs.IterationErrors.{IsErrorAfter}
+use Rattle.fancy_regex_search.specs.IterationLimits.{StaysFor}
 
 -- The capture groups that a replacer is called with: the regex, the haystack, and the start and end offsets of each group.
 pub record CapturesView : Type 0 where
@@ -36,10 +37,18 @@ AnswersInTurn Calls s [] (w ∷ ws) last = ⊥
 AnswersInTurn Calls s (m ∷ ms) [] last = ⊥
 AnswersInTurn {S} Calls s (m ∷ ms) (w ∷ ws) last = (next : S) × Calls s m (Ok w) next × AnswersInTurn Calls next ms ws last
 
--- Calls for the first of these matches, in order, answer texts, and the one after them this error; they leave this state.
-pub data FailsInTurn {S : Type 0} (Calls : S → CapturesView → Result (List ℕ) Error → S → Type 0) : S → List CapturesView → Error → S → Type 0 where
-  here : (s last : S) (m : CapturesView) (ms : List CapturesView) (e : Error) → Calls s m (Err e) last → FailsInTurn Calls s (m ∷ ms) e last
-  later : (s next last : S) (m : CapturesView) (ms : List CapturesView) (w : List ℕ) (e : Error) → Calls s m (Ok w) next → FailsInTurn Calls next ms e last → FailsInTurn Calls s (m ∷ ms) e last
+-- One call for each of the first of these matches, in order, answers a text, and that for the next match this error; they leave this
+-- state. Each search that is made for these matches stays within the limits.
+pub record FailsInTurn {S : Type 0} (Calls : S → CapturesView → Result (List ℕ) Error → S → Type 0) (r : MetaRegex) (text : List ℕ) (ms : List Match) (s : S) (e : Error) (last : S) : Type 0 where
+  pub done : List Match
+  pub at : Match
+  pub rest : List Match
+  pub answers : List (List ℕ)
+  pub before : S
+  pub is : ms ≡ done ++ (at ∷ rest)
+  pub turns : AnswersInTurn Calls s (map (captures_view r text) done) answers before
+  pub call : Calls before (captures_view r text at) (Err e) last
+  pub stays : StaysFor r text (whole text) (done ++ (at ∷ []))
 
 -- From an offset on, the text between matches and the answers of one call for each match, in turn, and then the rest.
 abbrev pub IsReplacedByCalls : {S : Type 0} → (S → CapturesView → Result (List ℕ) Error → S → Type 0) → MetaRegex → List ℕ → ℕ → List Match → S → List ℕ → S → Type 0
@@ -79,13 +88,14 @@ IsAnswerOfText t (Ok w) = w ≡ t
 IsAnswerOfText t (Err e) = e ≡ Memory
 
 -- The error of a replacement: that of a search right after some of the matches that are replaced, for each of which one call
--- answered, in order; that of a call, after the calls before it; or want of memory. A replacer with one text for all matches
+-- answered, in order; that of a call, after the calls before it; or want of memory. Each search before a search or a call that
+-- fails stays within the limits. A replacer with one text for all matches
 -- need not have been called.
 pub data IsReplaceError {S : Type 0} (Calls : S → CapturesView → Result (List ℕ) Error → S → Type 0) (r : MetaRegex) (text : List ℕ) (ms : List Match) (s : S) : Option (List ℕ) → Error → Type 0 where
   of_search : (fixed : Option (List ℕ)) (done rest : List Match) (answers : List (List ℕ)) (last : S) (e : Error) → ms ≡ done ++ rest → IsErrorAfter r text (whole text) done e →
       AnswersInTurn Calls s (map (captures_view r text) done) answers last → IsReplaceError Calls r text ms s fixed e
   of_search_by_text : (t : List ℕ) (done rest : List Match) (e : Error) → ms ≡ done ++ rest → IsErrorAfter r text (whole text) done e → IsReplaceError Calls r text ms s (Some t) e
-  of_call : (fixed : Option (List ℕ)) (e : Error) (last : S) → FailsInTurn Calls s (map (captures_view r text) ms) e last → IsReplaceError Calls r text ms s fixed e
+  of_call : (fixed : Option (List ℕ)) (e : Error) (last : S) → FailsInTurn Calls r text ms s e last → IsReplaceError Calls r text ms s fixed e
   of_memory : (fixed : Option (List ℕ)) → IsReplaceError Calls r text ms s fixed Memory
 
 -- What a replacement returns, and the state that it leaves the replacer in: that after one call for each match, or, for a replacer
@@ -96,12 +106,13 @@ pub data IsReplacedLeaving {S : Type 0} (Calls : S → CapturesView → Result (
 
 -- The error of a replacement, and the state that it leaves the replacer in: that of a search right after some of the matches that
 -- are replaced, or want of memory, after one call for each of these, in order, each of which answered; or that of a call, after
--- the calls before it. A replacer with one text for all matches is left as it was.
+-- the calls before it. Each search before a search or a call that fails stays within the limits. A replacer with one text for all
+-- matches is left as it was.
 pub data IsReplaceErrorLeaving {S : Type 0} (Calls : S → CapturesView → Result (List ℕ) Error → S → Type 0) (r : MetaRegex) (text : List ℕ) (ms : List Match) (s : S) (e : Error) (last : S) : Option (List ℕ) → Type 0 where
   search_failed : (fixed : Option (List ℕ)) (done rest : List Match) (answers : List (List ℕ)) → ms ≡ done ++ rest → IsErrorAfter r text (whole text) done e →
       AnswersInTurn Calls s (map (captures_view r text) done) answers last → IsReplaceErrorLeaving Calls r text ms s e last fixed
   search_failed_by_text : (t : List ℕ) (done rest : List Match) → ms ≡ done ++ rest → IsErrorAfter r text (whole text) done e → last ≡ s → IsReplaceErrorLeaving Calls r text ms s e last (Some t)
-  call_failed : (fixed : Option (List ℕ)) → FailsInTurn Calls s (map (captures_view r text) ms) e last → IsReplaceErrorLeaving Calls r text ms s e last fixed
+  call_failed : (fixed : Option (List ℕ)) → FailsInTurn Calls r text ms s e last → IsReplaceErrorLeaving Calls r text ms s e last fixed
   memory_ran_out : (fixed : Option (List ℕ)) (done rest : List Match) (answers : List (List ℕ)) → e ≡ Memory → ms ≡ done ++ rest →
       AnswersInTurn Calls s (map (captures_view r text) done) answers last → IsReplaceErrorLeaving Calls r text ms s e last fixed
 

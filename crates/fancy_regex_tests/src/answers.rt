@@ -1,8 +1,10 @@
 //! What regexes answer to calls that a table of cases cannot ask, each by a function that tells whether the answer is right.
 
 use crate::calls::stays_at_the_item;
-use crate::replacement::{asks_once, borrows, calls_for_the_replaced, counts, stops, swaps};
-use crate::templates::{takes_cows, takes_strings, writes};
+use crate::replacement::{
+    OF_A, OF_ANY_A, asks_once, borrows, calls_for_the_replaced, counts, stops, swaps,
+};
+use crate::templates::{takes_cows, takes_strings, tells_what_failed, writes};
 use fancy_regex::Regex;
 use std::alloc::Global;
 
@@ -10,28 +12,34 @@ use std::alloc::Global;
 #[derive(Clone, Copy)]
 enum Question {
     AsksOnce,
+    AsksOnceOfAny,
     Borrows,
     CallsForTheReplaced,
+    CallsForAnyReplaced,
     Counts,
     StaysAtTheItem,
     Stops,
     Swaps,
     TakesCows,
     TakesStrings,
+    TellsWhatFailed,
     Writes,
 }
 
 /// Patterns, and what is asked of their regexes.
-static QUESTIONS: [(&str, Question); 10] = [
+static QUESTIONS: [(&str, Question); 13] = [
     ("a", Question::AsksOnce),
+    ("a*", Question::AsksOnceOfAny),
     ("x", Question::Borrows),
     ("a", Question::CallsForTheReplaced),
+    ("a*", Question::CallsForAnyReplaced),
     ("a", Question::Counts),
     ("a", Question::StaysAtTheItem),
     ("a", Question::Stops),
     ("([^,\\s]+),\\s+(\\S+)", Question::Swaps),
     ("(b)", Question::TakesCows),
     ("(b)", Question::TakesStrings),
+    ("(a)()|(b)", Question::TellsWhatFailed),
     ("(a)()|(b)", Question::Writes),
 ];
 
@@ -41,15 +49,20 @@ fn is_right(alloc: Global, pattern: &str, question: Question) -> bool {
         return false;
     };
     match question {
-        Question::AsksOnce => asks_once(alloc, &regex),
+        Question::AsksOnce => asks_once(alloc, &regex, OF_A.as_slice()),
+        Question::AsksOnceOfAny => asks_once(alloc, &regex, OF_ANY_A.as_slice()),
         Question::Borrows => borrows(alloc, &regex),
-        Question::CallsForTheReplaced => calls_for_the_replaced(alloc, &regex),
+        Question::CallsForTheReplaced => calls_for_the_replaced(alloc, &regex, OF_A.as_slice()),
+        Question::CallsForAnyReplaced => {
+            calls_for_the_replaced(alloc, &regex, OF_ANY_A.as_slice())
+        }
         Question::Counts => counts(alloc, &regex),
         Question::StaysAtTheItem => stays_at_the_item(alloc, &regex),
         Question::Stops => stops(alloc, &regex),
         Question::Swaps => swaps(alloc, &regex),
         Question::TakesCows => takes_cows(alloc, &regex),
         Question::TakesStrings => takes_strings(alloc, &regex),
+        Question::TellsWhatFailed => tells_what_failed(alloc, &regex),
         Question::Writes => writes(alloc, &regex),
     }
 }

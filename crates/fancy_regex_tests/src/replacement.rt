@@ -76,14 +76,30 @@ enum Replacement {
     TryReplacen(usize),
 }
 
-/// Replacements of `a` in `banana`, how many calls each makes, and what it makes of the text.
-static CALLS: [(Replacement, u8, &str); 6] = [
-    (Replacement::Replace, 1, "bonana"),
-    (Replacement::Replacen(1), 1, "bonana"),
-    (Replacement::Replacen(2), 2, "bonona"),
-    (Replacement::ReplaceAll, 3, "bonono"),
-    (Replacement::TryReplacen(1), 1, "bonana"),
-    (Replacement::TryReplacen(2), 2, "bonona"),
+/// A replacement of matches by `o`: the call, the text, for how many matches it calls its function, and what it makes of the text.
+#[derive(Clone, Copy)]
+pub struct ReplacementRow(Replacement, &'static str, u8, &'static str);
+
+/// Replacements of `a`.
+pub static OF_A: [ReplacementRow; 8] = [
+    ReplacementRow(Replacement::Replace, "banana", 1, "bonana"),
+    ReplacementRow(Replacement::Replacen(1), "banana", 1, "bonana"),
+    ReplacementRow(Replacement::Replacen(2), "banana", 2, "bonona"),
+    ReplacementRow(Replacement::ReplaceAll, "banana", 3, "bonono"),
+    ReplacementRow(Replacement::TryReplacen(1), "banana", 1, "bonana"),
+    ReplacementRow(Replacement::TryReplacen(2), "banana", 2, "bonona"),
+    ReplacementRow(Replacement::ReplaceAll, "been", 0, "been"),
+    ReplacementRow(Replacement::TryReplacen(2), "", 0, ""),
+];
+
+/// Replacements of `a*`, which also matches no character, but not where the match before ended.
+pub static OF_ANY_A: [ReplacementRow; 6] = [
+    ReplacementRow(Replacement::Replace, "baac", 1, "obaac"),
+    ReplacementRow(Replacement::Replacen(2), "baac", 2, "oboc"),
+    ReplacementRow(Replacement::ReplaceAll, "baac", 3, "oboco"),
+    ReplacementRow(Replacement::TryReplacen(3), "baac", 3, "oboco"),
+    ReplacementRow(Replacement::TryReplacen(1), "aa", 1, "o"),
+    ReplacementRow(Replacement::ReplaceAll, "", 1, "o"),
 ];
 
 /// What a replacement makes of a text.
@@ -104,27 +120,22 @@ fn replaced<'t, R: Replacer>(
     }
 }
 
-/// Whether a replacement of `a` calls its function so often.
-fn makes_calls(
-    alloc: Global,
-    regex: &Regex,
-    replacement: Replacement,
-    wanted: u8,
-    text: &str,
-) -> bool {
+/// Whether a replacement calls its function for each match that it replaces, and makes the text.
+fn makes_calls(alloc: Global, regex: &Regex, row: ReplacementRow) -> bool {
+    let ReplacementRow(replacement, text, wanted, whole) = row;
     let mut calls = 0u8;
     let count = FnReplacer::new(|_: &Captures<'_, &str>| -> Result<String> {
         calls = calls.wrapping_add(1);
         Ok(String::from_str(alloc, "o")?)
     });
-    let made = replaced(alloc, regex, "banana", replacement, count);
-    is_made(made, text) && calls == wanted
+    let made = replaced(alloc, regex, text, replacement, count);
+    is_made(made, whole) && calls == wanted
 }
 
-/// Whether each replacement of `a` calls its function for the matches that it replaces alone.
-pub fn calls_for_the_replaced(alloc: Global, regex: &Regex) -> bool {
-    for (replacement, calls, text) in CALLS.iter() {
-        if !makes_calls(alloc, regex, *replacement, *calls, text) {
+/// Whether each replacement calls its function for the matches that it replaces alone.
+pub fn calls_for_the_replaced(alloc: Global, regex: &Regex, rows: &[ReplacementRow]) -> bool {
+    for row in rows {
+        if !makes_calls(alloc, regex, *row) {
             return false;
         }
     }
@@ -162,20 +173,21 @@ impl Replacer for Noting<'_> {
     }
 }
 
-/// Whether each replacement of `a` by a replacer that has a text asks for it once and calls nothing, also where it is lent.
-pub fn asks_once(alloc: Global, regex: &Regex) -> bool {
-    for (replacement, _, text) in CALLS.iter() {
+/// Whether each replacement by a replacer that has a text asks for it once and calls nothing, also where it is lent.
+pub fn asks_once(alloc: Global, regex: &Regex, rows: &[ReplacementRow]) -> bool {
+    for row in rows {
+        let ReplacementRow(replacement, text, _, whole) = *row;
         let asked = Cell::new(0u8);
         let called = Cell::new(0u8);
         let mut noting = Noting {
             asked: &asked,
             called: &called,
         };
-        let lent = replaced(alloc, regex, "banana", *replacement, noting.by_ref());
-        let by_reference = is_made(lent, text);
+        let lent = replaced(alloc, regex, text, replacement, noting.by_ref());
+        let by_reference = is_made(lent, whole);
         let is_asked = asked.get() == 1;
-        let given = replaced(alloc, regex, "banana", *replacement, noting);
-        let by_value = is_made(given, text);
+        let given = replaced(alloc, regex, text, replacement, noting);
+        let by_value = is_made(given, whole);
         if !by_reference || !by_value || !is_asked || asked.get() != 2 || called.get() != 0 {
             return false;
         }

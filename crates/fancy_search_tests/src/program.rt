@@ -216,6 +216,21 @@ fn is_told_by(alloc: Global, fault: &Fault, text: &str, output: &[u8], errors: &
         && is_text(alloc, fault, text)
 }
 
+/// Whether an outcome is a fault that is told by the line of this text on the errors.
+fn is_told_as_line(
+    alloc: Global,
+    ended: &Result<Status, Fault>,
+    text: &str,
+) -> Result<bool, AllocError> {
+    let mut line = String::from_str(alloc, "fancy_search: ")?;
+    line.push_str(text)?;
+    line.push('\n')?;
+    match ended {
+        Ok(_) => Ok(false),
+        Err(fault) => Ok(is_told_by(alloc, fault, text, b"", line.as_bytes())),
+    }
+}
+
 /// Whether the faults of words show the texts that they hold, help on the output and others on the errors.
 fn shows_texts_of_words(alloc: Global) -> Result<bool, AllocError> {
     let words = Fault::Words(String::from_str(alloc, "w")?);
@@ -242,8 +257,8 @@ fn large_inputs_are_carried(rt: HostRuntime) -> Result<(), Fail> {
 #[test]
 fn shows_faults(rt: HostRuntime) -> Result<(), Fail> {
     for (fault, text, status) in FAULTS.iter() {
-        let is_shown = is_told(rt.alloc(), fault, text) && exit_status(fault) == *status;
-        assert!(rt; is_shown, "{text}");
+        assert!(rt; is_told_as_line(rt.alloc(), fault, text)?, "{text}");
+        assert!(rt; exit_status(fault) == *status, "{text}");
     }
     assert!(rt; shows_texts_of_words(rt.alloc())?);
     Ok(())

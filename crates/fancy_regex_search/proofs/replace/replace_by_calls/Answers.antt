@@ -7,9 +7,9 @@ use Rattle.fancy_regex_input.specs.declared.config.SearchConfig.{SearchConfig}
 use Rattle.fancy_regex_meaning.specs.Searches.{Match, counted}
 use Rattle.fancy_regex_search.specs.RemainingMatches.{all_matches, remaining_matches}
 use Rattle.fancy_regex_search.specs.IterationLimits.{SkipsStayInLimits}
-use Rattle.fancy_regex_search.specs.Replacements.{captures_view, still_replaced, FailsInTurn, here, IsReplacedByCalls, call_failed}
-use Rattle.fancy_regex_search.proofs.ReplaceLemmas.{Completes, completes_gap, completes_last, still_spent, still_none, still_more, call_viewed}
-use Rattle.fancy_regex_search.proofs.ReplaceLemmas.{completes_init, progress_init, progress_gap, progress_fails, progress_ran_out, progress_stays}
+use Rattle.fancy_regex_search.specs.Replacements.{captures_view, still_replaced, IsReplacedByCalls, call_failed}
+use Rattle.fancy_regex_search.proofs.ReplaceLemmas.{Completes, completes_gap, completes_last, still_spent, still_none, call_viewed}
+use Rattle.fancy_regex_search.proofs.ReplaceLemmas.{completes_init, progress_init, progress_gap, progress_fails, progress_call_fails, progress_ran_out, progress_stays}
 use Rattle.fancy_regex_search.proofs.replace.replace_by_calls.Goals.{in-Some+in_ok-gap+then-is_spent, in_default}
 use Rattle.fancy_regex_search.proofs.replace.replace_by_calls.Goals as goal
 
@@ -47,14 +47,14 @@ returns-in_err-replace_append-clause-fails g c =
     let m : Match = gives.0 in
     let before : List Match = remaining_matches s text c.loop-found.gaps.match_iter.input.config c.loop-found.gaps.match_iter.state in
     let after : List Match = remaining_matches s text c.next_gap.new.self.match_iter.input.config c.next_gap.new.self.match_iter.state in
-    let left : still_replaced c.loop-found.left before ≡ m ∷ still_replaced (option_map (λ n. n - 1) c.loop-found.left) after =
-    still_more c.loop-found.left _ before m after (sym c.is_spent.ensures ∙ c.if-is_spent.false) refl gives.1 in
     let call : A c.loop-found.replacer (captures_view s text m) (Err e) last = call_viewed A c.args.wanted s c.new-captures.result.regex.now.meta text c.new-captures.result.haystack.now
     c.new-captures.result.slots.items m c.loop-found.replacer last (Err e) c.requires.alike (ap (λ x. x.now.meta) c.new-captures.ensures.regex) (ap (λ x. x.now) c.new-captures.ensures.haystack)
     (ap (λ x. x.items) c.new-captures.ensures.slots ∙ gives.2) c.in_err-replace_append.ensures.fails.0 in
-    let failed : FailsInTurn A c.loop-found.replacer (map (captures_view s text) (still_replaced c.loop-found.left before)) e last =
-    rw left (here c.loop-found.replacer last (captures_view s text m) _ e call) in
-    rw (p.1, p.2) (call_failed None (inv.7.fails e last failed))
+    let stays = rw (inv.2, inv.3, was) at c.in-Some.ensures.stays in
+    let iter = c.loop-found.gaps.match_iter in
+    let failed = progress_call_fails A s text (counted c.args.limit (all_matches s text (whole text))) c.args.replacer.now iter.input.config iter.state c.loop-found.left
+    (option_map (λ n. n - 1) c.loop-found.left) before after c.loop-found.replacer last e m gives.1 (sym c.is_spent.ensures ∙ c.if-is_spent.false) refl inv.4 stays call inv.5 in
+    rw (p.1, p.2) (call_failed None failed)
 
 pub loop-found-init : goal.loop-found-init
 loop-found-init g c =

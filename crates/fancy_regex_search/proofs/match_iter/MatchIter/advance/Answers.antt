@@ -3,6 +3,7 @@ use Rattle.fancy_regex_input.specs.declared.config.SearchConfig.{SearchConfig}
 use Rattle.fancy_regex_meta.specs.SearchLimits.{IsMetaSearchError}
 use Rattle.fancy_regex_search.specs.IterationSearches.{SkipsToFrom, at_once}
 use Rattle.fancy_regex_search.proofs.IterationLemmas.{none_found, passes_before}
+use Rattle.fancy_regex_search.proofs.LimitLemmas.{until_all, until_next}
 use Rattle.fancy_regex_search.proofs.match_iter.MatchIter.advance.Goals as goal
 
 pub returns-in-Item-clause-passes : goal.returns-in-Item-clause-passes
@@ -38,6 +39,7 @@ returns-in-Failed-clause-fails g c =
       inv.skips now.input.config.start now.state.continue_disabled (at_once now.state.last now.input.config.start now.state.continue_disabled),
       subst (λ (a : SearchConfig). max a.start a.range_start ≤ a.range_end) inv.config step.fails.0,
       subst (λ (a : SearchConfig). IsMetaSearchError s text a now.state.continue_disabled c.in-Failed.error) inv.config step.fails.1,
+      until_next s text c.args.self.now.input.config now.input.config c.args.self.now.state now.state inv.stays,
     )
 
 pub returns-in-End-clause-left : goal.returns-in-End-clause-left
@@ -62,11 +64,15 @@ returns-in-End-clause-left g c =
 pub returns-in-Item-clause-stays : goal.returns-in-Item-clause-stays
 returns-in-Item-clause-stays g c =
     let inv = c.loop-found.invariant in
+    let now = c.loop-found.self in
+    let old = c.args.self.now in
     let step = rw (inv.haystack, inv.regex, inv.wanted) at c.in-Item.ensures.step in
-    inv.stays step.stays
+    until_all old.regex.now.meta (g.S.Input.text old.input.haystack) old.input.config now.input.config old.state now.state inv.stays step.stays
 
 pub returns-in-End-clause-stays : goal.returns-in-End-clause-stays
 returns-in-End-clause-stays g c going =
     let inv = c.loop-found.invariant in
+    let now = c.loop-found.self in
+    let old = c.args.self.now in
     let step = rw (inv.haystack, inv.regex, inv.wanted) at c.in-End.ensures.step in
-    inv.stays (step.stays (inv.done ∙ going))
+    until_all old.regex.now.meta (g.S.Input.text old.input.haystack) old.input.config now.input.config old.state now.state inv.stays (step.stays (inv.done ∙ going))

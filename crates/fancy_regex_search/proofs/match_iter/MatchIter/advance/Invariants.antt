@@ -1,7 +1,7 @@
-use Rattle.std.proofs.Common.{◌≡◌, ◌≤◌, true}
+use Rattle.std.proofs.Common.{◌≡◌, ◌≤◌, ℕ, true}
 use Rattle.fancy_regex_search.specs.RemainingMatches.{remaining_matches, remaining_searches}
 use Rattle.fancy_regex_search.specs.IterationSearches.{KeepsSearches, KeepsSkips}
-use Rattle.fancy_regex_search.specs.IterationLimits.{SkipsStayInLimits}
+use Rattle.fancy_regex_search.specs.IterationLimits.{SkipsStayUntil}
 use Rattle.fancy_regex_search.proofs.match_iter.MatchIter.advance.Given as goal
 
 abbrev pub invariant-loop-found : goal.invariant-loop-found
@@ -19,7 +19,7 @@ invariant-loop-found g l =
       searches : remaining_searches text s.input.config s.state ≤ remaining_searches text o.input.config o.state;
       passes : KeepsSearches o.regex.now.meta text o.input.config o.state.continue_disabled s.input.config s.state.continue_disabled;
       skips : KeepsSkips o.regex.now.meta text o.input.config o.state s.input.config s.state;
-      stays : SkipsStayInLimits o.regex.now.meta text s.input.config s.state → SkipsStayInLimits o.regex.now.meta text o.input.config o.state;
+      stays : (q : ℕ) → SkipsStayUntil o.regex.now.meta text s.input.config s.state q → SkipsStayUntil o.regex.now.meta text o.input.config o.state q;
       done : s.state.is_done ≡ o.state.is_done;
       last : s.state.last ≡ o.state.last;
       over : o.state.is_done ≡ true → s.input.config ≡ o.input.config;
