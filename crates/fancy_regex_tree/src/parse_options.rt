@@ -10,6 +10,11 @@ use crate::flag_bits::{
 use fancy_regex_lex::Flags;
 
 /// The options of `Expr::parse_tree_with_options`.
+///
+/// ```
+/// let options = ParseOptions::from_flags(FLAG_UNICODE | FLAG_ONIGURUMA_MODE);
+/// assert!(rt; options.unicode && options.oniguruma && !options.ignore_numbered);
+/// ```
 #[derive(Clone, Copy, Debug, PartialEq, Eq)]
 pub struct ParseOptions {
     /// The flags in force where the pattern begins; the pattern can change them.
