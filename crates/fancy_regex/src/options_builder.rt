@@ -263,7 +263,8 @@ impl RegexOptionsBuilder {
         self
     }
 
-    /// The pattern is parsed as Oniguruma does where the two dialects differ. Default: false.
+    /// Oniguruma mode: `\<`, `\>`, reversed counts, repeated quantifiers, quantifiers on empty groups and `^` at the end of a text are
+    /// read as Oniguruma does. Other differences remain; docs/COMING-FROM.md lists them. Default: false.
     ///
     /// ```
     /// let mut options = RegexOptionsBuilder::new();

@@ -49,7 +49,7 @@ pub const FLAG_UNICODE: u32 = 1 << 5;
 /// assert!(rt; matches!(&tree.expr, Expr::Any { crlf: true, .. }));
 /// ```
 pub const FLAG_CRLF: u32 = 1 << 6;
-/// The pattern is parsed by the rules of Oniguruma where they differ from the default syntax.
+/// Oniguruma mode: a dialect that is close to Oniguruma's, in which `\<`, `\>`, counts and repeated quantifiers are read as it does.
 ///
 /// ```
 /// let tree = Expr::parse_tree_with_flags(alloc, r"\<", FLAG_ONIGURUMA_MODE)?;

@@ -21,7 +21,7 @@ pub struct ParseOptions {
     pub flags: Flags,
     /// Whether character classes are those of Unicode, as with the flag `u`; the pattern cannot change it.
     pub unicode: bool,
-    /// Whether the pattern is parsed by the rules of Oniguruma where they differ from the default syntax.
+    /// Whether the pattern is parsed in Oniguruma mode, a dialect that is close to Oniguruma's.
     pub oniguruma: bool,
     /// Whether unnamed groups do not capture if the pattern has a named group.
     pub ignore_numbered: bool,
