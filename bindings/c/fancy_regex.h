@@ -98,7 +98,7 @@ typedef struct fancy_regex_options {
     bool find_not_empty;         /* no empty match is found */
     bool ignore_numbered_groups; /* unnamed groups do not capture if the pattern has a named one */
     bool seek;                   /* places at which no match can start are skipped; the matches are the same */
-    bool oniguruma_mode;         /* the pattern is read as Oniguruma does */
+    bool oniguruma_mode;         /* a dialect close to Oniguruma's: \< \>, reversed counts, repeated quantifiers are read as it does */
     bool leftmost_longest;       /* the longest match at each place is found, not the first */
 } fancy_regex_options;
 

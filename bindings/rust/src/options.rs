@@ -367,7 +367,8 @@ setters! {
     /// ```
     seek_filter(_filter: fn(&str) -> bool) |to| to.options.seek = true;
 
-    /// The pattern is read as Oniguruma reads it. The default is false. In this mode:
+    /// The pattern is read in a dialect that is close to Oniguruma's. It is not Oniguruma's: the page COMING-FROM lists what else
+    /// differs. The default is false. In this mode:
     ///
     /// - `\<` and `\>` are the characters `<` and `>`, and not the start and the end of a word
     /// - a quantifier after an empty group, as in `(?:)+`, is dropped, and no error

@@ -22,6 +22,13 @@ impl RegexOptionsBuilder {
     ///
     /// `ParseError` if the text is no pattern, with the first error and its byte offset; `CompileError` with `InnerError` and
     /// the text of a character class that `regex` rejects; `Memory` if memory runs out.
+    ///
+    /// ```
+    /// let options = RegexOptionsBuilder::new();
+    /// let bytes = options.start_bytes(alloc, "[ab]c")?;
+    /// assert!(rt; bytes.map_or(false, |bytes| bytes.contains(97) && !bytes.contains(99)));
+    /// assert!(rt; options.start_bytes(alloc, "a?")?.is_none());
+    /// ```
     pub fn start_bytes(&self, alloc: Global, pattern: &str) -> Result<Option<ByteSet>>
         ensures answer { IfOk result (λ set. option_map has set
             ≡ starts.start_bytes self.now.options.unicode_mode (tree_in self.now.options pattern.now)) }
@@ -42,6 +49,11 @@ impl RegexOptionsBuilder {
     /// Bytes that each haystack has in which the pattern matches, if it is parsed with these options, in a search or as a member
     /// of a set; none are known of a part that may be left out. The pattern is not compiled, and may be one that `build` refuses.
     /// `ParseError` if the text is no pattern, with the first error and its byte offset; `Memory` if memory runs out.
+    ///
+    /// ```
+    /// let bytes = RegexOptionsBuilder::new().required_bytes(alloc, "a?b+")?;
+    /// assert!(rt; bytes.contains(98) && !bytes.contains(97));
+    /// ```
     pub fn required_bytes(&self, alloc: Global, pattern: &str) -> Result<ByteSet>
         ensures answer { IfOk result (λ set. has set ≡ required.required_bytes (tree_in self.now.options pattern.now)) }
         ensures required { IfOk result (λ set. MatchesRequire self.now.options pattern.now (has set)) }

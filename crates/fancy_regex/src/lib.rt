@@ -1,6 +1,8 @@
 //! Regular expressions with look-around, backreferences and more: `Regex` compiles a pattern, searches a haystack, returns
 //! its capture groups and iterates over all matches. Every answer is the match that the definitions of the pattern's meaning
 //! give. A call whose requirements hold never panics; one that fails returns an `Error`, and the regex can be used again.
+//!
+//! In the examples `alloc` is the allocator, `rt.alloc()`, and `rt` the runtime that `main` is given. docs/GUIDE.md has whole programs.
 #![tactic(auto)]
 
 mod builder;

@@ -12,6 +12,13 @@ use fancy_regex_search::Regex;
 use std::alloc::Global;
 
 /// The options to compile patterns with. Each setter changes only the option that it names and returns the builder.
+///
+/// ```
+/// let mut options = RegexOptionsBuilder::new();
+/// options.case_insensitive(true).multi_line(true);
+/// let set = RegexSet::new_with_options(alloc, &["^a", "b$"], &options)?;
+/// assert!(rt; set.len() == 2);
+/// ```
 #[derive(Clone, Copy, Debug, PartialEq, Eq)]
 pub struct RegexOptionsBuilder {
     /// The options set so far.
@@ -30,6 +37,10 @@ impl Default for RegexOptionsBuilder {
 impl RegexOptionsBuilder {
     /// The default options: Unicode mode, a backtrack limit of 1,000,000, no cap on the program's size, and every other
     /// option false.
+    ///
+    /// ```
+    /// assert!(rt; RegexOptionsBuilder::new() == RegexOptionsBuilder::default());
+    /// ```
     pub fn new() -> RegexOptionsBuilder
         ensures { result.options ≡ default_options }
     {
@@ -43,6 +54,12 @@ impl RegexOptionsBuilder {
     /// all others; `Memory` if memory runs out.
     /// The builder can be used again, also after an error. If the pattern needs a program, that has at most `max_prog_size`
     /// instructions.
+    ///
+    /// ```
+    /// let options = RegexOptionsBuilder::new();
+    /// let regex = options.build(alloc, String::from_str(alloc, r"(\w)\1")?)?;
+    /// assert!(rt; regex.is_match(alloc, "book")?);
+    /// ```
     pub fn build(&self, alloc: Global, pattern: String) -> Result<Regex>
         ensures pattern { IfOk result (λ regex. regex.meta.pattern ≡ pattern) }
         ensures options { IfOk result (λ regex. regex.meta.options ≡ self.now.options) }
@@ -54,6 +71,12 @@ impl RegexOptionsBuilder {
     }
 
     /// Letters match case-insensitively, as after `(?i)`. Default: false.
+    ///
+    /// ```
+    /// let mut options = RegexOptionsBuilder::new();
+    /// let text = options.case_insensitive(true).reprint(alloc, "a")?;
+    /// assert!(rt; text.map_or(false, |text| text.as_str() == "(?i:a)"));
+    /// ```
     pub fn case_insensitive(&mut self, yes: bool) -> &mut Self
         ensures value { result.now.options ≡ record (self.old.options) { case_insensitive = yes } }
         ensures same { result.ghost_name ≡ self.entry.ghost_name }
@@ -63,6 +86,12 @@ impl RegexOptionsBuilder {
     }
 
     /// `^` and `$` match at the start and the end of each line, as after `(?m)`. Default: false.
+    ///
+    /// ```
+    /// let mut options = RegexOptionsBuilder::new();
+    /// let text = options.multi_line(true).reprint(alloc, "^a")?;
+    /// assert!(rt; text.map_or(false, |text| text.as_str() == "(?m:^)a"));
+    /// ```
     pub fn multi_line(&mut self, yes: bool) -> &mut Self
         ensures value { result.now.options ≡ record (self.old.options) { multi_line = yes } }
         ensures same { result.ghost_name ≡ self.entry.ghost_name }
@@ -72,6 +101,12 @@ impl RegexOptionsBuilder {
     }
 
     /// Whitespace and `#` comments in the pattern are ignored, as after `(?x)`. Default: false.
+    ///
+    /// ```
+    /// let mut options = RegexOptionsBuilder::new();
+    /// let text = options.ignore_whitespace(true).reprint(alloc, "a b")?;
+    /// assert!(rt; text.map_or(false, |text| text.as_str() == "ab"));
+    /// ```
     pub fn ignore_whitespace(&mut self, yes: bool) -> &mut Self
         ensures value { result.now.options ≡ record (self.old.options) { ignore_whitespace = yes } }
         ensures same { result.ghost_name ≡ self.entry.ghost_name }
@@ -81,6 +116,12 @@ impl RegexOptionsBuilder {
     }
 
     /// Another name for `ignore_whitespace`.
+    ///
+    /// ```
+    /// let mut options = RegexOptionsBuilder::new();
+    /// let text = options.verbose_mode(true).reprint(alloc, "a b")?;
+    /// assert!(rt; text.map_or(false, |text| text.as_str() == "ab"));
+    /// ```
     pub fn verbose_mode(&mut self, yes: bool) -> &mut Self
         ensures value { result.now.options ≡ record (self.old.options) { ignore_whitespace = yes } }
         ensures same { result.ghost_name ≡ self.entry.ghost_name }
@@ -89,6 +130,12 @@ impl RegexOptionsBuilder {
     }
 
     /// `.` also matches a newline, as after `(?s)`. Default: false.
+    ///
+    /// ```
+    /// let mut options = RegexOptionsBuilder::new();
+    /// let text = options.dot_matches_new_line(true).reprint(alloc, ".")?;
+    /// assert!(rt; text.map_or(false, |text| text.as_str() == "(?s:.)"));
+    /// ```
     pub fn dot_matches_new_line(&mut self, yes: bool) -> &mut Self
         ensures value { result.now.options ≡ record (self.old.options) { dot_matches_new_line = yes } }
         ensures same { result.ghost_name ≡ self.entry.ghost_name }
@@ -98,6 +145,14 @@ impl RegexOptionsBuilder {
     }
 
     /// CRLF mode: a carriage return with a newline ends a line, as after `(?R)`. Default: false.
+    ///
+    /// ```
+    /// let mut options = RegexOptionsBuilder::new();
+    /// let regex = options
+    ///     .crlf(true)
+    ///     .build(alloc, String::from_str(alloc, "(?m)a$")?)?;
+    /// assert!(rt; regex.is_match(alloc, "a\r\nb")?);
+    /// ```
     pub fn crlf(&mut self, yes: bool) -> &mut Self
         ensures value { result.now.options ≡ record (self.old.options) { crlf = yes } }
         ensures same { result.ghost_name ≡ self.entry.ghost_name }
@@ -107,6 +162,14 @@ impl RegexOptionsBuilder {
     }
 
     /// Character classes, case folding and word characters are those of Unicode if true, of ASCII if false. Default: true.
+    ///
+    /// ```
+    /// let mut options = RegexOptionsBuilder::new();
+    /// let regex = options
+    ///     .unicode_mode(false)
+    ///     .build(alloc, String::from_str(alloc, r"\w")?)?;
+    /// assert!(rt; !regex.is_match(alloc, "é")?);
+    /// ```
     pub fn unicode_mode(&mut self, yes: bool) -> &mut Self
         ensures value { result.now.options ≡ record (self.old.options) { unicode_mode = yes } }
         ensures same { result.ghost_name ≡ self.entry.ghost_name }
@@ -116,6 +179,14 @@ impl RegexOptionsBuilder {
     }
 
     /// How often one search by a program may backtrack before it fails with `BacktrackLimitExceeded`. Default: 1,000,000.
+    ///
+    /// ```
+    /// let mut options = RegexOptionsBuilder::new();
+    /// let regex = options
+    ///     .backtrack_limit(100)
+    ///     .build(alloc, String::from_str(alloc, r"(a|aa)+\1b")?)?;
+    /// assert!(rt; regex.is_match(alloc, "aaaaaaaaaaaaaaaa").is_err());
+    /// ```
     pub fn backtrack_limit(&mut self, limit: usize) -> &mut Self
         ensures value { result.now.options ≡ record (self.old.options) { backtrack_limit = limit } }
         ensures same { result.ghost_name ≡ self.entry.ghost_name }
@@ -126,6 +197,12 @@ impl RegexOptionsBuilder {
 
     /// How many instructions a program may have. A pattern whose program is longer is refused with `PatternTooComplex`.
     /// Default: no cap.
+    ///
+    /// ```
+    /// let mut options = RegexOptionsBuilder::new();
+    /// let called = String::from_str(alloc, r"(a\g<1>?b)")?;
+    /// assert!(rt; options.max_prog_size(10).build(alloc, called).is_err());
+    /// ```
     pub fn max_prog_size(&mut self, limit: usize) -> &mut Self
         ensures value { result.now.options ≡ record (self.old.options) { max_prog_size = Some limit } }
         ensures same { result.ghost_name ≡ self.entry.ghost_name }
@@ -135,6 +212,14 @@ impl RegexOptionsBuilder {
     }
 
     /// Empty matches are skipped. A pattern that can match nothing else is refused with `PatternCanNeverMatch`. Default: false.
+    ///
+    /// ```
+    /// let mut options = RegexOptionsBuilder::new();
+    /// let regex = options
+    ///     .find_not_empty(true)
+    ///     .build(alloc, String::from_str(alloc, "a*")?)?;
+    /// assert!(rt; !regex.is_match(alloc, "b")?);
+    /// ```
     pub fn find_not_empty(&mut self, yes: bool) -> &mut Self
         ensures value { result.now.options ≡ record (self.old.options) { find_not_empty = yes } }
         ensures same { result.ghost_name ≡ self.entry.ghost_name }
@@ -144,6 +229,14 @@ impl RegexOptionsBuilder {
     }
 
     /// Unnamed groups do not capture if the pattern has a named group. Default: false.
+    ///
+    /// ```
+    /// let mut options = RegexOptionsBuilder::new();
+    /// let regex = options
+    ///     .ignore_numbered_groups_when_named_groups_exist(true)
+    ///     .build(alloc, String::from_str(alloc, "(a)(?<b>b)")?)?;
+    /// assert!(rt; regex.captures_len() == 2);
+    /// ```
     pub fn ignore_numbered_groups_when_named_groups_exist(&mut self, yes: bool) -> &mut Self
         ensures value { result.now.options ≡ record (self.old.options) { ignore_numbered_groups_when_named_groups_exist = yes } }
         ensures same { result.ghost_name ≡ self.entry.ghost_name }
@@ -154,6 +247,14 @@ impl RegexOptionsBuilder {
 
     /// Allows a search to skip start offsets at which no match can start. It changes no answer, and has no effect on plain patterns.
     /// Default: false.
+    ///
+    /// ```
+    /// let mut options = RegexOptionsBuilder::new();
+    /// let regex = options
+    ///     .seek(true)
+    ///     .build(alloc, String::from_str(alloc, "ab(?!c)")?)?;
+    /// assert!(rt; regex.is_match(alloc, "abc ab")?);
+    /// ```
     pub fn seek(&mut self, yes: bool) -> &mut Self
         ensures value { result.now.options ≡ record (self.old.options) { seek = yes } }
         ensures same { result.ghost_name ≡ self.entry.ghost_name }
@@ -162,7 +263,16 @@ impl RegexOptionsBuilder {
         self
     }
 
-    /// The pattern is parsed as Oniguruma does where the two dialects differ. Default: false.
+    /// Oniguruma mode: `\<`, `\>`, reversed counts, repeated quantifiers, quantifiers on empty groups and `^` at the end of a text are
+    /// read as Oniguruma does. Other differences remain; docs/COMING-FROM.md lists them. Default: false.
+    ///
+    /// ```
+    /// let mut options = RegexOptionsBuilder::new();
+    /// let regex = options
+    ///     .oniguruma_mode(true)
+    ///     .build(alloc, String::from_str(alloc, r"a\<b")?)?;
+    /// assert!(rt; regex.is_match(alloc, "a<b")?);
+    /// ```
     pub fn oniguruma_mode(&mut self, yes: bool) -> &mut Self
         ensures value { result.now.options ≡ record (self.old.options) { oniguruma_mode = yes } }
         ensures same { result.ghost_name ≡ self.entry.ghost_name }
@@ -172,6 +282,14 @@ impl RegexOptionsBuilder {
     }
 
     /// How the bytes of a haystack are interpreted. `build` refuses every mode but `Unicode`, which is the default.
+    ///
+    /// ```
+    /// let mut options = RegexOptionsBuilder::new();
+    /// let regex = options
+    ///     .bytes_mode(BytesMode::Unicode)
+    ///     .build(alloc, String::from_str(alloc, "a")?)?;
+    /// assert!(rt; regex.is_match(alloc, "a")?);
+    /// ```
     pub fn bytes_mode(&mut self, mode: BytesMode) -> &mut Self
         ensures value { result.now.options ≡ record (self.old.options) { bytes_mode = mode } }
         ensures same { result.ghost_name ≡ self.entry.ghost_name }
@@ -182,6 +300,14 @@ impl RegexOptionsBuilder {
 
     /// The match is the longest at the leftmost start that has one (of several, the first in priority order), not the first
     /// in priority order. Default: false.
+    ///
+    /// ```
+    /// let mut options = RegexOptionsBuilder::new();
+    /// let regex = options
+    ///     .leftmost_longest(true)
+    ///     .build(alloc, String::from_str(alloc, "a|ab")?)?;
+    /// assert!(rt; regex.find(alloc, "ab")?.map(|found| found.end()) == Some(2));
+    /// ```
     pub fn leftmost_longest(&mut self, yes: bool) -> &mut Self
         ensures value { result.now.options ≡ record (self.old.options) { leftmost_longest = yes } }
         ensures same { result.ghost_name ≡ self.entry.ghost_name }

@@ -20,6 +20,13 @@ impl RegexOptionsBuilder {
     ///
     /// A regex of the printed text with the same Unicode mode, the same options of searches and no other flag has the same
     /// matches. `ParseError` if the text is no pattern, with the first error and its byte offset; `Memory` if memory runs out.
+    ///
+    /// ```
+    /// let mut options = RegexOptionsBuilder::new();
+    /// let text = options.case_insensitive(true).reprint(alloc, "a|b{2}")?;
+    /// assert!(rt; text.map_or(false, |text| text.as_str() == "(?i:a)|(?i:b){2}"));
+    /// assert!(rt; options.reprint(alloc, "a(?=b)")?.is_none());
+    /// ```
     pub fn reprint(&self, alloc: Global, pattern: &str) -> Result<Option<String>>
         ensures printed { IfOk result (λ text. option_map text_in text ≡ reprinted (tree_in self.now.options pattern.now)) }
         ensures parsed { IfOk result (λ _. IsPattern self.now.options pattern.now) }

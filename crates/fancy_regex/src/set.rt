@@ -15,6 +15,16 @@ use std::alloc::Global;
 
 /// Several regexes, its members, that are searched for together. They are numbered from 0. No search changes the set, so it can
 /// be used again after every error.
+///
+/// ```
+/// let set = RegexSet::new(alloc, &[r"\d+", r"\w+", r"\.\d+"])?;
+/// assert!(rt; set.len() == 3 && !set.is_empty());
+/// let mut found = set
+///     .find_input(alloc, RegexInput::new("$29.99"))?
+///     .ok_or("a match")?;
+/// assert!(rt; found.start() == 1);
+/// assert!(rt; found.next().ok_or("a member")??.as_str() == "29");
+/// ```
 #[derive(Drop)]
 pub struct RegexSet {
     /// The members, by number.
@@ -26,6 +36,11 @@ pub struct RegexSet {
 
 impl RegexSet {
     /// Parses and compiles each pattern with the default options. The errors are those of `new_with_options`.
+    ///
+    /// ```
+    /// assert!(rt; RegexSet::new(alloc, &["a", "b"])?.len() == 2);
+    /// assert!(rt; RegexSet::new(alloc, &["a", "b)"]).is_err());
+    /// ```
     pub fn new(alloc: Global, patterns: &[&str]) -> Result<RegexSet>
         ensures members { IfOk result (λ set. AreBuiltOf default_options (map (λ p. p.now) patterns.now) set.regexes.items) }
         ensures refused { IfErr result (λ e. RefusesPatterns default_options (map (λ p. p.now) patterns.now) e) }
@@ -36,6 +51,12 @@ impl RegexSet {
     /// Parses and compiles each pattern with these options. The error is that of the first pattern that is refused:
     /// `ParseError` if it is no pattern, with its first error and the byte offset of that in it; `CompileError` with one of the
     /// reasons that hold. `Memory` if memory runs out.
+    ///
+    /// ```
+    /// let mut options = RegexOptionsBuilder::new();
+    /// let set = RegexSet::new_with_options(alloc, &["a", "b"], options.case_insensitive(true))?;
+    /// assert!(rt; set.find_input(alloc, RegexInput::new("xB"))?.is_some());
+    /// ```
     pub fn new_with_options(
         alloc: Global,
         patterns: &[&str],
@@ -51,6 +72,12 @@ impl RegexSet {
 
     /// The set of these regexes, which may have different options. It takes no memory, so no table is made of the bytes that the
     /// members start with, and a search asks each of them at each place; a set that is built of patterns is faster.
+    ///
+    /// ```
+    /// let mut regexes = Vec::new(alloc);
+    /// regexes.push(Regex::new(alloc, "a")?)?;
+    /// assert!(rt; RegexSet::from_regexes(regexes).len() == 1);
+    /// ```
     pub fn from_regexes(regexes: Vec<Regex>) -> RegexSet
         ensures { result.regexes ≡ regexes }
     {

@@ -13,6 +13,17 @@ use fancy_regex_search::{AnchoredMatch, Captures, match_at};
 use std::alloc::Global;
 
 /// The match of one member of a set.
+///
+/// ```
+/// let set = RegexSet::new(alloc, &["x", r"(\d)px"])?;
+/// let mut found = set
+///     .find_input(alloc, RegexInput::new("a 5px"))?
+///     .ok_or("a match")?;
+/// let member = found.next().ok_or("a member")??;
+/// assert!(rt; member.pattern() == 1 && member.start() == 2 && member.end() == 5);
+/// assert!(rt; member.as_str() == "5px" && member.get().range() == (2..5));
+/// assert!(rt; member.captures().len() == 2);
+/// ```
 #[derive(Drop)]
 pub struct RegexSetMatch<'s, S: Input> {
     /// The number of the member.
@@ -75,6 +86,15 @@ impl<'s, 't> RegexSetMatch<'s, &'t str> {
 /// The matches of the members of a set that match at one position, in the order of their numbers. An item is an error if the
 /// search of its member failed; the members after it are still asked. The first item was found by the set's search, and each
 /// later member is asked when its item is wanted.
+///
+/// ```
+/// let set = RegexSet::new(alloc, &["b+", "b"])?;
+/// let found = set
+///     .find_input(alloc, RegexInput::new("abb"))?
+///     .ok_or("a match")?;
+/// assert!(rt; found.start() == 1 && found.haystack() == "abb");
+/// assert!(rt; found.regex_set().len() == 2 && found.count() == 2);
+/// ```
 #[derive(Drop)]
 pub struct RegexSetMatchesAt<'s, S: Input> {
     /// The first match, until it is returned.

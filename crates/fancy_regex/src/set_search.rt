@@ -31,6 +31,14 @@ impl RegexSet {
     /// At each position the members are asked in the order of their numbers, up to the first that matches; the error is the
     /// first one met: `RuntimeError` if a member's search exceeds a limit, which each of them has for itself; `Memory` if memory
     /// runs out. The members after the first match are asked by the iterator.
+    ///
+    /// ```
+    /// let set = RegexSet::new(alloc, &["b", "c", "bc"])?;
+    /// let found = set
+    ///     .find_input(alloc, RegexInput::new("abc"))?
+    ///     .ok_or("a match")?;
+    /// assert!(rt; found.start() == 1 && found.count() == 2);
+    /// ```
     pub fn find_input<S: Input>(
         &self,
         alloc: Global,

@@ -6,6 +6,14 @@ ghost use Rattle.fancy_regex_bytes.specs.ByteSets.{has, members, rest, no_bytes,
 ghost use Rattle.fancy_regex_bytes.specs.StartBytes.{class_starts};
 
 /// A set of bytes.
+///
+/// ```
+/// let found = RegexOptionsBuilder::new().start_bytes(alloc, "bx|a")?;
+/// if let Some(bytes) = found {
+///     assert!(rt; bytes.contains(98) && !bytes.contains(120) && bytes.table()[97]);
+///     assert!(rt; bytes.iter().count() == 2);
+/// }
+/// ```
 #[derive(Clone, Copy, Debug, PartialEq, Eq)]
 pub struct ByteSet {
     /// For each byte, whether it is in the set.
@@ -92,6 +100,13 @@ impl ByteSet {
 }
 
 /// An iterator over the bytes of a set, in ascending order.
+///
+/// ```
+/// let bytes = RegexOptionsBuilder::new().required_bytes(alloc, "b?a")?;
+/// let mut each = bytes.iter();
+/// assert!(rt; each.next() == Some(97));
+/// assert!(rt; each.next().is_none());
+/// ```
 #[derive(Clone, Copy, Debug)]
 pub struct ByteSetIter<'s> {
     /// The set.

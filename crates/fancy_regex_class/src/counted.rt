@@ -7,6 +7,13 @@ ghost use Rattle.regex_hir.specs.Text.{char_at, char_before};
 use std::marker::Model;
 
 /// A counter of reads of a haystack. It saturates at `u64::MAX`.
+///
+/// ```
+/// let mut steps = Steps::new();
+/// let regex = Regex::new(alloc, "b")?;
+/// regex.find_input_counted(alloc, RegexInput::new("ab"), &mut steps)?;
+/// assert!(rt; steps.count() > 0);
+/// ```
 #[derive(Drop)]
 pub struct Steps {
     count: u64,

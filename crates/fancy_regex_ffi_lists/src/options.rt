@@ -33,7 +33,7 @@ pub struct Options {
     pub ignore_numbered_groups: bool,
     /// Places at which no match can start are skipped.
     pub seek: bool,
-    /// The pattern is read as Oniguruma does.
+    /// Oniguruma mode: the pattern is read in a dialect that is close to Oniguruma's.
     pub oniguruma_mode: bool,
     /// The longest match at each place is found, not the first.
     pub leftmost_longest: bool,

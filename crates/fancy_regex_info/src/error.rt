@@ -7,6 +7,16 @@ use std::alloc::{AllocError, AllocFailed};
 use thiserror::Error;
 
 /// Why a pattern was not compiled: an error in the pattern, an unsupported feature, a limit, or want of memory.
+///
+/// ```
+/// let refused = Regex::new(alloc, r"(?<=a+)b");
+/// assert!(rt;
+///     matches!(
+///         &refused,
+///         Err(Error::CompileError(CompileError::LookBehindNotConst))
+///     )
+/// );
+/// ```
 #[derive(Debug, PartialEq, Eq, Drop, Error)]
 pub enum CompileError {
     /// `regex` rejects a character class; the payload is the text of the class.

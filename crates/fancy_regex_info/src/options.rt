@@ -3,6 +3,12 @@
 ghost use Rattle.std.specs.Prelude.{◌≡◌};
 
 /// How the bytes of a haystack are interpreted.
+///
+/// ```
+/// let mut builder = RegexBuilder::new(alloc, "a")?;
+/// assert!(rt; builder.bytes_mode(BytesMode::Unicode).build(alloc).is_ok());
+/// assert!(rt; builder.bytes_mode(BytesMode::Ascii).build(alloc).is_err());
+/// ```
 #[derive(Clone, Copy, Debug, PartialEq, Eq)]
 pub enum BytesMode {
     /// Haystacks are UTF-8.

@@ -8,6 +8,11 @@ use fancy_regex_class::{RunInput, Span};
 use std::marker::Model;
 
 /// The configuration of a search, apart from its haystack. All offsets are in bytes from the start of the haystack.
+///
+/// ```
+/// let config = RegexInput::new("ab").from_pos(1).config();
+/// assert!(rt; config.start() == 1 && config.copied().start() == 1);
+/// ```
 #[derive(Clone, Debug, PartialEq, Eq, Drop)]
 pub struct SearchConfig {
     /// The offset at which the search starts, unless the range starts later.

@@ -8,6 +8,15 @@ use crate::boundaries::{next_boundary, previous_boundary};
 use crate::matched::Match;
 
 /// A haystack: a borrowed UTF-8 text. All offsets are in bytes from its start.
+///
+/// ```
+/// let text = "aé";
+/// assert!(rt; Input::len(&text) == 3 && !Input::is_empty(&text) && !Input::is_ascii(&text));
+/// assert!(rt; Input::is_char_boundary(&text, 1) && !Input::is_char_boundary(&text, 2));
+/// assert!(rt; Input::as_str(&text) == "aé" && Input::as_bytes(&text).len() == 3);
+/// assert!(rt; text.advance_position(1) == 3 && text.prev_codepoint_ix(3) == 1);
+/// assert!(rt; text.make_match(1, 3).as_str() == "é");
+/// ```
 pub trait Input: Copy {
     /// The type of its matches.
     type Match: Drop;

@@ -5,6 +5,12 @@ ghost use Rattle.std.specs.Prelude.{◌≡◌, ◌≤◌, slice_range, IsCharBou
 use std::ops::Range;
 
 /// A match: the part of a haystack from the byte offset `start` to the byte offset `end`, exclusive.
+///
+/// ```
+/// let found = Match::new("so fancy!", 3, 8);
+/// assert!(rt; found.as_str() == "fancy" && found.start() == 3 && found.end() == 8);
+/// assert!(rt; found.range() == (3..8));
+/// ```
 #[derive(Clone, Copy, Debug, PartialEq, Eq)]
 pub struct Match<'t> {
     /// The haystack.

@@ -11,6 +11,16 @@ use std::alloc::AllocError;
 use std::ops::Range;
 
 /// A haystack with the configuration of a search in it. Each setter changes only what it names.
+///
+/// ```
+/// let input = RegexInput::new("aéb")
+///     .from_pos(1)
+///     .range(0..3)
+///     .anchored(true);
+/// assert!(rt; input.haystack() == "aéb" && input.start() == 1);
+/// assert!(rt; input.get_range() == (0..3) && input.effective_start() == 1);
+/// assert!(rt; !input.is_done() && input.config().start() == 1);
+/// ```
 #[derive(Drop)]
 pub struct RegexInput<S: Input> {
     /// The searched text.
@@ -110,6 +120,11 @@ impl<S: Input> RegexInput<S> {
     }
 
     /// Whether `^` and `\A` match at the start of the haystack.
+    ///
+    /// ```
+    /// let regex = Regex::new(alloc, "^a")?;
+    /// assert!(rt; !regex.is_match_input(alloc, RegexInput::new("a").start_text(false))?);
+    /// ```
     pub fn start_text(mut self, yes: bool) -> RegexInput<S>
         ensures haystack { result.haystack ≡ self.haystack }
         ensures config { result.config ≡ record (self.config) { start_text = yes } }
@@ -119,6 +134,11 @@ impl<S: Input> RegexInput<S> {
     }
 
     /// Whether `$` and `\z` match at the end of the haystack.
+    ///
+    /// ```
+    /// let regex = Regex::new(alloc, "a$")?;
+    /// assert!(rt; !regex.is_match_input(alloc, RegexInput::new("a").end_text(false))?);
+    /// ```
     pub fn end_text(mut self, yes: bool) -> RegexInput<S>
         ensures haystack { result.haystack ≡ self.haystack }
         ensures config { result.config ≡ record (self.config) { end_text = yes } }
@@ -128,6 +148,12 @@ impl<S: Input> RegexInput<S> {
     }
 
     /// Whether `\G` matches at the start of the search; otherwise it never matches.
+    ///
+    /// ```
+    /// let regex = Regex::new(alloc, r"\Ga")?;
+    /// let input = RegexInput::new("a").continue_from_previous_match_end(false);
+    /// assert!(rt; !regex.is_match_input(alloc, input)?);
+    /// ```
     pub fn continue_from_previous_match_end(mut self, yes: bool) -> RegexInput<S>
         ensures haystack { result.haystack ≡ self.haystack }
         ensures config { result.config ≡ record (self.config) { continues = yes } }
@@ -147,6 +173,12 @@ impl<S: Input> RegexInput<S> {
 
     /// Changes the start of the search to this byte offset: a character boundary, or an offset past the end of the haystack,
     /// where nothing is found.
+    ///
+    /// ```
+    /// let mut input = RegexInput::new("ab");
+    /// input.set_start(1);
+    /// assert!(rt; input.start() == 1);
+    /// ```
     pub fn set_start(&mut self, start: usize)
         requires { start ≤ length (S.text self.old.haystack) → IsCharBoundary (S.text self.old.haystack) start }
         ensures haystack { self.new.haystack ≡ self.old.haystack }

@@ -11,9 +11,21 @@ use std::alloc::{AllocError, AllocFailed};
 use thiserror::Error;
 
 /// The result of a call of the library that can fail.
+///
+/// ```
+/// let built: fancy_regex::Result<Regex> = Regex::new(alloc, "a");
+/// assert!(rt; built.is_ok());
+/// ```
 pub type Result<T> = std::result::Result<T, Error>;
 
 /// Why a call of the library failed. The value that it was called on is unchanged.
+///
+/// ```
+/// match Regex::new(alloc, "a)") {
+///     Err(Error::ParseError(place, _)) => assert!(rt; place == 1),
+///     _ => assert!(rt; false),
+/// }
+/// ```
 #[derive(Debug, PartialEq, Eq, Drop, Error)]
 pub enum Error {
     /// The text is no pattern: the byte offset of its first error, at most the length of the text, and that error.

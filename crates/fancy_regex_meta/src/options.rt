@@ -30,7 +30,7 @@ pub struct RegexOptions {
     /// A search by a program skips the start offsets whose byte no match starts with, if those bytes are known. It finds the
     /// same. It has no effect on the linear-time matcher.
     pub seek: bool,
-    /// The pattern is parsed as Oniguruma does where the two dialects differ.
+    /// Oniguruma mode: the pattern is parsed in a dialect that is close to Oniguruma's.
     pub oniguruma_mode: bool,
     /// How the bytes of a haystack are interpreted; only `Unicode` can be compiled.
     pub bytes_mode: BytesMode,

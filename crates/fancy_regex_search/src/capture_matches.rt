@@ -20,6 +20,13 @@ use std::alloc::Global;
 
 /// The capture groups of the non-overlapping matches in a haystack, from left to right. An item may be an error; after an
 /// error or `None` there are no more items.
+///
+/// ```
+/// let regex = Regex::new(alloc, "(a)n")?;
+/// let mut all = regex.captures_iter(alloc, "banana");
+/// assert!(rt; all.text() == "banana" && all.regex().captures_len() == 2);
+/// assert!(rt; all.next().is_some());
+/// ```
 #[derive(Drop)]
 pub struct CaptureMatches<'r, S: Input> {
     /// The searches of the iteration.

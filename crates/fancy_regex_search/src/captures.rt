@@ -12,6 +12,21 @@ use crate::regex::Regex;
 use fancy_regex_input::Input;
 
 /// The capture groups of one match. Group 0 is the whole match.
+///
+/// ```
+/// let regex = Regex::new(alloc, r"(?<year>\d+)(-\d+)?")?;
+/// match regex.captures(alloc, "in 1897")? {
+///     Some(groups) => {
+///         assert!(rt; groups.len() == 3 && groups.input_as_bytes() == b"in 1897".as_slice());
+///         assert!(rt; groups.name("year").map(|year| year.as_str()) == Some("1897"));
+///         assert!(rt; groups.get(2).is_none());
+///         let mut text = String::new(alloc);
+///         groups.expand(alloc, "year $year", &mut text)?;
+///         assert!(rt; text.as_str() == "year 1897");
+///     }
+///     None => assert!(rt; false),
+/// }
+/// ```
 #[derive(Drop)]
 pub struct Captures<'r, S: Input> {
     /// The regex that matched.
@@ -62,6 +77,15 @@ impl<'r, S: Input> Captures<'r, S> {
     }
 
     /// The groups in order of their numbers, from group 0.
+    ///
+    /// ```
+    /// let regex = Regex::new(alloc, "(a)|(b)")?;
+    /// if let Some(groups) = regex.captures(alloc, "b")? {
+    ///     let mut each = groups.iter();
+    ///     assert!(rt; each.next().is_some_and(|whole| whole.is_some()));
+    ///     assert!(rt; each.next().is_some_and(|first| first.is_none()));
+    /// }
+    /// ```
     pub fn iter(&self) -> SubCaptureMatches<'_, 'r, S>
         ensures captures { result.captures.now ≡ self.now }
         ensures next { result.next ≡ 0 }
@@ -101,6 +125,15 @@ impl<'r, 't> Captures<'r, &'t str> {
     }
 
     /// The text that the group with this number matched. The group must have participated: `get` returns `Some` for it.
+    ///
+    /// ```
+    /// let regex = Regex::new(alloc, r"(\d+)px")?;
+    /// if let Some(groups) = regex.captures(alloc, "12px")? {
+    ///     if groups.get(1).is_some() {
+    ///         assert!(rt; groups.group_text(1) == "12");
+    ///     }
+    /// }
+    /// ```
     pub fn group_text(&self, i: usize) -> &'t str
         requires { Participated self.now.haystack.now self.now.slots.items i }
         ensures { result.now ≡ slice_range self.now.haystack.now (slice_index self.now.slots.items (2 * i))
@@ -110,6 +143,15 @@ impl<'r, 't> Captures<'r, &'t str> {
     }
 
     /// The text that the last group with this name matched. The group must have participated: `name` returns `Some` for it.
+    ///
+    /// ```
+    /// let regex = Regex::new(alloc, r"(?<size>\d+)px")?;
+    /// if let Some(groups) = regex.captures(alloc, "12px")? {
+    ///     if groups.name("size").is_some() {
+    ///         assert!(rt; groups.group_text_by_name("size") == "12");
+    ///     }
+    /// }
+    /// ```
     pub fn group_text_by_name(&self, name: &str) -> &'t str
         requires { NamedGroupParticipated self.now.haystack.now self.now.slots.items (meta_last_group self.now.regex.now.meta name.now) }
         ensures { IsTextOf self.now.haystack.now self.now.slots.items (meta_last_group self.now.regex.now.meta name.now) result.now }
@@ -119,6 +161,13 @@ impl<'r, 't> Captures<'r, &'t str> {
 }
 
 /// The iterator over the groups of one match, from group 0: the match of each, or `None` if it did not participate.
+///
+/// ```
+/// let regex = Regex::new(alloc, "(a)|(b)")?;
+/// if let Some(groups) = regex.captures(alloc, "b")? {
+///     assert!(rt; groups.iter().count() == 3);
+/// }
+/// ```
 #[derive(Drop)]
 pub struct SubCaptureMatches<'c, 'r, S: Input> {
     /// The groups.

@@ -26,6 +26,16 @@ use std::io::{self, Write};
 /// Expands, checks and escapes replacement templates. In the default form `$name`, `${name}` and the same with a number stand for
 /// the text of a group, and `$$` for `$`; in the form of Python `\g<name>`, `\g<1>` and `\1` do, and `\\` stands for `\`. A
 /// group that does not exist or did not participate stands for nothing. A sign that begins nothing stands for itself.
+///
+/// ```
+/// let date = Regex::new(alloc, r"(?<year>\d+)-(?<month>\d+)")?;
+/// if let Some(groups) = date.captures(alloc, "2018-04")? {
+///     let dollar = Expander::default().expansion(alloc, "${month}/$year for $$1", &groups)?;
+///     assert!(rt; dollar.as_str() == "04/2018 for $1");
+///     let python = Expander::python().expansion(alloc, r"\g<month>/\2", &groups)?;
+///     assert!(rt; python.as_str() == "04/04");
+/// }
+/// ```
 #[derive(Clone, Copy, Debug)]
 pub struct Expander {
     /// How references are written.
@@ -57,6 +67,12 @@ impl Expander {
     /// tells the first fault from the left: `CompileError` with `NamedBackrefOnly` for a number above 0 although groups have
     /// names, `InvalidBackref` for a number that no group has, or `InvalidGroupNameBackref` for a name that no group has;
     /// `ParseError` at 0 for a sign that begins nothing. `Memory` if memory runs out.
+    ///
+    /// ```
+    /// let date = Regex::new(alloc, r"(?<year>\d+)")?;
+    /// assert!(rt; Expander::default().check(alloc, "$year", &date).is_ok());
+    /// assert!(rt; Expander::default().check(alloc, "$month", &date).is_err());
+    /// ```
     pub fn check(&self, alloc: Global, template: &str, regex: &Regex) -> Result<()>
         ensures accepted { OnOk result (first_fault (groups_of regex.now.meta) (parts self.now.syntax (chars template.now)) ≡ None) }
         ensures refused { IfErr result (λ e. e ≢ Memory → (fault : _)
@@ -71,6 +87,11 @@ impl Expander {
 
     /// The text with each sign doubled: a template that expands to the text. A text without a sign is borrowed, and
     /// nothing is allocated. `Memory` if memory runs out.
+    ///
+    /// ```
+    /// assert!(rt; Expander::default().escape(alloc, "$5")?.as_str() == "$$5");
+    /// assert!(rt; Expander::python().escape(alloc, r"\5")?.as_str() == r"\\5");
+    /// ```
     pub fn escape<'t>(&self, alloc: Global, text: &'t str) -> Result<CowStr<'t>>
         ensures value { IfOk result (λ made. chars (cow_str_bytes made) ≡ escaped self.now.syntax (chars text.entry.now)) }
         ensures borrowed { IfOk result (λ made. IsBorrowedStr made ↔ AllPass (is_no_sign self.now.syntax) (chars text.entry.now)) }
@@ -97,6 +118,15 @@ impl Expander {
     }
 
     /// Appends what the template stands for in a match. `Memory` if memory runs out, and the buffer is as it was.
+    ///
+    /// ```
+    /// let word = Regex::new(alloc, r"(\w+)!")?;
+    /// let mut text = String::from_str(alloc, "a ")?;
+    /// if let Some(groups) = word.captures(alloc, "so fancy!")? {
+    ///     Expander::default().append_expansion(alloc, &mut text, "$1 one", &groups)?;
+    /// }
+    /// assert!(rt; text.as_str() == "a fancy one");
+    /// ```
     pub fn append_expansion(
         &self,
         _alloc: Global,
@@ -115,6 +145,15 @@ impl Expander {
 
     /// Writes what the template stands for in a match. It fails only where the writer fails or takes no byte; a beginning of
     /// the expansion is written then, but not all of it.
+    ///
+    /// ```
+    /// let word = Regex::new(alloc, r"(\w+)!")?;
+    /// let mut bytes: Vec<u8> = Vec::new(alloc);
+    /// if let Some(groups) = word.captures(alloc, "so fancy!")? {
+    ///     Expander::default().write_expansion(&mut bytes, "$1", &groups)?;
+    /// }
+    /// assert!(rt; bytes.as_slice() == b"fancy".as_slice());
+    /// ```
     pub fn write_expansion<W: Write>(
         &self,
         dst: &mut W,
@@ -130,6 +169,15 @@ impl Expander {
     }
 
     /// Appends the bytes of what the template stands for in a match. `Memory` if memory runs out, and the buffer is as it was.
+    ///
+    /// ```
+    /// let word = Regex::new(alloc, r"(\w+)!")?;
+    /// let mut bytes: Vec<u8> = Vec::new(alloc);
+    /// if let Some(groups) = word.captures(alloc, "so fancy!")? {
+    ///     Expander::default().write_expansion_vec(alloc, &mut bytes, "$1", &groups)?;
+    /// }
+    /// assert!(rt; bytes.as_slice() == b"fancy".as_slice());
+    /// ```
     pub fn write_expansion_vec(
         &self,
         _alloc: Global,
@@ -180,6 +228,12 @@ impl<'r, 't> Captures<'r, &'t str> {
 /// The text as a pattern that matches exactly it: a backslash stands before each of `\.+*?()|[]{}^$#`, and newlines, tabs and
 /// carriage returns are `\n`, `\t` and `\r`. A text without one of these fifteen characters is borrowed as it is, and nothing
 /// is allocated. `Memory` if memory runs out.
+///
+/// ```
+/// assert!(rt; escape(alloc, "1+1")?.as_str() == r"1\+1");
+/// let regex = Regex::new(alloc, escape(alloc, "a.b")?.as_str())?;
+/// assert!(rt; regex.is_match(alloc, "a.b")? && !regex.is_match(alloc, "axb")?);
+/// ```
 pub fn escape<'t>(alloc: Global, text: &'t str) -> Result<CowStr<'t>>
     ensures value { IfOk result (λ made. chars (cow_str_bytes made) ≡ escaped_pattern (chars text.entry.now)) }
     ensures borrowed { IfOk result (λ made. IsBorrowedStr made ↔ (has_special (chars text.entry.now) ≡ false)) }

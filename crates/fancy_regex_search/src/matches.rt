@@ -18,6 +18,14 @@ use std::alloc::Global;
 
 /// The non-overlapping matches in a haystack, from left to right. An item may be an error; after an error or `None` there are
 /// no more items.
+///
+/// ```
+/// let regex = Regex::new(alloc, "a")?;
+/// let mut matches = regex.find_iter(alloc, "banana");
+/// assert!(rt; matches.text() == "banana" && matches.regex().as_str() == "a");
+/// let first = matches.next().ok_or("a match")??;
+/// assert!(rt; first.range() == (1..2) && matches.input().start() == 2);
+/// ```
 #[derive(Drop)]
 pub struct Matches<'r, S: Input> {
     /// The searches of the iteration.

@@ -12,6 +12,11 @@ use fancy_regex_tree::NamedGroups;
 use std::fmt;
 
 /// The iterator over the names of a regex's groups, from group 0, which has none; `None` for an unnamed group.
+///
+/// ```
+/// let regex = Regex::new(alloc, r"(?<key>\w+)=(\w+)")?;
+/// assert!(rt; regex.capture_names().count() == 3);
+/// ```
 #[derive(Clone, Drop)]
 pub struct CaptureNames<'r> {
     /// The regex.

@@ -12,6 +12,13 @@ use std::alloc::Global;
 use std::fmt;
 
 /// A compiled pattern. No call changes it, so it can be used again after every error.
+///
+/// ```
+/// let regex = Regex::new(alloc, r"(\d+) (?<unit>\w+)(?!\w|!)")?;
+/// assert!(rt; regex.captures_len() == 3);
+/// assert!(rt; regex.as_str() == r"(\d+) (?<unit>\w+)(?!\w|!)");
+/// assert!(rt; regex.is_match(alloc, "80 columns!, 24 lines")?);
+/// ```
 #[derive(Drop)]
 pub struct Regex {
     /// The pattern, its options and what runs it.
@@ -22,6 +29,12 @@ impl Regex {
     /// Parses and compiles a pattern with the default options: Unicode mode, a backtrack limit of 1,000,000, no cap on the
     /// program's size, and every other option false. `ParseError` if the text is no pattern, with the first error and its
     /// byte offset; `CompileError` if the pattern is refused, with one of the reasons that hold; `Memory` if memory runs out.
+    ///
+    /// ```
+    /// assert!(rt; Regex::new(alloc, r"\bfancy\b(?=!)").is_ok());
+    /// let fault = Regex::new(alloc, "a)");
+    /// assert!(rt; matches!(&fault, Err(Error::ParseError(1, _))));
+    /// ```
     pub fn new(alloc: Global, re: &str) -> Result<Regex>
         ensures pattern { IfOk result (λ regex. string_bytes regex.meta.pattern ≡ re.now) }
         ensures options { IfOk result (λ regex. regex.meta.options ≡ default_options) }
@@ -62,6 +75,14 @@ impl Regex {
     }
 
     /// The names of the groups, from group 0, which has none; `None` for an unnamed group.
+    ///
+    /// ```
+    /// let regex = Regex::new(alloc, r"(\d+) (?<unit>\w+)")?;
+    /// let mut names = regex.capture_names();
+    /// assert!(rt; names.next() == Some(None));
+    /// assert!(rt; names.next() == Some(None));
+    /// assert!(rt; names.next() == Some(Some("unit")));
+    /// ```
     pub fn capture_names(&self) -> CaptureNames<'_>
         ensures regex { result.regex.now ≡ self.now }
         ensures next { result.next ≡ 0 }

@@ -96,6 +96,12 @@ fn replace_by_calls<'t, R: Replacer>(
 
 impl Regex {
     /// The text with its first match replaced. The text itself if it has no match. Errors as of `try_replacen`.
+    ///
+    /// ```
+    /// let name = Regex::new(alloc, r"(\w+), (\w+)")?;
+    /// let text = name.replace(alloc, "Mitchell, Joni; Gray, David", "$2 $1")?;
+    /// assert!(rt; text.as_str() == "Joni Mitchell; Gray, David");
+    /// ```
     pub fn replace<'t, R: Replacer>(
         &self,
         alloc: Global,
@@ -116,6 +122,11 @@ impl Regex {
     }
 
     /// The text with all its matches replaced. The text itself if it has no match. Errors as of `try_replacen`.
+    ///
+    /// ```
+    /// let vowel = Regex::new(alloc, "[aeiou](?!$)")?;
+    /// assert!(rt; vowel.replace_all(alloc, "banana", "o")?.as_str() == "bonona");
+    /// ```
     pub fn replace_all<'t, R: Replacer>(
         &self,
         alloc: Global,
@@ -137,6 +148,11 @@ impl Regex {
 
     /// The text with its first `limit` matches replaced, or with all of them for limit 0. The text itself if it has no match.
     /// Errors as of `try_replacen`.
+    ///
+    /// ```
+    /// let vowel = Regex::new(alloc, "a")?;
+    /// assert!(rt; vowel.replacen(alloc, "banana", 2, "o")?.as_str() == "bonona");
+    /// ```
     pub fn replacen<'t, R: Replacer>(
         &self,
         alloc: Global,
@@ -161,6 +177,12 @@ impl Regex {
     /// If `no_expansion` returns a text, each match is replaced by it; otherwise the replacer is called once for each match
     /// that is replaced, in order. One match more than the limit is searched for. Errors: `RuntimeError` of a search at a
     /// limit, the error of a call of the replacer, or `Memory`.
+    ///
+    /// ```
+    /// let vowel = Regex::new(alloc, "a")?;
+    /// let text = vowel.try_replacen(alloc, "banana", 0, NoExpand("$1"))?;
+    /// assert!(rt; text.as_str() == "b$1n$1n$1");
+    /// ```
     pub fn try_replacen<'t, R: Replacer>(
         &self,
         alloc: Global,
@@ -183,6 +205,13 @@ impl Regex {
 
     /// As `try_replacen`, by a replacer that is lent, and that can be used again afterwards. It keeps what its calls changed,
     /// also where the replacement ends in an error: it has been called once for each match before that place, in order.
+    ///
+    /// ```
+    /// let vowel = Regex::new(alloc, "a")?;
+    /// let mut dot = NoExpand(".");
+    /// assert!(rt; vowel.replacen_by(alloc, "banana", 1, &mut dot)?.as_str() == "b.nana");
+    /// assert!(rt; vowel.replacen_by(alloc, "banana", 0, &mut dot)?.as_str() == "b.n.n.");
+    /// ```
     pub fn replacen_by<'t, R: Replacer>(
         &self,
         alloc: Global,

@@ -15,6 +15,19 @@ use std::borrow::CowStr;
 
 /// What replaces the matches in a text. A replacement asks `no_expansion` once. If that returns a text, it replaces each match
 /// by it; otherwise it calls `replace_append` once for each match that is replaced, in order, up to the first error.
+///
+/// ```
+/// use fancy_regex::Replacer;
+///
+/// let vowel = Regex::new(alloc, "(a)n")?;
+/// let mut template = "<$1>";
+/// assert!(rt; template.no_expansion().is_none());
+/// if let Some(groups) = vowel.captures(alloc, "banana")? {
+///     let mut text = String::new(alloc);
+///     template.replace_append(alloc, &groups, &mut text)?;
+///     assert!(rt; text.as_str() == "<a>");
+/// }
+/// ```
 pub trait Replacer: Drop {
     /// The replacer may be called in this state.
     ghost is_ready: { Self → Type 0 } = { λ _. Unit {0} };
@@ -51,6 +64,15 @@ pub trait Replacer: Drop {
     }
 
     /// A replacer that lends this one, which can be used again afterwards.
+    ///
+    /// ```
+    /// use fancy_regex::Replacer;
+    ///
+    /// let vowel = Regex::new(alloc, "a")?;
+    /// let mut dot = NoExpand(".");
+    /// assert!(rt; vowel.replace(alloc, "banana", dot.by_ref())?.as_str() == "b.nana");
+    /// assert!(rt; vowel.replace(alloc, "cat", dot)?.as_str() == "c.t");
+    /// ```
     fn by_ref(&mut self) -> ReplacerRef<'_, Self>
     where
         Self: Sized,
@@ -66,6 +88,15 @@ pub trait Replacer: Drop {
 }
 
 /// A replacer that is lent by `Replacer::by_ref`: it answers what the lent one does.
+///
+/// ```
+/// use fancy_regex::Replacer;
+///
+/// let vowel = Regex::new(alloc, "a")?;
+/// let mut dot = NoExpand(".");
+/// let lent: ReplacerRef<'_, NoExpand<'_>> = dot.by_ref();
+/// assert!(rt; vowel.replace_all(alloc, "banana", lent)?.as_str() == "b.n.n.");
+/// ```
 #[derive(Drop)]
 pub struct ReplacerRef<'a, R: Replacer>(&'a mut R);
 
@@ -93,6 +124,12 @@ impl<'a, R: Replacer> Replacer for ReplacerRef<'a, R> {
 }
 
 /// A text that replaces each match as it stands: no `$` in it begins a reference.
+///
+/// ```
+/// let price = Regex::new(alloc, r"\d+")?;
+/// assert!(rt; price.replace(alloc, "for 5", NoExpand("$0"))?.as_str() == "for $0");
+/// assert!(rt; price.replace(alloc, "for 5", "$0!")?.as_str() == "for 5!");
+/// ```
 #[derive(Clone, Copy, Debug)]
 pub struct NoExpand<'t>(pub &'t str);
 
@@ -122,6 +159,15 @@ impl<'t> Replacer for NoExpand<'t> {
 }
 
 /// A function of the match's groups as a replacer: it is called once for each match that is replaced, in order.
+///
+/// ```
+/// let word = Regex::new(alloc, r"\w+")?;
+/// let length = FnReplacer::new(|groups: &Captures<'_, &str>| -> fancy_regex::Result<String> {
+///     let length = groups.get(0).map_or(0, |word| word.as_str().len());
+///     Ok(format!(in alloc; "{length}")?)
+/// });
+/// assert!(rt; word.replace_all(alloc, "so fancy", length)?.as_str() == "2 5");
+/// ```
 #[derive(Drop)]
 pub struct FnReplacer<F> {
     /// The function.

@@ -22,6 +22,12 @@ use std::alloc::Global;
 
 impl Regex {
     /// Whether the haystack has a match. `RuntimeError` if the search exceeds a limit; `Memory` if memory runs out.
+    ///
+    /// ```
+    /// let regex = Regex::new(alloc, r"\w+(?=!)")?;
+    /// assert!(rt; regex.is_match(alloc, "so fancy!")?);
+    /// assert!(rt; !regex.is_match(alloc, "so plain.")?);
+    /// ```
     pub fn is_match<S: Input>(&self, alloc: Global, haystack: S) -> Result<bool>
         ensures answer { IfOk result (λ yes. yes ≡ is_some (meta_match self.now.meta (S.text haystack) (whole (S.text haystack)))) }
         ensures limits { IfErr result (λ e. IsMetaSearchError self.now.meta (S.text haystack) (whole (S.text haystack)) false e) }
@@ -31,6 +37,11 @@ impl Regex {
     }
 
     /// Whether `find_input` returns a match for this input, with its errors.
+    ///
+    /// ```
+    /// let regex = Regex::new(alloc, "a")?;
+    /// assert!(rt; !regex.is_match_input(alloc, RegexInput::new("ab").from_pos(1))?);
+    /// ```
     pub fn is_match_input<S: Input>(&self, alloc: Global, input: RegexInput<S>) -> Result<bool>
         ensures answer { IfOk result (λ yes. yes ≡ is_some (meta_match self.now.meta (S.text input.haystack) (input.config))) }
         ensures limits { IfErr result (λ e. IsMetaSearchError self.now.meta (S.text input.haystack) input.config false e) }
@@ -50,6 +61,13 @@ impl Regex {
 
     /// The first match in the haystack; `None` if there is none. `RuntimeError` if the search exceeds a limit; `Memory` if
     /// memory runs out.
+    ///
+    /// ```
+    /// let regex = Regex::new(alloc, r"\d+(?!\.)")?;
+    /// let found = regex.find(alloc, "1. in 1897")?;
+    /// assert!(rt; found.map(|found| found.as_str()) == Some("1897"));
+    /// assert!(rt; regex.find(alloc, "1.")?.is_none());
+    /// ```
     pub fn find<S: Input>(&self, alloc: Global, haystack: S) -> Result<Option<S::Match>>
         ensures answer { IfOk result (λ found. option_map S.span found ≡ option_map span_in
             (meta_match self.now.meta (S.text haystack) (whole (S.text haystack)))) }
@@ -62,6 +80,12 @@ impl Regex {
 
     /// The first match that starts at the byte offset `position` or later, with the errors of `find`; `\G` matches at
     /// `position`, which must be a character boundary of the haystack or lie past its end, where nothing is found.
+    ///
+    /// ```
+    /// let regex = Regex::new(alloc, r"\bb|\Gc")?;
+    /// let found = regex.find_from_pos(alloc, "abc", 2)?;
+    /// assert!(rt; found.map(|found| found.start()) == Some(2));
+    /// ```
     pub fn find_from_pos<S: Input>(
         &self,
         alloc: Global,
@@ -83,6 +107,12 @@ impl Regex {
 
     /// The first match of an input; `None` if there is none. `RuntimeError` if the search exceeds a limit; `Memory` if memory
     /// runs out.
+    ///
+    /// ```
+    /// let regex = Regex::new(alloc, "b+")?;
+    /// let found = regex.find_input(alloc, RegexInput::new("abbb").range(0..3))?;
+    /// assert!(rt; found.map(|found| found.range()) == Some(1..3));
+    /// ```
     pub fn find_input<S: Input>(
         &self,
         alloc: Global,
@@ -99,6 +129,13 @@ impl Regex {
 
     /// `find_input` that also counts: the counter is raised by one each time the linear-time matcher inspects a position of the
     /// haystack, also if memory runs out, and it never falls. It stays as it is for a regex that needs a backtracking program.
+    ///
+    /// ```
+    /// let regex = Regex::new(alloc, "a+b")?;
+    /// let mut steps = Steps::new();
+    /// let found = regex.find_input_counted(alloc, RegexInput::new("aaac"), &mut steps)?;
+    /// assert!(rt; found.is_none() && steps.count() > 0);
+    /// ```
     pub fn find_input_counted<S: Input>(
         &self,
         alloc: Global,
@@ -128,6 +165,15 @@ impl Regex {
 
     /// The capture groups of the first match in the haystack; `None` if there is none. `RuntimeError` if the search exceeds a
     /// limit; `Memory` if memory runs out.
+    ///
+    /// ```
+    /// let regex = Regex::new(alloc, r"(\d+)-(\d+)")?;
+    /// let month = match regex.captures(alloc, "in 2018-04")? {
+    ///     Some(groups) => groups.get(2),
+    ///     None => None,
+    /// };
+    /// assert!(rt; month.map(|month| month.as_str()) == Some("04"));
+    /// ```
     pub fn captures<S: Input>(&self, alloc: Global, haystack: S) -> Result<Option<Captures<'_, S>>>
         ensures answer { IfOk result (λ found. IsResultFor (λ c. AreGroupsOf (meta_pattern self.now.meta) c.slots.items) found
             (meta_match self.now.meta
@@ -142,6 +188,17 @@ impl Regex {
     /// The capture groups of the first match that starts at the byte offset `position` or later, with the errors of
     /// `captures`; `\G` matches at `position`, which must be a character boundary of the haystack or lie past its end, where
     /// nothing is found.
+    ///
+    /// ```
+    /// let regex = Regex::new(alloc, r"a(b)?")?;
+    /// let groups = regex.captures_from_pos(alloc, "aba", 1)?;
+    /// assert!(rt;
+    ///     groups.map_or(
+    ///         false,
+    ///         |groups| groups.get(0).is_some() && groups.get(1).is_none()
+    ///     )
+    /// );
+    /// ```
     pub fn captures_from_pos<S: Input>(
         &self,
         alloc: Global,
@@ -162,6 +219,12 @@ impl Regex {
 
     /// The capture groups of the first match of an input; `None` if there is none. `RuntimeError` if the search exceeds a
     /// limit; `Memory` if memory runs out.
+    ///
+    /// ```
+    /// let regex = Regex::new(alloc, r"(b)")?;
+    /// let groups = regex.captures_input(alloc, RegexInput::new("ab").anchored(true))?;
+    /// assert!(rt; groups.is_none());
+    /// ```
     pub fn captures_input<S: Input>(
         &self,
         alloc: Global,
@@ -190,6 +253,15 @@ impl Regex {
     }
 
     /// The non-overlapping matches in the haystack, from left to right. An item may be an error, and is the last one then.
+    ///
+    /// ```
+    /// let regex = Regex::new(alloc, r"\w+(?=!)")?;
+    /// let mut ends = 0;
+    /// for found in regex.find_iter(alloc, "so fancy! even with! iterators!") {
+    ///     ends = found?.end();
+    /// }
+    /// assert!(rt; ends == 30);
+    /// ```
     pub fn find_iter<S: Input>(&self, alloc: Global, haystack: S) -> Matches<'_, S>
         ensures left { remaining_matches result.match_iter.regex.now.meta
             (S.text result.match_iter.input.haystack) result.match_iter.input.config result.match_iter.state
@@ -204,6 +276,14 @@ impl Regex {
     }
 
     /// The non-overlapping matches of an input, from left to right. An item may be an error, and is the last one then.
+    ///
+    /// ```
+    /// let regex = Regex::new(alloc, "a|b")?;
+    /// let mut matches = regex.find_iter_input(alloc, RegexInput::new("ab").from_pos(1));
+    /// assert!(rt; matches.input().start() == 1);
+    /// assert!(rt; matches.next().is_some());
+    /// assert!(rt; matches.next().is_none());
+    /// ```
     pub fn find_iter_input<S: Input>(&self, alloc: Global, input: RegexInput<S>) -> Matches<'_, S>
         ensures left { remaining_matches result.match_iter.regex.now.meta
             (S.text result.match_iter.input.haystack) result.match_iter.input.config result.match_iter.state
@@ -219,6 +299,17 @@ impl Regex {
 
     /// The capture groups of the non-overlapping matches in the haystack, from left to right. An item may be an error, and is
     /// the last one then.
+    ///
+    /// ```
+    /// let regex = Regex::new(alloc, r"(\w)=(\d)?")?;
+    /// let mut unset: usize = 0;
+    /// for groups in regex.captures_iter(alloc, "a=1 b= c=") {
+    ///     if groups?.get(2).is_none() {
+    ///         unset = unset.saturating_add(1);
+    ///     }
+    /// }
+    /// assert!(rt; unset == 2);
+    /// ```
     pub fn captures_iter<S: Input>(&self, alloc: Global, haystack: S) -> CaptureMatches<'_, S>
         ensures left { remaining_matches result.match_iter.regex.now.meta
             (S.text result.match_iter.input.haystack) result.match_iter.input.config result.match_iter.state
@@ -234,6 +325,13 @@ impl Regex {
 
     /// The capture groups of the non-overlapping matches of an input, from left to right. An item may be an error, and is the
     /// last one then.
+    ///
+    /// ```
+    /// let regex = Regex::new(alloc, "(a)|b")?;
+    /// let mut all = regex.captures_iter_input(alloc, RegexInput::new("ab").range(0..1));
+    /// assert!(rt; all.next().is_some());
+    /// assert!(rt; all.next().is_none());
+    /// ```
     pub fn captures_iter_input<S: Input>(
         &self,
         alloc: Global,

@@ -18,6 +18,14 @@ use std::iter::FusedIterator;
 
 /// The pieces of a text between the matches, and the rest after the last match. An item may be an error; after an error only
 /// the rest of the text comes.
+///
+/// ```
+/// let comma = Regex::new(alloc, r"\s*,\s*")?;
+/// let mut pieces = comma.split(alloc, "a , b");
+/// assert!(rt; pieces.next().ok_or("a piece")?? == "a");
+/// assert!(rt; pieces.next().ok_or("the rest")?? == "b");
+/// assert!(rt; pieces.next().is_none());
+/// ```
 #[derive(Drop)]
 pub struct Split<'r, 'h> {
     /// The matches.
@@ -137,6 +145,13 @@ impl FusedIterator for Split<'_, '_> {}
 
 /// The first pieces of a text between the matches, and then the rest of the text as the last piece. An item may be an error,
 /// which counts as an item; after an error only the rest of the text comes.
+///
+/// ```
+/// let comma = Regex::new(alloc, ",")?;
+/// let mut pieces = comma.splitn(alloc, "a,b,c", 2);
+/// assert!(rt; pieces.next().ok_or("a piece")?? == "a");
+/// assert!(rt; pieces.next().ok_or("the rest")?? == "b,c");
+/// ```
 #[derive(Drop)]
 pub struct SplitN<'r, 'h> {
     /// The pieces.
@@ -190,6 +205,11 @@ impl FusedIterator for SplitN<'_, '_> {}
 impl Regex {
     /// The pieces of a text between its matches, from left to right, and the rest after the last match: one piece more than
     /// there are matches. An item may be an error, and then only the rest of the text follows.
+    ///
+    /// ```
+    /// let blank = Regex::new(alloc, " ")?;
+    /// assert!(rt; blank.split(alloc, "a b  c").count() == 4);
+    /// ```
     pub fn split<'r, 'h>(&'r self, alloc: Global, target: &'h str) -> Split<'r, 'h>
         ensures left { pieces_left result.is_done result.gaps.match_iter.input.haystack.now result.gaps.last_end
             (remaining_matches result.gaps.match_iter.regex.now.meta result.gaps.match_iter.input.haystack.now
@@ -206,6 +226,12 @@ impl Regex {
 
     /// The first pieces of `split`, and then the rest of the text: at most `limit` items, the last of which is the rest, for
     /// which no search is made. Limit 0 returns nothing.
+    ///
+    /// ```
+    /// let blank = Regex::new(alloc, " ")?;
+    /// assert!(rt; blank.splitn(alloc, "a b  c", 2).count() == 2);
+    /// assert!(rt; blank.splitn(alloc, "a b  c", 0).next().is_none());
+    /// ```
     pub fn splitn<'r, 'h>(&'r self, alloc: Global, target: &'h str, limit: usize) -> SplitN<'r, 'h>
         ensures left { pieces_left_up_to result.limit result.split.is_done result.split.gaps.match_iter.input.haystack.now
             result.split.gaps.last_end

@@ -7,6 +7,12 @@ use std::alloc::{AllocError, AllocFailed};
 use thiserror::Error;
 
 /// The kind of a parse error.
+///
+/// ```
+/// let fault = Regex::new(alloc, "(a");
+/// let cause = ParseError::UnclosedOpenParen;
+/// assert!(rt; matches!(&fault, Err(Error::ParseError(2, found)) if *found == cause));
+/// ```
 #[derive(Debug, PartialEq, Eq, Drop, Error)]
 pub enum ParseError {
     /// An error that has no variant of its own; the payload is its message.

@@ -137,6 +137,11 @@ impl Expr {
     ///
     /// The contract says which tree is lent. It does not say what this node is after a write through the reference; that of
     /// `replace_child` does.
+    ///
+    /// ```
+    /// let mut expr = Expr::parse_tree(alloc, "ab")?.expr;
+    /// assert!(rt; expr.child_mut(1).is_some() && expr.child_mut(2).is_none());
+    /// ```
     pub fn child_mut(&mut self, i: usize) -> Option<&mut Expr>
         ensures { option_map borrowed_tree result ≡ slice_get (children (tree_of self.old)) i }
     {
@@ -165,6 +170,13 @@ impl Expr {
 
     /// Replaces the child at index `i`, in the order of `children_iter`. Answers the node with the new child, and `Ok` with the old
     /// child. Where there is no such child, it answers the node unchanged, and `Err` with the child that was given.
+    ///
+    /// ```
+    /// let expr = Expr::parse_tree(alloc, "a+")?.expr;
+    /// let (expr, replaced) = expr.replace_child(0, Expr::KeepOut);
+    /// assert!(rt; replaced.is_ok());
+    /// assert!(rt; expr.has_descendant(|node| matches!(node, Expr::KeepOut)));
+    /// ```
     pub fn replace_child(self, i: usize, child: Expr) -> (Expr, Result<Expr, Expr>)
         ensures { IsChildReplaced (tree_of self) (tree_of result.0) i child result.1 }
     {

@@ -8,12 +8,31 @@ use std::alloc::{AllocError, AllocFailed};
 use thiserror::Error;
 
 /// A byte offset from the start of the pattern.
+///
+/// ```
+/// let place: ParseErrorPosition = match Expr::parse_tree(alloc, "ab)") {
+///     Err(ExprError::ParseError(place, _)) => place,
+///     _ => 0,
+/// };
+/// assert!(rt; place == 2);
+/// ```
 pub type ParseErrorPosition = usize;
 
 /// The result of parsing.
+///
+/// ```
+/// let parsed: fancy_regex_tree::Result<ExprTree> = Expr::parse_tree(alloc, "a");
+/// assert!(rt; parsed.is_ok());
+/// ```
 pub type Result<T> = std::result::Result<T, Error>;
 
 /// The reason why a pattern could not be parsed.
+///
+/// ```
+/// let fault = Expr::parse_tree(alloc, r"a\");
+/// let cause = ParseError::TrailingBackslash;
+/// assert!(rt; matches!(&fault, Err(ExprError::ParseError(1, found)) if *found == cause));
+/// ```
 #[derive(Debug, PartialEq, Eq, Drop, Error)]
 pub enum Error {
     /// The first error in the text, with its byte offset, which is at most the length of the text.

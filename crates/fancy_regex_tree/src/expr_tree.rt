@@ -4,9 +4,20 @@ use crate::expr::Expr;
 use std::collections::{BTreeMap, BTreeSet};
 
 /// For each group name, the numbers of the groups with that name in ascending order.
+///
+/// ```
+/// let groups: NamedGroups = Expr::parse_tree(alloc, "(?<a>x)(?<a>y)")?.named_groups;
+/// assert!(rt; groups.get("a").map_or(0, |numbers| numbers.len()) == 2);
+/// ```
 pub type NamedGroups = BTreeMap<String, Vec<usize>>;
 
 /// A parsed pattern: its syntax tree, and a summary of its groups and references.
+///
+/// ```
+/// let tree = Expr::parse_tree(alloc, r"(a)(?<b>b)\g<0>?\k<b>")?;
+/// assert!(rt; tree.total_groups == 2 && tree.contains_subroutines && tree.calls_whole);
+/// assert!(rt; tree.backrefs.contains(&2));
+/// ```
 #[derive(Debug, PartialEq, Eq, Drop)]
 pub struct ExprTree {
     /// The syntax tree, with all references resolved but calls of groups that do not exist.

@@ -2,6 +2,9 @@
 //!
 //! A pattern is parsed into an `ExprTree` with `Expr::parse_tree` or `Expr::parse_tree_with_flags`. The answer is the tree that the
 //! grammar gives for the text, or the first error with its byte offset, or want of memory. `Expr::to_str` prints a tree.
+//!
+//! The examples use the names that `fancy_regex` gives these items: its `ExprError` is `Error` here. In them `alloc` is the allocator, and
+//! `rt` the runtime.
 
 #![tactic(auto)]
 

@@ -107,6 +107,12 @@ fn summarize_references(
 
 impl Expr {
     /// Parses a pattern with `FLAG_UNICODE` alone; see `parse_tree_with_flags`.
+    ///
+    /// ```
+    /// let tree = Expr::parse_tree(alloc, "ab")?;
+    /// assert!(rt; matches!(&tree.expr, Expr::Concat(_)));
+    /// assert!(rt; Expr::parse_tree(alloc, "(a").is_err());
+    /// ```
     pub fn parse_tree(alloc: Global, re: &str) -> Result<ExprTree>
         ensures value { IsParsed result (parse unicode_only (chars re.now)) }
         ensures bounded { IsBounded (length re.now) result }
@@ -120,6 +126,11 @@ impl Expr {
     /// n bytes has at most 2n + 1 nodes, and no path in it has more than 832. The errors are `Error::ParseError`, with the first
     /// error of the pattern and its byte offset, which is at most the length of `re`, and `Error::Memory`, if an allocation fails.
     /// Errors of syntax come before those of references.
+    ///
+    /// ```
+    /// let tree = Expr::parse_tree_with_flags(alloc, ".", FLAG_UNICODE | FLAG_DOTNL)?;
+    /// assert!(rt; matches!(&tree.expr, Expr::Any { newline: true, .. }));
+    /// ```
     pub fn parse_tree_with_flags(alloc: Global, re: &str, flags: u32) -> Result<ExprTree>
         ensures value { IsParsed result (parse (options_of flags) (chars re.now)) }
         ensures bounded { IsBounded (length re.now) result }
@@ -128,6 +139,13 @@ impl Expr {
     }
 
     /// Parses a pattern with the options as a struct; see `parse_tree_with_flags` for what it answers.
+    ///
+    /// ```
+    /// let mut options = ParseOptions::from_flags(FLAG_UNICODE);
+    /// options.flags.dot_newline = true;
+    /// let tree = Expr::parse_tree_with_options(alloc, ".", options)?;
+    /// assert!(rt; matches!(&tree.expr, Expr::Any { newline: true, .. }));
+    /// ```
     pub fn parse_tree_with_options(
         alloc: Global,
         re: &str,

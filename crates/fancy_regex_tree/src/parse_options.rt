@@ -10,13 +10,18 @@ use crate::flag_bits::{
 use fancy_regex_lex::Flags;
 
 /// The options of `Expr::parse_tree_with_options`.
+///
+/// ```
+/// let options = ParseOptions::from_flags(FLAG_UNICODE | FLAG_ONIGURUMA_MODE);
+/// assert!(rt; options.unicode && options.oniguruma && !options.ignore_numbered);
+/// ```
 #[derive(Clone, Copy, Debug, PartialEq, Eq)]
 pub struct ParseOptions {
     /// The flags in force where the pattern begins; the pattern can change them.
     pub flags: Flags,
     /// Whether character classes are those of Unicode, as with the flag `u`; the pattern cannot change it.
     pub unicode: bool,
-    /// Whether the pattern is parsed by the rules of Oniguruma where they differ from the default syntax.
+    /// Whether the pattern is parsed in Oniguruma mode, a dialect that is close to Oniguruma's.
     pub oniguruma: bool,
     /// Whether unnamed groups do not capture if the pattern has a named group.
     pub ignore_numbered: bool,

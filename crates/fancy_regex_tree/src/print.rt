@@ -18,6 +18,13 @@ impl Expr {
     /// normal form of the tree, with the same matches where each class reads back unchanged: the laws of `fancy_regex_print_laws`.
     ///
     /// Fails only if an allocation fails; the buffer is then unchanged.
+    ///
+    /// ```
+    /// let tree = Expr::parse_tree(alloc, "(?:ab)*")?;
+    /// let mut text = String::new(alloc);
+    /// tree.expr.to_str(&mut text, 0)?;
+    /// assert!(rt; text.as_str() == "(?:ab)*");
+    /// ```
     pub fn to_str(&self, buf: &mut String, precedence: u8) -> Result<(), AllocError>
         requires { IsTrue (is_printable (tree_of self.now)) }
         ensures printed { OnOk result

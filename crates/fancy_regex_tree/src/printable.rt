@@ -18,6 +18,11 @@ impl Expr {
     /// or more, capture groups, and repetitions with `lo` below `usize::MAX` of anything but an empty node or an assertion.
     ///
     /// Fails only if an allocation fails.
+    ///
+    /// ```
+    /// assert!(rt; Expr::parse_tree(alloc, "a|b")?.expr.is_printable(alloc)?);
+    /// assert!(rt; !Expr::parse_tree(alloc, "(?=a)")?.expr.is_printable(alloc)?);
+    /// ```
     pub fn is_printable(&self, alloc: Global) -> Result<bool, AllocError>
         ensures { IfOk result (λ answer. answer ≡ is_printable (tree_of self.now)) }
     {

@@ -10,6 +10,12 @@ use crate::expr::{Absent, AstNode, Expr};
 use std::alloc::{AllocError, Global};
 
 /// An iterator over the children of a node, in the order of the pattern.
+///
+/// ```
+/// let tree = Expr::parse_tree(alloc, "abc")?;
+/// let children: ExprChildrenIter<'_> = tree.expr.children_iter();
+/// assert!(rt; children.count() == 3);
+/// ```
 #[derive(Clone, Copy, Debug)]
 pub enum ExprChildrenIter<'t> {
     /// No child is left.
@@ -105,6 +111,12 @@ impl Expr {
     }
 
     /// The children of the node, in the order of the pattern. A leaf has none.
+    ///
+    /// ```
+    /// let tree = Expr::parse_tree(alloc, "a|b")?;
+    /// assert!(rt; tree.expr.children_iter().count() == 2);
+    /// assert!(rt; Expr::Empty.children_iter().next().is_none());
+    /// ```
     pub fn children_iter(&self) -> ExprChildrenIter<'_>
         ensures { map tree_of (rest result) ≡ children (tree_of self.now) }
     {
@@ -130,6 +142,11 @@ impl Expr {
     }
 
     /// The children of the node, or the body of a capture group that has no number yet.
+    ///
+    /// ```
+    /// let tree = Expr::parse_tree(alloc, "(a)")?;
+    /// assert!(rt; tree.expr.subtrees_iter().count() == 1);
+    /// ```
     pub fn subtrees_iter(&self) -> ExprChildrenIter<'_>
         ensures { map tree_of (rest result) ≡ subtrees (tree_of self.now) }
     {
@@ -152,6 +169,11 @@ impl Expr {
 
     /// All nodes of the tree, those in capture groups that have no number yet included: each before those below it, from left to
     /// right. Fails only if memory runs out.
+    ///
+    /// ```
+    /// let tree = Expr::parse_tree(alloc, "(ab)+")?;
+    /// assert!(rt; tree.expr.preorder(alloc)?.len() == 5);
+    /// ```
     pub fn preorder(&self, alloc: Global) -> Result<Vec<&Expr>, AllocError>
         ensures { IfOk result (λ all. map tree_at all.items ≡ nodes (tree_of self.now)) }
     {
@@ -160,6 +182,14 @@ impl Expr {
 
     /// Whether the predicate holds for a node of the tree, one in a capture group that has no number yet included. It is asked in
     /// preorder, up to the first node for which it holds.
+    ///
+    /// ```
+    /// let tree = Expr::parse_tree(alloc, "a+")?;
+    /// assert!(rt;
+    ///     tree.expr
+    ///         .any_node(|node| matches!(node, Expr::Repeat { .. }))
+    /// );
+    /// ```
     pub fn any_node<F: Fn(&Expr) -> bool>(&self, predicate: F) -> bool
         requires { F.IsAlwaysCallable predicate }
         ensures { IsFound F.Fn predicate result (nodes (tree_of self.now)) }
@@ -169,6 +199,15 @@ impl Expr {
 
     /// Whether the predicate holds for a node below this one: a child, a child of that, and so on. It is asked in preorder, up to
     /// the first node for which it holds.
+    ///
+    /// ```
+    /// let tree = Expr::parse_tree(alloc, "a+")?;
+    /// assert!(rt;
+    ///     !tree
+    ///         .expr
+    ///         .has_descendant(|node| matches!(node, Expr::Repeat { .. }))
+    /// );
+    /// ```
     pub fn has_descendant<F: Fn(&Expr) -> bool>(&self, predicate: F) -> bool
         requires { F.IsAlwaysCallable predicate }
         ensures { IsFound F.Fn predicate result (descendants (tree_of self.now)) }

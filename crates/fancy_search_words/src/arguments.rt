@@ -35,7 +35,7 @@ pub struct Options {
     pub ignore_whitespace: bool,
     /// `--ascii`: character classes and case folding are those of ASCII.
     pub ascii: bool,
-    /// `--oniguruma`: the pattern is parsed as Oniguruma does.
+    /// `--oniguruma`: Oniguruma mode, a dialect that is close to Oniguruma's.
     pub oniguruma: bool,
     /// `--not-empty`: empty matches are skipped.
     pub not_empty: bool,
