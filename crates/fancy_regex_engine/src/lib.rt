@@ -9,6 +9,7 @@ pub use fancy_regex_analysis::{analyze, can_compile_as_anchored, is_well_formed}
 pub use fancy_regex_class::{
     CaseiLiteral, CharClassMatcher, ClassError, Counted, RunInput, Span, Steps, fold, is_word,
 };
+pub use fancy_regex_compiled::Prog;
 pub use fancy_regex_compiler::compile;
 pub use fancy_regex_info::{AnalyzeContext, BytesMode, CompileError, CompileOptions, Info};
 pub use fancy_regex_linear::Easy;
@@ -16,8 +17,7 @@ pub use fancy_regex_machine::{
     RunMemory, RunOptions, RuntimeError, run, run_default, run_in, run_spans, run_spans_in,
 };
 pub use fancy_regex_program::{
-    AbsentRepeater, CaptureGroupRange, Delegate, Insn, Prog, Repeat, RepeatEpsilon,
-    is_valid_program,
+    AbsentRepeater, CaptureGroupRange, Delegate, Insn, Repeat, RepeatEpsilon, is_valid_program,
 };
 
 /// Wherever both succeed, a run of a pattern's program and an `Easy` search of the same pattern return the same spans of all
