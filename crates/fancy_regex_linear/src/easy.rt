@@ -74,6 +74,46 @@ impl Easy {
             → IsCause options.now (pattern_in explicit t) error) }
         ensures options { IfOk result (λ easy. (easy.unicode ≡ options.now.unicode) × (easy.longest ≡ options.now.leftmost_longest)) }
     {
+        let easy = Easy::compiled(alloc, info, options, true)?;
+        Ok(easy)
+    }
+
+    /// Compiles a pattern as `new` does, but makes no table to go through texts by: only a search that tries all starts uses it, and any
+    /// search finds the same without it. The errors are those of `new`.
+    pub fn without_table(
+        alloc: Global,
+        info: &Info<'_>,
+        options: &CompileOptions,
+    ) -> Result<Easy, CompileError>
+        requires easy { (out-Info info.now).hard ≡ false }
+        ensures made { IfOk result (λ easy. (explicit : Bool) (t : Tree) → info_of info.now ≡ analysis explicit t
+            → IsEasyOf easy (pattern_in explicit t)) }
+        ensures taken { IfOk result (λ _. (explicit : Bool) (t : Tree) → info_of info.now ≡ analysis explicit t
+            → IsTaken options.now (pattern_in explicit t)) }
+        ensures refused { IfErr result (λ error. (explicit : Bool) (t : Tree) → info_of info.now ≡ analysis explicit t
+            → IsCause options.now (pattern_in explicit t) error) }
+        ensures options { IfOk result (λ easy. (easy.unicode ≡ options.now.unicode) × (easy.longest ≡ options.now.leftmost_longest)) }
+    {
+        let easy = Easy::compiled(alloc, info, options, false)?;
+        Ok(easy)
+    }
+
+    /// Compiles a pattern as `new` does, with a table if it is wanted.
+    fn compiled(
+        alloc: Global,
+        info: &Info<'_>,
+        options: &CompileOptions,
+        has_table: bool,
+    ) -> Result<Easy, CompileError>
+        requires easy { (out-Info info.now).hard ≡ false }
+        ensures made { IfOk result (λ easy. (explicit : Bool) (t : Tree) → info_of info.now ≡ analysis explicit t
+            → IsEasyOf easy (pattern_in explicit t)) }
+        ensures taken { IfOk result (λ _. (explicit : Bool) (t : Tree) → info_of info.now ≡ analysis explicit t
+            → IsTaken options.now (pattern_in explicit t)) }
+        ensures refused { IfErr result (λ error. (explicit : Bool) (t : Tree) → info_of info.now ≡ analysis explicit t
+            → IsCause options.now (pattern_in explicit t) error) }
+        ensures options { IfOk result (λ easy. (easy.unicode ≡ options.now.unicode) × (easy.longest ≡ options.now.leftmost_longest)) }
+    {
         if options.bytes_mode != BytesMode::Unicode {
             let feature = String::from_str(alloc, "bytes mode")?;
             return Err(CompileError::FeatureNotYetSupported(feature));
@@ -89,7 +129,14 @@ impl Easy {
         let entry = emit(&translated.node, &mut states, 0)?;
         let first = FirstChars::new(alloc, &states, entry, &translator.matchers, options.unicode)?;
         let refused = refused_ascii(&first, &translator.matchers, options.unicode);
-        let rows = table_of(alloc, &states, entry, &translator.matchers, options)?;
+        let rows = table_of(
+            alloc,
+            &states,
+            entry,
+            &translator.matchers,
+            options,
+            has_table,
+        )?;
         Ok(Easy {
             states,
             entry,
@@ -264,13 +311,14 @@ impl Easy {
     }
 }
 
-/// The table of the states, where the first match is wanted. The error is want of memory.
+/// The table of the states, if it is wanted and the first match is. The error is want of memory.
 fn table_of(
     alloc: Global,
     states: &[State],
     entry: usize,
     matchers: &[CharClassMatcher],
     options: &CompileOptions,
+    is_wanted: bool,
 ) -> Result<Option<Table>, AllocError>
     ensures { IfOk result (λ table. IfSome table (IsTable (record {
       states = states.now;
@@ -279,7 +327,7 @@ fn table_of(
       unicode = options.now.unicode;
     }))) }
 {
-    if options.leftmost_longest {
+    if options.leftmost_longest || !is_wanted {
         return Ok(None);
     }
     let table = Table::new(alloc, states, entry, matchers, options.unicode)?;

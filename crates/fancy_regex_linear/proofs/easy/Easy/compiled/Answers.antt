@@ -15,8 +15,8 @@ use Rattle.fancy_regex_states.specs.declared.state.State.{State}
 use Rattle.fancy_regex_states.specs.declared.state.State.TheVariants.{Match as End}
 use Rattle.fancy_regex_linear.proofs.TranslationLemmas.{is_made, count_is, whole_is, program_is, serves_all, serves}
 use Rattle.fancy_regex_linear.proofs.ServedLemmas.{info_is_of, info_plain, light_by, heavy_by, read_by, cause_of}
-use Rattle.fancy_regex_linear.proofs.easy.Easy.new.Goals as goal
-use Rattle.fancy_regex_linear.proofs.easy.Easy.new.Goals.{In_ok-entry}
+use Rattle.fancy_regex_linear.proofs.easy.Easy.compiled.Goals as goal
+use Rattle.fancy_regex_linear.proofs.easy.Easy.compiled.Goals.{In_ok-entry}
 
 -- the states of the translated tree
 states : (c : In_ok-entry) → emitted (shape c.in_ok-translated.translated.node) (End ∷ []) 0 ≡ (c.emit.new.states.items, c.in_ok-entry.entry)
