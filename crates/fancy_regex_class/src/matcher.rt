@@ -134,7 +134,8 @@ fn is_found(matcher: &mut Matcher<'_>, code: u32) -> bool
 
 /// Tells want of memory from the other errors of building a regex.
 fn refusal_of_build(error: regex::Error) -> Refusal
-    ensures { result ≡ Refusal.Refused → error ≢ regex_error.OutOfMemory }
+    ensures refused { result ≡ Refusal.Refused → error ≢ regex_error.OutOfMemory }
+    ensures memory { result ≡ Refusal.Memory → error ≡ regex_error.OutOfMemory }
 {
     match error {
         regex::Error::OutOfMemory => Refusal::Memory,
@@ -144,7 +145,8 @@ fn refusal_of_build(error: regex::Error) -> Refusal
 
 /// Tells want of memory from the other errors of parsing.
 fn refusal_of_syntax(kind: ErrorKind) -> Refusal
-    ensures { result ≡ Refusal.Refused → kind ≢ ErrorKind.OutOfMemory }
+    ensures refused { result ≡ Refusal.Refused → kind ≢ ErrorKind.OutOfMemory }
+    ensures memory { result ≡ Refusal.Memory → kind ≡ ErrorKind.OutOfMemory }
 {
     match kind {
         ErrorKind::OutOfMemory => Refusal::Memory,

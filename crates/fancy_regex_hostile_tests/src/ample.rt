@@ -85,17 +85,22 @@ fn large_patterns_answer_while_memory_is_ample(rt: HostRuntime) {
     assert_eq!(rt; wrong, None);
 }
 
-/// Whether each `a` of a long text is replaced.
-fn replaces_all(alloc: Global) -> Result<bool> {
+/// Whether each `a` of a long text is replaced by a regex of `a`.
+fn replaces_all(alloc: Global, regex: &Regex) -> Result<bool> {
     let text = "ab".repeat(alloc, 100_000)?;
     let wanted = "xyzb".repeat(alloc, 100_000)?;
-    let regex = Regex::new(alloc, "a")?;
     let made = regex.replace_all(alloc, text.as_str(), NoExpand("xyz"))?;
     Ok(made.as_str() == wanted.as_str())
 }
 
+/// Whether the regex of a pattern, which matches `a`, makes a long text.
+fn makes_a_long_text(alloc: Global, pattern: &str) -> Result<bool> {
+    let regex = Regex::new(alloc, pattern)?;
+    replaces_all(alloc, &regex)
+}
+
 #[test]
 fn a_long_text_is_made_while_memory_is_ample(rt: HostRuntime) {
-    let is_made = replaces_all(rt.alloc());
+    let is_made = makes_a_long_text(rt.alloc(), "a");
     assert!(rt; matches!(is_made, Ok(true)));
 }

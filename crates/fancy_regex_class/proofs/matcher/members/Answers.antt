@@ -10,7 +10,7 @@ in_each (Err e) h = h e
 
 pub returns-clause-refused : goal.returns-clause-refused
 returns-clause-refused c = λ e.
-    refuses_syntax c.args.written.now c.default.result c.in-Err.error.kind c.default.ensures c.in-Err.ensures.err (c.refusal_of_syntax.ensures e)
+    refuses_syntax c.args.written.now c.default.result c.in-Err.error.kind c.default.ensures c.in-Err.ensures.err (c.refusal_of_syntax.ensures.refused e)
 
 pub returns-in-Some-clause-members : goal.returns-in-Some-clause-members
 returns-in-Some-clause-members c = λ d scalar.
