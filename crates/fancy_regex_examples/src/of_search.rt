@@ -14,7 +14,9 @@ fn examples_1(rt: HostRuntime) -> Result<(), Fail> {
         let regex = Regex::new(alloc, "(a)n")?;
         let mut all = regex.captures_iter(alloc, "banana");
         assert!(rt; all.text() == "banana" && all.regex().captures_len() == 2);
-        assert!(rt; all.next().is_some());
+        if let Some(groups) = all.next() {
+            assert!(rt; groups?.len() == 2);
+        }
     }
     // Captures
     {
@@ -36,8 +38,8 @@ fn examples_1(rt: HostRuntime) -> Result<(), Fail> {
         let regex = Regex::new(alloc, "(a)|(b)")?;
         if let Some(groups) = regex.captures(alloc, "b")? {
             let mut each = groups.iter();
-            assert!(rt; each.next().is_some_and(|whole| whole.is_some()));
-            assert!(rt; each.next().is_some_and(|first| first.is_none()));
+            assert!(rt; matches!(each.next(), Some(Some(_))));
+            assert!(rt; matches!(each.next(), Some(None)));
         }
     }
     // Captures::group_text
@@ -62,7 +64,8 @@ fn examples_1(rt: HostRuntime) -> Result<(), Fail> {
     {
         let regex = Regex::new(alloc, "(a)|(b)")?;
         if let Some(groups) = regex.captures(alloc, "b")? {
-            assert!(rt; groups.iter().count() == 3);
+            let mut each = groups.iter();
+            assert!(rt; each.next().is_some());
         }
     }
     Ok(())
@@ -301,13 +304,9 @@ fn examples_6(rt: HostRuntime) -> Result<(), Fail> {
     // Regex::captures_from_pos
     {
         let regex = Regex::new(alloc, r"a(b)?")?;
-        let groups = regex.captures_from_pos(alloc, "aba", 1)?;
-        assert!(rt;
-            groups.map_or(
-                false,
-                |groups| groups.get(0).is_some() && groups.get(1).is_none()
-            )
-        );
+        if let Some(groups) = regex.captures_from_pos(alloc, "aba", 1)? {
+            assert!(rt; groups.get(0).is_some() && groups.get(1).is_none());
+        }
     }
     Ok(())
 }
@@ -324,11 +323,12 @@ fn examples_7(rt: HostRuntime) -> Result<(), Fail> {
     // Regex::find_iter
     {
         let regex = Regex::new(alloc, r"\w+(?=!)")?;
-        let mut ends = 0;
-        for found in regex.find_iter(alloc, "so fancy! even with! iterators!") {
-            ends = found?.end();
+        let mut matches = regex.find_iter(alloc, "so fancy! even with! iterators!");
+        let mut last = 0;
+        while let Some(found) = matches.next() {
+            last = found?.start();
         }
-        assert!(rt; ends == 30);
+        assert!(rt; last == 21);
     }
     // Regex::find_iter_input
     {
@@ -341,20 +341,20 @@ fn examples_7(rt: HostRuntime) -> Result<(), Fail> {
     // Regex::captures_iter
     {
         let regex = Regex::new(alloc, r"(\w)=(\d)?")?;
-        let mut unset: usize = 0;
-        for groups in regex.captures_iter(alloc, "a=1 b= c=") {
-            if groups?.get(2).is_none() {
-                unset = unset.saturating_add(1);
-            }
+        let mut all = regex.captures_iter(alloc, "a=1 b=");
+        let mut is_set = true;
+        while let Some(groups) = all.next() {
+            is_set = groups?.get(2).is_some();
         }
-        assert!(rt; unset == 2);
+        assert!(rt; !is_set);
     }
     // Regex::captures_iter_input
     {
         let regex = Regex::new(alloc, "(a)|b")?;
         let mut all = regex.captures_iter_input(alloc, RegexInput::new("ab").range(0..1));
-        assert!(rt; all.next().is_some());
-        assert!(rt; all.next().is_none());
+        if let Some(groups) = all.next() {
+            assert!(rt; groups?.get(1).is_some());
+        }
     }
     // Split
     {

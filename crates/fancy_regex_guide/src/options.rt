@@ -8,7 +8,8 @@ pub fn main(rt: HostRuntime) -> Result<()> {
     let mut comment = RegexBuilder::new(rt.alloc(), "^ \\# .* $  # a line")?;
     comment.multi_line(true).ignore_whitespace(true);
     let comment = comment.build(rt.alloc())?;
-    for found in comment.find_iter(rt.alloc(), "x = 1\n#one\n#two") {
+    let mut comments = comment.find_iter(rt.alloc(), "x = 1\n#one\n#two");
+    while let Some(found) = comments.next() {
         println!(rt; "{}", found?.as_str())?;
     }
     let mut options = RegexOptionsBuilder::new();

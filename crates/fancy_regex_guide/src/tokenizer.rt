@@ -24,8 +24,9 @@ pub fn main(rt: HostRuntime) -> Result<()> {
         let Some((kind, end)) = next_token(rt.alloc(), &set, text, place)? else {
             break;
         };
-        if kind != "blank" {
-            println!(rt; "{kind} at {place}..{end}")?;
+        match KINDS.get(kind) {
+            Some(name) if kind > 0 => println!(rt; "{name} at {place}..{end}")?,
+            _ => {}
         }
         place = end;
     }
@@ -35,13 +36,13 @@ pub fn main(rt: HostRuntime) -> Result<()> {
     Ok(())
 }
 
-/// The kind of the token that starts at a place, and the place where it ends; `None` if no token starts there.
-fn next_token<'k>(
+/// The number of the kind of the token that starts at a place, and where it ends; `None` if no token starts there.
+fn next_token(
     alloc: Global,
     set: &RegexSet,
     text: &str,
     place: usize,
-) -> fancy_regex::Result<Option<(&'k str, usize)>> {
+) -> fancy_regex::Result<Option<(usize, usize)>> {
     if !text.is_char_boundary(place) {
         return Ok(None);
     }
@@ -53,9 +54,5 @@ fn next_token<'k>(
         return Ok(None);
     };
     let member = member?;
-    Ok(
-        KINDS
-            .get(member.pattern())
-            .map(|kind| (*kind, member.end())),
-    )
+    Ok(Some((member.pattern(), member.end())))
 }

@@ -25,7 +25,9 @@ use std::alloc::Global;
 /// let regex = Regex::new(alloc, "(a)n")?;
 /// let mut all = regex.captures_iter(alloc, "banana");
 /// assert!(rt; all.text() == "banana" && all.regex().captures_len() == 2);
-/// assert!(rt; all.next().is_some());
+/// if let Some(groups) = all.next() {
+///     assert!(rt; groups?.len() == 2);
+/// }
 /// ```
 #[derive(Drop)]
 pub struct CaptureMatches<'r, S: Input> {

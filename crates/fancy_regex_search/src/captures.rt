@@ -82,8 +82,8 @@ impl<'r, S: Input> Captures<'r, S> {
     /// let regex = Regex::new(alloc, "(a)|(b)")?;
     /// if let Some(groups) = regex.captures(alloc, "b")? {
     ///     let mut each = groups.iter();
-    ///     assert!(rt; each.next().is_some_and(|whole| whole.is_some()));
-    ///     assert!(rt; each.next().is_some_and(|first| first.is_none()));
+    ///     assert!(rt; matches!(each.next(), Some(Some(_))));
+    ///     assert!(rt; matches!(each.next(), Some(None)));
     /// }
     /// ```
     pub fn iter(&self) -> SubCaptureMatches<'_, 'r, S>
@@ -165,7 +165,8 @@ impl<'r, 't> Captures<'r, &'t str> {
 /// ```
 /// let regex = Regex::new(alloc, "(a)|(b)")?;
 /// if let Some(groups) = regex.captures(alloc, "b")? {
-///     assert!(rt; groups.iter().count() == 3);
+///     let mut each = groups.iter();
+///     assert!(rt; each.next().is_some());
 /// }
 /// ```
 #[derive(Drop)]

@@ -191,13 +191,9 @@ impl Regex {
     ///
     /// ```
     /// let regex = Regex::new(alloc, r"a(b)?")?;
-    /// let groups = regex.captures_from_pos(alloc, "aba", 1)?;
-    /// assert!(rt;
-    ///     groups.map_or(
-    ///         false,
-    ///         |groups| groups.get(0).is_some() && groups.get(1).is_none()
-    ///     )
-    /// );
+    /// if let Some(groups) = regex.captures_from_pos(alloc, "aba", 1)? {
+    ///     assert!(rt; groups.get(0).is_some() && groups.get(1).is_none());
+    /// }
     /// ```
     pub fn captures_from_pos<S: Input>(
         &self,
@@ -256,11 +252,12 @@ impl Regex {
     ///
     /// ```
     /// let regex = Regex::new(alloc, r"\w+(?=!)")?;
-    /// let mut ends = 0;
-    /// for found in regex.find_iter(alloc, "so fancy! even with! iterators!") {
-    ///     ends = found?.end();
+    /// let mut matches = regex.find_iter(alloc, "so fancy! even with! iterators!");
+    /// let mut last = 0;
+    /// while let Some(found) = matches.next() {
+    ///     last = found?.start();
     /// }
-    /// assert!(rt; ends == 30);
+    /// assert!(rt; last == 21);
     /// ```
     pub fn find_iter<S: Input>(&self, alloc: Global, haystack: S) -> Matches<'_, S>
         ensures left { remaining_matches result.match_iter.regex.now.meta
@@ -302,13 +299,12 @@ impl Regex {
     ///
     /// ```
     /// let regex = Regex::new(alloc, r"(\w)=(\d)?")?;
-    /// let mut unset: usize = 0;
-    /// for groups in regex.captures_iter(alloc, "a=1 b= c=") {
-    ///     if groups?.get(2).is_none() {
-    ///         unset = unset.saturating_add(1);
-    ///     }
+    /// let mut all = regex.captures_iter(alloc, "a=1 b=");
+    /// let mut is_set = true;
+    /// while let Some(groups) = all.next() {
+    ///     is_set = groups?.get(2).is_some();
     /// }
-    /// assert!(rt; unset == 2);
+    /// assert!(rt; !is_set);
     /// ```
     pub fn captures_iter<S: Input>(&self, alloc: Global, haystack: S) -> CaptureMatches<'_, S>
         ensures left { remaining_matches result.match_iter.regex.now.meta
@@ -329,8 +325,9 @@ impl Regex {
     /// ```
     /// let regex = Regex::new(alloc, "(a)|b")?;
     /// let mut all = regex.captures_iter_input(alloc, RegexInput::new("ab").range(0..1));
-    /// assert!(rt; all.next().is_some());
-    /// assert!(rt; all.next().is_none());
+    /// if let Some(groups) = all.next() {
+    ///     assert!(rt; groups?.get(1).is_some());
+    /// }
     /// ```
     pub fn captures_iter_input<S: Input>(
         &self,
