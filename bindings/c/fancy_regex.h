@@ -27,6 +27,9 @@
  * that no object can have, a text that is not UTF-8, and a place past the end of the text or inside a character. Where more than one
  * thing is wrong, the code is that of one of them. After each error but those of building, the handle holds the regex or the set
  * that it held before. FANCY_REGEX_MEMORY may be the answer of each call that returns a code.
+ *
+ * A handle keeps the memory of its last search for one match or its groups, and gives it to the next one, which then allocates little or
+ * nothing; after a search that went through more than 65,536 bytes it is given back. No answer depends on it.
  */
 #ifndef FANCY_REGEX_H
 #define FANCY_REGEX_H

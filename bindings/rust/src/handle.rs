@@ -31,6 +31,7 @@ impl Owned {
         Owned(UnsafeCell::new(Handle::EMPTY))
     }
 
+    #[inline]
     fn at(&self) -> *mut Handle {
         self.0.get()
     }
@@ -78,6 +79,7 @@ impl Owned {
     }
 
     /// The span of the first match.
+    #[inline]
     pub fn find(&self, search: &Search<'_>) -> Result<Option<Span>> {
         let mut span = Span::UNSET;
         // The text is UTF-8, as the query says, and borrowed for the call, as the query and the span are.
@@ -220,17 +222,26 @@ impl Owned {
     }
 
     /// Whether the call did what was asked and there is an answer; else the error that its status tells.
+    #[inline]
     fn told(&self, status: i32) -> Result<bool> {
         match status {
             raw::DONE => Ok(true),
             raw::NO_MATCH => Ok(false),
+            other => Err(self.error_of(other)),
+        }
+    }
+
+    /// The error that the status of the last call tells.
+    #[cold]
+    fn error_of(&self, status: i32) -> Error {
+        match status {
             raw::NO_PATTERN => {
                 let cause = ParseError::of(&self.fault_text());
-                Err(Error::ParseError(self.fault_place(), cause))
+                Error::ParseError(self.fault_place(), cause)
             }
-            raw::REFUSED => Err(CompileError::of(&self.fault_text()).into()),
-            raw::LIMIT => Err(RuntimeError::of(&self.fault_text()).into()),
-            raw::MEMORY => Err(Error::Memory),
+            raw::REFUSED => CompileError::of(&self.fault_text()).into(),
+            raw::LIMIT => RuntimeError::of(&self.fault_text()).into(),
+            raw::MEMORY => Error::Memory,
             other => {
                 unreachable!("status {other} of a handle and a text that are as they should be")
             }
@@ -308,6 +319,7 @@ impl Listed {
 
 impl Search<'_> {
     /// The query of this search. Its text is a `str`, so it is UTF-8.
+    #[inline]
     fn query(&self) -> Query {
         Query {
             position: self.position,

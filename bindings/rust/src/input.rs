@@ -382,6 +382,7 @@ impl<'h, S: Input + ?Sized> RegexInput<'h, S> {
 
     /// The search that this input asks for, in its text; `None` past the end of the range, where nothing is found. The regex heeds
     /// `start_text` and `end_text` if it `overrides` assertions.
+    #[inline]
     pub(crate) fn search(
         &self,
         text: Option<&'h str>,

@@ -6,6 +6,7 @@
 
 use crate::error::Result;
 use crate::handle::Owned;
+use std::cell::Cell;
 use std::mem;
 use std::ops::Deref;
 use std::panic::{RefUnwindSafe, UnwindSafe};
@@ -34,8 +35,8 @@ pub(crate) struct Place {
 // FREE or EMPTY released.
 unsafe impl Sync for Place {}
 
-// No search changes what a handle holds, whether it ends by an answer or an error: that is proved of the library's calls. The library
-// never unwinds.
+// No search changes the regex or the set of a handle, whether it ends by an answer or an error, and the memory that it leaves there changes
+// no answer: that is proved of the library's calls. The library never unwinds.
 impl UnwindSafe for Place {}
 impl RefUnwindSafe for Place {}
 
@@ -48,6 +49,7 @@ impl Place {
     }
 
     /// Borrows the handle if its state is this one.
+    #[inline]
     fn is_borrowed_from(&self, state: u8) -> bool {
         self.state.load(Ordering::Relaxed) == state
             && self
@@ -83,9 +85,25 @@ impl Pool {
         pool
     }
 
-    /// A handle that no other search has. If there is none, one is built; the error is that of building it.
-    pub fn borrow(&self, build: impl Fn(&Owned) -> Result<()>) -> Result<Borrowed<'_>> {
+    /// Makes a search with a handle that no other search has. If there is none, one is built; its error may be that of building it.
+    #[inline]
+    pub fn with<T>(
+        &self,
+        build: impl Fn(&Owned) -> Result<()>,
+        search: impl Fn(&Owned) -> Result<T>,
+    ) -> Result<T> {
         let own = own_place();
+        let place = &self.places[own % PLACES];
+        if place.is_borrowed_from(FREE) {
+            let own = Own(place);
+            return search(&own.0.handle);
+        }
+        search(&*self.borrow(own, build)?)
+    }
+
+    /// A handle that no other search has, looked for from this place on.
+    #[cold]
+    fn borrow(&self, own: usize, build: impl Fn(&Owned) -> Result<()>) -> Result<Borrowed<'_>> {
         let places = || (0..PLACES).map(|step| &self.places[(own + step) % PLACES]);
         if let Some(place) = places().find(|place| place.is_borrowed_from(FREE)) {
             return Ok(Borrowed::Place { place, after: FREE });
@@ -117,16 +135,40 @@ impl Pool {
 }
 
 /// The number of the place that this thread looks at first.
+#[inline]
 fn own_place() -> usize {
-    static THREADS: AtomicUsize = AtomicUsize::new(0);
     thread_local! {
-        static NUMBER: usize = THREADS.fetch_add(1, Ordering::Relaxed) % PLACES;
+        static NUMBER: Cell<Option<usize>> = const { Cell::new(None) };
     }
-    NUMBER.with(|number| *number)
+    NUMBER.with(|number| match number.get() {
+        Some(own) => own,
+        None => {
+            let own = next_place();
+            number.set(Some(own));
+            own
+        }
+    })
+}
+
+/// A number for a thread that has none yet: the places are given in turn.
+#[cold]
+fn next_place() -> usize {
+    static THREADS: AtomicUsize = AtomicUsize::new(0);
+    THREADS.fetch_add(1, Ordering::Relaxed) % PLACES
+}
+
+/// The place that a thread looks at first, borrowed while its handle was free. It is so again when this is dropped, also by a panic.
+struct Own<'p>(&'p Place);
+
+impl Drop for Own<'_> {
+    #[inline]
+    fn drop(&mut self) {
+        self.0.state.store(FREE, Ordering::Release);
+    }
 }
 
 /// A handle that one search has, until it drops it. It never leaves the call that borrowed it.
-pub(crate) enum Borrowed<'p> {
+enum Borrowed<'p> {
     /// That of a place, and the state of the place afterwards.
     Place { place: &'p Place, after: u8 },
     /// One more.
@@ -168,7 +210,6 @@ impl Drop for Borrowed<'_> {
 mod tests {
     use super::*;
     use crate::error::Error;
-    use std::cell::Cell;
     use std::ptr;
 
     #[test]
@@ -181,7 +222,7 @@ mod tests {
         let pool = Pool::of(Owned::empty());
         for _ in 0..2 {
             let borrowed: Vec<Borrowed<'_>> = (0..20)
-                .map(|_| pool.borrow(build).expect("nothing fails"))
+                .map(|_| pool.borrow(own_place(), build).expect("nothing fails"))
                 .collect();
             for (count, one) in borrowed.iter().enumerate() {
                 let others = &borrowed[..count];
@@ -197,9 +238,9 @@ mod tests {
     fn a_failed_build_is_tried_again() {
         let pool = Pool::new();
         for _ in 0..2 * PLACES {
-            assert!(pool.borrow(|_| Err(Error::Memory)).is_err());
+            assert!(pool.with(|_| Err(Error::Memory), |_| Ok(())).is_err());
         }
-        assert!(pool.borrow(|_| Ok(())).is_ok());
-        assert!(pool.borrow(|_| Err(Error::Memory)).is_ok());
+        assert!(pool.with(|_| Ok(()), |_| Ok(())).is_ok());
+        assert!(pool.with(|_| Err(Error::Memory), |_| Ok(())).is_ok());
     }
 }

@@ -4,7 +4,7 @@ use crate::handle::{Listed, Owned};
 use crate::input::{Input, RegexInput, Search};
 use crate::iter::{CaptureMatches, Matches, Split, SplitN};
 use crate::options::RegexOptionsBuilder;
-use crate::pool::{Borrowed, Pool};
+use crate::pool::Pool;
 use crate::raw::{Options, Span};
 use crate::replacer::Replacer;
 use std::borrow::Cow;
@@ -23,7 +23,8 @@ use std::sync::{Arc, OnceLock};
 ///
 /// Threads can share it, and a clone is the same regex: it costs next to nothing. Threads that search at the same time do not wait for
 /// one another. The library serves one search of a compiled pattern at a time, so where as many searches run at once as never before,
-/// the pattern is compiled once more; what was compiled is kept as long as the regex.
+/// the pattern is compiled once more; what was compiled is kept as long as the regex, and so is the memory of the last search of a short
+/// text.
 ///
 /// ```
 /// use proved_fancy_regex::Regex;
@@ -89,26 +90,29 @@ impl Regex {
         })
     }
 
-    /// A handle of the regex that no other search has.
-    fn handle(&self) -> Result<Borrowed<'_>> {
+    /// Makes a search with a handle of the regex that no other search has.
+    #[inline]
+    fn with_handle<T>(&self, search: impl Fn(&Owned) -> Result<T>) -> Result<T> {
         let Compiled {
             pattern, options, ..
         } = &*self.compiled;
         let build = |handle: &Owned| handle.build(pattern, &options.options);
-        self.compiled.handles.borrow(build)
+        self.compiled.handles.with(build, search)
     }
 
-    /// A handle of the set of the pattern and the empty pattern. The empty pattern matches where a search begins, and a set asks its
-    /// members at the first place alone at which one of them matches: so its answer has the match of the pattern that starts there.
-    fn anchored_handle(&self) -> Result<Borrowed<'_>> {
+    /// Makes a search with a handle of the set of the pattern and the empty pattern. The empty pattern matches where a search begins,
+    /// and a set asks its members at the first place alone at which one of them matches: so its answer has the match of the pattern that
+    /// starts there.
+    fn with_anchored<T>(&self, search: impl Fn(&Owned) -> Result<T>) -> Result<T> {
         let Compiled {
             pattern, options, ..
         } = &*self.compiled;
-        let handles = self.compiled.anchored.get_or_init(|| Box::new(Pool::new()));
-        handles.borrow(|handle| {
+        let build = |handle: &Owned| {
             let patterns = Listed::of([pattern.as_str(), ""].into_iter());
             handle.build_mixed(&patterns, &[options.options, Options::DEFAULT])
-        })
+        };
+        let handles = self.compiled.anchored.get_or_init(|| Box::new(Pool::new()));
+        handles.with(build, search)
     }
 
     /// The options of the pattern.
@@ -117,6 +121,7 @@ impl Regex {
     }
 
     /// Whether inputs may say that the start and the end of a text are none.
+    #[inline]
     pub(crate) fn overrides_assertions(&self) -> bool {
         self.compiled.options.overrides_assertions
     }
@@ -128,7 +133,7 @@ impl Regex {
 
     /// The first fault of a template from the left.
     pub(crate) fn check_template(&self, template: &str, is_python: bool) -> Result<()> {
-        self.handle()?.check_template(template, is_python)
+        self.with_handle(|handle| handle.check_template(template, is_python))
     }
 
     /// The text of the pattern.
@@ -318,11 +323,12 @@ impl Regex {
     }
 
     /// The span of the first match.
+    #[inline]
     pub(crate) fn find_span(&self, search: &Search<'_>) -> Result<Option<Span>> {
         if search.anchored {
             return Ok(self.anchored_spans(search)?.map(|spans| spans[0]));
         }
-        self.handle()?.find(search)
+        self.with_handle(|handle| handle.find(search))
     }
 
     /// The spans of the groups of the first match.
@@ -330,15 +336,17 @@ impl Regex {
         if search.anchored {
             return self.anchored_spans(search);
         }
-        let mut spans = vec![Span::UNSET; self.captures_len()];
-        let found = self.handle()?.captures(search, &mut spans)?;
-        Ok(found.then_some(spans))
+        self.with_handle(|handle| {
+            let mut spans = vec![Span::UNSET; self.captures_len()];
+            let found = handle.captures(search, &mut spans)?;
+            Ok(found.then_some(spans))
+        })
     }
 
     /// The spans of the groups of the match that starts where the search begins.
     fn anchored_spans(&self, search: &Search<'_>) -> Result<Option<Vec<Span>>> {
         let room = self.captures_len() + 1;
-        let groups = self.anchored_handle()?.set_captures(search, room)?;
+        let groups = self.with_anchored(|handle| handle.set_captures(search, room))?;
         let own = groups.iter().filter(|group| group.pattern == 0);
         let spans: Vec<Span> = own.map(|group| group.span()).collect();
         Ok((!spans.is_empty()).then_some(spans))
@@ -527,7 +535,7 @@ impl Regex {
         mut replacer: R,
     ) -> Result<Cow<'t, str>> {
         if let (0, Some(template)) = (limit, replacer.template()) {
-            let replaced = self.handle()?.replace_all(text, template)?;
+            let replaced = self.with_handle(|handle| handle.replace_all(text, template))?;
             return Ok(if replaced == text {
                 Cow::Borrowed(text)
             } else {

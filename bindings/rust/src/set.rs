@@ -3,7 +3,7 @@ use crate::error::Result;
 use crate::handle::{Listed, Owned};
 use crate::input::{Input, RegexInput, Search};
 use crate::options::RegexOptionsBuilder;
-use crate::pool::{Borrowed, Pool};
+use crate::pool::Pool;
 use crate::raw::{self, Options};
 use crate::regex::Regex;
 use std::fmt;
@@ -234,26 +234,25 @@ impl Compiled {
         self.members.iter().map(|m| m.options.options).collect()
     }
 
-    /// A handle of the set with the empty pattern as one member more. It matches where a search begins, so the members that match there
-    /// are the answer.
-    fn anchored_handle(&self) -> Result<Borrowed<'_>> {
-        let handles = self.anchored.get_or_init(|| Box::new(Pool::new()));
-        handles.borrow(|handle| {
-            let patterns = self.members.iter().map(|m| m.pattern.as_str());
-            let mut options = self.options();
-            options.push(Options::DEFAULT);
-            handle.build_mixed(&Listed::of(patterns.chain([""])), &options)
-        })
+    /// Builds the set with the empty pattern as one member more. It matches where a search begins, so the members that match there are
+    /// the answer.
+    fn build_anchored(&self, handle: &Owned) -> Result<()> {
+        let patterns = self.members.iter().map(|m| m.pattern.as_str());
+        let mut options = self.options();
+        options.push(Options::DEFAULT);
+        handle.build_mixed(&Listed::of(patterns.chain([""])), &options)
     }
 
     /// The groups of the members that match.
     fn groups(&self, search: &Search<'_>) -> Result<Vec<raw::Member>> {
         let room = self.room.load(Ordering::Relaxed);
+        let search_with = |handle: &Owned| handle.set_captures(search, room);
         let mut groups = if search.anchored {
-            self.anchored_handle()?.set_captures(search, room)?
+            let handles = self.anchored.get_or_init(|| Box::new(Pool::new()));
+            handles.with(|handle| self.build_anchored(handle), search_with)?
         } else {
-            let handle = self.handles.borrow(|handle| self.build(handle))?;
-            handle.set_captures(search, room)?
+            self.handles
+                .with(|handle| self.build(handle), search_with)?
         };
         self.room.fetch_max(groups.len(), Ordering::Relaxed);
         groups.retain(|group| group.pattern < self.members.len());

@@ -484,3 +484,42 @@ fn long_texts_are_replaced() {
         2
     );
 }
+
+#[test]
+fn searches_answer_as_those_of_a_new_regex() {
+    let long = "ab ".repeat(40_000);
+    let texts = [
+        "",
+        "abab",
+        "ab=12 12",
+        &long[..],
+        "aaaaaaaaaaaaaaaaaaaaaaaaaaaa",
+        "12 12",
+        "é=1",
+    ];
+    for pattern in [
+        r"(\w)+=(\d+)",
+        r"(\d+) \1",
+        r"(?:a|b|ab)*c",
+        r"(a|aa)+\1b|(\d)",
+        r"(?=.*1)\w+",
+    ] {
+        let build = || {
+            RegexBuilder::new(pattern)
+                .backtrack_limit(1000)
+                .build()
+                .unwrap()
+        };
+        let used = build();
+        for text in texts.iter().chain(texts.iter().rev()) {
+            let spans = |regex: &Regex| -> Result<Option<Vec<_>>, Error> {
+                let groups = regex.captures(*text)?;
+                Ok(groups.map(|g| g.iter().map(|m| m.map(|m| m.range())).collect()))
+            };
+            assert_eq!(spans(&used), spans(&build()), "{pattern}");
+            let whole = |regex: &Regex| regex.find(*text).map(|m| m.map(|m| m.range()));
+            assert_eq!(whole(&used), whole(&build()), "{pattern}");
+            assert_eq!(used.is_match(*text), build().is_match(*text), "{pattern}");
+        }
+    }
+}

@@ -25,7 +25,7 @@ pub use fancy_regex_meaning::laws_of_items;
 pub use fancy_regex_meta::{Error, Result};
 pub use fancy_regex_search::{
     CaptureMatches, CaptureNames, Captures, Expander, FnReplacer, Matches, NoExpand, Regex,
-    Replacer, ReplacerRef, Split, SplitN, SubCaptureMatches, escape,
+    Replacer, ReplacerRef, SearchMemory, Split, SplitN, SubCaptureMatches, escape,
 };
 pub use fancy_regex_tree::{
     Absent, Assertion, AstNode, BacktrackingControlVerb, CaptureGroupTarget, Error as ExprError,

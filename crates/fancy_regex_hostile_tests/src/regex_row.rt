@@ -4,7 +4,9 @@ use crate::appending::{Expanding, escapes, escapes_template, expands, is_refused
 use crate::iterating::{Iterating, room, show_items};
 use crate::outcome::{Attempt, Text, shows};
 use crate::replacing::{calls_for_each, replaces, replaces_plainly};
-use crate::searching::{Place, all_find, finds, finds_in_all, has_groups, looks_little};
+use crate::searching::{
+    Place, all_find, all_find_in, finds, finds_in_all, has_groups, looks_little,
+};
 use fancy_regex::{Regex, RegexOptionsBuilder, Result};
 use std::alloc::Global;
 
@@ -14,7 +16,7 @@ pub enum RegexCall {
     Find(usize, Option<Place>),
     /// `find` of a regex that seeks, and whether the longest match is wanted: the span of the match.
     Seek(bool, Option<Place>),
-    /// All searches: the span of the match, and the greatest number of looks of the linear engine at the text.
+    /// All searches, also those that share their memory: the span of the match, and the greatest number of looks of the linear engine at the text.
     Search(Option<Place>, u64),
     /// `captures`: the spans of all groups of the first match.
     Capture(&'static [Option<Place>]),
@@ -78,7 +80,8 @@ impl Attempt for RegexRow {
             RegexCall::Search(wanted, looks) => {
                 Ok(
                     looks_little(alloc, regex, text, *wanted, *looks)?
-                        && all_find(alloc, regex, text, *wanted)?,
+                        && all_find(alloc, regex, text, *wanted)?
+                        && all_find_in(alloc, regex, text, *wanted)?,
                 )
             }
             RegexCall::Capture(wanted) => has_groups(alloc, regex, text, wanted),

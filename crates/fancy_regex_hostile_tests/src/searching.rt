@@ -1,6 +1,6 @@
 //! Searches of a regex.
 
-use fancy_regex::{Captures, Match, Regex, RegexInput, Result, Steps};
+use fancy_regex::{Captures, Match, Regex, RegexInput, Result, SearchMemory, Steps};
 use std::alloc::Global;
 
 /// The byte offsets of a match.
@@ -63,6 +63,23 @@ pub fn all_find(alloc: Global, regex: &Regex, text: &str, wanted: Option<Place>)
         whole(regex.captures_from_pos(alloc, text, 0)?),
     ];
     Ok(is_found == [wanted.is_some(); 2] && found == [wanted; 6])
+}
+
+/// Whether searches that share their memory find this span, also after one of them that wanted memory.
+pub fn all_find_in(
+    alloc: Global,
+    regex: &Regex,
+    text: &str,
+    wanted: Option<Place>,
+) -> Result<bool> {
+    let memory = &mut SearchMemory::new(alloc);
+    let first = regex.find_in(alloc, RegexInput::new(text), memory);
+    let is_found = regex.is_match_in(alloc, RegexInput::new(text), memory)?;
+    let found = [
+        span(regex.find_in(alloc, RegexInput::new(text), memory)?),
+        whole(regex.captures_in(alloc, RegexInput::new(text), memory)?),
+    ];
+    Ok(is_found == wanted.is_some() && found == [wanted; 2] && span(first?) == wanted)
 }
 
 /// Whether a counted search of the whole text finds this span with at most so many looks at the text, also where it wants memory.

@@ -1,11 +1,21 @@
-//! The memory that the searches of an iteration share.
+//! The memory that searches share, as those of an iteration do.
 
 use fancy_regex_linear::SearchMemory;
 use fancy_regex_machine::RunMemory;
 use std::alloc::Global;
 
 /// What earlier searches allocated, for later ones to use again: of the linear-time matcher, and of the backtracking machine.
-/// What it holds changes no answer, and it serves any regex.
+/// What it holds changes no answer, and it serves any regex and any text, also after a search that ended in an error. It keeps the most
+/// memory that a search has needed until it is dropped.
+///
+/// ```
+/// let regex = Regex::new(alloc, r"\w+(?=!)")?;
+/// let mut memory = SearchMemory::new(alloc);
+/// for text in ["so fancy!", "even so!"] {
+///     let found = regex.find_in(alloc, RegexInput::new(text), &mut memory)?;
+///     assert!(rt; found.is_some());
+/// }
+/// ```
 #[derive(Drop)]
 pub struct MetaMemory {
     /// For patterns that the linear-time matcher runs.
@@ -15,7 +25,7 @@ pub struct MetaMemory {
 }
 
 impl MetaMemory {
-    /// Memory for the first search. Nothing is allocated yet.
+    /// Memory for the first search. It allocates nothing.
     pub fn new(alloc: Global) -> MetaMemory {
         MetaMemory {
             easy: SearchMemory::new(alloc),

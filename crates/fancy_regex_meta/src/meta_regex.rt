@@ -126,6 +126,7 @@ impl MetaRegex {
     /// is raised by one for each look of the linear-time matcher at the haystack, also if memory runs out. What is allocated for
     /// the search, but for its answer, stays in `memory`; what earlier searches left there changes no answer. Errors:
     /// `RuntimeError` if a program exceeds a limit, or `Memory`.
+    #[inline(always)]
     pub fn search(
         &self,
         alloc: Global,

@@ -114,6 +114,7 @@ impl Strategy {
     /// The first match, with the byte offsets that are wanted; `None` if there is no match. The counter is raised by one for each
     /// look of the linear-time matcher at the haystack. What is allocated for the search stays in the memory. Errors:
     /// `RuntimeError` at a limit of the program, or `Memory`.
+    #[inline(always)]
     pub fn search(
         &self,
         alloc: Global,

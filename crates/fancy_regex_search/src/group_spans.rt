@@ -30,6 +30,8 @@ fn run_input_for<S: Input>(input: &RegexInput<S>, continue_disabled: bool) -> Ru
 /// The first match of an input, with the byte offsets that are wanted, or `None` if there is no match. If the flag is set, `\G`
 /// never matches. The counter is raised as `find_input_counted` says; what earlier searches left in the memory changes no answer.
 /// Errors: `RuntimeError` at a limit, or `Memory`.
+// Inlined where it is called: what is wanted is known there, and the record of the match is never made.
+#[inline(always)]
 pub fn find_match<S: Input>(
     alloc: Global,
     regex: &Regex,

@@ -11,13 +11,11 @@ ghost use Rattle.fancy_regex_search.specs.CaptureSpans.{span_in, AreGroupsOf, Is
 
 use crate::capture_matches::CaptureMatches;
 use crate::captures::Captures;
-use crate::group_spans::{find_match, whole_match};
 use crate::matches::Matches;
 use crate::regex::Regex;
 use fancy_regex_class::Steps;
 use fancy_regex_input::{Input, RegexInput};
-use fancy_regex_meta::{MatchDetail, MetaMemory, Result};
-use fancy_regex_tree_laws::weight_bound;
+use fancy_regex_meta::{MetaMemory, Result};
 use std::alloc::Global;
 
 impl Regex {
@@ -47,16 +45,7 @@ impl Regex {
         ensures limits { IfErr result (λ e. IsMetaSearchError self.now.meta (S.text input.haystack) input.config false e) }
         ensures stays { IfOk result (λ _. MetaStaysInLimits self.now.meta (S.text input.haystack) input.config false) }
     {
-        let found = find_match(
-            alloc,
-            self,
-            &input,
-            false,
-            MatchDetail::Span,
-            &mut Steps::new(),
-            &mut MetaMemory::new(alloc),
-        )?;
-        Ok(found.is_some())
+        self.is_match_in(alloc, input, &mut MetaMemory::new(alloc))
     }
 
     /// The first match in the haystack; `None` if there is none. `RuntimeError` if the search exceeds a limit; `Memory` if
@@ -155,12 +144,7 @@ impl Regex {
         ensures looks_none { meta_uses_easy self.now.meta ≡ false → steps.new ≡ steps.old }
         ensures counts { steps.old ≤ steps.new }
     {
-        weight_bound();
-        let memory = &mut MetaMemory::new(alloc);
-        match find_match(alloc, self, &input, false, MatchDetail::Span, steps, memory)? {
-            Some(found) => Ok(Some(whole_match(input.haystack(), &found))),
-            None => Ok(None),
-        }
+        self.find_counted_in(alloc, input, steps, &mut MetaMemory::new(alloc))
     }
 
     /// The capture groups of the first match in the haystack; `None` if there is none. `RuntimeError` if the search exceeds a
@@ -233,19 +217,7 @@ impl Regex {
         ensures limits { IfErr result (λ e. IsMetaSearchError self.now.meta (S.text input.haystack) input.config false e) }
         ensures stays { IfOk result (λ _. MetaStaysInLimits self.now.meta (S.text input.haystack) input.config false) }
     {
-        let found = find_match(
-            alloc,
-            self,
-            &input,
-            false,
-            MatchDetail::Groups,
-            &mut Steps::new(),
-            &mut MetaMemory::new(alloc),
-        )?;
-        match found {
-            Some(matched) => Ok(Some(Captures::new(self, input.haystack(), matched.groups))),
-            None => Ok(None),
-        }
+        self.captures_in(alloc, input, &mut MetaMemory::new(alloc))
     }
 
     /// The non-overlapping matches in the haystack, from left to right. An item may be an error, and is the last one then.

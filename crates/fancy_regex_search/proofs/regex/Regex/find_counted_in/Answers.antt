@@ -6,7 +6,7 @@ use Rattle.fancy_regex_meta.specs.MetaMatches.{meta_pattern, meta_match_from}
 use Rattle.fancy_regex_search.specs.CaptureSpans.{span_in}
 use Rattle.fancy_regex_search.proofs.LookLemmas.{within_plain}
 use Rattle.fancy_regex_search.proofs.OffsetLemmas.{some-of, none-of, parts-of, found-is}
-use Rattle.fancy_regex_search.proofs.regex.Regex.find_input_counted.Goals as goal
+use Rattle.fancy_regex_search.proofs.regex.Regex.find_counted_in.Goals as goal
 
 pub returns-in-Some-clause-answer : goal.returns-in-Some-clause-answer
 returns-in-Some-clause-answer g c =
@@ -21,8 +21,8 @@ returns-in-Some-clause-answer g c =
     ap Some (c.whole_match.ensures.span ∙ (λ i. (k.0 i, k.1 i)))
     ∙ sym (ap (option_map span_in) (found-is s text a ∙ f.1))
 
-pub returns-clause-answer : goal.returns-clause-answer
-returns-clause-answer g c =
+pub returns-in-None-clause-answer : goal.returns-in-None-clause-answer
+returns-in-None-clause-answer g c =
     let s = c.args.self.now.meta in
     let text = g.S.Input.text c.args.input.haystack in
     let a = c.args.input.config in
@@ -38,6 +38,6 @@ pub returns-in-Some-clause-looks_plain : goal.returns-in-Some-clause-looks_plain
 returns-in-Some-clause-looks_plain g c light served =
     within_plain c.weight_bound.ensures c.args.self.now.meta light c.args.input.config c.args.steps.now c.find_match.new.steps (c.find_match.ensures.looks_most served)
 
-pub returns-clause-looks_plain : goal.returns-clause-looks_plain
-returns-clause-looks_plain g c light served =
+pub returns-in-None-clause-looks_plain : goal.returns-in-None-clause-looks_plain
+returns-in-None-clause-looks_plain g c light served =
     within_plain c.weight_bound.ensures c.args.self.now.meta light c.args.input.config c.args.steps.now c.find_match.new.steps (c.find_match.ensures.looks_most served)

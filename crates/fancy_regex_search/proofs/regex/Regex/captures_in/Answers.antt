@@ -4,7 +4,7 @@ use Rattle.fancy_regex_meta.specs.FoundParts.{found_parts, wanted_parts}
 use Rattle.fancy_regex_meta.specs.declared.found.MatchDetail.TheVariants.{Groups}
 use Rattle.fancy_regex_meta.specs.MetaMatches.{meta_pattern, meta_match_from}
 use Rattle.fancy_regex_search.proofs.OffsetLemmas.{some-of, none-of, parts-of, found-is}
-use Rattle.fancy_regex_search.proofs.regex.Regex.captures_input.Goals as goal
+use Rattle.fancy_regex_search.proofs.regex.Regex.captures_in.Goals as goal
 
 pub returns-in-Some-clause-answer : goal.returns-in-Some-clause-answer
 returns-in-Some-clause-answer g c =

@@ -4,7 +4,7 @@ use Rattle.fancy_regex_meta.specs.FoundParts.{found_parts, wanted_parts}
 use Rattle.fancy_regex_meta.specs.declared.found.MatchDetail.TheVariants.{Span}
 use Rattle.fancy_regex_meta.specs.MetaMatches.{meta_pattern, meta_match_from}
 use Rattle.fancy_regex_search.proofs.OffsetLemmas.{some-same, found-is}
-use Rattle.fancy_regex_search.proofs.regex.Regex.is_match_input.Goals as goal
+use Rattle.fancy_regex_search.proofs.regex.Regex.is_match_in.Goals as goal
 
 pub returns-clause-answer : goal.returns-clause-answer
 returns-clause-answer g c =
