@@ -39,7 +39,8 @@ pub fn by_table(
     requires context { IsSearchContext context.now }
     requires start { IsAtStart context.now (looked_text text.old) anchored place memory.old }
     requires table { IfSome table (IsTableSearch context.now (looked_text text.old)) }
-    ensures settled { IfOk result (λ found. IfSome found (IsSettled context.now (looked_text text.old) (look_count text.old) (look_count text.new)
+    ensures settled { IfOk result (λ found. IfSome found (IsSettled context.now (looked_text text.old)
+        (look_count text.old) (look_count text.new)
         anchored span_only place memory.old memory.new)) }
     ensures same { IfOk result (λ found. found ≡ None → (look_count text.new ≡ look_count text.old) × (memory.new ≡ memory.old)) }
     ensures settling { IsSettling context.now text.old text.new place memory.old memory.new }

@@ -45,7 +45,12 @@ pub struct Easy {
     ghost made: { IsMade states.items entry },
     ghost table: { ∥ IfSome first (IsTableOf unicode matchers.items states.items entry) ∥₁ },
     ghost marks: { ∥ RefusesAscii unicode matchers.items states.items entry refused ∥₁ },
-    ghost cells: { ∥ IfSome rows (IsTable (record { states = states.items; entry = entry; matchers = matchers.items; unicode = unicode })) ∥₁ },
+    ghost cells: { ∥ IfSome rows (IsTable (record {
+      states = states.items;
+      entry = entry;
+      matchers = matchers.items;
+      unicode = unicode;
+    })) ∥₁ },
 }
 
 impl Easy {

@@ -65,7 +65,8 @@ fn by_attempt(
 ) -> Result<Settled, AllocError>
     requires context { IsSearchContext context.now }
     requires start { IsAtStart context.now (looked_text text.old) anchored place memory.old }
-    ensures settled { IfOk result (λ settled. (span_only : Bool) → IsSettled context.now (looked_text text.old) (look_count text.old) (look_count text.new)
+    ensures settled { IfOk result (λ settled. (span_only : Bool) → IsSettled context.now (looked_text text.old)
+        (look_count text.old) (look_count text.new)
         anchored span_only place memory.old memory.new settled) }
     ensures settling { IsSettling context.now text.old text.new place memory.old memory.new }
 {
