@@ -38,7 +38,7 @@ impl Delegate {
             unicode,
             ..CompileOptions::default()
         };
-        let easy = Easy::new(alloc, info, &options)?;
+        let easy = Easy::without_table(alloc, info, &options)?;
         let starts = body_starts(alloc, searched, unicode)?;
         let mut pattern = String::new(alloc);
         part.to_str(&mut pattern, 0)?;
