@@ -12,9 +12,10 @@ ghost use Rattle.fancy_regex_ffi.specs.declared.contents.Subject.TheVariants as 
 
 use crate::contents::{Contents, Subject};
 use crate::fault::CallError;
+use crate::kept_memory::KeptMemory;
 use crate::query::{Query, check_place, find_in, text_of};
 use crate::status::Status;
-use fancy_regex::{Captures, Error, Regex, RegexInput, SearchMemory, Steps};
+use fancy_regex::{Captures, Error, Regex, RegexInput, Steps};
 use fancy_regex_ffi_lists::{Options, Span, group_span, write_error, write_front};
 use std::alloc::Global;
 use std::{fmt, str};
@@ -81,7 +82,7 @@ fn find(
     text: &[u8],
     query: &Query,
     steps: &mut Steps,
-    memory: &mut SearchMemory,
+    memory: &mut KeptMemory,
 ) -> Result<Option<(usize, usize)>, CallError>
     requires { query.now.is_utf8 ≡ true → IsUtf8 text.now }
     ensures answer { IsFoundBy subject.now text.now query.now result }
@@ -125,7 +126,7 @@ fn captures(
     text: &[u8],
     query: &Query,
     spans: &mut [Span],
-    memory: &mut SearchMemory,
+    memory: &mut KeptMemory,
 ) -> Result<bool, CallError>
     requires { query.now.is_utf8 ≡ true → IsUtf8 text.now }
     ensures { IsCapturedBy subject.now text.now query.now result spans.old spans.new }
@@ -146,7 +147,7 @@ fn captures_in(
     text: &str,
     query: &Query,
     spans: &mut [Span],
-    memory: &mut SearchMemory,
+    memory: &mut KeptMemory,
 ) -> Result<bool, CallError>
     ensures { IsCapturedIn regex.now.meta text.now query.now result spans.old spans.new }
 {
@@ -154,7 +155,7 @@ fn captures_in(
     let input = RegexInput::new(text)
         .from_pos(query.position)
         .continue_from_previous_match_end(query.continues);
-    match regex.captures_in(alloc, input, memory)? {
+    match regex.captures_in(alloc, input, &mut memory.memory)? {
         Some(found) => {
             write_groups(&found, spans);
             Ok(true)

@@ -4,7 +4,8 @@ ghost use Rattle.std.specs.Prelude.{◌≡◌, Some, None};
 ghost use Rattle.fancy_regex_ffi.specs.declared.contents.Subject.TheVariants as subjects;
 
 use crate::fault::CallError;
-use fancy_regex::{Regex, RegexSet, SearchMemory};
+use crate::kept_memory::KeptMemory;
+use fancy_regex::{Regex, RegexSet};
 use std::alloc::Global;
 
 /// The most bytes that a search may go through so that the handle keeps its memory for the next one.
@@ -29,7 +30,7 @@ pub struct Contents {
     /// The fault of the last call that had one.
     pub fault: Option<CallError>,
     /// The memory of earlier searches, which changes no answer.
-    pub memory: SearchMemory,
+    pub memory: KeptMemory,
 }
 
 impl Contents {
@@ -41,7 +42,7 @@ impl Contents {
         Contents {
             subject: Subject::Regex(regex),
             fault: None,
-            memory: SearchMemory::new(alloc),
+            memory: KeptMemory::new(alloc),
         }
     }
 
@@ -53,7 +54,7 @@ impl Contents {
         Contents {
             subject: Subject::Set(set),
             fault: None,
-            memory: SearchMemory::new(alloc),
+            memory: KeptMemory::new(alloc),
         }
     }
 
@@ -65,7 +66,7 @@ impl Contents {
         Contents {
             subject: Subject::Nothing,
             fault: Some(fault),
-            memory: SearchMemory::new(alloc),
+            memory: KeptMemory::new(alloc),
         }
     }
 
@@ -76,7 +77,7 @@ impl Contents {
         ensures fault { self.new.fault ≡ self.old.fault }
     {
         if text.len().min(span_end).saturating_sub(from) > MOST_BYTES_KEPT_FOR {
-            self.memory = SearchMemory::new(alloc);
+            self.memory = KeptMemory::new(alloc);
         }
     }
 }

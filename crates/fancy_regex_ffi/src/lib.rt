@@ -19,6 +19,7 @@ mod contents;
 mod fault;
 mod handle;
 mod items;
+mod kept_memory;
 mod query;
 mod sets;
 mod status;

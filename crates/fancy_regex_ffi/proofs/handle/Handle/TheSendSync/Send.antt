@@ -12,7 +12,7 @@ use Rattle.core.specs.declared.option.Option.{Option}
 use Rattle.core.specs.declared.option.Option.TheVariants.{None, Some}
 use Rattle.std_alloc.proofs.SendSync.{quiet, lies}
 use Rattle.fancy_regex_meta.proofs.Sending.{regex_send}
-use Rattle.fancy_regex_meta.proofs.memory.MetaMemory.TheSendSync as memory
+use Rattle.fancy_regex_ffi.proofs.kept_memory.KeptMemory.TheSendSync as memory
 use Rattle.fancy_regex_ffi.specs.Handles.{owns_if_live, token}
 use Rattle.fancy_regex_ffi.specs.contracts.contents.Contents.{the_row as contents_row}
 use Rattle.fancy_regex_ffi.proofs.fault.CallError.TheSendSync as fault
