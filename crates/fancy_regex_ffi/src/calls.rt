@@ -15,7 +15,7 @@ use crate::fault::CallError;
 use crate::kept_memory::KeptMemory;
 use crate::query::{Query, check_place, find_in, text_of};
 use crate::status::Status;
-use fancy_regex::{Captures, Error, Regex, RegexInput, Steps};
+use fancy_regex::{Captures, Error, Regex, RegexInput, SearchMemory, Steps};
 use fancy_regex_ffi_lists::{Options, Span, group_span, write_error, write_front};
 use std::alloc::Global;
 use std::{fmt, str};
@@ -91,7 +91,7 @@ fn find(
 {
     match subject {
         Subject::Regex(regex) => match text_of(text, query.is_utf8) {
-            Ok(text) => find_in(alloc, regex, text, query, steps, memory),
+            Ok(text) => find_in(alloc, regex, text, query, steps, &mut memory.memory),
             Err(fault) => Err(fault),
         },
         Subject::Set(_) | Subject::Nothing => Err(CallError::NoRegex),
@@ -133,7 +133,7 @@ fn captures(
 {
     match subject {
         Subject::Regex(regex) => match text_of(text, query.is_utf8) {
-            Ok(text) => captures_in(alloc, regex, text, query, spans, memory),
+            Ok(text) => captures_in(alloc, regex, text, query, spans, &mut memory.memory),
             Err(fault) => Err(fault),
         },
         Subject::Set(_) | Subject::Nothing => Err(CallError::NoRegex),
@@ -147,7 +147,7 @@ fn captures_in(
     text: &str,
     query: &Query,
     spans: &mut [Span],
-    memory: &mut KeptMemory,
+    memory: &mut SearchMemory,
 ) -> Result<bool, CallError>
     ensures { IsCapturedIn regex.now.meta text.now query.now result spans.old spans.new }
 {
@@ -155,7 +155,7 @@ fn captures_in(
     let input = RegexInput::new(text)
         .from_pos(query.position)
         .continue_from_previous_match_end(query.continues);
-    match regex.captures_in(alloc, input, &mut memory.memory)? {
+    match regex.captures_in(alloc, input, memory)? {
         Some(found) => {
             write_groups(&found, spans);
             Ok(true)
