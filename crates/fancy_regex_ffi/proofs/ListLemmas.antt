@@ -1,10 +1,6 @@
 -- What a call reports that writes a list.
 use Rattle.std.specs.Prelude.{◌≡◌, ℕ, ℤ, Bool, List, Option, Some, Result}
-use mathlib.Core.Path.{refl, sym, subst}
-use Rattle.std.proofs.Common.{w32, to_z, of_z}
-use Rattle.fancy_regex_ffi.specs.Codes.{code_of}
-use Rattle.fancy_regex_ffi.specs.declared.status.Status.{Status}
-use Rattle.fancy_regex_ffi.specs.declared.status.Status.TheVariants as statuses
+use mathlib.Core.Path.{sym, subst}
 use Rattle.fancy_regex_ffi_lists.specs.declared.member.Member.{Member}
 use Rattle.fancy_regex_ffi_lists.specs.declared.spans.Span.{Span}
 use Rattle.fancy_regex_ffi.specs.Ends.{FaultAfter}
@@ -58,22 +54,3 @@ pub check_reports : (template : List ℕ) (is_python : Bool) (old left : Option 
     → CheckReports old left template is_python code
 check_reports template is_python old left contents after answer code before following gives told same recorded =
     subst (λ (o : Option Contents). CheckReports o left template is_python code) (sym before) (after, answer, following, same, gives, told, recorded)
-
--- the number of a status is a number of 32 bits
-fits : (s : Status) → code_of s ≡ to_z w32 (of_z w32 (code_of s))
-fits statuses.NoMatch = refl
-fits statuses.Done = refl
-fits statuses.EmptyHandle = refl
-fits statuses.NoRegex = refl
-fits statuses.NotUtf8 = refl
-fits statuses.PastEnd = refl
-fits statuses.OffBoundary = refl
-fits statuses.NoPattern = refl
-fits statuses.Refused = refl
-fits statuses.Limit = refl
-fits statuses.Memory = refl
-fits statuses.NoSet = refl
-fits statuses.WrongEnds = refl
-
-pub wrapped : (s : Status) (code : ℤ) → code ≡ code_of s → code_of s ≡ to_z w32 (of_z w32 code)
-wrapped s code e = subst (λ (z : ℤ). code_of s ≡ to_z w32 (of_z w32 z)) (sym e) (fits s)
