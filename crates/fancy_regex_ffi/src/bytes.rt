@@ -51,7 +51,7 @@ pub fn end_asked(alloc: Global, handle: &mut Handle, answer: Result<bool, CallEr
         Ok(false) => Status::NoMatch.code(),
         Err(fault) => {
             let status = Status::of_fault(&fault);
-            store(alloc, handle, Contents::of_fault(fault), status)
+            store(alloc, handle, Contents::of_fault(alloc, fault), status)
         }
     }
 }

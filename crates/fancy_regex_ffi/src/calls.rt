@@ -12,9 +12,10 @@ ghost use Rattle.fancy_regex_ffi.specs.declared.contents.Subject.TheVariants as 
 
 use crate::contents::{Contents, Subject};
 use crate::fault::CallError;
+use crate::kept_memory::KeptMemory;
 use crate::query::{Query, check_place, find_in, text_of};
 use crate::status::Status;
-use fancy_regex::{Captures, Error, Regex, RegexInput, Steps};
+use fancy_regex::{Captures, Error, Regex, RegexInput, SearchMemory, Steps};
 use fancy_regex_ffi_lists::{Options, Span, group_span, write_error, write_front};
 use std::alloc::Global;
 use std::{fmt, str};
@@ -25,10 +26,10 @@ pub fn built(alloc: Global, pattern: &[u8], options: &Options) -> (Contents, Sta
     ensures { IsBuilt (chosen options.now) pattern.now result.0.subject result.0.fault result.1 }
 {
     match build(alloc, pattern, options) {
-        Ok(regex) => (Contents::of_regex(regex), Status::Done),
+        Ok(regex) => (Contents::of_regex(alloc, regex), Status::Done),
         Err(fault) => {
             let status = Status::of_fault(&fault);
-            (Contents::of_fault(fault), status)
+            (Contents::of_fault(alloc, fault), status)
         }
     }
 }
@@ -66,7 +67,8 @@ pub fn find_span(
     ensures looks { CountsLooksBy contents.old.subject text.now query.now steps.old steps.new }
     ensures starts { IsAnswer result.0 → CountsStartsBy contents.old.subject text.now query.now steps.old steps.new }
 {
-    match find(alloc, &contents.subject, text, query, steps) {
+    let memory = &mut contents.memory;
+    match find(alloc, &contents.subject, text, query, steps, memory) {
         Ok(Some(found)) => (Status::Done, Span::of(Some(found))),
         Ok(None) => (Status::NoMatch, Span::of(None)),
         Err(fault) => (record_fault(contents, fault), Span::of(None)),
@@ -80,6 +82,7 @@ fn find(
     text: &[u8],
     query: &Query,
     steps: &mut Steps,
+    memory: &mut KeptMemory,
 ) -> Result<Option<(usize, usize)>, CallError>
     requires { query.now.is_utf8 ≡ true → IsUtf8 text.now }
     ensures answer { IsFoundBy subject.now text.now query.now result }
@@ -88,7 +91,7 @@ fn find(
 {
     match subject {
         Subject::Regex(regex) => match text_of(text, query.is_utf8) {
-            Ok(text) => find_in(alloc, regex, text, query, steps),
+            Ok(text) => find_in(alloc, regex, text, query, steps, &mut memory.memory),
             Err(fault) => Err(fault),
         },
         Subject::Set(_) | Subject::Nothing => Err(CallError::NoRegex),
@@ -108,7 +111,8 @@ pub fn write_captures(
     ensures subject { contents.new.subject ≡ contents.old.subject }
     ensures answer { CapturesEnd contents.old.subject text.now query.now result spans.old spans.new contents.old.fault contents.new.fault }
 {
-    match captures(alloc, &contents.subject, text, query, spans) {
+    let memory = &mut contents.memory;
+    match captures(alloc, &contents.subject, text, query, spans, memory) {
         Ok(true) => Status::Done,
         Ok(false) => Status::NoMatch,
         Err(fault) => record_fault(contents, fault),
@@ -122,13 +126,14 @@ fn captures(
     text: &[u8],
     query: &Query,
     spans: &mut [Span],
+    memory: &mut KeptMemory,
 ) -> Result<bool, CallError>
     requires { query.now.is_utf8 ≡ true → IsUtf8 text.now }
     ensures { IsCapturedBy subject.now text.now query.now result spans.old spans.new }
 {
     match subject {
         Subject::Regex(regex) => match text_of(text, query.is_utf8) {
-            Ok(text) => captures_in(alloc, regex, text, query, spans),
+            Ok(text) => captures_in(alloc, regex, text, query, spans, &mut memory.memory),
             Err(fault) => Err(fault),
         },
         Subject::Set(_) | Subject::Nothing => Err(CallError::NoRegex),
@@ -142,6 +147,7 @@ fn captures_in(
     text: &str,
     query: &Query,
     spans: &mut [Span],
+    memory: &mut SearchMemory,
 ) -> Result<bool, CallError>
     ensures { IsCapturedIn regex.now.meta text.now query.now result spans.old spans.new }
 {
@@ -149,7 +155,7 @@ fn captures_in(
     let input = RegexInput::new(text)
         .from_pos(query.position)
         .continue_from_previous_match_end(query.continues);
-    match regex.captures_input(alloc, input)? {
+    match regex.captures_in(alloc, input, memory)? {
         Some(found) => {
             write_groups(&found, spans);
             Ok(true)

@@ -19,6 +19,7 @@ mod contents;
 mod fault;
 mod handle;
 mod items;
+mod kept_memory;
 mod query;
 mod sets;
 mod status;
@@ -100,6 +101,7 @@ pub extern "C" fn fancy_regex_raw_find_counted(
 }
 
 /// The first match of a search, with a counter.
+#[inline(always)]
 #[tactic(auto, using(crate::proofs::EndLemmas::find_reports, crate::proofs::EndLemmas::looks_reported))]
 fn find_counted(
     alloc: Global,
@@ -119,6 +121,7 @@ fn find_counted(
         return Status::EmptyHandle.code();
     };
     let (status, found) = find_span(alloc, &mut contents, text, query, steps);
+    contents.bound_memory(alloc, text, query.position, found.end);
     *span = found;
     handle.put(alloc, contents);
     status.code()
@@ -141,8 +144,18 @@ pub extern "C" fn fancy_regex_raw_captures(
         return Status::EmptyHandle.code();
     };
     let status = write_captures(alloc, &mut contents, text, query, spans);
+    let end = end_of_match(status, spans);
+    contents.bound_memory(alloc, text, query.position, end);
     handle.put(alloc, contents);
     status.code()
+}
+
+/// Where the first of the spans ends that a search for groups has written; without a match, or without room, the largest number.
+fn end_of_match(status: Status, spans: &[Span]) -> usize {
+    match (status, spans.first()) {
+        (Status::Done, Some(span)) => span.end,
+        _ => usize::MAX,
+    }
 }
 
 /// The number of groups, the whole match included; 0 where the handle holds no regex.
@@ -301,7 +314,7 @@ pub extern "C" fn fancy_regex_raw_set_build(
     ensures { SetBuildEnds (chosen options.now) patterns.now ends.now handle.new.contents result }
 {
     fancy_regex_raw_free(alloc, handle);
-    let (contents, status) = set_told(build_set(alloc, patterns, ends, options));
+    let (contents, status) = set_told(alloc, build_set(alloc, patterns, ends, options));
     store(alloc, handle, contents, status)
 }
 
@@ -371,7 +384,7 @@ pub extern "C" fn fancy_regex_raw_set_build_mixed(
     ensures { MixedBuildEnds options.now patterns.now ends.now handle.new.contents result }
 {
     fancy_regex_raw_free(alloc, handle);
-    let (contents, status) = set_told(build_mixed(alloc, patterns, ends, options));
+    let (contents, status) = set_told(alloc, build_mixed(alloc, patterns, ends, options));
     store(alloc, handle, contents, status)
 }
 

@@ -4,7 +4,7 @@ ghost use Rattle.std.specs.Prelude.{◌≡◌, true, IfOk, IsUtf8};
 ghost use Rattle.fancy_regex_ffi.specs.Searches.{IsTextOrFault, IsPlaceOrFault, IsFoundIn, CountsLooks, CountsStarts};
 
 use crate::fault::CallError;
-use fancy_regex::{Regex, RegexInput, Steps};
+use fancy_regex::{Regex, RegexInput, SearchMemory, Steps};
 use std::alloc::Global;
 use std::str;
 
@@ -54,6 +54,7 @@ pub fn find_in(
     text: &str,
     query: &Query,
     steps: &mut Steps,
+    memory: &mut SearchMemory,
 ) -> Result<Option<(usize, usize)>, CallError>
     ensures answer { IsFoundIn regex.now.meta text.now query.now result }
     ensures looks { CountsLooks regex.now.meta text.now query.now steps.old steps.new }
@@ -63,7 +64,7 @@ pub fn find_in(
     let input = RegexInput::new(text)
         .from_pos(query.position)
         .continue_from_previous_match_end(query.continues);
-    match regex.find_input_counted(alloc, input, steps)? {
+    match regex.find_counted_in(alloc, input, steps, memory)? {
         Some(found) => Ok(Some((found.start(), found.end()))),
         None => Ok(None),
     }

@@ -16,14 +16,14 @@ use fancy_regex_ffi_lists::{Member, Options, mixed_set, set_groups, set_members}
 use std::alloc::Global;
 
 /// What holds a set, or the fault of building it; and how that ends.
-pub fn set_told(answer: Result<RegexSet, CallError>) -> (Contents, Status)
+pub fn set_told(alloc: Global, answer: Result<RegexSet, CallError>) -> (Contents, Status)
     ensures { IsSetTold answer result.0 result.1 }
 {
     match answer {
-        Ok(set) => (Contents::of_set(set), Status::Done),
+        Ok(set) => (Contents::of_set(alloc, set), Status::Done),
         Err(fault) => {
             let status = Status::of_fault(&fault);
-            (Contents::of_fault(fault), status)
+            (Contents::of_fault(alloc, fault), status)
         }
     }
 }

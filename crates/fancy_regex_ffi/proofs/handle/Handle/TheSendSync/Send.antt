@@ -12,6 +12,7 @@ use Rattle.core.specs.declared.option.Option.{Option}
 use Rattle.core.specs.declared.option.Option.TheVariants.{None, Some}
 use Rattle.std_alloc.proofs.SendSync.{quiet, lies}
 use Rattle.fancy_regex_meta.proofs.Sending.{regex_send}
+use Rattle.fancy_regex_ffi.proofs.kept_memory.KeptMemory.TheSendSync as memory
 use Rattle.fancy_regex_ffi.specs.Handles.{owns_if_live, token}
 use Rattle.fancy_regex_ffi.specs.contracts.contents.Contents.{the_row as contents_row}
 use Rattle.fancy_regex_ffi.proofs.fault.CallError.TheSendSync as fault
@@ -19,7 +20,7 @@ use Rattle.fancy_regex_ffi.specs.contracts.handle.Handle.{the_row, the_type}
 
 -- what a handle holds, of which the toolchain writes no such proof, since a program may hold a tree
 contents_send : IsSend contents_row
-contents_send = search (regex_send, fault.the_field_send, heap.crosses, sendable) depth 60 fits 20000
+contents_send = search (regex_send, fault.the_field_send, memory.the_send, heap.crosses, sendable) depth 60 fits 20000
 
 owned : (p : Ptr) (b : Bool) (o : Option contents_row.Denot) → Keyless (owns_if_live token contents_row p b o)
 unfolding owns_if_live
