@@ -1,9 +1,9 @@
 //! The programs that are tested.
 
 use fancy_regex_analysis::analyze;
+use fancy_regex_compiled::Prog;
 use fancy_regex_compiler::compile;
 use fancy_regex_info::{AnalyzeContext, CompileOptions};
-use fancy_regex_compiled::Prog;
 use fancy_regex_tree::Expr;
 use std::alloc::Global;
 

@@ -2,11 +2,11 @@
 
 use crate::compiled::{Text, program};
 use fancy_regex_class::{RunInput, Span};
+use fancy_regex_compiled::Prog;
 use fancy_regex_info::CompileOptions;
 use fancy_regex_machine::{
     RunMemory, RunOptions, RuntimeError, run, run_default, run_in, run_spans_in,
 };
-use fancy_regex_compiled::Prog;
 use std::alloc::Global;
 
 /// How a run has to end.

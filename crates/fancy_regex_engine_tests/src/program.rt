@@ -1,8 +1,8 @@
 //! What programs are made of, and ranges of groups.
 
 use crate::compiled::{Text, program};
-use fancy_regex_info::CompileOptions;
 use fancy_regex_compiled::Prog;
+use fancy_regex_info::CompileOptions;
 use fancy_regex_program::{CaptureGroupRange, Insn};
 use std::alloc::Global;
 

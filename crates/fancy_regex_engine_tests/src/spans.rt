@@ -2,9 +2,9 @@
 
 use crate::compiled::{Text, program};
 use fancy_regex_class::{RunInput, Span};
+use fancy_regex_compiled::Prog;
 use fancy_regex_info::CompileOptions;
 use fancy_regex_machine::{RunOptions, run_spans};
-use fancy_regex_compiled::Prog;
 use std::alloc::Global;
 
 /// How a text is searched.

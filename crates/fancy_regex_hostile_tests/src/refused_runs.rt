@@ -7,11 +7,11 @@ use crate::outcome::{Attempt, Text, first_wrong};
 use fancy_regex::{Result, Steps};
 use fancy_regex_analysis::analyze;
 use fancy_regex_class::{RunInput, Span};
+use fancy_regex_compiled::Prog;
 use fancy_regex_compiler::compile;
 use fancy_regex_info::{AnalyzeContext, CompileError, CompileOptions};
 use fancy_regex_linear::Easy;
 use fancy_regex_machine::{RunOptions, run, run_default, run_spans};
-use fancy_regex_compiled::Prog;
 use fancy_regex_tree::Expr;
 use std::alloc::Global;
 

@@ -25,11 +25,11 @@ use crate::memory::MetaMemory;
 use crate::options::RegexOptions;
 use crate::seek::seek_table;
 use fancy_regex_class::{RunInput, Steps};
+use fancy_regex_compiled::Prog;
 use fancy_regex_compiler::compile;
 use fancy_regex_info::{CompileError, CompileOptions, Info};
 use fancy_regex_linear::Easy;
 use fancy_regex_machine::{RunOptions, run_in, run_spans_in};
-use fancy_regex_compiled::Prog;
 use std::alloc::Global;
 
 /// What executes a compiled pattern.

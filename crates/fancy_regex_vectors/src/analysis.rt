@@ -7,10 +7,10 @@ use crate::quoted::put_error;
 use fancy_regex::{Error, Expr, RuntimeError};
 use fancy_regex_analysis::analyze;
 use fancy_regex_class::{RunInput, Span};
+use fancy_regex_compiled::Prog;
 use fancy_regex_compiler::compile;
 use fancy_regex_info::{AnalyzeContext, CompileOptions, Info};
 use fancy_regex_machine::{RunOptions, run};
-use fancy_regex_compiled::Prog;
 use std::alloc::{AllocError, Global};
 use std::fmt::Write;
 
