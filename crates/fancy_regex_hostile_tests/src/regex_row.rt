@@ -16,7 +16,8 @@ pub enum RegexCall {
     Find(usize, Option<Place>),
     /// `find` of a regex that seeks, and whether the longest match is wanted: the span of the match.
     Seek(bool, Option<Place>),
-    /// All searches, also those that share their memory: the span of the match, and the greatest number of looks of the linear engine at the text.
+    /// All searches, also those that share their memory: the span of the match, and the greatest number of looks of the linear engine at
+    /// the text.
     Search(Option<Place>, u64),
     /// `captures`: the spans of all groups of the first match.
     Capture(&'static [Option<Place>]),
