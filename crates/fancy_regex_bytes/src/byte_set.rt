@@ -11,7 +11,7 @@ ghost use Rattle.fancy_regex_bytes.specs.StartBytes.{class_starts};
 /// let found = RegexOptionsBuilder::new().start_bytes(alloc, "bx|a")?;
 /// if let Some(bytes) = found {
 ///     assert!(rt; bytes.contains(98) && !bytes.contains(120) && bytes.table()[97]);
-///     assert!(rt; bytes.iter().count() == 2);
+///     assert!(rt; bytes.iter().next() == Some(97));
 /// }
 /// ```
 #[derive(Clone, Copy, Debug, PartialEq, Eq)]

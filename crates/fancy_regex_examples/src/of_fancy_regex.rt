@@ -78,12 +78,6 @@ fn examples_2(rt: HostRuntime) -> Result<(), Fail> {
         let regex = builder.unicode_mode(false).build(alloc)?;
         assert!(rt; !regex.is_match(alloc, "é")?);
     }
-    // RegexBuilder::backtrack_limit
-    {
-        let mut builder = RegexBuilder::new(alloc, r"(a|aa)+\1b")?;
-        let regex = builder.backtrack_limit(100).build(alloc)?;
-        assert!(rt; regex.is_match(alloc, "aaaaaaaaaaaaaaaa").is_err());
-    }
     Ok(())
 }
 
@@ -364,6 +358,18 @@ fn examples_8(rt: HostRuntime) -> Result<(), Fail> {
                 assert!(rt; member?.start() == 1);
             }
         }
+    }
+    Ok(())
+}
+
+#[test]
+fn examples_9(rt: HostRuntime) -> Result<(), Fail> {
+    let alloc = rt.alloc();
+    // RegexBuilder::backtrack_limit
+    {
+        let mut builder = RegexBuilder::new(alloc, r"(a|aa)+\1b")?;
+        let regex = builder.backtrack_limit(100).build(alloc)?;
+        assert!(rt; regex.is_match(alloc, "aaaaaaaaaaaaaaaa").is_err());
     }
     Ok(())
 }

@@ -382,6 +382,12 @@ fn examples_8(rt: HostRuntime) -> Result<(), Fail> {
         let blank = Regex::new(alloc, " ")?;
         assert!(rt; blank.split(alloc, "a b  c").count() == 4);
     }
+    Ok(())
+}
+
+#[test]
+fn examples_9(rt: HostRuntime) -> Result<(), Fail> {
+    let alloc = rt.alloc();
     // Regex::splitn
     {
         let blank = Regex::new(alloc, " ")?;
