@@ -2,7 +2,7 @@
 
 use fancy_regex::{
     Captures, Error, Expander, FnReplacer, NoExpand, ParseError, Regex, RegexInput, Replacer,
-    ReplacerRef, Steps, escape,
+    ReplacerRef, SearchMemory, Steps, escape,
 };
 use std::test::Fail;
 
@@ -356,6 +356,45 @@ fn examples_7(rt: HostRuntime) -> Result<(), Fail> {
             assert!(rt; groups?.get(1).is_some());
         }
     }
+    // Regex::is_match_in
+    {
+        let regex = Regex::new(alloc, r"(\w)\1")?;
+        let mut memory = SearchMemory::new(alloc);
+        assert!(rt; regex.is_match_in(alloc, RegexInput::new("a book"), &mut memory)?);
+        assert!(rt; !regex.is_match_in(alloc, RegexInput::new("a page"), &mut memory)?);
+    }
+    Ok(())
+}
+
+#[test]
+fn examples_8(rt: HostRuntime) -> Result<(), Fail> {
+    let alloc = rt.alloc();
+    // Regex::find_in
+    {
+        let words = Regex::new(alloc, r"\w+")?;
+        let numbers = Regex::new(alloc, r"\d+(?!\.)")?;
+        let mut memory = SearchMemory::new(alloc);
+        let word = words.find_in(alloc, RegexInput::new("1. in 1897"), &mut memory)?;
+        let number = numbers.find_in(alloc, RegexInput::new("1. in 1897"), &mut memory)?;
+        assert!(rt; word.map(|found| found.as_str()) == Some("1"));
+        assert!(rt; number.map(|found| found.as_str()) == Some("1897"));
+    }
+    // Regex::find_counted_in
+    {
+        let regex = Regex::new(alloc, "a+b")?;
+        let mut steps = Steps::new();
+        let mut memory = SearchMemory::new(alloc);
+        let input = RegexInput::new("aaac");
+        let found = regex.find_counted_in(alloc, input, &mut steps, &mut memory)?;
+        assert!(rt; found.is_none() && steps.count() > 0);
+    }
+    // Regex::captures_in
+    {
+        let regex = Regex::new(alloc, r"(\d+)-(\d+)")?;
+        let mut memory = SearchMemory::new(alloc);
+        let groups = regex.captures_in(alloc, RegexInput::new("in 2018-04"), &mut memory)?;
+        assert!(rt; groups.map_or(0, |groups| groups.len()) == 3);
+    }
     // Split
     {
         let comma = Regex::new(alloc, r"\s*,\s*")?;
@@ -364,12 +403,6 @@ fn examples_7(rt: HostRuntime) -> Result<(), Fail> {
         assert!(rt; pieces.next().ok_or("the rest")?? == "b");
         assert!(rt; pieces.next().is_none());
     }
-    Ok(())
-}
-
-#[test]
-fn examples_8(rt: HostRuntime) -> Result<(), Fail> {
-    let alloc = rt.alloc();
     // SplitN
     {
         let comma = Regex::new(alloc, ",")?;

@@ -2,7 +2,7 @@
 
 use fancy_regex::{
     BytesMode, CompileError, Error, ParseError, Regex, RegexBuilder, RegexInput,
-    RegexOptionsBuilder, RuntimeError, Steps,
+    RegexOptionsBuilder, RuntimeError, SearchMemory, Steps,
 };
 use std::test::Fail;
 
@@ -71,6 +71,15 @@ fn examples_2(rt: HostRuntime) -> Result<(), Fail> {
         match Regex::new(alloc, "a)") {
             Err(Error::ParseError(place, _)) => assert!(rt; place == 1),
             _ => assert!(rt; false),
+        }
+    }
+    // MetaMemory
+    {
+        let regex = Regex::new(alloc, r"\w+(?=!)")?;
+        let mut memory = SearchMemory::new(alloc);
+        for text in ["so fancy!", "even so!"] {
+            let found = regex.find_in(alloc, RegexInput::new(text), &mut memory)?;
+            assert!(rt; found.is_some());
         }
     }
     // ParseError
