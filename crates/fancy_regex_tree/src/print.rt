@@ -22,7 +22,9 @@ impl Expr {
     /// ```
     /// let tree = Expr::parse_tree(alloc, "(?:ab)*")?;
     /// let mut text = String::new(alloc);
-    /// tree.expr.to_str(&mut text, 0)?;
+    /// if tree.expr.is_printable(alloc)? {
+    ///     tree.expr.to_str(&mut text, 0)?;
+    /// }
     /// assert!(rt; text.as_str() == "(?:ab)*");
     /// ```
     pub fn to_str(&self, buf: &mut String, precedence: u8) -> Result<(), AllocError>
