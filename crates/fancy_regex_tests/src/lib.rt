@@ -11,8 +11,6 @@ mod calls;
 #[cfg(test)]
 mod input;
 #[cfg(test)]
-mod memory;
-#[cfg(test)]
 mod pieces;
 #[cfg(test)]
 mod replacement;
