@@ -171,7 +171,7 @@ module _ (first : ℕ) (ops : List Op) where
     through (check a) at pc slot is here h = inr (refl, passes_on at (op.assertion a) here.0 (λ from. refl) h)
     through continue at pc slot is here h = inr (refl, passes_on at op.continue here.0 (λ from. refl) h)
     through keep_out at pc slot is here h = inr (refl, kept whole at here h)
-    through fail at pc slot is here h = absurd (reads_not at op.fail here.0 (λ from. refl) h)
+    through fail at pc slot is here h = inl tt
     through (cat a b) at pc slot is here h =
         let xs = made a [] pc slot in
         let ys = made b (waits a []) (pc + length xs) (slot + slots_in a) in
@@ -225,7 +225,7 @@ module _ (first : ℕ) (ops : List Op) where
         let xs = within a (p + 2) (slot + 1) in
         let both = on_both (at + 1) (p + 2) (p + 3 + length xs) here.1.0 (passes_on at (op.begin_atomic slot) here.0 (λ from. refl) h) in
         inr (refl, reads_as (p + 3 + length xs - first) _ (omega (arith, length-append xs (op.fail_negative slot ∷ []))) both.1)
-    through (back n) at pc slot is here h = absurd (reads_not at (op.go_back n) here.0 (λ from. refl) h)
+    through (back n) at pc slot is here h = inr (refl, passes_on at (op.go_back n) here.0 (λ from. refl) h)
     through (atomic a) at pc slot is here h =
         let p = pc + length (flushed []) in
         let xs = within a (p + 1) (slot + 1) in
@@ -256,12 +256,12 @@ module _ (first : ℕ) (ops : List Op) where
           | zero ↦ λ none. inr (refl, reads_as (next - first) _ (omega (arith, length-append xs (op.jump (p + 1) ∷ []))) (on.1 none))
           | suc n ↦ λ some. inl due
         ] refl
-    through (delegate t a) at pc slot is here h = absurd (reads_not at (op.delegate has_member fold t) here.0 (λ from. refl) h)
+    through (delegate t a) at pc slot is here h = inr (refl, passes_on at (op.delegate has_member fold t) here.0 (λ from. refl) h)
     through (tail t a) at pc slot is here h =
         let p = pc + length (flushed []) in
         absurd (reads_not at (op.tail has_member fold t (p + 1 + length (within a (p + 1) slot))) here.0 (λ from. refl) h)
-    through (backref k casei) at pc slot is here h = absurd (reads_not at (op.backref (2 * k) casei) here.0 (λ from. refl) h)
-    through (exists k) at pc slot is here h = absurd (reads_not at (op.exists (2 * k)) here.0 (λ from. refl) h)
+    through (backref k casei) at pc slot is here h = inr (refl, passes_on at (op.backref (2 * k) casei) here.0 (λ from. refl) h)
+    through (exists k) at pc slot is here h = inr (refl, passes_on at (op.exists (2 * k)) here.0 (λ from. refl) h)
     through (conditional c a b) at pc slot is here h =
         let p = pc + length (flushed []) in
         let xs = within c (p + 2) (slot + 1) in

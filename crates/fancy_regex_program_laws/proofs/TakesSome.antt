@@ -22,6 +22,7 @@ use Rattle.fancy_regex_program_laws.proofs.WaysOf.{first_kept, Onward, follows_o
 abbrev pub TakesSome : CorePattern → Type 0
 TakesSome (read leaf) = Unit {0}
 TakesSome (general_newline unicode) = Unit {0}
+TakesSome fail = Unit {0}
 TakesSome (cat a b) = TakesSome a ⊎ TakesSome b
 TakesSome (alt a b) = TakesSome a × TakesSome b
 TakesSome (group k a) = TakesSome a
@@ -62,7 +63,6 @@ module _ (s : Setting) (bound : Option ℕ) where
   leads_past (check a) t k w = absurd t
   leads_past continue t k w = absurd t
   leads_past keep_out t k w = absurd t
-  leads_past fail t k w = absurd t
   leads_past (ahead a) t k w = absurd t
   leads_past (never a) t k w = absurd t
   leads_past (back n) t k w = absurd t
@@ -72,6 +72,7 @@ module _ (s : Setting) (bound : Option ℕ) where
   leads_past (backref n casei) t k w = absurd t
   leads_past (exists n) t k w = absurd t
   leads_past (absent a) t k w = absurd t
+  leads_past fail t k w = tt
   leads_past (read leaf) t k w = past_char (passes s leaf) w
   leads_past (general_newline unicode) t k w =
       Each-cond (Past w) (is_before_byte s.text 13 w.position && is_before_byte s.text 10 (w.position + 1)) (with_position w (w.position + 2) ∷ [])
