@@ -1,11 +1,11 @@
 -- The translation of a list of trees, one by one.
-use Rattle.std.proofs.Common.{◌≡◌, ◌==◌, not, zero, suc, ℕ, ◌+◌, ◌<◌, ◌≤◌, ◌||◌, ◌&&◌, Bool, List, [], ◌∷◌, ◌++◌, length, map, take, get_or, refl, sym, ap, ap₂, ◌∙◌, arith, length-append, ne_eqb, Result, Ok, Err, IfOk}
+use Rattle.std.proofs.Common.{◌≡◌, ◌≢◌, ◌==◌, not, zero, suc, ℕ, ◌+◌, ◌<◌, ◌≤◌, ◌||◌, ◌&&◌, Bool, false, true≢false, List, [], ◌∷◌, ◌++◌, length, map, take, get_or, refl, sym, ap, ap₂, ◌∙◌, arith, length-append, ne_eqb, Result, Ok, Err, IfOk}
 use Rattle.std.proofs.lemmas.List.{take_more, take_all, map-append, append_assoc, append-nil}
 use Rattle.std.specs.List.{Contains}
 use Rattle.std.proofs.lemmas.List.Elements.{All-nil, All-cons, All-append, Contains-append_left, Contains-append_right}
 use Rattle.std.proofs.Math.Bool.{or_assoc, and_assoc, and-true}
 use Rattle.regex_class.proofs.RangesLemmas.{or-false}
-use Rattle.fancy_regex_tree.specs.Tree.{Tree, Text, trees, tree_of}
+use Rattle.fancy_regex_tree.specs.Tree.{Tree, Text, no_trees, more_trees, trees, tree_of}
 use Rattle.fancy_regex_tree.specs.declared.expr.Expr.{Expr}
 use Rattle.fancy_regex_meaning.specs.Groups.{group_count, row_group_count}
 use Rattle.fancy_regex_class.specs.declared.class.CharClassMatcher.{CharClassMatcher}
@@ -30,6 +30,11 @@ if_ok (Err e) f h = tt
 pub plain_more : (ts : List Tree) (t : Tree) → ArePlain (trees (ts ++ t ∷ [])) → ArePlain (trees ts) × IsPlain t
 plain_more [] t p = (tt, p.0)
 plain_more (u ∷ ts) t p = let rest = plain_more ts t p.1 in ((p.0, rest.0), rest.1)
+
+-- and so it is plain
+pub plain_added : (ts : List Tree) (t : Tree) → ArePlain (trees ts) → IsPlain t → ArePlain (trees (ts ++ t ∷ []))
+plain_added [] t ps p = (p, tt)
+plain_added (u ∷ ts) t ps p = (ps.0, plain_added ts t ps.1 p)
 
 -- one more tree of a row
 pub trees_more : (es : List Expr) (i : ℕ) (x : Expr) → i < length es → x ≡ get_or es i x
@@ -62,6 +67,18 @@ module _ (unicode : Bool) where
     serve = λ es s. rw (← append_assoc es cs ds) (y.serve (es ++ cs) (x.serve es s));
     read = All-append (IsRead unicode) cs ds x.read y.read;
   }
+
+-- all trees of a row are plain, tree by tree
+pub plain_step : (es : List Expr) (i : ℕ) (e : Expr) → i < length es → e ≡ get_or es i e → ArePlain (trees (map tree_of (take i es))) → IsPlain (tree_of e)
+    → ArePlain (trees (map tree_of (take (i + 1) es)))
+plain_step es i e h is done one = rw (trees_more es i e h is) (plain_added (map tree_of (take i es)) (tree_of e) done one)
+
+pub plain_whole : (es : List Expr) (i : ℕ) → length es ≤ i → ArePlain (trees (map tree_of (take i es))) → ArePlain (all_trees es)
+plain_whole es i h done = rw (take_all i es h) at done
+
+pub some_trees : (es : List Expr) → (length es == 0) ≡ false → all_trees es ≢ no_trees
+some_trees [] h e = absurd (true≢false h)
+some_trees (x ∷ xs) h e = cc
 
 -- the groups and classes of a row, with one more tree
 pub groups_more : (ts : List Tree) (t : Tree) → row_group_count (trees (ts ++ t ∷ [])) ≡ row_group_count (trees ts) + group_count t

@@ -13,20 +13,20 @@ use Rattle.regex_hir.proofs.TextLemmas.{char_at_from, char_at_parts, char_at_fit
 use Rattle.regex_hir.proofs.Utf8Lemmas.{char_at_cases, IsOneByteAt, IsTwoBytesAt, IsThreeBytesAt, IsFourBytesAt}
 use Rattle.fancy_regex_tree.specs.Tree.{Text}
 use Rattle.fancy_regex_meaning.specs.Positions.{is_after_byte, is_before_byte, is_at_end}
-use Rattle.fancy_regex_meaning.specs.Ways.{holds}
+use Rattle.fancy_regex_meaning.specs.Ways.{Setting, holds}
 use Rattle.fancy_regex_class.specs.Classes.{in_class}
 use Rattle.fancy_regex_class.specs.Matchers.{has}
 use Rattle.fancy_regex_class.specs.declared.class.CharClassMatcher.{CharClassMatcher}
 use Rattle.fancy_regex_class.proofs.AdjacentCharLemmas.{char_before_past}
 use Rattle.fancy_regex_states.specs.Attempts.{ShowsAll}
 use Rattle.fancy_regex_states.specs.CharTests.{leaf_matches_char, is_char, passes}
-use Rattle.fancy_regex_linear.specs.SettingView.{leaf_matches, view_of, assertion_of}
+use Rattle.fancy_regex_linear.specs.SettingView.{leaf_matches, test_holds, view_of}
 use Rattle.fancy_regex_linear.specs.Easy.{HaveMatchers, rules_for}
 use Rattle.fancy_regex_class.specs.RunInputs.{setting_for}
 use Rattle.fancy_regex_states.specs.declared.atom.Leaf.{Leaf}
 use Rattle.fancy_regex_states.specs.declared.atom.Leaf.TheVariants.{Any, Char, Folded, Class}
 use Rattle.fancy_regex_states.specs.declared.atom.Test.{Test}
-use Rattle.fancy_regex_states.specs.declared.atom.Test.TheVariants.{StartText, EndText, StartLine, EndLine, WordBoundary, NotWordBoundary, LeftWordBoundary, RightWordBoundary}
+use Rattle.fancy_regex_states.specs.declared.atom.Test.TheVariants.{StartText, EndText, StartLine, EndLine, WordBoundary, NotWordBoundary, LeftWordBoundary, RightWordBoundary, LookAhead, LookAheadNeg, LookBehind, LookBehindNeg}
 use Rattle.fancy_regex_class.specs.declared.input.RunInput.{RunInput}
 use Rattle.fancy_regex_meaning.proofs.NextBoundaryLemmas.{char_of}
 
@@ -90,7 +90,7 @@ last_char text post (d ∷ ds) c i s e =
 
 -- the character before an offset
 abbrev pub Before : List ℕ → ℕ → Type 0
-Before text p = (c : ℕ) × (char_before text p ≡ Some c) × ((b : ℕ) → b < 128 → is_after_byte text b p ≡ (c == b))
+Before text p = (c : ℕ) × (char_before text p ≡ Some c) × ((b : ℕ) → b < 128 → is_after_byte text b p ≡ (c == b)) × IsScalar c
 
 before_from : (text post : List ℕ) (p : ℕ) (cs : List ℕ) → scalars cs ≡ true → text ≡ encode_utf8_all cs ++ post → length (encode_utf8_all cs) ≡ p → 0 < p → Before text p
 before_from text post p [] s e len some = absurd (omega arith)
@@ -100,6 +100,7 @@ before_from text post p (c ∷ cs) s e len some =
       last.1,
       ap (char_before text) (sym place) ∙ char_before_past text last.0 last.1 last.2,
       λ b low. ap (is_after_byte text b) (sym place) ∙ byte_after text b last.0 last.1 low last.2,
+      (char_at_parts text last.0 last.1 last.2).0,
     )
 
 pub before_some : (text : List ℕ) (p : ℕ) → IsUtf8 text → IsCharBoundary text p → 0 < p → Before text p
@@ -107,6 +108,26 @@ before_some text p u b some =
     let front = IsUtf8-take text p u b in
     before_from text (drop p text) p front.0 front.1.0 (sym (take-append-drop p text) ∙ ap (λ xs. xs ++ drop p text) (sym front.1.1))
     (ap length front.1.1 ∙ length-take-le p text b.0) some
+
+-- the matchers take what the classes have
+served_same : (unicode : Bool) (ms : List CharClassMatcher) (cs : List (Text × Bool)) (k c : ℕ) → HaveMatchers unicode ms cs → IsScalar c
+    → is_some_and (slice_get cs k) (λ p. in_class unicode p.0 p.1 c) ≡ is_some_and (slice_get ms k) (λ m. has m c)
+served_same unicode [] [] k c h scalar = refl
+served_same unicode (m ∷ ms) (x ∷ xs) zero c h scalar = sym (h.0 c scalar)
+served_same unicode (m ∷ ms) (x ∷ xs) (suc k) c h scalar = served_same unicode ms xs k c h.1 scalar
+served_same unicode [] (x ∷ xs) k c h scalar = absurd h
+served_same unicode (m ∷ ms) [] k c h scalar = absurd h
+
+module _ (unicode longest : Bool) (text : List ℕ) (input : RunInput) (ms : List CharClassMatcher) (cs : List (Text × Bool)) (serve : HaveMatchers unicode ms cs) where
+  takes_same : (leaf : Leaf) (c : ℕ) → IsScalar c → leaf_matches (setting_for unicode text input) cs leaf c ≡ leaf_matches_char unicode ms leaf c
+  takes_same (Any newline crlf) c scalar = refl
+  takes_same (Char d) c scalar = refl
+  takes_same (Folded d) c scalar = refl
+  takes_same (Class k) c scalar = served_same unicode ms cs k c serve scalar
+
+  taken : (leaf : Leaf) (p : ℕ) (o : Option ℕ) → char_at text p ≡ o → is_some_and o (leaf_matches (setting_for unicode text input) cs leaf) ≡ is_some_and o (leaf_matches_char unicode ms leaf)
+  taken leaf p None e = refl
+  taken leaf p (Some c) e = takes_same leaf c (char_at_parts text p c e).0
 
 module _ (text : List ℕ) (p : ℕ) (u : IsUtf8 text) (b : IsCharBoundary text p) where
   start_is : (p == 0) ≡ is_none (char_before text p)
@@ -145,8 +166,25 @@ module _ (text : List ℕ) (p : ℕ) (u : IsUtf8 text) (b : IsCharBoundary text 
   before_is d low = byte_here d low (char_at text p) refl
 
   -- a test, by the characters beside the place
-  module _ (unicode longest : Bool) (input : RunInput) where
-    tests_same : (test : Test) → holds (setting_for unicode text input) (assertion_of test) p ≡ passes (rules_for unicode longest input) test (char_before text p) (char_at text p)
+  module _ (unicode longest : Bool) (input : RunInput) (ms : List CharClassMatcher) (cs : List (Text × Bool)) (serve : HaveMatchers unicode ms cs) where
+    abbrev s : Setting
+    s = setting_for unicode text input
+
+    after_same : (leaf : Leaf) → is_some_and (char_at text p) (leaf_matches s cs leaf) ≡ is_some_and (char_at text p) (leaf_matches_char unicode ms leaf)
+    after_same leaf = taken unicode longest text input ms cs serve leaf p (char_at text p) refl
+
+    before_same : (leaf : Leaf) → is_some_and (char_before text p) (leaf_matches s cs leaf) ≡ is_some_and (char_before text p) (leaf_matches_char unicode ms leaf)
+    before_same leaf = elim (cases_lt 0 p) [
+      | inl some ↦
+          let h = before_some text p u b some in
+          rw h.1 (takes_same unicode longest text input ms cs serve leaf h.0 h.3)
+      | inr none ↦
+          let zero_is : p ≡ 0 = omega arith in
+          let nothing : char_before text p ≡ None = ap (char_before text) zero_is ∙ char_before-zero text in
+          rw nothing refl
+    ]
+
+    tests_same : (test : Test) → test_holds s cs test p ≡ passes ms (rules_for unicode longest input) test (char_before text p) (char_at text p)
     tests_same StartText = ap (λ x. x && not input.no_start_text) start_is
     tests_same EndText = ap (λ x. x && not input.no_end_text) end_is
     tests_same (StartLine crlf) =
@@ -164,31 +202,16 @@ module _ (text : List ℕ) (p : ℕ) (u : IsUtf8 text) (b : IsCharBoundary text 
     tests_same NotWordBoundary = refl
     tests_same LeftWordBoundary = refl
     tests_same RightWordBoundary = refl
-
--- the matchers take what the classes have
-served_same : (unicode : Bool) (ms : List CharClassMatcher) (cs : List (Text × Bool)) (k c : ℕ) → HaveMatchers unicode ms cs → IsScalar c
-    → is_some_and (slice_get cs k) (λ p. in_class unicode p.0 p.1 c) ≡ is_some_and (slice_get ms k) (λ m. has m c)
-served_same unicode [] [] k c h scalar = refl
-served_same unicode (m ∷ ms) (x ∷ xs) zero c h scalar = sym (h.0 c scalar)
-served_same unicode (m ∷ ms) (x ∷ xs) (suc k) c h scalar = served_same unicode ms xs k c h.1 scalar
-served_same unicode [] (x ∷ xs) k c h scalar = absurd h
-served_same unicode (m ∷ ms) [] k c h scalar = absurd h
+    tests_same (LookAhead leaf) = after_same leaf
+    tests_same (LookAheadNeg leaf) = ap not (after_same leaf)
+    tests_same (LookBehind leaf) = before_same leaf
+    tests_same (LookBehindNeg leaf) = ap not (before_same leaf)
 
 module _ (unicode longest : Bool) (text : List ℕ) (input : RunInput) (ms : List CharClassMatcher) (cs : List (Text × Bool)) (serve : HaveMatchers unicode ms cs) where
-  takes_same : (leaf : Leaf) (c : ℕ) → IsScalar c → leaf_matches (setting_for unicode text input) cs leaf c ≡ leaf_matches_char unicode ms leaf c
-  takes_same (Any newline crlf) c scalar = refl
-  takes_same (Char d) c scalar = refl
-  takes_same (Folded d) c scalar = refl
-  takes_same (Class k) c scalar = served_same unicode ms cs k c serve scalar
-
-  taken : (leaf : Leaf) (p : ℕ) (o : Option ℕ) → char_at text p ≡ o → is_some_and o (leaf_matches (setting_for unicode text input) cs leaf) ≡ is_some_and o (leaf_matches_char unicode ms leaf)
-  taken leaf p None e = refl
-  taken leaf p (Some c) e = takes_same leaf c (char_at_parts text p c e).0
-
   -- what looks show is what the meaning sees
   pub shows_all : IsUtf8 text → ShowsAll ms (rules_for unicode longest input) text (view_of (setting_for unicode text input) cs longest)
   shows_all u p b = record {
-    has = λ leaf. taken leaf p (char_at text p) refl;
+    has = λ leaf. taken unicode longest text input ms cs serve leaf p (char_at text p) refl;
     next = refl;
-    holds = tests_same text p u b unicode longest input;
+    holds = tests_same text p u b unicode longest input ms cs serve;
   }

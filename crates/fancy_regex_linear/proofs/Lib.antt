@@ -16,6 +16,7 @@ pub mod StartLemmas
 pub mod RefusalLemmas
 pub mod CarryLemmas
 pub mod PlainLemmas
+pub mod LookLemmas
 pub mod MeaningLemmas
 pub mod SameStartLemmas
 pub mod CharTestLemmas

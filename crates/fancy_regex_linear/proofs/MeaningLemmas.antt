@@ -1,17 +1,19 @@
 -- A plain pattern has the ways of its tree.
-use Rattle.std.proofs.Common.{◌≡◌, ◌≢◌, ℕ, zero, suc, ◌+◌, ◌*◌, ◌-◌, ◌<◌, ◌≤◌, ◌==◌, Bool, true, false, cond, ◌&&◌, List, [], ◌∷◌, ◌++◌, map, length, Option, Some, None, if◌then◌else◌, slice_get, slice_index, set, refl, sym, ap, ap₂, ◌∙◌, subst, inl, inr, arith, lt-ltb, le-ltb, le-leb, eq-eqb, ne_eqb, eqb-true, length-append, append-nil}
+use Rattle.std.proofs.Common.{◌≡◌, ◌≢◌, ℕ, zero, suc, ◌+◌, ◌*◌, ◌-◌, ◌<◌, ◌≤◌, ◌==◌, Bool, true, false, cond, not, ◌&&◌, List, [], ◌∷◌, ◌++◌, map, length, Option, Some, None, if◌then◌else◌, slice_get, slice_index, set, refl, sym, ap, ap₂, ◌∙◌, subst, inl, inr, arith, lt-ltb, le-ltb, le-leb, eq-eqb, ne_eqb, eqb-true, length-append, append-nil}
 use Rattle.std.specs.List.{flat_map}
 use Rattle.std.specs.Char.{len_utf8}
 use Rattle.std.proofs.lemmas.Bool.{and_parts, cases_lt}
 use Rattle.std.proofs.lemmas.List.{map-append}
 use Rattle.std.proofs.lemmas.Str.{len_utf8_bounds}
-use Rattle.regex_hir.specs.Text.{is_some_and, char_at}
+use Rattle.regex_hir.specs.Text.{is_some_and, char_at, char_before}
 use Rattle.regex_hir.proofs.TextLemmas.{char_at_fits}
-use Rattle.fancy_regex_tree.specs.Tree.{Tree, Trees, Text, empty, any, assertion, literal, concat, alt, group, repeat, delegate, no_trees, more_trees}
+use Rattle.fancy_regex_tree.specs.Tree.{Tree, Trees, Text, empty, any, assertion, literal, concat, alt, group, look_around, repeat, delegate, no_trees, more_trees}
 use Rattle.fancy_regex_tree.specs.declared.expr.Assertion.{Assertion}
 use Rattle.fancy_regex_tree.specs.declared.expr.Assertion.TheVariants as A
+use Rattle.fancy_regex_tree.specs.declared.expr.LookAround.{LookAround}
+use Rattle.fancy_regex_tree.specs.declared.expr.LookAround.TheVariants.{LookAhead, LookAheadNeg, LookBehind, LookBehindNeg}
 use Rattle.fancy_regex_meaning.specs.Groups.{group_count}
-use Rattle.fancy_regex_meaning.specs.Sizes.{bound_of}
+use Rattle.fancy_regex_meaning.specs.Sizes.{Size, bound_of, size, size_with, size_through}
 use Rattle.fancy_regex_meaning.specs.Ways.{MatchState, Moves, Pairs, Setting, Meaning, meaning, meanings, all_of, any_of, prefer, due, up_to, loop, character, with_position, match_empty_if, holds}
 use Rattle.fancy_regex_meaning.specs.Ways as ways
 use Rattle.fancy_regex_class.specs.Classes.{folded}
@@ -20,12 +22,13 @@ use Rattle.fancy_regex_linear.specs.Re as re
 use Rattle.fancy_regex_states.specs.Attempts.{View, reads}
 use Rattle.fancy_regex_linear.specs.Meaning.{Spot, each, in_order, after_iteration, loop_ways, times_ways, upto_ways, tail_ways, is_unbounded}
 use Rattle.fancy_regex_linear.specs.Meaning as plain
-use Rattle.fancy_regex_linear.specs.Plain.{IsPlain, ArePlain, IsServed, test_of, served, has_no_iteration, unless, classes, row_classes, re_of, row_of, branches_of}
+use Rattle.fancy_regex_linear.specs.Plain.{IsPlain, ArePlain, IsOneChar, IsServed, test_of, served, looked, look_test, char_leaf, char_classes, has_no_iteration, unless, classes, row_classes, re_of, row_of, branches_of}
 use Rattle.fancy_regex_class.specs.RunInputs.{group_slots}
-use Rattle.fancy_regex_linear.specs.SettingView.{view_of, leaf_matches}
+use Rattle.fancy_regex_linear.specs.SettingView.{view_of, leaf_matches, test_holds}
 use Rattle.fancy_regex_states.specs.declared.atom.Leaf.{Leaf}
 use Rattle.fancy_regex_states.specs.declared.atom.Leaf.TheVariants.{Any, Char, Folded, Class}
 use Rattle.fancy_regex_linear.proofs.BoundLemmas.{AllOf, Between, Ends, ways_end, tail_ends}
+use Rattle.fancy_regex_linear.proofs.LookLemmas.{asks, looks_as}
 use Rattle.fancy_regex_linear.proofs.PlainLemmas.{lacks}
 use Rattle.fancy_regex_linear.proofs.CarryLemmas.{Lacks, put, ways_carry, map_twice}
 
@@ -177,6 +180,29 @@ get_right (x ∷ xs) ys j =
     let e : length (x ∷ xs) + j ≡ suc (length xs + j) = omega arith in
     ap (slice_get (x ∷ (xs ++ ys))) e ∙ get_right xs ys j
 
+-- a tree of one character is one character long
+least_with : (call : ℕ → Size) (t : Tree) → IsOneChar t → (size_with call t).least ≡ 1
+unfolding size_with
+least_with call (any newline crlf) p = refl
+least_with call (literal val casei) p = refl
+least_with call (delegate class casei) p = refl
+least_with call _ p = absurd p
+
+least_through : (groups : List Tree) (m : ℕ) (t : Tree) → IsOneChar t → (size_through groups m t).least ≡ 1
+unfolding size_through
+least_through groups zero t p = least_with _ t p
+least_through groups (suc m) t p = least_with _ t p
+
+least_one : (groups : List Tree) (t : Tree) → IsOneChar t → (size groups t).least ≡ 1
+unfolding size
+least_one groups t p = least_through groups (length groups) t p
+
+-- of no character or one, by tests that agree
+some_same : (s : Setting) (cs : List (Text × Bool)) (passes : ℕ → Bool) (leaf : Leaf) → ((c : ℕ) → passes c ≡ leaf_matches s cs leaf c) → (o : Option ℕ)
+    → is_some_and o passes ≡ is_some_and o (leaf_matches s cs leaf)
+some_same s cs passes leaf same None = refl
+some_same s cs passes leaf same (Some c) = same c
+
 module _ (s : Setting) (groups : List Tree) (unicode : Bool) (call : ℕ → Moves) (cs : List (Text × Bool)) (far : Bool) (same_fold : (c : ℕ) → s.fold c ≡ folded unicode c) where
   abbrev len : ℕ
   len = length s.text
@@ -226,6 +252,37 @@ module _ (s : Setting) (groups : List Tree) (unicode : Bool) (call : ℕ → Mov
       let here : slice_get cs k ≡ Some (class, casei) = (let e : k ≡ k + 0 = omega arith in ap (slice_get cs) e) ∙ h 0 (omega arith) in
       char_same s cs far (Class k) w (char_at s.text w.position) refl _ (λ c e. sym (ap (λ o. is_some_and o (λ p. s.has_member p.0 p.1 c)) here))
 
+  -- a look-around asks what its test does, where the character's test is that of its leaf
+  asked : (passes : ℕ → Bool) (leaf : Leaf) → ((c : ℕ) → passes c ≡ leaf_matches s cs leaf c) → (t : Tree) (one : (size groups t).least ≡ 1) (how : LookAround) (p : ℕ)
+      → asks s passes groups t one how p ≡ test_holds s cs (look_test how leaf) p
+  asked passes leaf same t one LookAhead p = some_same s cs passes leaf same (char_at s.text p)
+  asked passes leaf same t one LookAheadNeg p = ap not (some_same s cs passes leaf same (char_at s.text p))
+  asked passes leaf same t one LookBehind p = some_same s cs passes leaf same (char_before s.text p)
+  asked passes leaf same t one LookBehindNeg p = ap not (some_same s cs passes leaf same (char_before s.text p))
+
+  one_look : (passes : ℕ → Bool) (leaf : Leaf) → ((c : ℕ) → passes c ≡ leaf_matches s cs leaf c) → (t : Tree) (one : (size groups t).least ≡ 1) (how : LookAround)
+      → Same len (ways.look how (ways.node s groups t (character s passes))) (plain.ways view len (re.test (look_test how leaf)))
+  unfolding plain.ways
+  one_look passes leaf same t one how w q =
+      ap (map spot_of) (looks_as s passes groups t one how w ∙ ap (λ b. match_empty_if b w) (asked passes leaf same t one how w.position))
+      ∙ stay_same (test_holds s cs (look_test how leaf) w.position) w
+
+  -- a look-around for one character
+  look_same : (n k : ℕ) (t : Tree) (how : LookAround) → IsOneChar t → StandAt k (char_classes t)
+      → Same len (ways.look how (meaning s groups call n t)) (plain.ways view len (looked how (char_leaf unicode k t)))
+  unfolding meaning
+  look_same n k (any newline crlf) how p h = one_look (ways.is_any s newline crlf) (Any newline crlf) (λ c. refl) (any newline crlf) (least_one groups (any newline crlf) tt) how
+  look_same n k (literal val true) how p h =
+      one_look (ways.is_literal s (slice_index val 0) true) (Folded (folded unicode (slice_index val 0))) (λ c. ap (λ x. s.fold c == x) (same_fold (slice_index val 0)))
+      (literal val true) (least_one groups (literal val true) tt) how
+  look_same n k (literal val false) how p h =
+      one_look (ways.is_literal s (slice_index val 0) false) (Char (slice_index val 0)) (λ c. refl) (literal val false) (least_one groups (literal val false) tt) how
+  look_same n k (delegate class casei) how p h =
+      let here : slice_get cs k ≡ Some (class, casei) = (let e : k ≡ k + 0 = omega arith in ap (slice_get cs) e) ∙ h 0 (omega arith) in
+      one_look (s.has_member class casei) (Class k) (λ c. sym (ap (λ o. is_some_and o (λ p. s.has_member p.0 p.1 c)) here))
+      (delegate class casei) (least_one groups (delegate class casei) tt) how
+  look_same n k _ how p h = absurd p
+
   mutual
     unfolding meaning re_of classes plain.ways
 
@@ -241,6 +298,7 @@ module _ (s : Setting) (groups : List Tree) (unicode : Bool) (call : ℕ → Mov
     tree_same n k (group t) p h w q =
         group_same view len n (meaning s groups call (n + 1) t).from (re_of unicode groups (n + 1) k t) (lacks unicode groups n (n + 1) k t (omega arith))
         (tree_same (n + 1) k t p h) w q
+    tree_same n k (look_around t how) p h w q = look_same n k t how p h w q
     tree_same n k (repeat t lo hi greedy) p h w q =
         out_by s lo hi greedy (meaning s groups call n t).from view _ (has_no_iteration lo hi) (no_iterations lo hi)
         (λ made. repeat_same s lo hi greedy (is_unbounded hi) (meaning s groups call n t).from (plain.ways view len (re_of unicode groups n k t)) refl

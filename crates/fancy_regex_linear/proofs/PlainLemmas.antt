@@ -1,7 +1,8 @@
 -- What the pattern of a plain tree is: sound, no heavier than the tree, and numbered from its first group on.
 use Rattle.std.proofs.Common.{◌≡◌, ◌≢◌, ℕ, zero, suc, ◌+◌, ◌*◌, ◌-◌, ◌<◌, ◌≤◌, ◌==◌, min, max, Bool, true, false, cond, not, ◌&&◌, ◌||◌, List, length, Option, Some, None, nat_lt, refl, sym, ap, ap₂, ◌∙◌, arith, eq-eqb, ne_eqb, lt-ltb, true≢false}
 use Rattle.std.proofs.Math.Nat.{mul-le-mul_left}
-use Rattle.fancy_regex_tree.specs.Tree.{Tree, Trees, empty, any, assertion, literal, concat, alt, group, repeat, delegate, no_trees, more_trees}
+use Rattle.fancy_regex_tree.specs.Tree.{Tree, Trees, empty, any, assertion, literal, concat, alt, group, look_around, repeat, delegate, no_trees, more_trees}
+use Rattle.fancy_regex_tree.specs.declared.expr.LookAround.{LookAround}
 use Rattle.fancy_regex_meaning.specs.Groups.{group_count}
 use Rattle.fancy_regex_meaning.specs.Sizes.{Size, size_with, concat_size, alternation_size, size, size_through, may_be_empty, unbounded, bound_of, weights, branch_gaps}
 use Rattle.fancy_regex_meaning.specs.Sizes as sizes
@@ -9,7 +10,8 @@ use Rattle.fancy_regex_linear.specs.Re.{Re, nothing, read, test, cat}
 use Rattle.fancy_regex_linear.specs.Re as re
 use Rattle.fancy_regex_linear.specs.Meaning.{is_unbounded}
 use Rattle.fancy_regex_linear.specs.Program.{never_empty, IsSound, weight, repeat_weight}
-use Rattle.fancy_regex_linear.specs.Plain.{IsPlain, ArePlain, test_of, served, has_no_iteration, unless, classes, re_of, row_of, branches_of}
+use Rattle.fancy_regex_linear.specs.Plain.{IsPlain, ArePlain, IsOneChar, test_of, served, looked, char_leaf, has_no_iteration, unless, classes, re_of, row_of, branches_of}
+use Rattle.fancy_regex_states.specs.declared.atom.Leaf.{Leaf}
 use Rattle.fancy_regex_states.specs.declared.atom.Test.{Test}
 use Rattle.fancy_regex_linear.proofs.CarryLemmas.{Lacks}
 
@@ -29,6 +31,32 @@ weight_served (Some t) = omega arith
 never_served : (o : Option Test) → never_empty (served o) ≡ false
 never_served None = refl
 never_served (Some t) = refl
+
+-- a look-around for one character
+lacks_looked : (m : ℕ) (how : LookAround) (o : Option Leaf) → Lacks m (looked how o)
+lacks_looked m how None = tt
+lacks_looked m how (Some leaf) = tt
+
+sound_looked : (how : LookAround) (o : Option Leaf) → IsSound (looked how o)
+sound_looked how None = tt
+sound_looked how (Some leaf) = tt
+
+weight_looked : (how : LookAround) (o : Option Leaf) → weight (looked how o) ≤ 1
+unfolding weight
+weight_looked how None = omega arith
+weight_looked how (Some leaf) = omega arith
+
+never_looked : (how : LookAround) (o : Option Leaf) → never_empty (looked how o) ≡ false
+never_looked how None = refl
+never_looked how (Some leaf) = refl
+
+-- a tree of one character has no group
+pub one_char_groups : (t : Tree) → IsOneChar t → group_count t ≡ 0
+unfolding group_count
+one_char_groups (any newline crlf) p = refl
+one_char_groups (literal val casei) p = refl
+one_char_groups (delegate class casei) p = refl
+one_char_groups _ p = absurd p
 
 -- a repeat that is left out
 out_lacks : (m : ℕ) (b : Bool) (x : Re) → Lacks m x → Lacks m (unless b x)
@@ -63,6 +91,7 @@ module _ (unicode : Bool) (groups : List Tree) where
     lacks m n k (assertion a) h = lacks_served m (test_of a)
     lacks m n k (concat ts) h = row_lacks m n k ts h
     lacks m n k (alt ts) h = branches_lack m n k ts h
+    lacks m n k (look_around t how) h = lacks_looked m how (char_leaf unicode k t)
     lacks m n k (group t) h = (λ e. omega arith, lacks m (n + 1) k t (omega arith))
     lacks m n k (repeat t lo hi greedy) h = out_lacks m (has_no_iteration lo hi) _ (lacks m n k t h)
     lacks m n k _ h = tt
@@ -121,6 +150,7 @@ module _ (unicode : Bool) (groups : List Tree) (call : ℕ → Size) where
     empties n k (concat ts) p = row_empties n k ts p
     empties n k (alt ts) p = branch_empties n k ts p.0 p.1
     empties n k (group t) p = empties (n + 1) k t p
+    empties n k (look_around t how) p = sym (ap not (never_looked how (char_leaf unicode k t)))
     empties n k (repeat t lo hi greedy) p =
         product_zero lo (size_with call t).least ∙ ap₂ ◌||◌ (zero_test lo) (empties n k t p) ∙ not_and (nat_lt 0 lo) _ ∙ sym (ap not (out_moves lo hi greedy _ _))
     empties n k _ p = absurd p
@@ -174,6 +204,7 @@ module _ (unicode : Bool) (groups : List Tree) where
     sound n k (concat ts) p = row_sound n k ts p
     sound n k (alt ts) p = branches_sound n k ts p.1
     sound n k (group t) p = sound (n + 1) k t p
+    sound n k (look_around t how) p = sound_looked how (char_leaf unicode k t)
     sound n k (repeat t lo hi greedy) p = out_sound (has_no_iteration lo hi) _ (never n k t p, sound n k t p)
     sound n k _ p = absurd p
 
@@ -208,6 +239,7 @@ module _ (unicode : Bool) (groups : List Tree) where
     light n k (concat ts) p = omega (arith, row_light n k ts p)
     light n k (alt ts) p = branches_light n k ts p.0 p.1
     light n k (group t) p = omega (arith, light (n + 1) k t p)
+    light n k (look_around t how) p = omega (arith, weight_looked how (char_leaf unicode k t))
     light n k (repeat t lo hi greedy) p =
         out_light (has_no_iteration lo hi) _ _ (lighter (is_unbounded hi) (may_be_empty groups t) lo hi _ _ (light n k t p))
     light n k _ p = absurd p

@@ -3,10 +3,12 @@ use Rattle.std.proofs.Common.{◌≡◌, ℕ, zero, suc, ◌+◌, ◌-◌, ◌==
 use Rattle.std.specs.List.{flat_map}
 use Rattle.std.specs.Char.{len_utf8}
 use Rattle.regex_hir.specs.Text.{char_at}
-use Rattle.fancy_regex_tree.specs.Tree.{Tree, Trees, empty, any, assertion, literal, concat, alt, group, repeat, delegate, no_trees, more_trees}
+use Rattle.fancy_regex_tree.specs.Tree.{Tree, Trees, empty, any, assertion, literal, concat, alt, group, look_around, repeat, delegate, no_trees, more_trees}
+use Rattle.fancy_regex_tree.specs.declared.expr.LookAround.{LookAround}
+use Rattle.fancy_regex_tree.specs.declared.expr.LookAround.TheVariants.{LookAhead, LookAheadNeg, LookBehind, LookBehindNeg}
 use Rattle.fancy_regex_meaning.specs.Groups.{group_count}
 use Rattle.fancy_regex_meaning.specs.Sizes.{bound_of}
-use Rattle.fancy_regex_meaning.specs.Ways.{MatchState, Moves, Setting, Meaning, meaning, meanings, all_of, any_of, prefer, due, up_to, loop, character, with_position, for_some, match_empty_if, holds}
+use Rattle.fancy_regex_meaning.specs.Ways.{MatchState, Moves, Setting, Meaning, meaning, meanings, all_of, any_of, prefer, due, up_to, loop, character, with_position, for_some, match_empty_if, is_none_of, keep_only_pairs, look, holds}
 use Rattle.fancy_regex_meaning.specs.Ways as ways
 use Rattle.fancy_regex_meaning.specs.WayLaws.{Each}
 use Rattle.fancy_regex_meaning.proofs.EachLemmas.{Each-weaker, Each-append, Each-map, Each-flat_map}
@@ -59,6 +61,16 @@ char_keeps : (test : ℕ → Bool) (w : MatchState) (o : Option ℕ) → HaveSta
 char_keeps test w None = tt
 char_keeps test w (Some c) = if_keeps (test c) w (with_position w (w.position + len_utf8 c)) refl
 
+pairs_keep : (w : MatchState) (vs : List MatchState) → HaveStartOf w (keep_only_pairs w vs)
+pairs_keep w [] = tt
+pairs_keep w (v ∷ vs) = (refl, pairs_keep w vs)
+
+look_keeps : (how : LookAround) (m : Meaning) (w : MatchState) → HaveStartOf w (look how m w)
+look_keeps LookAhead m w = pairs_keep w (m.from w)
+look_keeps LookAheadNeg m w = if_keeps (is_none_of (m.from w)) w w refl
+look_keeps LookBehind m w = pairs_keep w (m.behind w)
+look_keeps LookBehindNeg m w = if_keeps (is_none_of (m.behind w)) w w refl
+
 module _ (s : Setting) (groups : List Tree) (call : ℕ → Moves) where
   mutual
     unfolding meaning
@@ -69,6 +81,7 @@ module _ (s : Setting) (groups : List Tree) (call : ℕ → Moves) where
     keeps_start n (literal val casei) p w = char_keeps _ w (char_at s.text w.position)
     keeps_start n (delegate class casei) p w = char_keeps _ w (char_at s.text w.position)
     keeps_start n (assertion a) p w = if_keeps (holds s a w.position) w w refl
+    keeps_start n (look_around t how) p w = look_keeps how (meaning s groups call n t) w
     keeps_start n (concat ts) p w = row_keeps n ts p w
     keeps_start n (alt ts) p w = branches_keeps n ts p.1 w
     keeps_start n (group t) p w =

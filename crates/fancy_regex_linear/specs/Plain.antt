@@ -1,16 +1,19 @@
 -- Plain trees, and the patterns of two branches at most that they become.
 use Rattle.std.specs.Prelude.{◌≢◌, ℕ, ◌+◌, Bool, true, false, not, ◌&&◌, List, [], ◌∷◌, ◌++◌, length, Option, Some, None, slice_index, if◌then◌else◌, ◌==◌}
-use Rattle.fancy_regex_tree.specs.Tree.{Tree, Trees, Text, empty, any, assertion, literal, concat, alt, group, repeat, delegate, no_trees, more_trees}
+use Rattle.fancy_regex_tree.specs.Tree.{Tree, Trees, Text, empty, any, assertion, literal, concat, alt, group, look_around, repeat, delegate, no_trees, more_trees}
 use Rattle.fancy_regex_tree.specs.declared.expr.Assertion.{Assertion}
 use Rattle.fancy_regex_tree.specs.declared.expr.Assertion.TheVariants as A
+use Rattle.fancy_regex_tree.specs.declared.expr.LookAround.{LookAround}
+use Rattle.fancy_regex_tree.specs.declared.expr.LookAround.TheVariants as L
 use Rattle.fancy_regex_meaning.specs.Groups.{group_count}
 use Rattle.fancy_regex_meaning.specs.Sizes.{may_be_empty}
 use Rattle.fancy_regex_class.specs.Classes.{folded}
 use Rattle.fancy_regex_linear.specs.Re as re
 use Rattle.fancy_regex_linear.specs.Re.{Re}
+use Rattle.fancy_regex_states.specs.declared.atom.Leaf.{Leaf}
 use Rattle.fancy_regex_states.specs.declared.atom.Leaf.TheVariants.{Any, Char, Folded, Class}
 use Rattle.fancy_regex_states.specs.declared.atom.Test.{Test}
-use Rattle.fancy_regex_states.specs.declared.atom.Test.TheVariants.{StartText, EndText, StartLine, EndLine, WordBoundary, NotWordBoundary, LeftWordBoundary, RightWordBoundary}
+use Rattle.fancy_regex_states.specs.declared.atom.Test.TheVariants.{StartText, EndText, StartLine, EndLine, WordBoundary, NotWordBoundary, LeftWordBoundary, RightWordBoundary, LookAhead, LookAheadNeg, LookBehind, LookBehindNeg}
 
 -- the test of an assertion that the linear engine supports
 abbrev pub test_of : Assertion → Option Test
@@ -31,7 +34,14 @@ abbrev pub IsServed : Option Test → Type 0
 IsServed None = ⊥
 IsServed (Some test) = Unit {0}
 
--- the trees that the linear engine supports
+-- a tree that reads one character
+abbrev pub IsOneChar : Tree → Type 0
+IsOneChar (any newline crlf) = Unit {0}
+IsOneChar (literal val casei) = Unit {0}
+IsOneChar (delegate class casei) = Unit {0}
+IsOneChar _ = ⊥
+
+-- the trees that the linear engine supports: look-arounds are tests of the one character that they read
 abbrev mutual
   pub IsPlain : Tree → Type 0
   IsPlain empty = Unit {0}
@@ -42,6 +52,7 @@ abbrev mutual
   IsPlain (concat ts) = ArePlain ts
   IsPlain (alt ts) = (ts ≢ no_trees) × ArePlain ts
   IsPlain (group t) = IsPlain t
+  IsPlain (look_around t how) = IsOneChar t
   IsPlain (repeat t lo hi greedy) = IsPlain t
   IsPlain _ = ⊥
 
@@ -57,6 +68,11 @@ abbrev pub unless : Bool → Re → Re
 unless true x = re.nothing
 unless false x = x
 
+-- the class of a tree that reads one character
+abbrev pub char_classes : Tree → List (Text × Bool)
+char_classes (delegate class casei) = (class, casei) ∷ []
+char_classes _ = []
+
 -- the classes of a plain tree in order: the text of each, and whether case is disregarded
 unfoldable mutual
   pub classes : Tree → List (Text × Bool)
@@ -64,6 +80,7 @@ unfoldable mutual
   classes (concat ts) = row_classes ts
   classes (alt ts) = row_classes ts
   classes (group t) = classes t
+  classes (look_around t how) = char_classes t
   classes (repeat t lo hi greedy) = if has_no_iteration lo hi then [] else classes t
   classes _ = []
 
@@ -74,6 +91,24 @@ unfoldable mutual
 abbrev pub served : Option Test → Re
 served None = re.nothing
 served (Some test) = re.test test
+
+-- the test of a tree that reads one character, whose class has this number
+abbrev pub char_leaf : Bool → ℕ → Tree → Option Leaf
+char_leaf unicode k (any newline crlf) = Some (Any newline crlf)
+char_leaf unicode k (literal val casei) = Some (if casei then Folded (folded unicode (slice_index val 0)) else Char (slice_index val 0))
+char_leaf unicode k (delegate class casei) = Some (Class k)
+char_leaf unicode k _ = None
+
+-- the assertion of a look-around for one character
+abbrev pub look_test : LookAround → Leaf → Test
+look_test L.LookAhead leaf = LookAhead leaf
+look_test L.LookAheadNeg leaf = LookAheadNeg leaf
+look_test L.LookBehind leaf = LookBehind leaf
+look_test L.LookBehindNeg leaf = LookBehindNeg leaf
+
+abbrev pub looked : LookAround → Option Leaf → Re
+looked how None = re.nothing
+looked how (Some leaf) = re.test (look_test how leaf)
 
 module _ (unicode : Bool) (groups : List Tree) where
   -- the pattern of a plain tree, with the numbers of the group that opens first in it and of its first class
@@ -87,6 +122,7 @@ module _ (unicode : Bool) (groups : List Tree) where
     re_of n k (concat ts) = row_of n k ts
     re_of n k (alt ts) = branches_of n k ts
     re_of n k (group t) = re.group n (re_of (n + 1) k t)
+    re_of n k (look_around t how) = looked how (char_leaf unicode k t)
     re_of n k (repeat t lo hi greedy) =
         unless (has_no_iteration lo hi) (re.repeat lo hi greedy (not (may_be_empty groups t)) (re_of n k t))
     re_of n k _ = re.nothing

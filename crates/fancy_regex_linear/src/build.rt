@@ -9,7 +9,7 @@ ghost use Rattle.fancy_regex_linear.specs.Re as re;
 ghost use Rattle.fancy_regex_states.specs.declared.atom.Leaf.TheVariants as leaf;
 ghost use Rattle.fancy_regex_meaning.specs.Sizes.{may_be_empty};
 ghost use Rattle.fancy_regex_linear.specs.Program.{IsSound, never_empty};
-ghost use Rattle.fancy_regex_linear.specs.Plain.{test_of as test_of_assertion, IsPlain, ArePlain, has_no_iteration, unless, classes, row_classes, re_of, row_of, branches_of};
+ghost use Rattle.fancy_regex_linear.specs.Plain.{test_of as test_of_assertion, IsPlain, ArePlain, IsOneChar, has_no_iteration, unless, looked, char_leaf, char_classes, classes, row_classes, re_of, row_of, branches_of};
 ghost use Rattle.fancy_regex_linear.specs.Translation.{all_trees, AddsMatchers};
 ghost use Rattle.fancy_regex_linear.specs.Refusals.{IsRead, IsClassCause};
 ghost use Rattle.fancy_regex_info.specs.declared.error.CompileError.TheVariants as errors;
@@ -19,7 +19,7 @@ use crate::node::{Node, Quantifier};
 use fancy_regex_class::{CharClassMatcher, ClassError, fold};
 use fancy_regex_info::CompileError;
 use fancy_regex_states::{Leaf, Test};
-use fancy_regex_tree::{Assertion, Expr};
+use fancy_regex_tree::{Assertion, Expr, LookAround};
 use std::alloc::{AllocError, Global};
 
 /// The state of the translation. For a tree that is not easy the result has no meaning.
@@ -78,6 +78,21 @@ fn test_of(assertion: Assertion) -> Option<Test>
         | Assertion::EndTextIgnoreTrailingNewlines { .. }
         | Assertion::StartLineOniguruma { .. } => None,
     }
+}
+
+/// The test of a look-around for a character of this leaf.
+fn look_node(look: LookAround, leaf: Option<Leaf>) -> Node
+    ensures { shape result ≡ looked look leaf }
+{
+    let Some(leaf) = leaf else {
+        return Node::Empty;
+    };
+    Node::Look(match look {
+        LookAround::LookAhead => Test::LookAhead(leaf),
+        LookAround::LookAheadNeg => Test::LookAheadNeg(leaf),
+        LookAround::LookBehind => Test::LookBehind(leaf),
+        LookAround::LookBehindNeg => Test::LookBehindNeg(leaf),
+    })
 }
 
 /// Appends a value. The error is want of memory.
@@ -165,7 +180,46 @@ impl Translator {
                 hi,
                 greedy,
             } => self.repeat(child, *lo, *hi, *greedy),
+            Expr::LookAround(child, look) => self.look_around(child, *look),
             _ => Ok(Translated::still(Node::Empty)),
+        }
+    }
+
+    /// Translates a look-around: to a test, if it is for one character. The error is that of its class.
+    fn look_around(&mut self, child: &Expr, look: LookAround) -> Result<Translated, CompileError>
+        ensures unicode { self.new.unicode ≡ self.old.unicode }
+        ensures groups { self.new.next_group ≡ self.old.next_group }
+        ensures matchers { IfOk result (λ _. AddsMatchers self.old self.new (char_classes (tree_of child.now))) }
+        ensures moves { IfOk result (λ translated. translated.moves ≡ false) }
+        ensures refused { IfErr result (IsClassCause self.old.unicode (char_classes (tree_of child.now))) }
+        ensures shape { IfOk result (λ translated. shape translated.node
+            ≡ looked look (char_leaf self.old.unicode (length self.old.matchers.items) (tree_of child.now))) }
+    {
+        let leaf = self.leaf(child)?;
+        Ok(Translated::still(look_node(look, leaf)))
+    }
+
+    /// The test of an expression that reads one character, if it is one; the matcher of a class is added. The error is that of a
+    /// class.
+    fn leaf(&mut self, expr: &Expr) -> Result<Option<Leaf>, CompileError>
+        ensures unicode { self.new.unicode ≡ self.old.unicode }
+        ensures groups { self.new.next_group ≡ self.old.next_group }
+        ensures matchers { IfOk result (λ _. AddsMatchers self.old self.new (char_classes (tree_of expr.now))) }
+        ensures refused { IfErr result (IsClassCause self.old.unicode (char_classes (tree_of expr.now))) }
+        ensures leaf { IfOk result (λ leaf. leaf
+            ≡ char_leaf self.old.unicode (length self.old.matchers.items) (tree_of expr.now)) }
+    {
+        match expr {
+            Expr::Any { newline, crlf } => Ok(Some(Leaf::Any {
+                newline: *newline,
+                crlf: *crlf,
+            })),
+            Expr::Literal { val, casei } => Ok(Some(self.literal(val, *casei))),
+            Expr::Delegate { inner, casei } => {
+                let leaf = self.class_leaf(inner, *casei)?;
+                Ok(Some(leaf))
+            }
+            _ => Ok(None),
         }
     }
 
@@ -194,10 +248,22 @@ impl Translator {
         ensures refused { IfErr result (IsClassCause self.old.unicode ((chars class.now, casei) ∷ [])) }
         ensures node { IfOk result (λ translated. shape translated.node ≡ re.read (leaf.Class (length self.old.matchers.items))) }
     {
+        let leaf = self.class_leaf(class, casei)?;
+        Ok(Translated::moving(Node::Read(leaf)))
+    }
+
+    /// The character test of a class, whose matcher is added.
+    fn class_leaf(&mut self, class: &str, casei: bool) -> Result<Leaf, CompileError>
+        ensures unicode { self.new.unicode ≡ self.old.unicode }
+        ensures groups { self.new.next_group ≡ self.old.next_group }
+        ensures matchers { IfOk result (λ _. AddsMatchers self.old self.new ((chars class.now, casei) ∷ [])) }
+        ensures refused { IfErr result (IsClassCause self.old.unicode ((chars class.now, casei) ∷ [])) }
+        ensures leaf { IfOk result (λ found. found ≡ leaf.Class (length self.old.matchers.items)) }
+    {
         let number = self.matchers.len();
         let matcher = matcher(self.alloc, class, casei, self.unicode)?;
         add(&mut self.matchers, matcher)?;
-        Ok(Translated::moving(Node::Read(Leaf::Class(number))))
+        Ok(Leaf::Class(number))
     }
 
     /// Translates a concatenation: it always consumes a character if one of its children does.
@@ -342,6 +408,46 @@ fn is_never_repeated(lo: usize, hi: usize) -> bool
     ensures { result ≡ has_no_iteration lo hi }
 {
     lo == 0 && hi == 0
+}
+
+/// Whether the linear engine supports the tree.
+#[cycle(supports)]
+pub fn is_supported(expr: &Expr) -> bool
+    ensures { result ≡ true → IsPlain (tree_of expr.now) }
+{
+    match expr {
+        Expr::Empty | Expr::Any { .. } | Expr::Literal { .. } | Expr::Delegate { .. } => true,
+        Expr::Assertion(assertion) => test_of(*assertion).is_some(),
+        Expr::Concat(children) => are_supported(children),
+        Expr::Alt(children) => !children.is_empty() && are_supported(children),
+        Expr::Group(child) => is_supported(child),
+        Expr::Repeat { child, .. } => is_supported(child),
+        Expr::LookAround(child, _) => is_one_char(child),
+        _ => false,
+    }
+}
+
+/// Whether the linear engine supports all these trees.
+#[cycle(supports)]
+fn are_supported(children: &[Expr]) -> bool
+    ensures { result ≡ true → ArePlain (all_trees children.now) }
+{
+    for i in 0..children.len() {
+        if !is_supported(&children[i]) {
+            return false;
+        }
+    }
+    true
+}
+
+/// Whether the tree reads one character.
+fn is_one_char(expr: &Expr) -> bool
+    ensures { result ≡ true → IsOneChar (tree_of expr.now) }
+{
+    match expr {
+        Expr::Any { .. } | Expr::Literal { .. } | Expr::Delegate { .. } => true,
+        _ => false,
+    }
 }
 
 /// The number of capture groups in an easy tree, or `None` if it exceeds `usize`.

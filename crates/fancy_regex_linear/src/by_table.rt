@@ -52,7 +52,14 @@ pub fn by_table(
         return Ok(None);
     }
     let before = char_before(it.text, place.at);
-    match it.table.pass(it.text, place.at, before, context.stop, true) {
+    match it.table.pass(
+        context.matchers,
+        it.text,
+        place.at,
+        before,
+        context.stop,
+        true,
+    ) {
         Passed::Match { start, end, read } => {
             text.count_reads(read - place.at);
             load_match(context, text, start, memory, span_only)?;

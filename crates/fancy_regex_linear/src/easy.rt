@@ -8,7 +8,7 @@ ghost use Rattle.fancy_regex_states.specs.First.{IsTableOf};
 ghost use Rattle.fancy_regex_linear.specs.Search.{RefusesAscii};
 ghost use Rattle.fancy_regex_table.specs.Tables.{IsTable};
 
-use crate::build::Translator;
+use crate::build::{Translator, is_supported};
 use crate::by_table::TableSearch;
 use crate::emit::emit;
 use crate::memory::SearchMemory;
@@ -23,6 +23,9 @@ use std::alloc::{AllocError, Global};
 
 /// The greatest weight of a whole pattern.
 const GREATEST_WEIGHT: u64 = 4_294_967_295;
+
+/// The greatest weight of a pattern that is not easy: a heavier one has counters in its program, and no copies.
+const GREATEST_SUPPORTED_WEIGHT: u64 = 4_000;
 
 /// A compiled easy pattern.
 #[derive(Drop)]
@@ -56,6 +59,7 @@ pub struct Easy {
 impl Easy {
     ghost use Rattle.fancy_regex_linear.specs.EasyPatterns.{IsEasyOf, IsMatchSlots, IsMatchSpan, LooksAtMost, LooksAtLeast};
     ghost use Rattle.fancy_regex_linear.specs.EasyTables.{IsTableFor};
+    ghost use Rattle.fancy_regex_linear.specs.Plain.{IsPlain};
     ghost use Rattle.fancy_regex_linear.specs.Refusals.{IsTaken, IsCause};
     ghost use Rattle.fancy_regex_info.specs.Analysis.{analysis};
     ghost use Rattle.fancy_regex_info.specs.Infos.{info_of};
@@ -103,6 +107,40 @@ impl Easy {
         Ok(easy)
     }
 
+    /// Compiles an analyzed pattern that the linear engine supports and serves best: one of a weight of 4,000 at most, whose
+    /// look-arounds are for one character, all of whose matches read a character, and whose table has all rows. `None` is any other.
+    /// The errors are those of `new`.
+    pub fn if_supported(
+        alloc: Global,
+        info: &Info<'_>,
+        options: &CompileOptions,
+    ) -> Result<Option<Easy>, CompileError>
+        ensures made { IfOk result (λ found. IfSome found (λ easy. (explicit : Bool) (t : Tree) → info_of info.now ≡ analysis explicit t
+            → IsEasyOf easy (pattern_in explicit t))) }
+        ensures options { IfOk result (λ found. IfSome found (λ easy. (easy.unicode ≡ options.now.unicode)
+            × (easy.longest ≡ options.now.leftmost_longest))) }
+    {
+        if options.leftmost_longest || info.weight > GREATEST_SUPPORTED_WEIGHT {
+            return Ok(None);
+        }
+        if !is_supported(info.expr) {
+            return Ok(None);
+        }
+        let easy = Easy::compiled(alloc, info, options, true)?;
+        if easy.first.is_some() && easy.has_whole_table() {
+            return Ok(Some(easy));
+        }
+        Ok(None)
+    }
+
+    /// Whether there is a table, with all rows that a search can come to.
+    fn has_whole_table(&self) -> bool {
+        match &self.rows {
+            Some(table) => table.is_whole(),
+            None => false,
+        }
+    }
+
     /// Compiles a pattern as `new` does, with a table if it is wanted.
     fn compiled(
         alloc: Global,
@@ -110,7 +148,7 @@ impl Easy {
         options: &CompileOptions,
         has_table: bool,
     ) -> Result<Easy, CompileError>
-        requires easy { (out-Info info.now).hard ≡ false }
+        requires supported { (explicit : Bool) (t : Tree) → info_of info.now ≡ analysis explicit t → IsPlain t }
         ensures made { IfOk result (λ easy. (explicit : Bool) (t : Tree) → info_of info.now ≡ analysis explicit t
             → IsEasyOf easy (pattern_in explicit t)) }
         ensures taken { IfOk result (λ _. (explicit : Bool) (t : Tree) → info_of info.now ≡ analysis explicit t
@@ -336,7 +374,7 @@ fn table_of(
         return Ok(None);
     }
     let table = Table::new(alloc, states, entry, matchers, options.unicode)?;
-    Ok(Some(table))
+    Ok(table)
 }
 
 /// Writes to a slot, if it exists.

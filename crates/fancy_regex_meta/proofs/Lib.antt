@@ -5,4 +5,5 @@ pub mod MatchOffsetLemmas
 pub mod RefusalLemmas
 pub mod SeekLemmas
 pub mod SeekTableLemmas
+pub mod StrategyLemmas
 pub mod Sending

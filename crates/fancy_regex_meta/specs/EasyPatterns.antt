@@ -7,7 +7,7 @@ use Rattle.fancy_regex_info.specs.References.{is_read}
 use Rattle.fancy_regex_meta.specs.Patterns.{tree_in}
 use Rattle.fancy_regex_meta.specs.declared.options.RegexOptions.{RegexOptions}
 use Rattle.fancy_regex_meta.specs.declared.strategy.Strategy.{Strategy}
-use Rattle.fancy_regex_meta.specs.declared.strategy.Strategy.TheVariants.{Easy, Program}
+use Rattle.fancy_regex_meta.specs.declared.strategy.Strategy.TheVariants.{Easy, Linear, Program}
 
 -- the tree, with groups numbered from 1, is easy
 abbrev pub is_easy_tree : Tree → Bool
@@ -21,7 +21,8 @@ uses_easy o t = not o.find_not_empty && is_easy_tree t
 abbrev pub pattern_uses_easy : RegexOptions → List ℕ → Bool
 pattern_uses_easy o text = uses_easy o (tree_in o text)
 
--- the strategy is the linear-time matcher
+-- the strategy is the linear-time matcher of an easy pattern
 abbrev pub is_easy_strategy : Strategy → Bool
 is_easy_strategy (Easy easy) = true
+is_easy_strategy (Linear linear prog) = false
 is_easy_strategy (Program prog run) = false

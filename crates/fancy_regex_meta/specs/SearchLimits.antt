@@ -24,7 +24,7 @@ use Rattle.fancy_regex_meta.specs.Strategies.{search_of, run_options_of}
 use Rattle.fancy_regex_meta.specs.EasyPatterns.{pattern_uses_easy}
 use Rattle.fancy_regex_meta.specs.declared.options.RegexOptions.{RegexOptions}
 use Rattle.fancy_regex_meta.specs.declared.strategy.Strategy.{Strategy}
-use Rattle.fancy_regex_meta.specs.declared.strategy.Strategy.TheVariants.{Easy, Program}
+use Rattle.fancy_regex_meta.specs.declared.strategy.Strategy.TheVariants.{Easy, Linear, Program}
 use Rattle.fancy_regex_meta.specs.declared.error.Error.{Error}
 use Rattle.fancy_regex_meta.specs.declared.error.Error.TheVariants as told
 use Rattle.fancy_regex_meta.specs.declared.meta_regex.MetaRegex.{MetaRegex}
@@ -46,6 +46,7 @@ IsSearchError served limit choices _ = ⊥
 -- limit and the kept seek table. The linear-time matcher has no limit.
 abbrev pub StrategyPassesLimit : Strategy → RegexOptions → List ℕ → RunInput → RuntimeError → Type 0
 StrategyPassesLimit (Easy easy) o text input error = ⊥
+StrategyPassesLimit (Linear linear prog) o text input error = ⊥
 StrategyPassesLimit (Program prog run) o text input error = MachinePassesLimit prog text input (run_options_of o run.seek) error
 
 -- an error of a search that reports a limit only where the kept program passes it
@@ -63,6 +64,7 @@ MachineStaysInLimits prog text input options = (n : ℕ) (e : Ending) → machin
 -- and input with the options' limit. The linear-time matcher has no limit.
 abbrev pub StrategyStaysInLimits : Strategy → RegexOptions → List ℕ → RunInput → Type 0
 StrategyStaysInLimits (Easy easy) o text input = Unit {0}
+StrategyStaysInLimits (Linear linear prog) o text input = Unit {0}
 StrategyStaysInLimits (Program prog run) o text input = MachineStaysInLimits prog text input (run_options_of o run.seek)
 
 -- the weight of a tree: the looks per position that the linear-time matcher needs at most

@@ -1,5 +1,5 @@
 -- When a strategy executes a tree under options, and which search it makes.
-use Rattle.std.specs.Prelude.{◌≡◌, ℕ, Bool, true, false, List, length, Option}
+use Rattle.std.specs.Prelude.{◌≡◌, ℕ, Bool, true, false, List, length, Option, Some, None}
 use Rattle.fancy_regex_tree.specs.Tree.{Tree}
 use Rattle.fancy_regex_meaning.specs.Groups.{pattern_of}
 use Rattle.fancy_regex_meaning.specs.Searches.{Search}
@@ -10,13 +10,14 @@ use Rattle.fancy_regex_compiled.specs.Programs.{IsProgramOf, KeepsCap}
 use Rattle.fancy_regex_program.specs.Shapes.{IsWritable}
 use Rattle.fancy_regex_compiled.specs.declared.prog.Prog.{Prog}
 use Rattle.fancy_regex_linear.specs.EasyPatterns.{IsEasyOf}
+use Rattle.fancy_regex_linear.specs.declared.easy.Easy.{Easy as EasyMatcher}
 use Rattle.fancy_regex_class.specs.declared.input.RunInput.{RunInput}
 use Rattle.fancy_regex_machine.specs.declared.search.RunOptions.{RunOptions}
 use Rattle.fancy_regex_meta.specs.Patterns.{options_in}
 use Rattle.fancy_regex_meta.specs.SeekTables.{IsSeekTable}
 use Rattle.fancy_regex_meta.specs.declared.options.RegexOptions.{RegexOptions}
 use Rattle.fancy_regex_meta.specs.declared.strategy.Strategy.{Strategy}
-use Rattle.fancy_regex_meta.specs.declared.strategy.Strategy.TheVariants.{Easy, Program}
+use Rattle.fancy_regex_meta.specs.declared.strategy.Strategy.TheVariants.{Easy, Linear, Program}
 
 -- The program is the compiled program of the tree's pattern, with calls inlined.
 pub record IsCompiled (prog : Prog) (t : Tree) : Type 0 where
@@ -32,13 +33,19 @@ run_options_of o seek = record { backtrack_limit = o.backtrack_limit; find_not_e
 -- A program is run with these options, and with the kept seek table.
 abbrev pub RunsUnder : Strategy → RegexOptions → Type 0
 RunsUnder (Easy easy) o = Unit {0}
+RunsUnder (Linear linear prog) o = Unit {0}
 RunsUnder (Program prog run) o = run ≡ run_options_of o run.seek
+
+-- The matcher searches as this tree means under these options, which allow empty matches.
+abbrev pub IsMatcherFor : EasyMatcher → RegexOptions → Tree → Type 0
+IsMatcherFor easy o t = IsEasyOf easy (pattern_of t) × (easy.unicode ≡ o.unicode_mode) × (easy.longest ≡ o.leftmost_longest) × (o.find_not_empty ≡ false)
 
 -- The strategy executes this tree under these options: the linear-time matcher of the tree, where empty matches are allowed,
 -- or its program with its seek table, where no repeat is reversed; both with the options' Unicode mode and leftmost-longest
--- mode. The program is run with the options' backtrack limit.
+-- mode. The program is run with the options' backtrack limit. Where a tree that is not easy has a matcher, its program is kept too.
 abbrev pub Executes : Strategy → RegexOptions → Tree → Type 0
-Executes (Easy easy) o t = IsEasyOf easy (pattern_of t) × (easy.unicode ≡ o.unicode_mode) × (easy.longest ≡ o.leftmost_longest) × (o.find_not_empty ≡ false)
+Executes (Easy easy) o t = IsMatcherFor easy o t
+Executes (Linear linear prog) o t = IsMatcherFor linear o t × IsCompiled prog t
 Executes (Program prog run) o t =
     IsCompiled prog t × (prog.unicode ≡ o.unicode_mode) × (prog.longest ≡ o.leftmost_longest) × IsSeekTable o t run.seek × IsInOrder t
     × (run ≡ run_options_of o run.seek)
@@ -46,12 +53,19 @@ Executes (Program prog run) o t =
 -- A program has no more instructions than the cap, if one is set. The linear-time matcher has no cap.
 abbrev pub StrategyKeepsCap : Option ℕ → Strategy → Type 0
 StrategyKeepsCap most (Easy easy) = Unit {0}
+StrategyKeepsCap most (Linear linear prog) = KeepsCap most prog
 StrategyKeepsCap most (Program prog run) = KeepsCap most prog
 
 -- group 0 of a program is the whole match
 abbrev pub is_whole : Strategy → Bool
 is_whole (Easy easy) = true
+is_whole (Linear linear prog) = true
 is_whole (Program prog run) = prog.whole
+
+-- a matcher for a tree that is not easy, if there is one, and else its program
+abbrev pub linear_or_program : Prog → RunOptions → Option EasyMatcher → Strategy
+linear_or_program prog run None = Program prog run
+linear_or_program prog run (Some linear) = Linear linear prog
 
 -- the search of the definitions for a strategy's input
 abbrev pub search_of : RegexOptions → RunInput → Search

@@ -1,6 +1,6 @@
 //! What executes a compiled pattern: the linear-time matcher in bounded steps, or a backtracking program.
 
-ghost use Rattle.std.specs.Prelude.{◌≡◌, ◌≤◌, ◌+◌, ◌-◌, ◌*◌, ◌^◌, ◌<◌, min, true, false, not, length, IfOk, IfErr, option_map, IsCharBoundary};
+ghost use Rattle.std.specs.Prelude.{◌≡◌, ◌≤◌, ◌+◌, ◌-◌, ◌*◌, ◌^◌, ◌<◌, min, true, false, not, length, IfOk, IfErr, IfSome, option_map, IsCharBoundary};
 ghost use Rattle.fancy_regex_tree.specs.Tree.{Tree, tree_of};
 ghost use Rattle.fancy_regex_meaning.specs.Choices.{program_nodes};
 ghost use Rattle.fancy_regex_meaning.specs.Groups.{pattern_of};
@@ -18,6 +18,9 @@ ghost use Rattle.fancy_regex_linear.specs.Refusals.{IsTaken, IsCause};
 ghost use Rattle.fancy_regex_linear.specs.EasyPatterns.{IsEasyOf};
 ghost use Rattle.fancy_regex_meta.specs.declared.options.RegexOptions.{RegexOptions};
 ghost use Rattle.fancy_regex_meta.specs.Refusals.{compile_options_of, IsCompileRefusal};
+ghost use Rattle.fancy_regex_info.specs.declared.error.CompileError.TheVariants as errors;
+ghost use Rattle.fancy_regex_meta.specs.FoundParts.{found_parts, wanted_parts};
+ghost use Rattle.fancy_regex_meta.specs.Strategies.{IsMatcherFor, linear_or_program as strategy_of, search_of};
 
 use crate::error::Result;
 use crate::found::{FoundMatch, MatchDetail, found_groups, found_span};
@@ -30,13 +33,20 @@ use fancy_regex_compiler::compile;
 use fancy_regex_info::{CompileError, CompileOptions, Info};
 use fancy_regex_linear::Easy;
 use fancy_regex_machine::{RunOptions, run_in, run_spans_in};
-use std::alloc::Global;
+use std::alloc::{AllocError, Global};
 
 /// What executes a compiled pattern.
 #[derive(Drop)]
 pub enum Strategy {
     /// The linear-time matcher, for an easy pattern without `find_not_empty`.
     Easy(Easy),
+    /// The linear-time matcher of a pattern that is not easy, and the program that it would have: no search runs that.
+    Linear {
+        /// The linear-time matcher.
+        linear: Easy,
+        /// The program.
+        prog: Prog,
+    },
     /// The backtracking program of any other pattern.
     Program {
         /// The program.
@@ -65,11 +75,69 @@ fn compile_options(options: &RegexOptions, calls: bool) -> CompileOptions
     }
 }
 
+/// The linear-time matcher of a tree that is not easy, where it serves the tree best. The error is `Memory`.
+fn linear_matcher(
+    alloc: Global,
+    info: &Info<'_>,
+    options: &RegexOptions,
+    calls: bool,
+) -> std::result::Result<Option<Easy>, CompileError>
+    ensures matcher { IfOk result (λ found. IfSome found (λ easy. (t : Tree) → info_of info.now ≡ analysis false t
+        → IsMatcherFor easy options.now t)) }
+    ensures memory { IfErr result (λ error. error ≡ errors.Memory) }
+{
+    if options.find_not_empty {
+        return Ok(None);
+    }
+    match Easy::if_supported(alloc, info, &compile_options(options, calls)) {
+        Ok(found) => Ok(found),
+        Err(CompileError::Memory) => Err(CompileError::Memory),
+        Err(_) => Ok(None),
+    }
+}
+
+/// The strategy of a tree that is not easy: its matcher, if it has one, and else its program.
+fn linear_or_program(prog: Prog, run_options: RunOptions, linear: Option<Easy>) -> Strategy
+    ensures { result ≡ strategy_of prog run_options linear }
+{
+    match linear {
+        Some(linear) => Strategy::Linear { linear, prog },
+        None => Strategy::Program { prog, run_options },
+    }
+}
+
+/// The first match by the linear-time matcher, without a counter of its looks. The error is want of memory.
+fn search_uncounted(
+    alloc: Global,
+    linear: &Easy,
+    text: &str,
+    input: &RunInput,
+    wanted: MatchDetail,
+    memory: &mut MetaMemory,
+) -> std::result::Result<Option<FoundMatch>, AllocError>
+    requires first { IsCharBoundary text.now input.now.first }
+    requires range { input.now.range.end ≤ length text.now }
+    ensures { IfOk result (λ found. (o : RegexOptions) (t : Tree) → IsMatcherFor linear.now o t
+        → option_map found_parts found ≡ option_map (wanted_parts wanted (pattern_of t))
+        (first_match (setting_for o.unicode_mode text.now input.now) (pattern_of t) (search_of o input.now))) }
+{
+    let mut steps = Steps::new();
+    match wanted {
+        MatchDetail::Span => {
+            let found = linear.find_span_in(text, input, &mut steps, &mut memory.easy)?;
+            Ok(found_span(alloc, found))
+        }
+        MatchDetail::Groups => {
+            let found = linear.search_in(alloc, text, input, &mut steps, &mut memory.easy)?;
+            Ok(found_groups(found))
+        }
+    }
+}
+
 impl Strategy {
     ghost use Rattle.fancy_regex_compiled.specs.Programs.{RefersToGroups};
-    ghost use Rattle.fancy_regex_meta.specs.Strategies.{Executes, RunsUnder, StrategyKeepsCap, is_whole, search_of};
+    ghost use Rattle.fancy_regex_meta.specs.Strategies.{Executes, RunsUnder, StrategyKeepsCap, is_whole};
     ghost use Rattle.fancy_regex_meta.specs.EasyPatterns.{uses_easy, is_easy_strategy};
-    ghost use Rattle.fancy_regex_meta.specs.FoundParts.{found_parts, wanted_parts};
     ghost use Rattle.fancy_regex_meta.specs.SearchLimits.{IsSearchError, IsStrategyError, StrategyStaysInLimits, weight_of, run_choices, run_tried};
 
     /// Compiles an analyzed tree, all of whose references must be to existing groups: for the linear-time matcher if the
@@ -106,7 +174,8 @@ impl Strategy {
                 find_not_empty: options.find_not_empty,
                 seek,
             };
-            return Ok(Strategy::Program { prog, run_options });
+            let linear = linear_matcher(alloc, info, options, calls)?;
+            return Ok(linear_or_program(prog, run_options, linear));
         }
         Ok(Strategy::Easy(Easy::new(alloc, info, &compile_options(options, calls))?))
     }
@@ -153,6 +222,10 @@ impl Strategy {
                     Ok(found_groups(found))
                 }
             },
+            Strategy::Linear { linear, .. } => {
+                let found = search_uncounted(alloc, linear, text, input, wanted, memory)?;
+                Ok(found)
+            }
             Strategy::Program { prog, run_options } => {
                 let memory = &mut memory.program;
                 match wanted {

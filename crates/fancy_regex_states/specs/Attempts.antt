@@ -104,7 +104,7 @@ AllAgree view stop states go = (q : ℕ) → q < length states → Agrees view s
 pub record Shows (matchers : List CharClassMatcher) (rules : Rules) (view : View) (at : ℕ) (before after : Option ℕ) : Type 0 where
   pub has : (leaf : Leaf) → view.has leaf at ≡ is_some_and after (leaf_matches_char rules.unicode matchers leaf)
   pub next : view.next at ≡ at + unwrap_or (option_map len_utf8 after) 1
-  pub holds : (test : Test) → view.holds test at ≡ passes rules test before after
+  pub holds : (test : Test) → view.holds test at ≡ passes matchers rules test before after
 
 -- it does so of each boundary of the text
 abbrev pub ShowsAll : List CharClassMatcher → Rules → List ℕ → View → Type 0

@@ -6,7 +6,7 @@ use Rattle.fancy_regex_class.specs.Classes.{in_class, folded}
 use Rattle.fancy_regex_states.specs.declared.atom.Leaf.{Leaf}
 use Rattle.fancy_regex_states.specs.declared.atom.Leaf.TheVariants.{Any, Char, Folded, Class}
 use Rattle.fancy_regex_states.specs.declared.atom.Test.{Test}
-use Rattle.fancy_regex_states.specs.declared.atom.Test.TheVariants.{StartText, EndText, StartLine, EndLine, WordBoundary, NotWordBoundary, LeftWordBoundary, RightWordBoundary}
+use Rattle.fancy_regex_states.specs.declared.atom.Test.TheVariants.{StartText, EndText, StartLine, EndLine, WordBoundary, NotWordBoundary, LeftWordBoundary, RightWordBoundary, LookAhead, LookAheadNeg, LookBehind, LookBehindNeg}
 use Rattle.fancy_regex_class.specs.declared.class.CharClassMatcher.{CharClassMatcher}
 use Rattle.fancy_regex_states.specs.declared.rules.Rules.{Rules}
 
@@ -25,21 +25,25 @@ abbrev pub is_char : ℕ → Option ℕ → Bool
 is_char d o = is_some_and o (λ c. c == d)
 
 -- whether the assertion holds between two characters
-abbrev pub passes : Rules → Test → Option ℕ → Option ℕ → Bool
-passes rules StartText before after = is_none before && not rules.no_start_text
-passes rules EndText before after = is_none after && not rules.no_end_text
-passes rules (StartLine crlf) before after =
+abbrev pub passes : List CharClassMatcher → Rules → Test → Option ℕ → Option ℕ → Bool
+passes matchers rules StartText before after = is_none before && not rules.no_start_text
+passes matchers rules EndText before after = is_none after && not rules.no_end_text
+passes matchers rules (StartLine crlf) before after =
     is_none before || is_char 10 before || (crlf && is_char 13 before && not (is_char 10 after))
-passes rules (EndLine false) before after = is_none after || is_char 10 after
-passes rules (EndLine true) before after =
+passes matchers rules (EndLine false) before after = is_none after || is_char 10 after
+passes matchers rules (EndLine true) before after =
     is_none after || is_char 13 after || (is_char 10 after && not (is_char 13 before))
-passes rules WordBoundary before after =
+passes matchers rules WordBoundary before after =
     not (is_some_and before (is_word_char rules.unicode)) && is_some_and after (is_word_char rules.unicode)
     || is_some_and before (is_word_char rules.unicode) && not (is_some_and after (is_word_char rules.unicode))
-passes rules NotWordBoundary before after =
+passes matchers rules NotWordBoundary before after =
     not (is_some_and before (is_word_char rules.unicode)) && not (is_some_and after (is_word_char rules.unicode))
     || is_some_and before (is_word_char rules.unicode) && is_some_and after (is_word_char rules.unicode)
-passes rules LeftWordBoundary before after =
+passes matchers rules LeftWordBoundary before after =
     not (is_some_and before (is_word_char rules.unicode)) && is_some_and after (is_word_char rules.unicode)
-passes rules RightWordBoundary before after =
+passes matchers rules RightWordBoundary before after =
     is_some_and before (is_word_char rules.unicode) && not (is_some_and after (is_word_char rules.unicode))
+passes matchers rules (LookAhead leaf) before after = is_some_and after (leaf_matches_char rules.unicode matchers leaf)
+passes matchers rules (LookAheadNeg leaf) before after = not (is_some_and after (leaf_matches_char rules.unicode matchers leaf))
+passes matchers rules (LookBehind leaf) before after = is_some_and before (leaf_matches_char rules.unicode matchers leaf)
+passes matchers rules (LookBehindNeg leaf) before after = not (is_some_and before (leaf_matches_char rules.unicode matchers leaf))

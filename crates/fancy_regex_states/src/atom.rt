@@ -32,4 +32,12 @@ pub enum Test {
     LeftWordBoundary,
     /// The end of a word.
     RightWordBoundary,
+    /// A character follows that the leaf matches.
+    LookAhead(Leaf),
+    /// No character follows that the leaf matches.
+    LookAheadNeg(Leaf),
+    /// A character that the leaf matches stands before.
+    LookBehind(Leaf),
+    /// No character that the leaf matches stands before.
+    LookBehindNeg(Leaf),
 }

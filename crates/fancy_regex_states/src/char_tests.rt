@@ -44,10 +44,27 @@ fn is_word_at(rules: Rules, c: Option<char>) -> bool
     }
 }
 
+/// Whether there is a character that the leaf matches; `None` is the start or the end of the text.
+#[inline(always)]
+pub fn is_matched(matchers: &[CharClassMatcher], unicode: bool, leaf: Leaf, c: Option<char>) -> bool
+    ensures { result ≡ is_some_and c (leaf_matches_char unicode matchers.now leaf) }
+{
+    match c {
+        Some(c) => leaf_matches(matchers, unicode, leaf, c),
+        None => false,
+    }
+}
+
 /// Whether the assertion holds between the characters `before` and `after`; `None` is the start or the end of the text.
 #[inline(always)]
-pub fn test_holds(rules: Rules, test: Test, before: Option<char>, after: Option<char>) -> bool
-    ensures { result ≡ passes rules test before after }
+pub fn test_holds(
+    matchers: &[CharClassMatcher],
+    rules: Rules,
+    test: Test,
+    before: Option<char>,
+    after: Option<char>,
+) -> bool
+    ensures { result ≡ passes matchers.now rules test before after }
 {
     match test {
         Test::StartText => before.is_none() && !rules.no_start_text,
@@ -67,5 +84,9 @@ pub fn test_holds(rules: Rules, test: Test, before: Option<char>, after: Option<
         Test::NotWordBoundary => is_word_at(rules, before) == is_word_at(rules, after),
         Test::LeftWordBoundary => !is_word_at(rules, before) && is_word_at(rules, after),
         Test::RightWordBoundary => is_word_at(rules, before) && !is_word_at(rules, after),
+        Test::LookAhead(leaf) => is_matched(matchers, rules.unicode, leaf, after),
+        Test::LookAheadNeg(leaf) => !is_matched(matchers, rules.unicode, leaf, after),
+        Test::LookBehind(leaf) => is_matched(matchers, rules.unicode, leaf, before),
+        Test::LookBehindNeg(leaf) => !is_matched(matchers, rules.unicode, leaf, before),
     }
 }

@@ -9,7 +9,7 @@ mod second;
 mod state;
 
 pub use atom::{Leaf, Test};
-pub use char_tests::{leaf_matches, test_holds};
+pub use char_tests::{is_matched, leaf_matches, test_holds};
 pub use first::FirstChars;
 pub use rules::Rules;
 pub use state::State;

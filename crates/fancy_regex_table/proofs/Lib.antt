@@ -5,6 +5,8 @@ pub mod TargetLemmas
 pub mod Adding
 pub mod MakingLemmas
 pub mod MakerLemmas
+pub mod LeafSetLemmas
+pub mod SortLemmas
 pub mod PlaceLemmas
 pub mod TableLemmas
 pub mod AlphabetLemmas

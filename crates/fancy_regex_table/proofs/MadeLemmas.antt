@@ -27,7 +27,7 @@ alike_same unicode matchers c (S.Leave g next) = tt
 alike_same unicode matchers c S.Match = tt
 
 module _ (parts : Parts) (columns : List Column) (alphabet : Alphabet) (is_alphabet : IsAlphabetOf parts.unicode parts.matchers parts.states alphabet)
-    (are_columns : AreColumnsOf alphabet.asked parts.unicode alphabet.samples.items columns) where
+    (are_columns : AreColumnsOf parts.matchers alphabet.asked parts.unicode alphabet.samples.items columns) where
   ascii_column : (c : ℕ) → c < 128 → HasColumn parts columns alphabet.asked (Some c) (slice_index alphabet.ascii c)
   ascii_column c lt =
       let class = is_alphabet.classes c lt in
@@ -52,10 +52,10 @@ module _ (parts : Parts) (columns : List Column) (alphabet : Alphabet) (is_alpha
             (alike_same parts.unicode parts.matchers None (state_at parts.states q));
       }
 
-  pub table_is : (cells : Vec (Vec Cell Global) Global) (made_cells : List (Vec Cell Global)) (fresh : Vec FreshRow Global)
+  pub table_is : (cells : Vec (Vec Cell Global) Global) (made_cells : List (Vec Cell Global)) (fresh : Vec FreshRow Global) (is_whole : Bool)
       → IsMadeOf parts columns made_cells fresh.items → length cells.items ≡ length columns → AreByClass made_cells cells.items
-      → IsTable parts (record { cells = cells; ascii = alphabet.ascii; asked = alphabet.asked; unicode = parts.unicode; fresh = fresh })
-  table_is cells made_cells fresh made long by_class = record {
+      → IsTable parts (record { cells = cells; ascii = alphabet.ascii; asked = alphabet.asked; unicode = parts.unicode; fresh = fresh; is_whole = is_whole })
+  table_is cells made_cells fresh is_whole made long by_class = record {
     rows = made.rows;
     columns = columns;
     unicode = refl;

@@ -2,6 +2,7 @@
 use Rattle.std.proofs.Common.{◌≡◌, ℕ, ◌<◌, List, [], ◌∷◌, ◌++◌, length, Option, Some, sym, ap, subst, ◌∙◌, Vec}
 use Rattle.std.specs.Prelude.{slice_get}
 use Rattle.std.specs.declared.alloc.Global.{Global}
+use Rattle.fancy_regex_table.specs.LeafSets.{no_leaves}
 use Rattle.fancy_regex_table.specs.Cells.{Parts, IsRight}
 use Rattle.fancy_regex_table.specs.Making.{BeginsWith, AreRightCells}
 use Rattle.fancy_regex_table.specs.Made.{AreRightRows, IsRowOfCells, AreFresh}
@@ -77,7 +78,7 @@ fresh_rows_more rows more fresh before number all begins is =
 -- there is a row of each number
 pub row_at : (rows : List Row) (n : ℕ) → n < length rows → (row : Row) × (slice_get rows n ≡ Some row)
 row_at rows n lt =
-    let d : Row = Fresh (record { edge = false; newline = false; carriage_return = false; word = false }) in
+    let d : Row = Fresh (record { edge = false; newline = false; carriage_return = false; word = false; matched = no_leaves }) in
     (get_or rows n d, slice_get-get_or rows n d lt)
 
 -- the cell of a fresh row

@@ -17,6 +17,7 @@ use Rattle.fancy_regex_table.proofs.EndLemmas.{or_else_none}
 use Rattle.std.proofs.Common.{inl, inr}
 use Rattle.std.proofs.lemmas.Bool.{cases_lt}
 use Rattle.fancy_regex_table.specs.Making.{HasColumnOf}
+use Rattle.fancy_regex_class.specs.declared.class.CharClassMatcher.{CharClassMatcher}
 use Rattle.fancy_regex_table.specs.Sorts.{sort_at}
 use Rattle.fancy_regex_table.specs.declared.sort.Asked.{Asked}
 use Rattle.fancy_regex_table.proofs.Adding.{pushed, slice_get_append, slice_get_last}
@@ -61,11 +62,11 @@ pub homes_more : (parts : Parts) (columns : List Column) (homes : List Home) (ho
 homes_more parts columns homes home old new = pushed (λ (k : ℕ) (h : Home). IsHome parts columns h) homes home old new
 
 -- one more column
-pub columns_more : (asked : Asked) (unicode : Bool) (samples : List (Option ℕ)) (columns : List Column) (column : Column) (i : ℕ) → length columns ≡ i
-    → ((k : ℕ) (sample : Option ℕ) → k < i → slice_get samples k ≡ Some sample → HasColumnOf asked unicode columns k sample)
-    → column.sample ≡ get_or samples i column.sample → column.sort ≡ sort_at asked unicode column.sample
-    → (k : ℕ) (sample : Option ℕ) → k < i + 1 → slice_get samples k ≡ Some sample → HasColumnOf asked unicode (columns ++ column ∷ []) k sample
-columns_more asked unicode samples columns column i long old is sort k sample lt there =
+pub columns_more : (matchers : List CharClassMatcher) (asked : Asked) (unicode : Bool) (samples : List (Option ℕ)) (columns : List Column) (column : Column) (i : ℕ) → length columns ≡ i
+    → ((k : ℕ) (sample : Option ℕ) → k < i → slice_get samples k ≡ Some sample → HasColumnOf matchers asked unicode columns k sample)
+    → column.sample ≡ get_or samples i column.sample → column.sort ≡ sort_at matchers asked unicode column.sample
+    → (k : ℕ) (sample : Option ℕ) → k < i + 1 → slice_get samples k ≡ Some sample → HasColumnOf matchers asked unicode (columns ++ column ∷ []) k sample
+columns_more matchers asked unicode samples columns column i long old is sort k sample lt there =
     elim (cases_lt k i) [
       | inl less ↦
           let it = old k sample less there in
@@ -78,7 +79,7 @@ columns_more asked unicode samples columns column i long old is sort k sample lt
           record {
             column = column;
             is_there = subst (λ (n : ℕ). slice_get (columns ++ column ∷ []) n ≡ Some column) (sym at) (slice_get_last columns column);
-            is_of = (same, sort ∙ ap (sort_at asked unicode) same);
+            is_of = (same, sort ∙ ap (sort_at matchers asked unicode) same);
           }
     ]
 

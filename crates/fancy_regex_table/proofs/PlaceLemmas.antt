@@ -10,14 +10,15 @@ use Rattle.fancy_regex_states.specs.CharTests.{leaf_matches_char, passes}
 use Rattle.fancy_regex_states.specs.First.{state_at}
 use Rattle.fancy_regex_states.specs.declared.atom.Leaf.{Leaf}
 use Rattle.fancy_regex_states.specs.declared.atom.Test.{Test}
-use Rattle.fancy_regex_states.specs.declared.atom.Test.TheVariants.{StartText, EndText, StartLine, EndLine, WordBoundary, NotWordBoundary, LeftWordBoundary, RightWordBoundary}
+use Rattle.fancy_regex_states.specs.declared.atom.Test.TheVariants.{StartText, EndText, StartLine, EndLine, WordBoundary, NotWordBoundary, LeftWordBoundary, RightWordBoundary, LookAhead, LookAheadNeg, LookBehind, LookBehindNeg}
 use Rattle.fancy_regex_states.specs.declared.rules.Rules.{Rules}
 use Rattle.fancy_regex_states.specs.declared.state.State.{State}
 use Rattle.fancy_regex_states.specs.declared.state.State.TheVariants as S
 use Rattle.fancy_regex_table.specs.Cells.{Parts, Search, IsPlace, sort_before}
 use Rattle.fancy_regex_table.specs.Making.{ReadsAlike}
 use Rattle.fancy_regex_table.specs.Meanings.{HoldsAs, ReadsAs}
-use Rattle.fancy_regex_table.specs.Sorts.{sort_at, holds_between, asks_for_edges, asks_for_lines, IsAsked}
+use Rattle.fancy_regex_table.specs.Sorts.{sort_at, holds_between, AsksTest, IsAsked}
+use Rattle.fancy_regex_table.proofs.LeafSetLemmas.{matched_in}
 use Rattle.fancy_regex_table.specs.Tables.{IsSearchOf, IsTable, Stands, HasColumn}
 use Rattle.fancy_regex_table.specs.declared.sort.Asked.{Asked}
 use Rattle.fancy_regex_table.specs.declared.sort.Sort.{Sort}
@@ -41,36 +42,39 @@ masked : (e b : Bool) → e ≡ true → b ≡ (e && b)
 masked e b is_e = rw is_e refl
 
 -- an assertion that is asked for holds between the characters as between their sorts
-pub passes_between : (asked : Asked) (rules : Rules) (one other : Option ℕ) → rules.no_start_text ≡ false → rules.no_end_text ≡ false
-    → (test : Test) → (asks_for_edges test ≡ true → asked.edges ≡ true) → (asks_for_lines test ≡ true → asked.lines ≡ true)
-    → (asks_for_edges test ≡ false → asked.words ≡ true)
-    → passes rules test one other ≡ holds_between test (sort_at asked rules.unicode one) (sort_at asked rules.unicode other)
-passes_between asked rules one other start end StartText edges lines words = edge_shown asked.edges rules.no_start_text (is_none one) (edges refl) start
-passes_between asked rules one other start end EndText edges lines words = edge_shown asked.edges rules.no_end_text (is_none other) (edges refl) end
-passes_between asked rules one other start end (StartLine crlf) edges lines words =
-    let e : asked.edges ≡ true = edges refl in
-    let l : asked.lines ≡ true = lines refl in
+pub passes_between : (matchers : List CharClassMatcher) (asked : Asked) (rules : Rules) (one other : Option ℕ) → rules.no_start_text ≡ false → rules.no_end_text ≡ false
+    → (test : Test) → AsksTest asked test
+    → passes matchers rules test one other ≡ holds_between test (sort_at matchers asked rules.unicode one) (sort_at matchers asked rules.unicode other)
+passes_between matchers asked rules one other start end StartText a = edge_shown asked.edges rules.no_start_text (is_none one) (a.edges refl) start
+passes_between matchers asked rules one other start end EndText a = edge_shown asked.edges rules.no_end_text (is_none other) (a.edges refl) end
+passes_between matchers asked rules one other start end (StartLine crlf) a =
+    let e : asked.edges ≡ true = a.edges refl in
+    let l : asked.lines ≡ true = a.lines refl in
     rw (e, l) refl
-passes_between asked rules one other start end (EndLine false) edges lines words =
-    let e : asked.edges ≡ true = edges refl in
-    let l : asked.lines ≡ true = lines refl in
+passes_between matchers asked rules one other start end (EndLine false) a =
+    let e : asked.edges ≡ true = a.edges refl in
+    let l : asked.lines ≡ true = a.lines refl in
     rw (e, l) refl
-passes_between asked rules one other start end (EndLine true) edges lines words =
-    let e : asked.edges ≡ true = edges refl in
-    let l : asked.lines ≡ true = lines refl in
+passes_between matchers asked rules one other start end (EndLine true) a =
+    let e : asked.edges ≡ true = a.edges refl in
+    let l : asked.lines ≡ true = a.lines refl in
     rw (e, l) refl
-passes_between asked rules one other start end WordBoundary edges lines words = let w : asked.words ≡ true = words refl in rw w refl
-passes_between asked rules one other start end NotWordBoundary edges lines words = let w : asked.words ≡ true = words refl in rw w refl
-passes_between asked rules one other start end LeftWordBoundary edges lines words = let w : asked.words ≡ true = words refl in rw w refl
-passes_between asked rules one other start end RightWordBoundary edges lines words = let w : asked.words ≡ true = words refl in rw w refl
+passes_between matchers asked rules one other start end WordBoundary a = let w : asked.words ≡ true = a.words refl in rw w refl
+passes_between matchers asked rules one other start end NotWordBoundary a = let w : asked.words ≡ true = a.words refl in rw w refl
+passes_between matchers asked rules one other start end LeftWordBoundary a = let w : asked.words ≡ true = a.words refl in rw w refl
+passes_between matchers asked rules one other start end RightWordBoundary a = let w : asked.words ≡ true = a.words refl in rw w refl
+passes_between matchers asked rules one other start end (LookAhead leaf) a = matched_in rules.unicode matchers other leaf asked.leaves a.leaf
+passes_between matchers asked rules one other start end (LookAheadNeg leaf) a = ap not (matched_in rules.unicode matchers other leaf asked.leaves a.leaf)
+passes_between matchers asked rules one other start end (LookBehind leaf) a = matched_in rules.unicode matchers one leaf asked.leaves a.leaf
+passes_between matchers asked rules one other start end (LookBehindNeg leaf) a = ap not (matched_in rules.unicode matchers one leaf asked.leaves a.leaf)
 
 holds_as : (asked : Asked) (rules : Rules) (matchers : List CharClassMatcher) (view : View) (at : ℕ) (one other : Option ℕ) (before after : Sort)
     → rules.no_start_text ≡ false → rules.no_end_text ≡ false → Shows matchers rules view at one other
-    → before ≡ sort_at asked rules.unicode one → after ≡ sort_at asked rules.unicode other
+    → before ≡ sort_at matchers asked rules.unicode one → after ≡ sort_at matchers asked rules.unicode other
     → (state : State) → IsAsked asked state → HoldsAs view at before after state
 holds_as asked rules matchers view at one other before after start end shows is_before is_after (S.Look test next) is_asked =
-    shows.holds test ∙ passes_between asked rules one other start end test is_asked.0 is_asked.1 is_asked.2
-    ∙ sym (ap (λ (s : Sort). holds_between test s after) is_before ∙ ap (holds_between test (sort_at asked rules.unicode one)) is_after)
+    shows.holds test ∙ passes_between matchers asked rules one other start end test is_asked
+    ∙ sym (ap (λ (s : Sort). holds_between test s after) is_before ∙ ap (holds_between test (sort_at matchers asked rules.unicode one)) is_after)
 holds_as asked rules matchers view at one other before after start end shows is_before is_after (S.Read leaf next) is_asked = tt
 holds_as asked rules matchers view at one other before after start end shows is_before is_after (S.Split first second) is_asked = tt
 holds_as asked rules matchers view at one other before after start end shows is_before is_after (S.Enter g next) is_asked = tt
@@ -112,19 +116,19 @@ width_is None = refl
 width_is (Some c) = refl
 
 module _ {parts : Parts} {rules : Rules} {s : Search} {table : Table} (t : IsTable parts table) (search : IsSearchOf parts rules s) (place : Place)
-    (stands : Stands table.asked table.unicode t.rows s place) where
+    (stands : Stands parts.matchers table.asked table.unicode t.rows s place) where
   here_shows : Shows parts.matchers rules s.view place.at (char_before s.text place.at) (char_at s.text place.at)
   here_shows = search.shows place.at stands.boundary
 
-  sort_here : sort_before stands.row ≡ sort_at table.asked rules.unicode (char_before s.text place.at)
-  sort_here = stands.sort ∙ ap (λ (u : Bool). sort_at table.asked u (char_before s.text place.at)) (t.unicode ∙ sym search.unicode)
+  sort_here : sort_before stands.row ≡ sort_at parts.matchers table.asked rules.unicode (char_before s.text place.at)
+  sort_here = stands.sort ∙ ap (λ (u : Bool). sort_at parts.matchers table.asked u (char_before s.text place.at)) (t.unicode ∙ sym search.unicode)
 
-  all_hold : (other : Option ℕ) → char_at s.text place.at ≡ other → (after : Sort) → after ≡ sort_at table.asked parts.unicode other
+  all_hold : (other : Option ℕ) → char_at s.text place.at ≡ other → (after : Sort) → after ≡ sort_at parts.matchers table.asked parts.unicode other
       → (q : ℕ) → q < length parts.states → HoldsAs s.view place.at (sort_before stands.row) after (state_at parts.states q)
   all_hold other is after is_after q lt =
       holds_as table.asked rules parts.matchers s.view place.at (char_before s.text place.at) (char_at s.text place.at) (sort_before stands.row) after
       search.start_shown search.end_shown here_shows sort_here
-      (is_after ∙ ap (λ (u : Bool). sort_at table.asked u other) (sym search.unicode) ∙ ap (sort_at table.asked rules.unicode) (sym is))
+      (is_after ∙ ap (λ (u : Bool). sort_at parts.matchers table.asked u other) (sym search.unicode) ∙ ap (sort_at parts.matchers table.asked rules.unicode) (sym is))
       (state_at parts.states q) (t.asks q lt)
 
   next_after : (c : ℕ) → c < 128 → char_at s.text place.at ≡ Some c → s.view.next place.at ≡ place.at + 1

@@ -3,6 +3,7 @@ use Rattle.std.proofs.Common.{◌≡◌, ℕ, ◌+◌, ◌<◌, ◌≤◌, Bool,
 use Rattle.std.specs.Prelude.{slice_get, slice_index_or, IsUtf8}
 use Rattle.std.proofs.Common.{◌-◌}
 use Rattle.fancy_regex_class.proofs.AdjacentCharLemmas.{ascii_at, ascii_before, boundary_past_ascii}
+use Rattle.fancy_regex_class.specs.declared.class.CharClassMatcher.{CharClassMatcher}
 use Rattle.regex_hir.specs.Text.{char_at, char_before}
 use Rattle.fancy_regex_states.specs.declared.rules.Rules.{Rules}
 use Rattle.fancy_regex_table.specs.ByClass.{IsFoundCell}
@@ -29,7 +30,7 @@ none_before_start s (Open before own later found) at start last le is_in p low h
 same_row : (rows : List Row) (number : ℕ) (one other : Row) → slice_get rows number ≡ Some one → slice_get rows number ≡ Some other → one ≡ other
 same_row rows number one other a b = let e : Some one ≡ Some other = sym a ∙ b in cc
 
-module _ {asked : Asked} {unicode : Bool} {rows : List Row} {s : Search} {place : Place} (stands : Stands asked unicode rows s place) where
+module _ {matchers : List CharClassMatcher} {asked : Asked} {unicode : Bool} {rows : List Row} {s : Search} {place : Place} (stands : Stands matchers asked unicode rows s place) where
   -- what is known where nothing more is known
   pub unknown_is : (fresh : List FreshRow) → AreFresh rows fresh → (from : ℕ) → IsStartAt fresh place from → IsPassed s (P.Unknown from place.at)
   unknown_is fresh all from (inl is) = record {
@@ -56,7 +57,7 @@ module _ {asked : Asked} {unicode : Bool} {rows : List Row} {s : Search} {place 
   match_is start end first le = (first, le, stands.high)
 
 module _ {parts : Parts} {rules : Rules} {s : Search} {table : Table} (t : IsTable parts table) (search : IsSearchOf parts rules s) (place : Place)
-    (stands : Stands table.asked table.unicode t.rows s place) where
+    (stands : Stands parts.matchers table.asked table.unicode t.rows s place) where
   -- a cell that was found tells what is so
   pub cell_tells : (class : ℕ) (c : Option ℕ) (h : HasColumn parts t.columns table.asked c class) (next : ℕ)
       → IsPlace parts s (sort_before stands.row) h.column.sort h.column.sample place.at next
@@ -86,17 +87,17 @@ begun_boundary text true at start a b = a
 begun_boundary text false at start a b = b
 
 module _ {parts : Parts} {rules : Rules} {s : Search} {table : Table} (t : IsTable parts table) (search : IsSearchOf parts rules s) (place : Place)
-    (stands : Stands table.asked table.unicode t.rows s place) (c : ℕ) (ascii : IsAsciiAt s.text place.at c) (lt : place.at < s.stop) where
+    (stands : Stands parts.matchers table.asked table.unicode t.rows s place) (c : ℕ) (ascii : IsAsciiAt s.text place.at c) (lt : place.at < s.stop) where
   -- the search stands after the character
   pub stands_next : (class : ℕ) (h : HasColumn parts t.columns table.asked (Some c) class) (row : ℕ) (begins ends : Bool)
       → Tells s t.rows h.column.sort place.at (place.at + 1) place.start place.last (Next row begins ends)
-      → Stands table.asked table.unicode t.rows s
+      → Stands parts.matchers table.asked table.unicode t.rows s
       (record { row = row; at = place.at + 1; start = begun_at begins place.at place.start; last = begun_at ends place.at place.last })
   stands_next class h row begins ends tells = record {
     row = tells.row;
     is_there = tells.is_there;
-    sort = tells.goes.sort ∙ h.sort ∙ ap (λ (u : Bool). sort_at table.asked u (Some c)) (sym t.unicode)
-        ∙ ap (sort_at table.asked table.unicode) (sym ascii.before_next);
+    sort = tells.goes.sort ∙ h.sort ∙ ap (λ (u : Bool). sort_at parts.matchers table.asked u (Some c)) (sym t.unicode)
+        ∙ ap (sort_at parts.matchers table.asked table.unicode) (sym ascii.before_next);
     is_in = tells.goes.is_in;
     low = begun_low begins s.from place.at place.start (omega (arith, stands.low, stands.order)) stands.low;
     order = begun_high begins place.at place.start stands.order;
@@ -119,13 +120,13 @@ module _ {parts : Parts} {rules : Rules} {s : Search} {table : Table} (t : IsTab
   )
 
 -- a search that begins
-pub stands_first : {asked : Asked} {unicode : Bool} {rows : List Row} (s : Search) (fresh : List FreshRow) (before : Option ℕ) (number at : ℕ) → AreFresh rows fresh
-    → IsFreshRow fresh (sort_at asked unicode before) number → before ≡ char_before s.text at → s.from ≡ at → at ≤ s.stop → IsCharBoundary s.text at
-    → Stands asked unicode rows s (record { row = number; at = at; start = at; last = at })
-stands_first {asked} {unicode} {rows} s fresh before number at all first is_before from high boundary = record {
+pub stands_first : {matchers : List CharClassMatcher} {asked : Asked} {unicode : Bool} {rows : List Row} (s : Search) (fresh : List FreshRow) (before : Option ℕ) (number at : ℕ) → AreFresh rows fresh
+    → IsFreshRow fresh (sort_at matchers asked unicode before) number → before ≡ char_before s.text at → s.from ≡ at → at ≤ s.stop → IsCharBoundary s.text at
+    → Stands matchers asked unicode rows s (record { row = number; at = at; start = at; last = at })
+stands_first {matchers} {asked} {unicode} {rows} s fresh before number at all first is_before from high boundary = record {
   row = Fresh first.row.before;
   is_there = subst (λ (n : ℕ). slice_get rows n ≡ Some (Fresh first.row.before)) first.number_is (all first.place first.row first.is_there);
-  sort = first.sort_is ∙ ap (sort_at asked unicode) is_before;
+  sort = first.sort_is ∙ ap (sort_at matchers asked unicode) is_before;
   is_in = λ p low less boundary_p. absurd (omega arith);
   low = omega arith;
   order = omega arith;

@@ -28,7 +28,7 @@ MatchesAlike unicode matchers one other leaf =
 -- neither the leaves nor the assertions tell the characters apart
 abbrev pub Agree : Bool → List CharClassMatcher → List Leaf → Asked → Option ℕ → Option ℕ → Type 0
 Agree unicode matchers leaves asked one other =
-    (sort_at asked unicode one ≡ sort_at asked unicode other) × ((leaf : Leaf) → Contains leaves leaf → MatchesAlike unicode matchers one other leaf)
+    (sort_at matchers asked unicode one ≡ sort_at matchers asked unicode other) × ((leaf : Leaf) → Contains leaves leaf → MatchesAlike unicode matchers one other leaf)
 
 -- the class of this number has a sample that is not told apart from the character
 pub record HasClass (unicode : Bool) (matchers : List CharClassMatcher) (leaves : List Leaf) (asked : Asked) (samples : List (Option ℕ)) (c : Option ℕ) (class : ℕ) : Type 0 where

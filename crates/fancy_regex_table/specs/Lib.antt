@@ -1,3 +1,4 @@
+pub mod LeafSets
 pub mod Sorts
 pub mod Ends
 pub mod Sets

@@ -119,17 +119,17 @@ AreRightCells parts columns rows row cells = (k : ℕ) (column : Column) (cell :
     → slice_get cells k ≡ Some cell → IsRight parts rows row column.sort column.sample cell
 
 -- the columns are those of the samples
-abbrev pub IsColumnOf : Asked → Bool → Option ℕ → Column → Type 0
-IsColumnOf asked unicode sample column = (column.sample ≡ sample) × (column.sort ≡ sort_at asked unicode sample)
+abbrev pub IsColumnOf : List CharClassMatcher → Asked → Bool → Option ℕ → Column → Type 0
+IsColumnOf matchers asked unicode sample column = (column.sample ≡ sample) × (column.sort ≡ sort_at matchers asked unicode sample)
 
 -- there is a column of the sample
-pub record HasColumnOf (asked : Asked) (unicode : Bool) (columns : List Column) (k : ℕ) (sample : Option ℕ) : Type 0 where
+pub record HasColumnOf (matchers : List CharClassMatcher) (asked : Asked) (unicode : Bool) (columns : List Column) (k : ℕ) (sample : Option ℕ) : Type 0 where
   pub column : Column
   pub is_there : slice_get columns k ≡ Some column
-  pub is_of : IsColumnOf asked unicode sample column
+  pub is_of : IsColumnOf matchers asked unicode sample column
 
-abbrev pub AreColumnsOf : Asked → Bool → List (Option ℕ) → List Column → Type 0
-AreColumnsOf asked unicode samples columns = (k : ℕ) (sample : Option ℕ) → slice_get samples k ≡ Some sample → HasColumnOf asked unicode columns k sample
+abbrev pub AreColumnsOf : List CharClassMatcher → Asked → Bool → List (Option ℕ) → List Column → Type 0
+AreColumnsOf matchers asked unicode samples columns = (k : ℕ) (sample : Option ℕ) → slice_get samples k ≡ Some sample → HasColumnOf matchers asked unicode columns k sample
 
 -- the state reads one character as the other, if it reads
 abbrev pub ReadsAlike : Bool → List CharClassMatcher → Option ℕ → Option ℕ → State → Type 0
@@ -139,5 +139,5 @@ ReadsAlike unicode matchers one other _ = Unit {0}
 
 -- neither the states nor the assertions tell the characters apart
 pub record AreAlike (unicode : Bool) (matchers : List CharClassMatcher) (states : List State) (asked : Asked) (one other : Option ℕ) : Type 0 where
-  pub sorts : sort_at asked unicode one ≡ sort_at asked unicode other
+  pub sorts : sort_at matchers asked unicode one ≡ sort_at matchers asked unicode other
   pub alike : (q : ℕ) → q < length states → ReadsAlike unicode matchers one other (state_at states q)

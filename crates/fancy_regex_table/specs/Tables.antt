@@ -2,6 +2,7 @@
 use Rattle.std.specs.Prelude.{◌≡◌, ◌⊎◌, ◌<◌, ◌≤◌, ◌+◌, ℕ, Bool, false, List, Option, Some, None, slice_get, slice_index, length, Vec, IsCharBoundary, IsUtf8}
 use Rattle.std.specs.declared.alloc.Global.{Global}
 use Rattle.regex_hir.specs.Text.{char_at, char_before}
+use Rattle.fancy_regex_class.specs.declared.class.CharClassMatcher.{CharClassMatcher}
 use Rattle.fancy_regex_states.specs.Attempts.{ShowsAll}
 use Rattle.fancy_regex_states.specs.First.{state_at}
 use Rattle.fancy_regex_states.specs.declared.rules.Rules.{Rules}
@@ -27,7 +28,7 @@ use Rattle.fancy_regex_table.specs.declared.table.Table.{Table}
 pub record HasColumn (parts : Parts) (columns : List Column) (asked : Asked) (c : Option ℕ) (class : ℕ) : Type 0 where
   pub column : Column
   pub is_there : slice_get columns class ≡ Some column
-  pub sort : column.sort ≡ sort_at asked parts.unicode c
+  pub sort : column.sort ≡ sort_at parts.matchers asked parts.unicode c
   pub alike : (q : ℕ) → q < length parts.states → ReadsAlike parts.unicode parts.matchers c column.sample (state_at parts.states q)
 
 -- the cell is that of a row and a class, and right
@@ -81,10 +82,10 @@ IsPassed s (P.Idle at) = IsPlaceOf s at at × (s.from < at)
 IsPassed s (P.Unknown from read) = IsPlaceOf s from read
 
 -- a search that stands at this place
-pub record Stands (asked : Asked) (unicode : Bool) (rows : List Row) (s : Search) (place : Place) : Type 0 where
+pub record Stands (matchers : List CharClassMatcher) (asked : Asked) (unicode : Bool) (rows : List Row) (s : Search) (place : Place) : Type 0 where
   pub row : Row
   pub is_there : slice_get rows place.row ≡ Some row
-  pub sort : sort_before row ≡ sort_at asked unicode (char_before s.text place.at)
+  pub sort : sort_before row ≡ sort_at matchers asked unicode (char_before s.text place.at)
   pub is_in : IsIn s row place.at place.start place.last
   pub low : s.from ≤ place.start
   pub order : place.start ≤ place.at
@@ -92,9 +93,9 @@ pub record Stands (asked : Asked) (unicode : Bool) (rows : List Row) (s : Search
   pub boundary : IsCharBoundary s.text place.at
   pub start_boundary : IsCharBoundary s.text place.start
 
-abbrev pub IsStepped : Asked → Bool → List Row → Search → Step → Type 0
-IsStepped asked unicode rows s (W.On place) = Stands asked unicode rows s place
-IsStepped asked unicode rows s (W.Done passed) = IsPassed s passed
+abbrev pub IsStepped : List CharClassMatcher → Asked → Bool → List Row → Search → Step → Type 0
+IsStepped matchers asked unicode rows s (W.On place) = Stands matchers asked unicode rows s place
+IsStepped matchers asked unicode rows s (W.Done passed) = IsPassed s passed
 
 -- what was found lies between the first attempt and the place
 abbrev pub IsLeft : Place → Passed → Type 0

@@ -4,7 +4,7 @@ ghost use Rattle.std.specs.Prelude.{◌≡◌, ◌≤◌, ◌+◌, ℕ, true, So
 ghost use Rattle.fancy_regex_states.specs.declared.atom.Leaf.{Leaf as LeafValue};
 ghost use Rattle.fancy_regex_table.specs.Alphabets.{HasLeaf, HaveLeaves, MatchesAlike, Agree, HasClass, KeepsSamples};
 
-use crate::sort::{Asked, asked_by, sort_of};
+use crate::sort::{Asked, sort_of};
 use crate::step::{Reader, matches};
 use fancy_regex_states::{Leaf, State};
 use std::alloc::{AllocError, Global};
@@ -22,12 +22,13 @@ pub struct Alphabet {
 
 impl Alphabet {
     ghost use Rattle.fancy_regex_table.specs.Alphabets.{IsAlphabetOf};
+    ghost use Rattle.fancy_regex_table.specs.Sorts.{AreAsked};
 
-    /// The classes of these states. The error is want of memory.
-    pub fn new(alloc: Global, reader: &Reader) -> Result<Alphabet, AllocError>
+    /// The classes of these states, whose assertions ask this. The error is want of memory.
+    pub fn new(alloc: Global, reader: &Reader, asked: Asked) -> Result<Alphabet, AllocError>
+        requires { AreAsked asked reader.now.states.now }
         ensures { IfOk result (IsAlphabetOf reader.now.unicode reader.now.matchers.now reader.now.states.now) }
     {
-        let asked = asked_by(reader.states);
         let leaves = leaves_of(alloc, reader.states)?;
         let mut samples = Vec::new(alloc);
         samples.push(None)?;
@@ -141,7 +142,7 @@ fn agree(
 ) -> bool
     ensures { result ≡ true → Agree reader.now.unicode reader.now.matchers.now leaves.now asked one other }
 {
-    sort_of(asked, reader.unicode, one) == sort_of(asked, reader.unicode, other)
+    sort_of(asked, reader, one).is_same(sort_of(asked, reader, other))
         && match_alike(reader, leaves, one, other)
 }
 

@@ -5,6 +5,7 @@ ghost use Rattle.fancy_regex_table.specs.Making.{AreColumnsOf};
 
 use crate::alphabet::Alphabet;
 use crate::sort::{Sort, sort_of};
+use crate::step::Reader;
 use std::alloc::{AllocError, Global};
 
 /// One class of characters.
@@ -20,16 +21,17 @@ pub struct Column {
 pub fn columns_of(
     alloc: Global,
     alphabet: &Alphabet,
-    unicode: bool,
+    reader: &Reader,
 ) -> Result<Vec<Column>, AllocError>
-    ensures { IfOk result (λ columns. AreColumnsOf alphabet.now.asked unicode alphabet.now.samples.items columns.items) }
+    ensures { IfOk result (λ columns. AreColumnsOf reader.now.matchers.now alphabet.now.asked reader.now.unicode
+        alphabet.now.samples.items columns.items) }
 {
     let mut columns = Vec::new(alloc);
     for i in 0..alphabet.samples.len() {
         let sample = alphabet.samples[i];
         columns.push(Column {
             sample,
-            sort: sort_of(alphabet.asked, unicode, sample),
+            sort: sort_of(alphabet.asked, reader, sample),
         })?;
     }
     Ok(columns)

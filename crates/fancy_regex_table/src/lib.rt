@@ -6,6 +6,7 @@ mod begun;
 mod by_class;
 mod close;
 mod columns;
+mod leaf_set;
 mod maker;
 mod pattern;
 mod row;

@@ -27,6 +27,8 @@ pub struct Made {
     pub cells: Vec<Vec<Cell>>,
     /// The rows for searches that begin, by the sort of the character before.
     pub fresh: Vec<FreshRow>,
+    /// Whether these are all rows that a search can come to.
+    pub is_whole: bool,
 }
 
 /// The cell of the fresh row with this sort before, if it is known.
@@ -49,7 +51,7 @@ fn is_fresh(row: &Row, before: Sort) -> bool
     ensures { result ≡ true → row.now ≡ Fresh before }
 {
     match row {
-        Row::Fresh { before: it } => *it == before,
+        Row::Fresh { before: it } => it.is_same(before),
         Row::Open { .. } => false,
     }
 }
@@ -233,5 +235,10 @@ pub fn rows_of(
         )?;
         cells.push(made)?;
     }
-    Ok(Made { cells, fresh })
+    let is_whole = *steps > 0 && cells.len() >= rows.list.len() && rows.has_room();
+    Ok(Made {
+        cells,
+        fresh,
+        is_whole,
+    })
 }

@@ -4,6 +4,7 @@ ghost use Rattle.std.specs.Prelude.{◌≡◌, ℕ, IfOk, IfSome};
 ghost use Rattle.fancy_regex_table.specs.Rows.{IsNumberOf, IsPlaceOf};
 ghost use Rattle.fancy_regex_table.specs.Making.{BeginsWith};
 
+use crate::leaf_set::LeafSet;
 use crate::row::{Found, Row, is_same};
 use crate::sort::Sort;
 use std::alloc::{AllocError, Global};
@@ -41,6 +42,11 @@ impl Rows {
             list: Vec::new(alloc),
             numbers: vec![in alloc; None; most.saturating_mul(2)]?,
         })
+    }
+
+    /// Whether there is room for one more row.
+    pub fn has_room(&self) -> bool {
+        2 * self.list.len() < self.numbers.len()
     }
 
     #[tactic(auto, using(crate::proofs::Adding::begins_more, crate::proofs::Adding::begins_same, crate::proofs::Adding::number_of_last))]
@@ -112,9 +118,21 @@ fn hash_of(row: &Row) -> u64 {
 fn with_sort(hash: u64, sort: Sort) -> u64 {
     let edge = mixed(hash, sort.edge as u64);
     let newline = mixed(edge, sort.newline as u64);
-    mixed(
+    let word = mixed(
         mixed(newline, sort.carriage_return as u64),
         sort.word as u64,
+    );
+    with_leaves(word, sort.matched)
+}
+
+fn with_leaves(hash: u64, leaves: LeafSet) -> u64 {
+    let second = mixed(
+        mixed(hash, leaves.first.is_some() as u64),
+        leaves.second.is_some() as u64,
+    );
+    mixed(
+        mixed(second, leaves.third.is_some() as u64),
+        leaves.fourth.is_some() as u64,
     )
 }
 

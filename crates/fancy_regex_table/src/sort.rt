@@ -1,10 +1,14 @@
 //! What the assertions of a pattern ask about the characters around a place.
 
-ghost use Rattle.std.specs.Prelude.{◌≡◌, ◌<◌, ℕ, Bool};
+ghost use Rattle.std.specs.Prelude.{◌≡◌, ◌<◌, ℕ, Bool, true, IfSome};
 ghost use Rattle.regex_hir.specs.Text.{is_some_and};
 ghost use Rattle.fancy_regex_states.specs.CharTests.{is_char as is_char_of, is_word_char as is_word_code};
-ghost use Rattle.fancy_regex_table.specs.Sorts.{sort_at, holds_between, asks_for_edges as asks_edges, asks_for_lines as asks_lines, AreAsked, AsksMore, IsAsked};
+ghost use Rattle.fancy_regex_table.specs.Sorts.{sort_at, holds_between, asks_for_edges as asks_edges, asks_for_lines as asks_lines, asks_for_words as asks_words, asked_with, AreAsked, AsksLeaf, AsksMore, IsAsked};
+ghost use Rattle.fancy_regex_table.specs.LeafSets.{HasAll};
+ghost use Rattle.fancy_regex_table.specs.declared.sort.Asked.{Asked as AskedValue};
 
+use crate::leaf_set::LeafSet;
+use crate::step::Reader;
 use fancy_regex_class::is_word;
 use fancy_regex_states::{State, Test};
 
@@ -17,10 +21,12 @@ pub struct Asked {
     pub lines: bool,
     /// Whether it is a word character.
     pub words: bool,
+    /// Which of these leaves match it.
+    pub leaves: LeafSet,
 }
 
 /// What is known of a character, or of an end of the text, as far as the assertions ask: all else is false.
-#[derive(Clone, Copy, PartialEq, Eq)]
+#[derive(Clone, Copy)]
 pub struct Sort {
     /// It is an end of the text.
     pub edge: bool,
@@ -30,17 +36,33 @@ pub struct Sort {
     pub carriage_return: bool,
     /// It is a word character.
     pub word: bool,
+    /// The leaves that match it.
+    pub matched: LeafSet,
 }
 
 /// The sort of a character; `None` is an end of the text.
-pub fn sort_of(asked: Asked, unicode: bool, c: Option<char>) -> Sort
-    ensures { result ≡ sort_at asked unicode c }
+pub fn sort_of(asked: Asked, reader: &Reader, c: Option<char>) -> Sort
+    ensures { result ≡ sort_at reader.now.matchers.now asked reader.now.unicode c }
 {
     Sort {
         edge: asked.edges && c.is_none(),
         newline: asked.lines && is_char('\n', c),
         carriage_return: asked.lines && is_char('\r', c),
-        word: asked.words && is_word_char(unicode, c),
+        word: asked.words && is_word_char(reader.unicode, c),
+        matched: asked.leaves.matching(reader, c),
+    }
+}
+
+impl Sort {
+    /// Whether the sorts are the same.
+    pub fn is_same(self, other: Sort) -> bool
+        ensures { result ≡ true → self ≡ other }
+    {
+        self.edge == other.edge
+            && self.newline == other.newline
+            && self.carriage_return == other.carriage_return
+            && self.word == other.word
+            && self.matched.is_same(other.matched)
     }
 }
 
@@ -80,6 +102,10 @@ pub fn holds(test: Test, before: Sort, after: Sort) -> bool
         Test::NotWordBoundary => before.word == after.word,
         Test::LeftWordBoundary => !before.word && after.word,
         Test::RightWordBoundary => before.word && !after.word,
+        Test::LookAhead(leaf) => after.matched.has(leaf),
+        Test::LookAheadNeg(leaf) => !after.matched.has(leaf),
+        Test::LookBehind(leaf) => before.matched.has(leaf),
+        Test::LookBehindNeg(leaf) => !before.matched.has(leaf),
     }
 }
 
@@ -103,32 +129,71 @@ fn asks_for_lines(test: Test) -> bool
     }
 }
 
-/// What all assertions of the states ask.
-pub fn asked_by(states: &[State]) -> Asked
-    ensures { AreAsked result states.now }
+/// Whether the assertion asks for word characters.
+fn asks_for_words(test: Test) -> bool
+    ensures { result ≡ asks_words test }
+{
+    match test {
+        Test::WordBoundary
+        | Test::NotWordBoundary
+        | Test::LeftWordBoundary
+        | Test::RightWordBoundary => true,
+        _ => false,
+    }
+}
+
+/// What all assertions of the states ask; `None` where look-arounds ask about more than four leaves.
+pub fn asked_by(states: &[State]) -> Option<Asked>
+    ensures { IfSome result (λ asked. AreAsked asked states.now) }
 {
     let mut asked = Asked {
         edges: false,
         lines: false,
         words: false,
+        leaves: LeafSet::new(),
     };
     for i in 0..states.len() {
-        asked = with_state(asked, states[i]);
+        asked = with_state(asked, states[i])?;
     }
-    asked
+    Some(asked)
 }
 
-/// What is asked, with what this state asks.
-fn with_state(asked: Asked, state: State) -> Asked
-    ensures more { AsksMore asked result }
-    ensures state { IsAsked result state }
+/// What is asked, with what this state asks, if there is room for its leaf.
+fn with_state(asked: Asked, state: State) -> Option<Asked>
+    ensures more { IfSome result (AsksMore asked) }
+    ensures state { IfSome result (λ more. IsAsked more state) }
 {
     match state {
-        State::Look { test, .. } => Asked {
-            edges: asked.edges || asks_for_edges(test),
-            lines: asked.lines || asks_for_lines(test),
-            words: asked.words || !asks_for_edges(test),
-        },
-        _ => asked,
+        State::Look { test, .. } => {
+            let leaves = with_leaf(asked.leaves, test)?;
+            Some(with_test(asked, test, leaves))
+        }
+        _ => Some(asked),
+    }
+}
+
+/// What is asked, with what this assertion asks, and with these leaves.
+fn with_test(asked: Asked, test: Test, leaves: LeafSet) -> Asked
+    ensures { result ≡ asked_with asked test leaves }
+{
+    Asked {
+        edges: asked.edges || asks_for_edges(test),
+        lines: asked.lines || asks_for_lines(test),
+        words: asked.words || asks_for_words(test),
+        leaves,
+    }
+}
+
+/// The leaves, with the one that the assertion asks about, if there is room.
+fn with_leaf(leaves: LeafSet, test: Test) -> Option<LeafSet>
+    ensures kept { IfSome result (HasAll leaves) }
+    ensures leaf { IfSome result (λ more. (asked : AskedValue) → asked.leaves ≡ more → AsksLeaf asked test) }
+{
+    match test {
+        Test::LookAhead(leaf)
+        | Test::LookAheadNeg(leaf)
+        | Test::LookBehind(leaf)
+        | Test::LookBehindNeg(leaf) => leaves.with(leaf),
+        _ => Some(leaves),
     }
 }

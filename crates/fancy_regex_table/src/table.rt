@@ -13,7 +13,7 @@ use crate::maker::rows_of;
 use crate::pattern::Pattern;
 use crate::row::Cell;
 use crate::rows::FreshRow;
-use crate::sort::{Asked, sort_of};
+use crate::sort::{Asked, asked_by, sort_of};
 use crate::step::Reader;
 use fancy_regex_class::CharClassMatcher;
 use fancy_regex_states::State;
@@ -72,6 +72,7 @@ pub struct Table {
     asked: Asked,
     unicode: bool,
     fresh: Vec<FreshRow>,
+    is_whole: bool,
 }
 
 impl Table {
@@ -80,15 +81,21 @@ impl Table {
     ghost use Rattle.fancy_regex_table.specs.Sorts.{sort_at};
     ghost use Rattle.fancy_regex_table.specs.declared.sort.Sort.{Sort as SortValue};
 
-    /// The table of these states, from the number of the entry. The error is want of memory.
+    /// The table of these states, from the number of the entry; `None` where their look-arounds ask about more than four leaves. The error
+    /// is want of memory.
     pub fn new(
         alloc: Global,
         states: &[State],
         entry: usize,
         matchers: &[CharClassMatcher],
         unicode: bool,
-    ) -> Result<Table, AllocError>
-        ensures { IfOk result (IsTable (record { states = states.now; entry = entry; matchers = matchers.now; unicode = unicode })) }
+    ) -> Result<Option<Table>, AllocError>
+        ensures { IfOk result (λ made. IfSome made (IsTable (record {
+          states = states.now;
+          entry = entry;
+          matchers = matchers.now;
+          unicode = unicode;
+        }))) }
     {
         let reader = Reader {
             states,
@@ -96,26 +103,36 @@ impl Table {
             unicode,
         };
         let pattern = Pattern { reader, entry };
-        let alphabet = Alphabet::new(alloc, &reader)?;
-        let columns = columns_of(alloc, &alphabet, unicode)?;
+        let Some(asked) = asked_by(states) else {
+            return Ok(None);
+        };
+        let alphabet = Alphabet::new(alloc, &reader, asked)?;
+        let columns = columns_of(alloc, &alphabet, &reader)?;
         let mut steps = MOST_STEPS;
         let homes = homes_of(alloc, &pattern, &columns, &mut steps)?;
         let made = rows_of(alloc, &pattern, &columns, &homes, &mut steps)?;
         let cells = by_class(alloc, &made.cells, columns.len())?;
-        Ok(Table {
+        Ok(Some(Table {
             cells,
             ascii: alphabet.ascii,
             asked: alphabet.asked,
             unicode,
             fresh: made.fresh,
-        })
+            is_whole: made.is_whole,
+        }))
+    }
+
+    /// Whether the table has all rows that a search can come to.
+    pub fn is_whole(&self) -> bool {
+        self.is_whole
     }
 
     /// Goes through the text from the byte offset `from`, after the character `before`, up to `stop`. With `at_end` that is the end of
-    /// the text.
+    /// the text. The matchers are those of the states.
     #[inline(always)]
     pub fn pass(
         &self,
+        matchers: &[CharClassMatcher],
         text: &str,
         from: usize,
         before: Option<char>,
@@ -127,10 +144,10 @@ impl Table {
         requires before { before ≡ char_before text.now from }
         requires end { at_end ≡ true → stop ≡ length text.now }
         ensures passed { (parts : Parts) (rules : Rules) (s : Search) → IsTable parts self.now → IsSearchOf parts rules s
-            → s.text ≡ text.now → s.from ≡ from → s.stop ≡ stop → IsPassed s result }
+            → parts.matchers ≡ matchers.now → s.text ≡ text.now → s.from ≡ from → s.stop ≡ stop → IsPassed s result }
         ensures range { IsInRange text.now from stop result }
     {
-        let Some(row) = self.fresh_row(before) else {
+        let Some(row) = self.fresh_row(matchers, before) else {
             return Passed::Unknown { from, read: from };
         };
         let bytes = text.as_bytes();
@@ -150,13 +167,18 @@ impl Table {
     }
 
     /// The row for a search that begins after this character.
-    fn fresh_row(&self, before: Option<char>) -> Option<usize>
-        ensures { IfSome result (IsFreshRow self.now.fresh.items (sort_at self.now.asked self.now.unicode before)) }
+    fn fresh_row(&self, matchers: &[CharClassMatcher], before: Option<char>) -> Option<usize>
+        ensures { IfSome result (IsFreshRow self.now.fresh.items (sort_at matchers.now self.now.asked self.now.unicode before)) }
     {
-        let sort = sort_of(self.asked, self.unicode, before);
+        let reader = Reader {
+            states: &[],
+            matchers,
+            unicode: self.unicode,
+        };
+        let sort = sort_of(self.asked, &reader, before);
         for i in 0..self.fresh.len() {
             let it = self.fresh[i];
-            if it.before == sort {
+            if it.before.is_same(sort) {
                 return Some(it.row);
             }
         }
@@ -180,7 +202,7 @@ impl Table {
     fn unknown(&self, place: Place) -> Passed
         requires { place.start ≤ place.at }
         ensures passed { (parts : Parts) (s : Search) (table : IsTable parts self.now)
-            → Stands self.now.asked self.now.unicode table.rows s place → IsPassed s result }
+            → Stands parts.matchers self.now.asked self.now.unicode table.rows s place → IsPassed s result }
         ensures left { IsLeft place result }
     {
         Passed::Unknown {
@@ -193,7 +215,7 @@ impl Table {
     fn ended(&self, cell: Cell, place: Place) -> Passed
         requires { place.start ≤ place.at }
         ensures passed { (parts : Parts) (s : Search) (table : IsTable parts self.now) (after : SortValue) (next : ℕ)
-            → Stands self.now.asked self.now.unicode table.rows s place
+            → Stands parts.matchers self.now.asked self.now.unicode table.rows s place
             → Tells s table.rows after place.at next place.start place.last cell → IsPassed s result }
         ensures left { IsLeft place result }
     {
@@ -222,7 +244,7 @@ impl Table {
         requires { place.start ≤ place.at }
         ensures passed { (parts : Parts) (rules : Rules) (s : Search) (table : IsTable parts self.now) → IsSearchOf parts rules s
             → place.at ≡ s.stop → (at_end ≡ true → s.stop ≡ length s.text)
-            → Stands self.now.asked self.now.unicode table.rows s place → IsPassed s result }
+            → Stands parts.matchers self.now.asked self.now.unicode table.rows s place → IsPassed s result }
         ensures left { IsLeft place result }
     {
         if !at_end {
@@ -242,8 +264,8 @@ impl Table {
         ensures onward { IsOnward place byte result }
         ensures stepped { (parts : Parts) (rules : Rules) (s : Search) (table : IsTable parts self.now) → IsSearchOf parts rules s
             → (byte < 128 → IsAsciiAt s.text place.at byte) → place.at < s.stop
-            → Stands self.now.asked self.now.unicode table.rows s place
-            → IsStepped self.now.asked self.now.unicode table.rows s result }
+            → Stands parts.matchers self.now.asked self.now.unicode table.rows s place
+            → IsStepped parts.matchers self.now.asked self.now.unicode table.rows s result }
     {
         if byte >= 128 {
             return Step::Done(self.unknown(place));

@@ -35,9 +35,9 @@ returns-in_ok-load_match-in-Match-clause-settled c =
       says = λ view go explains failed.
           let search_ok = is_search context text c.in-Some.it by view go explains place.at here.utf8 here.inside in
           let early = fail_by context text c.in-Some.it by view go explains place.at start
-          (λ t. (c.in-Match.ensures.passed (parts_of context) context.rules (search_of context text c.in-Some.it by view go explains place.at) t search_ok (sym by.text_is) refl refl).0.early) in
+          (λ t. (c.in-Match.ensures.passed (parts_of context) context.rules (search_of context text c.in-Some.it by view go explains place.at) t search_ok refl (sym by.text_is) refl refl).0.early) in
           let end_is = end_by context text c.in-Some.it by view go explains start end
-          (λ t. (c.in-Match.ensures.passed (parts_of context) context.rules (search_of context text c.in-Some.it by view go explains place.at) t search_ok (sym by.text_is) refl refl).0.end_is) in
+          (λ t. (c.in-Match.ensures.passed (parts_of context) context.rules (search_of context text c.in-Some.it by view go explains place.at) t search_ok refl (sym by.text_is) refl refl).0.end_is) in
           let loaded = loaded_is.says view go explains failed end end_is in
           let found = found_says context text place memory here go start (record { at = end; slots = loaded.0 }) range.0 (omega (arith, range.1, range.2)) range.3 early (sym loaded.1) in (
             record { found_slots = loaded.0; is = sym found.0; kept = loaded.2 },
@@ -63,7 +63,7 @@ returns-in-Ended-clause-settled c =
       says = λ view go explains failed.
           let search_ok = is_search context text c.in-Some.it by view go explains place.at here.utf8 here.inside in
           let fails = fail_by context text c.in-Some.it by view go explains place.at (context.stop + 1)
-          (λ t. c.in-Ended.ensures.passed (parts_of context) context.rules (search_of context text c.in-Some.it by view go explains place.at) t search_ok (sym by.text_is) refl refl) in
+          (λ t. c.in-Ended.ensures.passed (parts_of context) context.rules (search_of context text c.in-Some.it by view go explains place.at) t search_ok refl (sym by.text_is) refl refl) in
           let f = spot context text place memory here go in
           let none = none_from f text false place.at context.stop is.boundary is.high here.inside
           (λ i boundary low high. no_spot context text place memory here go i (fails i low (omega (arith, high)) boundary)) in
@@ -96,7 +96,7 @@ returns-in-Idle-clause-settled c =
       says = λ view go explains failed.
           let search_ok = is_search context text c.in-Some.it by view go explains place.at here.utf8 here.inside in
           let fails = fail_by context text c.in-Some.it by view go explains place.at at
-          (λ t. (c.in-Idle.ensures.passed (parts_of context) context.rules (search_of context text c.in-Some.it by view go explains place.at) t search_ok (sym by.text_is) refl refl).0.early) in
+          (λ t. (c.in-Idle.ensures.passed (parts_of context) context.rules (search_of context text c.in-Some.it by view go explains place.at) t search_ok refl (sym by.text_is) refl refl).0.early) in
           let on = on_says context text place memory here go at (omega (arith, range.0)) range.1 fails in
           (failed, refl, on.0, omega (arith, on.1, range.0, c.count_reads-in-Idle.ensures.ticked));
       on = record {
@@ -125,7 +125,7 @@ returns-in_ok-settled-in-Unknown-clause-settled c =
           let search_ok = is_search context text c.in-Some.it by view go explains place.at here.utf8 here.inside in
           after.says view go explains failed
           (fail_by context text c.in-Some.it by view go explains place.at c.in-Unknown.from
-          (λ t. (c.in-Unknown.ensures.passed (parts_of context) context.rules (search_of context text c.in-Some.it by view go explains place.at) t search_ok (sym by.text_is) refl refl).early));
+          (λ t. (c.in-Unknown.ensures.passed (parts_of context) context.rules (search_of context text c.in-Some.it by view go explains place.at) t search_ok refl (sym by.text_is) refl refl).early));
       on = after.on;
     } in
     subst (λ (b : Bool). IsSettled context text (look_count c.args.text.now) (look_count c.by_attempts.new.text) b c.args.span_only place memory c.by_attempts.new.memory c.in_ok-settled-in-Unknown.settled)

@@ -1,4 +1,5 @@
 use Rattle.std.proofs.Common.{refl, Some, None, false, get_or, arith, length-append}
+use Rattle.fancy_regex_table.specs.LeafSets.{no_leaves}
 use Rattle.fancy_regex_table.specs.Making.{parts_of}
 use Rattle.fancy_regex_table.specs.declared.columns.Column.{Column}
 use Rattle.fancy_regex_table.proofs.MakingLemmas.{begun_more, some_begun}
@@ -11,7 +12,7 @@ pub loop-k-preserved : goal.loop-k-preserved
 loop-k-preserved c =
     let parts = parts_of c.args.pattern.now in
     let inv = c.loop-k.invariant in
-    let d : Column = record { sample = None; sort = record { edge = false; newline = false; carriage_return = false; word = false } } in
+    let d : Column = record { sample = None; sort = record { edge = false; newline = false; carriage_return = false; word = false; matched = no_leaves } } in
     let column = get_or c.args.columns.now c.loop-k.k d in
     let found = rw c.deref.ensures.value at c.in_ok-found.ensures in
     record {

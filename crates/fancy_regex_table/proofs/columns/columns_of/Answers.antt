@@ -9,7 +9,7 @@ loop-i-preserved c =
     record {
       long = rw c.in_ok-push.ensures.items (simp length-append (omega arith));
       right = rw c.in_ok-push.ensures.items
-          (columns_more c.args.alphabet.now.asked c.args.unicode c.args.alphabet.now.samples.items c.loop-i.columns.items
+          (columns_more c.args.reader.now.matchers.now c.args.alphabet.now.asked c.args.reader.now.unicode c.args.alphabet.now.samples.items c.loop-i.columns.items
           (record { sample = c.index-sample.result.now; sort = c.sort_of.result }) c.loop-i.i inv.long inv.right c.index-sample.ensures c.sort_of.ensures);
     }
 

@@ -7,5 +7,5 @@ abbrev pub invariant-loop-i : goal.invariant-loop-i
 invariant-loop-i l = record {
   long : length l.columns.items ≡ l.i;
   right : (k : ℕ) (sample : Option ℕ) → k < l.i → slice_get l.alphabet.samples.items k ≡ Some sample
-      → HasColumnOf l.alphabet.asked l.unicode l.columns.items k sample;
+      → HasColumnOf l.reader.matchers.now l.alphabet.asked l.reader.unicode l.columns.items k sample;
 }

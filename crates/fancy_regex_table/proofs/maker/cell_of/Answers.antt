@@ -1,5 +1,6 @@
 use Rattle.std.proofs.Common.{◌≡◌, ◌∙◌, List, None, false, ap, subst}
 use Rattle.std.proofs.lemmas.Option.{get_or_from_slice_get}
+use Rattle.fancy_regex_table.specs.LeafSets.{no_leaves}
 use Rattle.fancy_regex_table.specs.Cells.{IsRight, sort_before}
 use Rattle.fancy_regex_table.specs.Made.{AreReadingsOf}
 use Rattle.fancy_regex_table.specs.Making.{parts_of, IsBegun, IsRightTarget}
@@ -20,7 +21,7 @@ returns-clause-cell c homes right row there readings column is =
     let read : c.index-row.result.now ≡ row = c.index-row.ensures ∙ get_or_from_slice_get rows c.args.number row c.index-row.result.now there in
     let before : c.before-before.result ≡ sort_before row = c.before-before.ensures ∙ ap sort_before read in
     let column_is = get_or_from_slice_get c.args.columns.now c.args.place column
-    (record { sample = None; sort = record { edge = false; newline = false; carriage_return = false; word = false } }) is in
+    (record { sample = None; sort = record { edge = false; newline = false; carriage_return = false; word = false; matched = no_leaves } }) is in
     let target_is = rw column_is at c.in_ok-target.ensures in
     cell_right parts c.args.columns.now c.args.homes.now rows c.cell_to.new.rows.list.items row c.args.place column begun c.args.readings.now fresh
     c.in_ok-cell.cell target homes (subst (λ (b : Sort). IsBegunAt c.args.homes.now b c.args.place begun) before c.in-Some.ensures) is

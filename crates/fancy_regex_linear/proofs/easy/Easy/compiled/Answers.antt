@@ -14,7 +14,7 @@ use Rattle.fancy_regex_linear.specs.Refusals.{IsClassCause, IsCause}
 use Rattle.fancy_regex_states.specs.declared.state.State.{State}
 use Rattle.fancy_regex_states.specs.declared.state.State.TheVariants.{Match as End}
 use Rattle.fancy_regex_linear.proofs.TranslationLemmas.{is_made, count_is, whole_is, program_is, serves_all, serves}
-use Rattle.fancy_regex_linear.proofs.ServedLemmas.{info_is_of, info_plain, light_by, heavy_by, read_by, cause_of}
+use Rattle.fancy_regex_linear.proofs.ServedLemmas.{info_is_of, light_by, heavy_by, read_by, cause_of}
 use Rattle.fancy_regex_linear.proofs.easy.Easy.compiled.Goals as goal
 use Rattle.fancy_regex_linear.proofs.easy.Easy.compiled.Goals.{In_ok-entry}
 
@@ -35,7 +35,7 @@ invariant_of-result c = record {
 pub returns-clause-made : goal.returns-clause-made
 returns-clause-made c = λ explicit t is.
     let of = info_is_of c.args.info.now explicit t is in
-    let plain : IsPlain t = info_plain c.args.info.now explicit t is c.requires.easy in
+    let plain : IsPlain t = c.requires.supported explicit t is in
     let unicode = c.args.options.now.unicode in
     let begins : (c.start_group-explicit.result == 0) ≡ explicit = ap (λ (n : ℕ). n == 0) c.start_group-explicit.ensures ∙ of.start in
     let first : c.new-translator.result.next_group ≡ (if explicit then 0 else 1) = c.new-translator.ensures.first ∙ ap (λ b. if b then 0 else 1) begins in

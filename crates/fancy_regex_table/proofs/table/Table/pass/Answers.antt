@@ -1,7 +1,9 @@
 use Rattle.std.proofs.Common.{◌∙◌, ◌<◌, ◌≤◌, ◌≡◌, ◌+◌, inl, inr, ℕ, List, sym, ap, subst, arith, get_or, length, IsCharBoundary}
 use Rattle.std.proofs.lemmas.Bool.{cases_lt}
 use Rattle.regex_hir.specs.Text.{char_before}
-use Rattle.fancy_regex_table.specs.Tables.{IsAsciiAt, IsLeft, IsDoneAt, IsInRange, AreBoundaries}
+use Rattle.fancy_regex_class.specs.declared.class.CharClassMatcher.{CharClassMatcher}
+use Rattle.fancy_regex_table.specs.Sorts.{sort_at}
+use Rattle.fancy_regex_table.specs.Tables.{IsFreshRow, IsAsciiAt, IsLeft, IsDoneAt, IsInRange, AreBoundaries}
 use Rattle.fancy_regex_table.specs.declared.table.Passed.{Passed}
 use Rattle.fancy_regex_table.specs.declared.table.Passed.TheVariants as P
 use Rattle.fancy_regex_table.specs.declared.table.Place.{Place}
@@ -14,8 +16,8 @@ chars-init c = record {
   boundary = c.requires.boundary;
   order = (omega arith, omega arith);
   read = λ i low high. let same : c.args.from ≡ i = omega (arith, low, high) in subst (IsCharBoundary c.args.text.now) same c.requires.boundary;
-  stands = λ parts rules s table search text from stop.
-      stands_first s c.args.self.now.fresh.items c.args.before c.in-Some.row c.args.from table.fresh c.in-Some.ensures
+  stands = λ parts rules s table search same text from stop.
+      stands_first s c.args.self.now.fresh.items c.args.before c.in-Some.row c.args.from table.fresh (subst (λ (ms : List CharClassMatcher). IsFreshRow c.args.self.now.fresh.items (sort_at ms c.args.self.now.asked c.args.self.now.unicode c.args.before) c.in-Some.row) (sym same) c.in-Some.ensures)
       (c.requires.before ∙ ap (λ (t : List ℕ). char_before t c.args.from) (sym text)) from (omega (arith, c.requires.range.0, stop))
       (subst (λ (t : List ℕ). IsCharBoundary t c.args.from) (sym text) c.requires.boundary);
 }
@@ -40,13 +42,13 @@ chars-preserved c =
             | inl after ↦
                 let same : at + 1 ≡ i = omega (arith, high, after, onward.0) in subst (IsCharBoundary c.args.text.now) same (ascii onward.3).boundary_next
           ];
-      stands = λ parts rules s table search text from stop.
+      stands = λ parts rules s table search same text from stop.
           c.in-On.ensures.stepped parts rules s table search (λ small. subst (λ (t : List ℕ). IsAsciiAt t at byte) (sym text) (ascii small))
-          (omega (arith, c.chars-test.true, stop)) (inv.stands parts rules s table search text from stop);
+          (omega (arith, c.chars-test.true, stop)) (inv.stands parts rules s table search same text from stop);
     }
 
 pub returns-in-Done-clause-passed : goal.returns-in-Done-clause-passed
-returns-in-Done-clause-passed c parts rules s table search text from stop =
+returns-in-Done-clause-passed c parts rules s table search same text from stop =
     let inv = c.chars.invariant in
     let at = c.chars.place.at in
     let bytes = c.as_bytes-bytes.result.now in
@@ -55,13 +57,13 @@ returns-in-Done-clause-passed c parts rules s table search text from stop =
     let ascii : byte < 128 → IsAsciiAt c.args.text.now at byte =
     λ small. ascii_here c.args.text.now at byte 0 c.utf8.text inv.boundary inside (ap (λ (t : List ℕ). get_or t at 0) c.as_bytes-bytes.ensures.value) small in
     c.in-Done.ensures.stepped parts rules s table search (λ small. subst (λ (t : List ℕ). IsAsciiAt t at byte) (sym text) (ascii small))
-    (omega (arith, c.chars-test.true, stop)) (inv.stands parts rules s table search text from stop)
+    (omega (arith, c.chars-test.true, stop)) (inv.stands parts rules s table search same text from stop)
 
 pub returns-clause-passed : goal.returns-clause-passed
-returns-clause-passed c parts rules s table search text from stop =
+returns-clause-passed c parts rules s table search same text from stop =
     let inv = c.chars.invariant in
     c.at_stop.ensures.passed parts rules s table search (omega (arith, c.chars-test.false, inv.high, stop))
-    (λ e. stop ∙ c.requires.end e ∙ ap length (sym text)) (inv.stands parts rules s table search text from stop)
+    (λ e. stop ∙ c.requires.end e ∙ ap length (sym text)) (inv.stands parts rules s table search same text from stop)
 
 -- what was found lies in the range
 in_range : (text : List ℕ) (low stop : ℕ) (place : Place) (byte : ℕ) (passed : Passed) → low ≤ place.start → place.start ≤ place.at → AreBoundaries text low place.at

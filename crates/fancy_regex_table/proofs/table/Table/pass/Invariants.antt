@@ -10,8 +10,8 @@ invariant-chars l = record {
   boundary : IsCharBoundary l.text l.place.at;
   order : (l.from ≤ l.place.start) × (l.place.start ≤ l.place.at);
   read : AreBoundaries l.text l.from l.place.at;
-  stands : (parts : Parts) (rules : Rules) (s : Search) (table : IsTable parts l.self) → IsSearchOf parts rules s → s.text ≡ l.text → s.from ≡ l.from
-      → s.stop ≡ l.stop → Stands l.self.asked l.self.unicode table.rows s l.place;
+  stands : (parts : Parts) (rules : Rules) (s : Search) (table : IsTable parts l.self) → IsSearchOf parts rules s → parts.matchers ≡ l.matchers → s.text ≡ l.text → s.from ≡ l.from
+      → s.stop ≡ l.stop → Stands parts.matchers l.self.asked l.self.unicode table.rows s l.place;
 }
 
 abbrev pub decreases-chars : goal.decreases-chars

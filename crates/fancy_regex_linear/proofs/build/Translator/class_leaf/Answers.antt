@@ -1,6 +1,6 @@
 use Rattle.std.proofs.Common.{chars}
 use Rattle.fancy_regex_linear.proofs.BuildLemmas.{extends_more}
-use Rattle.fancy_regex_linear.proofs.build.Translator.class.Goals as goal
+use Rattle.fancy_regex_linear.proofs.build.Translator.class_leaf.Goals as goal
 
 pub returns-clause-matchers : goal.returns-clause-matchers
 returns-clause-matchers c =
