@@ -357,16 +357,16 @@ fn set_matches_show_themselves() {
     assert!(format!("{found:?}").contains("RegexSetMatchesAt"));
 }
 
+/// The first member of a set that matches in `ab`.
+fn first_member(set: &RegexSet) -> RegexSetMatch<'_, str> {
+    let mut found = set.find_input(RegexInput::new("ab")).unwrap().unwrap();
+    found.next().unwrap().unwrap()
+}
+
 #[test]
 fn set_match_has_groups() {
     let set = RegexSet::new(["a(?<n>.)"]).unwrap();
-    let found = set
-        .find_input(RegexInput::new("ab"))
-        .unwrap()
-        .unwrap()
-        .next()
-        .unwrap()
-        .unwrap();
+    let found = first_member(&set);
     let groups: &Captures<'_, str> = found.captures();
     assert_eq!((groups.len(), &groups["n"]), (2, "b"));
 }
@@ -374,13 +374,7 @@ fn set_match_has_groups() {
 #[test]
 fn set_match_is_a_match() {
     let set = RegexSet::new(["b"]).unwrap();
-    let found: RegexSetMatch<'_, str> = set
-        .find_input(RegexInput::new("ab"))
-        .unwrap()
-        .unwrap()
-        .next()
-        .unwrap()
-        .unwrap();
+    let found: RegexSetMatch<'_, str> = first_member(&set);
     let whole: Match<'_> = found.get();
     assert_eq!(whole.range(), 1..2);
 }
@@ -388,13 +382,7 @@ fn set_match_is_a_match() {
 #[test]
 fn set_match_shows_itself() {
     let set = RegexSet::new(["b"]).unwrap();
-    let found = set
-        .find_input(RegexInput::new("ab"))
-        .unwrap()
-        .unwrap()
-        .next()
-        .unwrap()
-        .unwrap();
+    let found = first_member(&set);
     assert!(format!("{found:?}").contains("RegexSetMatch"));
 }
 

@@ -169,7 +169,11 @@ impl Expr {
     }
 
     /// Replaces the child at index `i`, in the order of `children_iter`. Answers the node with the new child, and `Ok` with the old
-    /// child. Where there is no such child, it answers the node unchanged, and `Err` with the child that was given.
+    /// child.
+    ///
+    /// # Errors
+    ///
+    /// `Err` with the child that was given where there is no child at that index, as at any index of a leaf; the node is unchanged.
     ///
     /// ```
     /// let expr = Expr::parse_tree(alloc, "a+")?.expr;

@@ -8,7 +8,11 @@ use crate::tree_builders::repeat_of;
 use std::alloc::{AllocError, Global};
 
 impl CaptureGroupTarget {
-    /// A copy of the target. Fails only if an allocation fails.
+    /// A copy of the target.
+    ///
+    /// # Errors
+    ///
+    /// `AllocError` if an allocation fails.
     pub fn try_clone(&self, alloc: Global) -> Result<CaptureGroupTarget, AllocError>
         ensures { IfOk result (λ copy. target_of copy ≡ target_of self.now) }
     {
@@ -33,7 +37,11 @@ fn copy_name(alloc: Global, name: &Option<String>) -> Result<Option<String>, All
 }
 
 impl Absent {
-    /// A deep copy of the operator. Fails only if an allocation fails.
+    /// A deep copy of the operator.
+    ///
+    /// # Errors
+    ///
+    /// `AllocError` if an allocation fails.
     #[cycle(copy)]
     pub fn try_clone(&self, alloc: Global) -> Result<Absent, AllocError>
         ensures { IfOk result (λ copy. absent_tree_of copy ≡ absent_tree_of self.now) }
@@ -51,7 +59,11 @@ impl Absent {
 }
 
 impl AstNode {
-    /// A deep copy of the node. Fails only if an allocation fails.
+    /// A deep copy of the node.
+    ///
+    /// # Errors
+    ///
+    /// `AllocError` if an allocation fails.
     #[cycle(copy)]
     pub fn try_clone(&self, alloc: Global) -> Result<AstNode, AllocError>
         ensures { IfOk result (λ copy. ast_tree_of copy ≡ ast_tree_of self.now) }
@@ -101,7 +113,11 @@ fn copy_class(alloc: Global, inner: &String, casei: bool) -> Result<Expr, AllocE
 }
 
 impl Expr {
-    /// A deep copy of the tree. Fails only if an allocation fails.
+    /// A deep copy of the tree.
+    ///
+    /// # Errors
+    ///
+    /// `AllocError` if an allocation fails.
     #[cycle(copy)]
     pub fn try_clone(&self, alloc: Global) -> Result<Expr, AllocError>
         ensures { IfOk result (λ copy. tree_of copy ≡ tree_of self.now) }

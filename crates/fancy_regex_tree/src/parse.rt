@@ -108,6 +108,10 @@ fn summarize_references(
 impl Expr {
     /// Parses a pattern with `FLAG_UNICODE` alone; see `parse_tree_with_flags`.
     ///
+    /// # Errors
+    ///
+    /// Those of `parse_tree_with_flags`.
+    ///
     /// ```
     /// let tree = Expr::parse_tree(alloc, "ab")?;
     /// assert!(rt; matches!(&tree.expr, Expr::Concat(_)));
@@ -123,9 +127,12 @@ impl Expr {
     /// Parses a pattern. `flags` is a union of the constants `FLAG_...`; other bits are ignored.
     ///
     /// Answers the syntax tree, with references resolved, and the summary of its groups and references. The tree of a pattern of
-    /// n bytes has at most 2n + 1 nodes, and no path in it has more than 832. The errors are `Error::ParseError`, with the first
-    /// error of the pattern and its byte offset, which is at most the length of `re`, and `Error::Memory`, if an allocation fails.
-    /// Errors of syntax come before those of references.
+    /// n bytes has at most 2n + 1 nodes, and no path in it has more than 832.
+    ///
+    /// # Errors
+    ///
+    /// `Error::ParseError` with the first error of the pattern and its byte offset, which is at most the length of `re`; errors of
+    /// syntax come before those of references. `Error::Memory` if an allocation fails.
     ///
     /// ```
     /// let tree = Expr::parse_tree_with_flags(alloc, ".", FLAG_UNICODE | FLAG_DOTNL)?;
@@ -139,6 +146,10 @@ impl Expr {
     }
 
     /// Parses a pattern with the options as a struct; see `parse_tree_with_flags` for what it answers.
+    ///
+    /// # Errors
+    ///
+    /// Those of `parse_tree_with_flags`.
     ///
     /// ```
     /// let mut options = ParseOptions::from_flags(FLAG_UNICODE);

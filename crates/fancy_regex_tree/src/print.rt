@@ -17,7 +17,9 @@ impl Expr {
     /// with a quantifier after it. Where needed, the text is put in a non-capturing group. In its place it reads back as the
     /// normal form of the tree, with the same matches where each class reads back unchanged: the laws of `fancy_regex_print_laws`.
     ///
-    /// Fails only if an allocation fails; the buffer is then unchanged.
+    /// # Errors
+    ///
+    /// `AllocError` if an allocation fails; the buffer is then unchanged.
     ///
     /// ```
     /// let tree = Expr::parse_tree(alloc, "(?:ab)*")?;

@@ -17,7 +17,9 @@ impl Expr {
     /// parser accepts, assertions but `\Z` and the start of a line in Oniguruma mode, concatenations, alternations of two branches
     /// or more, capture groups, and repetitions with `lo` below `usize::MAX` of anything but an empty node or an assertion.
     ///
-    /// Fails only if an allocation fails.
+    /// # Errors
+    ///
+    /// `AllocError` if an allocation fails.
     ///
     /// ```
     /// assert!(rt; Expr::parse_tree(alloc, "a|b")?.expr.is_printable(alloc)?);

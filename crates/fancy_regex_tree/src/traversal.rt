@@ -168,7 +168,11 @@ impl Expr {
     }
 
     /// All nodes of the tree, those in capture groups that have no number yet included: each before those below it, from left to
-    /// right. Fails only if memory runs out.
+    /// right.
+    ///
+    /// # Errors
+    ///
+    /// `AllocError` if an allocation fails.
     ///
     /// ```
     /// let tree = Expr::parse_tree(alloc, "(ab)+")?;

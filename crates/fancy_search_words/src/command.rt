@@ -71,7 +71,7 @@ const IGNORE_WHITESPACE: &str =
 const ASCII: &str = "Takes classes and cases by ASCII alone. Example: find --ascii '\\w+'";
 
 const ONIGURUMA: &str =
-    "Reads \\<, \\>, reversed counts and repeated quantifiers as Oniguruma does; other differences remain. Example: find --oniguruma '\\<\\w*\\>'";
+    "Reads \\<, \\>, reversed counts and repeated quantifiers as Oniguruma does, and nothing else. Example: find --oniguruma '\\<\\w*\\>'";
 
 const NOT_EMPTY: &str = "Finds no empty match. Example: find --not-empty 'a*'";
 
