@@ -1,8 +1,6 @@
 //! A highlighter: the tokens of a source text, found by a set of thirty patterns.
 
-use crate::fault::BenchError;
-use fancy_regex::{RegexInput, RegexSet};
-use std::alloc::Global;
+use proved_fancy_regex::{Error, RegexInput, RegexSet};
 
 /// Comments, strings, numbers, keywords, names and operators. Where several match at one place, the first of them counts.
 const TOKENS: [&str; 30] = [
@@ -38,41 +36,15 @@ const TOKENS: [&str; 30] = [
     "[(){}\\[\\],;:.?@]",
 ];
 
-/// The number of tokens of a text.
-pub fn tokens(alloc: Global, text: &str) -> Result<u64, BenchError> {
-    let set = RegexSet::new(alloc, &TOKENS)?;
-    tokens_by(alloc, &set, text)
-}
-
-/// The number of tokens that a set finds: at each place the match of the first member that has one, and on from its end.
-fn tokens_by(alloc: Global, set: &RegexSet, text: &str) -> Result<u64, BenchError> {
-    let mut count: u64 = 0;
+/// The number of tokens of a text: at each place the match of the first member that has one, and on from its end.
+pub fn count(text: &str) -> Result<usize, Error> {
+    let set = RegexSet::new(TOKENS)?;
+    let mut count = 0;
     let mut place = 0;
-    for _ in 0..text.len() {
-        let Some(end) = next_end(alloc, set, text, place)? else {
-            break;
-        };
-        count = count.saturating_add(1);
-        place = end;
+    while let Some(mut found) = set.find_input(RegexInput::new(text).from_pos(place))? {
+        let Some(first) = found.next() else { break };
+        place = first?.end();
+        count += 1;
     }
     Ok(count)
-}
-
-/// The end of the next token from a place on; `None` if there is none.
-fn next_end(
-    alloc: Global,
-    set: &RegexSet,
-    text: &str,
-    place: usize,
-) -> Result<Option<usize>, BenchError> {
-    if !text.is_char_boundary(place) {
-        return Ok(None);
-    }
-    let Some(mut found) = set.find_input(alloc, RegexInput::new(text).from_pos(place))? else {
-        return Ok(None);
-    };
-    match found.next() {
-        Some(item) => Ok(Some(item?.end())),
-        None => Ok(None),
-    }
 }

@@ -1,15 +1,12 @@
-//! The generated haystacks.
+//! The generated texts.
 
-use crate::work::TimedCall;
-use std::alloc::{AllocError, Global};
-
-/// The words of a haystack, without digits and upper-case letters.
-static WORDS: [&str; 8] = [
+/// The words of a text, without digits and upper-case letters.
+const WORDS: [&str; 8] = [
     "abab ", "foo ", "bar\n", "aab ", "zebra ", "the ", "quick ", "é ",
 ];
 
 /// The lines of a source text.
-static LINES: [&str; 12] = [
+const LINES: [&str; 12] = [
     "// Counts the words of a line, and says which of them is the longest.\n",
     "pub fn longest_word(line: &str) -> Option<&str> {\n",
     "    let mut best: Option<&str> = None;\n",
@@ -24,26 +21,23 @@ static LINES: [&str; 12] = [
     "    while i != end && !is_done { i += 1; total -= price[i] % 7; }\n",
 ];
 
-/// The haystack of a call, of about this many bytes: a source text for the highlighter, else words.
-pub fn text_of(alloc: Global, call: TimedCall, size: usize) -> Result<String, AllocError> {
-    match call {
-        TimedCall::Tokens => made(alloc, &LINES, size),
-        _ => made(alloc, &WORDS, size),
-    }
+/// Words, of about this many bytes.
+pub fn words(size: usize) -> String {
+    made(&WORDS, size)
+}
+
+/// A source text, of about this many bytes.
+pub fn source(size: usize) -> String {
+    made(&LINES, size)
 }
 
 /// A text of about this many bytes: the pieces in a pseudorandom order, the same in each run.
-fn made(alloc: Global, pieces: &[&str], size: usize) -> Result<String, AllocError> {
-    let mut text = String::new(alloc);
-    text.reserve(size)?;
+fn made(pieces: &[&str], size: usize) -> String {
+    let mut text = String::with_capacity(size + 100);
     let mut number: u32 = 1;
-    for _ in 0..size {
-        if text.len() >= size {
-            break;
-        }
+    while text.len() < size {
         number = number.wrapping_mul(1_103_515_245).wrapping_add(12_345);
-        let index = (number >> 16) as usize % pieces.len().max(1);
-        text.push_str(pieces.get(index).copied().unwrap_or(" "))?;
+        text.push_str(pieces[(number >> 16) as usize % pieces.len()]);
     }
-    Ok(text)
+    text
 }
