@@ -7,7 +7,7 @@ ghost use Rattle.fancy_regex_states.specs.First.{state_at};
 ghost use Rattle.fancy_regex_table.specs.Meanings.{IsStep, IsStepBeside, IsAddedTo, IsNextAdded, read_next};
 
 use fancy_regex_class::CharClassMatcher;
-use fancy_regex_states::{Leaf, State, leaf_matches};
+use fancy_regex_states::{Leaf, State, is_matched};
 use std::alloc::{AllocError, Global};
 
 /// What the states read: the matchers of their classes, and whether case and word characters follow Unicode.
@@ -22,10 +22,7 @@ pub struct Reader<'p> {
 pub fn matches(reader: &Reader, leaf: Leaf, c: Option<char>) -> bool
     ensures { result ≡ is_some_and c (leaf_matches_char reader.now.unicode reader.now.matchers.now leaf) }
 {
-    match c {
-        Some(c) => leaf_matches(reader.matchers, reader.unicode, leaf, c),
-        None => false,
-    }
+    is_matched(reader.matchers, reader.unicode, leaf, c)
 }
 
 /// The state that this one leads to by the character, if it reads it.
