@@ -91,7 +91,7 @@ goes_to_number {s} {after} {at} {next} {start} {last} {begins} {ends} {row} rows
 -- what a cell says is so with more rows
 pub tells_more : (s : Search) (rows more : List Row) → BeginsWith more rows → (after : Sort) (at next start last : ℕ) (cell : Cell)
     → Tells s rows after at next start last cell → Tells s more after at next start last cell
-tells_more s rows more begins after at next start last (Next row b e) h =
+tells_more s rows more begins after at next start last (Next b e row) h =
     record { row = h.row; is_there = begins row h.row h.is_there; goes = h.goes }
 tells_more s rows more begins after at next start last Unknown h = tt
 tells_more s rows more begins after at next start last Empty h = h

@@ -90,7 +90,7 @@ module _ {parts : Parts} {rules : Rules} {s : Search} {table : Table} (t : IsTab
     (stands : Stands parts.matchers table.asked table.unicode t.rows s place) (c : ℕ) (ascii : IsAsciiAt s.text place.at c) (lt : place.at < s.stop) where
   -- the search stands after the character
   pub stands_next : (class : ℕ) (h : HasColumn parts t.columns table.asked (Some c) class) (row : ℕ) (begins ends : Bool)
-      → Tells s t.rows h.column.sort place.at (place.at + 1) place.start place.last (Next row begins ends)
+      → Tells s t.rows h.column.sort place.at (place.at + 1) place.start place.last (Next begins ends row)
       → Stands parts.matchers table.asked table.unicode t.rows s
       (record { row = row; at = place.at + 1; start = begun_at begins place.at place.start; last = begun_at ends place.at place.last })
   stands_next class h row begins ends tells = record {

@@ -102,7 +102,7 @@ pub record GoesToRow (s : Search) (rows : List Row) (after : Sort) (at next star
 
 -- what the cell says is so
 abbrev pub Tells : Search → List Row → Sort → ℕ → ℕ → ℕ → ℕ → Cell → Type 0
-Tells s rows after at next start last (Next row begins ends) = GoesToRow s rows after at next start last begins ends row
+Tells s rows after at next start last (Next begins ends row) = GoesToRow s rows after at next start last begins ends row
 Tells s rows after at next start last Unknown = Unit {0}
 Tells s rows after at next start last Empty = IsFirstMatch s at at
 Tells s rows after at next start last EndsHere = IsFirstMatch s start at

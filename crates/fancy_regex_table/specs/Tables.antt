@@ -20,8 +20,6 @@ use Rattle.fancy_regex_table.specs.declared.sort.Sort.{Sort}
 use Rattle.fancy_regex_table.specs.declared.table.Passed.{Passed}
 use Rattle.fancy_regex_table.specs.declared.table.Passed.TheVariants as P
 use Rattle.fancy_regex_table.specs.declared.table.Place.{Place}
-use Rattle.fancy_regex_table.specs.declared.table.Step.{Step}
-use Rattle.fancy_regex_table.specs.declared.table.Step.TheVariants as W
 use Rattle.fancy_regex_table.specs.declared.table.Table.{Table}
 
 -- the class of this number is that of the character
@@ -93,10 +91,6 @@ pub record Stands (matchers : List CharClassMatcher) (asked : Asked) (unicode : 
   pub boundary : IsCharBoundary s.text place.at
   pub start_boundary : IsCharBoundary s.text place.start
 
-abbrev pub IsStepped : List CharClassMatcher → Asked → Bool → List Row → Search → Step → Type 0
-IsStepped matchers asked unicode rows s (W.On place) = Stands matchers asked unicode rows s place
-IsStepped matchers asked unicode rows s (W.Done passed) = IsPassed s passed
-
 -- what was found lies between the first attempt and the place
 abbrev pub IsLeft : Place → Passed → Type 0
 IsLeft place (P.Match start end read) = (place.start ≤ start) × (start ≤ read) × (read ≡ place.at)
@@ -111,14 +105,24 @@ IsDoneAt place byte P.Ended = Unit {0}
 IsDoneAt place byte (P.Idle next) = (next ≡ place.at + 1) × (byte < 128)
 IsDoneAt place byte (P.Unknown from read) = IsLeft place (P.Unknown from read)
 
--- a step on is one over an ASCII character
-abbrev pub IsOnward : Place → ℕ → Step → Type 0
-IsOnward place byte (W.On next) = (next.at ≡ place.at + 1) × (place.start ≤ next.start) × (next.start ≤ place.at) × (byte < 128)
-IsOnward place byte (W.Done passed) = IsDoneAt place byte passed
+-- the search goes on after an ASCII character
+pub record IsOnward (place : Place) (byte : ℕ) (next : Place) : Type 0 where
+  pub ascii : byte < 128
+  pub at : next.at ≡ place.at + 1
+  pub low : place.start ≤ next.start
+  pub high : next.start ≤ place.at
 
 -- a character begins at each place from the first to the second
 abbrev pub AreBoundaries : List ℕ → ℕ → ℕ → Type 0
 AreBoundaries text low high = (i : ℕ) → low ≤ i → i ≤ high → IsCharBoundary text i
+
+-- the search goes on from one place to another one, over ASCII characters
+pub record IsRunTo (text : List ℕ) (first : Place) (stop : ℕ) (to : Place) : Type 0 where
+  pub low : first.start ≤ to.start
+  pub order : to.start ≤ to.at
+  pub high : to.at ≤ stop
+  pub boundaries : AreBoundaries text first.at to.at
+  pub onward : first.at ≤ to.at
 
 -- what was found lies in the range
 abbrev pub IsInRange : List ℕ → ℕ → ℕ → Passed → Type 0

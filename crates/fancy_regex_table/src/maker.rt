@@ -122,9 +122,9 @@ fn cell_to(rows: &mut Rows, target: Target) -> Result<Cell, AllocError>
                 return Ok(Cell::Unknown);
             }
             Ok(Cell::Next {
-                row: number as u16,
                 begins,
                 ends,
+                row: number as u32,
             })
         }
     }

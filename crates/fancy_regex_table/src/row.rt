@@ -42,11 +42,11 @@ pub enum Row {
 pub enum Cell {
     /// The row after the character.
     Next {
-        row: u16,
         /// All attempts from earlier starts have failed: the first one is that from this place.
         begins: bool,
         /// The first attempt has a match that ends at this place.
         ends: bool,
+        row: u32,
     },
     /// Nothing.
     Unknown,

@@ -55,13 +55,6 @@ struct Place {
     last: usize,
 }
 
-/// What comes after a character.
-#[derive(Clone, Copy)]
-enum Step {
-    On(Place),
-    Done(Passed),
-}
-
 /// A table of the states of a pattern, by which a search goes through a text.
 #[derive(Drop)]
 pub struct Table {
@@ -76,7 +69,7 @@ pub struct Table {
 }
 
 impl Table {
-    ghost use Rattle.fancy_regex_table.specs.Tables.{IsTable, IsSearchOf, IsPassed, Stands, IsStepped, IsStartAt, IsFreshRow, IsOnward, IsAsciiAt, IsLeft, IsInRange};
+    ghost use Rattle.fancy_regex_table.specs.Tables.{IsTable, IsSearchOf, IsPassed, Stands, IsStartAt, IsFreshRow, IsOnward, IsRunTo, IsAsciiAt, IsLeft, IsDoneAt, IsInRange};
     ghost use Rattle.fancy_regex_table.specs.Cells.{Tells};
     ghost use Rattle.fancy_regex_table.specs.Sorts.{sort_at};
     ghost use Rattle.fancy_regex_table.specs.declared.sort.Sort.{Sort as SortValue};
@@ -150,20 +143,40 @@ impl Table {
         let Some(row) = self.fresh_row(matchers, before) else {
             return Passed::Unknown { from, read: from };
         };
-        let bytes = text.as_bytes();
-        let mut place = Place {
+        let first = Place {
             row,
             at: from,
             start: from,
             last: from,
         };
+        let place = self.run(text, first, stop);
+        if place.at >= stop {
+            return self.at_stop(place, at_end);
+        }
+        self.told(text.as_bytes()[place.at], place)
+    }
+
+    /// The place to which the characters from this one on lead, as long as each is ASCII and leads to a row.
+    // Not inlined: the loop alone keeps its values in registers.
+    #[inline(never)]
+    fn run(&self, text: &str, first: Place, stop: usize) -> Place
+        requires order { first.start ≤ first.at }
+        requires range { (first.at ≤ stop) × (stop ≤ length text.now) }
+        requires boundary { IsCharBoundary text.now first.at }
+        ensures run { IsRunTo text.now first stop result }
+        ensures stands { (parts : Parts) (rules : Rules) (s : Search) (table : IsTable parts self.now) → IsSearchOf parts rules s
+            → s.text ≡ text.now → s.stop ≡ stop → Stands parts.matchers self.now.asked self.now.unicode table.rows s first
+            → Stands parts.matchers self.now.asked self.now.unicode table.rows s result }
+    {
+        let bytes = text.as_bytes();
+        let mut place = first;
         'chars: while place.at < stop {
             match self.step(bytes[place.at], place) {
-                Step::On(next) => place = next,
-                Step::Done(passed) => return passed,
+                Some(next) => place = next,
+                None => return place,
             }
         }
-        self.at_stop(place, at_end)
+        place
     }
 
     /// The row for a search that begins after this character.
@@ -256,30 +269,47 @@ impl Table {
         }
     }
 
-    /// What the character at the place leads to, whose first byte this is.
+    /// The place after the character at this one, whose first byte this is, if it is ASCII and leads to a row.
     #[inline(always)]
-    fn step(&self, byte: u8, place: Place) -> Step
+    fn step(&self, byte: u8, place: Place) -> Option<Place>
         requires next { place.at + 1 < 2 ^ 64 }
         requires order { place.start ≤ place.at }
-        ensures onward { IsOnward place byte result }
-        ensures stepped { (parts : Parts) (rules : Rules) (s : Search) (table : IsTable parts self.now) → IsSearchOf parts rules s
+        ensures onward { IfSome result (IsOnward place byte) }
+        ensures stands { (parts : Parts) (rules : Rules) (s : Search) (table : IsTable parts self.now) → IsSearchOf parts rules s
             → (byte < 128 → IsAsciiAt s.text place.at byte) → place.at < s.stop
             → Stands parts.matchers self.now.asked self.now.unicode table.rows s place
-            → IsStepped parts.matchers self.now.asked self.now.unicode table.rows s result }
+            → IfSome result (Stands parts.matchers self.now.asked self.now.unicode table.rows s) }
     {
         if byte >= 128 {
-            return Step::Done(self.unknown(place));
+            return None;
         }
-        let cell = cell_at(&self.cells, self.ascii[byte as usize] as usize, place.row);
-        match cell {
-            Cell::Next { row, begins, ends } => Step::On(Place {
+        match cell_at(&self.cells, self.ascii[byte as usize] as usize, place.row) {
+            Cell::Next { begins, ends, row } => Some(Place {
                 row: row as usize,
                 at: place.at + 1,
                 start: begun_at(begins, place.at, place.start),
                 last: begun_at(ends, place.at, place.last),
             }),
-            Cell::Idle => Step::Done(Passed::Idle { at: place.at + 1 }),
-            _ => Step::Done(self.ended(cell, place)),
+            _ => None,
+        }
+    }
+
+    /// What is told at the place where a run ends, before a character whose first byte this is.
+    fn told(&self, byte: u8, place: Place) -> Passed
+        requires next { place.at + 1 < 2 ^ 64 }
+        requires order { place.start ≤ place.at }
+        ensures done { IsDoneAt place byte result }
+        ensures passed { (parts : Parts) (rules : Rules) (s : Search) (table : IsTable parts self.now) → IsSearchOf parts rules s
+            → (byte < 128 → IsAsciiAt s.text place.at byte) → place.at < s.stop
+            → Stands parts.matchers self.now.asked self.now.unicode table.rows s place → IsPassed s result }
+    {
+        if byte >= 128 {
+            return self.unknown(place);
+        }
+        let cell = cell_at(&self.cells, self.ascii[byte as usize] as usize, place.row);
+        match cell {
+            Cell::Idle => Passed::Idle { at: place.at + 1 },
+            _ => self.ended(cell, place),
         }
     }
 }

@@ -1,6 +1,5 @@
 use Rattle.std.proofs.Common.{refl, arith, length}
 use Rattle.std.proofs.lemmas.Option.{slice_get_read}
-use Rattle.std.proofs.lemmas.Grind.{common_steps}
 use Rattle.fancy_regex_table.proofs.begun.begun_at.Goals as goal
 
 pub returns-then-is_same : goal.returns-then-is_same

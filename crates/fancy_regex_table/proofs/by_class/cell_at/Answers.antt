@@ -6,7 +6,7 @@ use Rattle.fancy_regex_table.proofs.by_class.cell_at.Goals as goal
 pub returns-then-row-made : goal.returns-then-row-made
 returns-then-row-made c =
     let value = c.deref-made.ensures.value in
-    let here = slice_get-get_or c.deref-made.result.now c.args.row (Next 0 false false) (omega (arith, c.if-row-made.true)) in
+    let here = slice_get-get_or c.deref-made.result.now c.args.row (Next false false 0) (omega (arith, c.if-row-made.true)) in
     inr (record {
       made = c.index-cells-class.result;
       is_there = slice_get_read c.args.cells.now (length c.args.cells.now) c.args.class c.index-cells-class.result refl (omega arith) c.index-cells-class.is;

@@ -1,6 +1,3 @@
-use Rattle.std.proofs.Common.{◌≡◌}
-use Rattle.fancy_regex_states.specs.declared.state.State.{State}
-use Rattle.fancy_regex_table.specs.Sorts.{AsksMore, IsAsked}
 use Rattle.fancy_regex_table.proofs.SortLemmas.{asks_test, asks_more}
 use Rattle.fancy_regex_table.proofs.sort.with_state.Goals as goal
 

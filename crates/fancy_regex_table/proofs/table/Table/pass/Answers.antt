@@ -1,69 +1,35 @@
-use Rattle.std.proofs.Common.{◌∙◌, ◌<◌, ◌≤◌, ◌≡◌, ◌+◌, inl, inr, ℕ, List, sym, ap, subst, arith, get_or, length, IsCharBoundary}
-use Rattle.std.proofs.lemmas.Bool.{cases_lt}
+use Rattle.std.proofs.Common.{◌∙◌, ◌<◌, ◌≤◌, ◌≡◌, ◌+◌, ℕ, List, sym, ap, subst, arith, get_or, length, IsCharBoundary}
 use Rattle.regex_hir.specs.Text.{char_before}
 use Rattle.fancy_regex_class.specs.declared.class.CharClassMatcher.{CharClassMatcher}
+use Rattle.fancy_regex_states.specs.declared.rules.Rules.{Rules}
+use Rattle.fancy_regex_table.specs.Cells.{Parts, Search}
 use Rattle.fancy_regex_table.specs.Sorts.{sort_at}
-use Rattle.fancy_regex_table.specs.Tables.{IsFreshRow, IsAsciiAt, IsLeft, IsDoneAt, IsInRange, AreBoundaries}
+use Rattle.fancy_regex_table.specs.Tables.{IsTable, IsSearchOf, IsFreshRow, IsAsciiAt, IsLeft, IsDoneAt, IsInRange, AreBoundaries, Stands}
 use Rattle.fancy_regex_table.specs.declared.table.Passed.{Passed}
 use Rattle.fancy_regex_table.specs.declared.table.Passed.TheVariants as P
 use Rattle.fancy_regex_table.specs.declared.table.Place.{Place}
 use Rattle.fancy_regex_table.proofs.TableLemmas.{stands_first, ascii_here}
 use Rattle.fancy_regex_table.proofs.table.Table.pass.Goals as goal
+use Rattle.fancy_regex_table.proofs.table.Table.pass.Goals.{After-run-place}
 
-pub chars-init : goal.chars-init
-chars-init c = record {
-  high = c.requires.range.0;
-  boundary = c.requires.boundary;
-  order = (omega arith, omega arith);
-  read = λ i low high. let same : c.args.from ≡ i = omega (arith, low, high) in subst (IsCharBoundary c.args.text.now) same c.requires.boundary;
-  stands = λ parts rules s table search same text from stop.
-      stands_first s c.args.self.now.fresh.items c.args.before c.in-Some.row c.args.from table.fresh (subst (λ (ms : List CharClassMatcher). IsFreshRow c.args.self.now.fresh.items (sort_at ms c.args.self.now.asked c.args.self.now.unicode c.args.before) c.in-Some.row) (sym same) c.in-Some.ensures)
-      (c.requires.before ∙ ap (λ (t : List ℕ). char_before t c.args.from) (sym text)) from (omega (arith, c.requires.range.0, stop))
-      (subst (λ (t : List ℕ). IsCharBoundary t c.args.from) (sym text) c.requires.boundary);
-}
+-- the search stands where the run ends
+stands_there : (c : After-run-place) (parts : Parts) (rules : Rules) (s : Search) (table : IsTable parts c.args.self.now) → IsSearchOf parts rules s
+    → parts.matchers ≡ c.args.matchers.now → s.text ≡ c.args.text.now → s.from ≡ c.args.from → s.stop ≡ c.args.stop
+    → Stands parts.matchers c.args.self.now.asked c.args.self.now.unicode table.rows s c.run-place.result
+stands_there c parts rules s table search same text from stop =
+    c.run-place.ensures.stands parts rules s table search text stop
+    (stands_first s c.args.self.now.fresh.items c.args.before c.in-Some.row c.args.from table.fresh
+    (subst (λ (ms : List CharClassMatcher). IsFreshRow c.args.self.now.fresh.items (sort_at ms c.args.self.now.asked c.args.self.now.unicode c.args.before) c.in-Some.row) (sym same) c.in-Some.ensures)
+    (c.requires.before ∙ ap (λ (t : List ℕ). char_before t c.args.from) (sym text)) from (omega (arith, c.requires.range.0, stop))
+    (subst (λ (t : List ℕ). IsCharBoundary t c.args.from) (sym text) c.requires.boundary))
 
-pub chars-preserved : goal.chars-preserved
-chars-preserved c =
-    let inv = c.chars.invariant in
-    let at = c.chars.place.at in
-    let bytes = c.as_bytes-bytes.result.now in
-    let byte = get_or bytes at 0 in
-    let onward = c.in-On.ensures.onward in
-    let inside : at < length c.args.text.now = omega (arith, c.chars-test.true, c.requires.range.1) in
-    let ascii : byte < 128 → IsAsciiAt c.args.text.now at byte =
-    λ small. ascii_here c.args.text.now at byte 0 c.utf8.text inv.boundary inside (ap (λ (t : List ℕ). get_or t at 0) c.as_bytes-bytes.ensures.value) small in
-    record {
-      high = omega (arith, onward.0, c.chars-test.true);
-      boundary = subst (IsCharBoundary c.args.text.now) (sym onward.0) (ascii onward.3).boundary_next;
-      order = (omega (arith, inv.order.0, onward.1), omega (arith, onward.0, onward.2));
-      read = λ i low high.
-          elim (cases_lt at i) [
-            | inr before ↦ inv.read i low before
-            | inl after ↦
-                let same : at + 1 ≡ i = omega (arith, high, after, onward.0) in subst (IsCharBoundary c.args.text.now) same (ascii onward.3).boundary_next
-          ];
-      stands = λ parts rules s table search same text from stop.
-          c.in-On.ensures.stepped parts rules s table search (λ small. subst (λ (t : List ℕ). IsAsciiAt t at byte) (sym text) (ascii small))
-          (omega (arith, c.chars-test.true, stop)) (inv.stands parts rules s table search same text from stop);
-    }
-
-pub returns-in-Done-clause-passed : goal.returns-in-Done-clause-passed
-returns-in-Done-clause-passed c parts rules s table search same text from stop =
-    let inv = c.chars.invariant in
-    let at = c.chars.place.at in
-    let bytes = c.as_bytes-bytes.result.now in
-    let byte = get_or bytes at 0 in
-    let inside : at < length c.args.text.now = omega (arith, c.chars-test.true, c.requires.range.1) in
-    let ascii : byte < 128 → IsAsciiAt c.args.text.now at byte =
-    λ small. ascii_here c.args.text.now at byte 0 c.utf8.text inv.boundary inside (ap (λ (t : List ℕ). get_or t at 0) c.as_bytes-bytes.ensures.value) small in
-    c.in-Done.ensures.stepped parts rules s table search (λ small. subst (λ (t : List ℕ). IsAsciiAt t at byte) (sym text) (ascii small))
-    (omega (arith, c.chars-test.true, stop)) (inv.stands parts rules s table search same text from stop)
-
-pub returns-clause-passed : goal.returns-clause-passed
-returns-clause-passed c parts rules s table search same text from stop =
-    let inv = c.chars.invariant in
-    c.at_stop.ensures.passed parts rules s table search (omega (arith, c.chars-test.false, inv.high, stop))
-    (λ e. stop ∙ c.requires.end e ∙ ap length (sym text)) (inv.stands parts rules s table search same text from stop)
+-- the character at which it ends, if it is ASCII
+ascii_there : (c : After-run-place) → c.run-place.result.at < c.args.stop → (byte : ℕ) → byte ≡ get_or c.args.text.now c.run-place.result.at 0 → byte < 128
+    → IsAsciiAt c.args.text.now c.run-place.result.at byte
+ascii_there c less byte is small =
+    let run = c.run-place.ensures.run in
+    ascii_here c.args.text.now c.run-place.result.at byte 0 c.utf8.text (run.boundaries c.run-place.result.at run.onward (omega arith))
+    (omega (arith, less, c.requires.range.1)) is small
 
 -- what was found lies in the range
 in_range : (text : List ℕ) (low stop : ℕ) (place : Place) (byte : ℕ) (passed : Passed) → low ≤ place.start → place.start ≤ place.at → AreBoundaries text low place.at
@@ -85,19 +51,29 @@ left_in_range text low stop place (P.Idle to) begins all le is = absurd is
 left_in_range text low stop place (P.Unknown from read) begins all le is =
     (omega (arith, is.0), is.1, omega (arith, is.2), λ i a b. all i a (omega (arith, is.2, b)))
 
-pub returns-in-Done-clause-range : goal.returns-in-Done-clause-range
-returns-in-Done-clause-range c =
-    let inv = c.chars.invariant in
-    let at = c.chars.place.at in
-    let bytes = c.as_bytes-bytes.result.now in
-    let byte = get_or bytes at 0 in
-    let inside : at < length c.args.text.now = omega (arith, c.chars-test.true, c.requires.range.1) in
-    let ascii : byte < 128 → IsAsciiAt c.args.text.now at byte =
-    λ small. ascii_here c.args.text.now at byte 0 c.utf8.text inv.boundary inside (ap (λ (t : List ℕ). get_or t at 0) c.as_bytes-bytes.ensures.value) small in
-    in_range c.args.text.now c.args.from c.args.stop c.chars.place byte c.in-Done.passed inv.order.0 inv.order.1 inv.read c.chars-test.true
-    (λ small. (ascii small).boundary_next) c.in-Done.ensures.onward
+pub returns-then-place-stop : goal.returns-then-place-stop
+returns-then-place-stop c =
+    let run = c.run-place.ensures.run in
+    record {
+      passed = λ parts rules s table search same text from stop.
+          c.at_stop.ensures.passed parts rules s table search (omega (arith, c.if-place-stop.true, run.high, stop))
+          (λ e. stop ∙ c.requires.end e ∙ ap length (sym text)) (stands_there (goal.at.returns-then-place-stop c).After-run-place parts rules s table search same text from stop);
+      range = left_in_range c.args.text.now c.args.from c.args.stop c.run-place.result c.at_stop.result run.low run.boundaries run.high c.at_stop.ensures.left;
+    }
 
-pub returns-clause-range : goal.returns-clause-range
-returns-clause-range c =
-    let inv = c.chars.invariant in
-    left_in_range c.args.text.now c.args.from c.args.stop c.chars.place c.at_stop.result inv.order.0 inv.read inv.high c.at_stop.ensures.left
+pub returns : goal.returns
+returns c =
+    let run = c.run-place.ensures.run in
+    let place = c.run-place.result in
+    let less : place.at < c.args.stop = omega (arith, c.if-place-stop.false) in
+    let bytes = c.as_bytes.result.now in
+    let byte = get_or bytes place.at 0 in
+    let ascii : byte < 128 → IsAsciiAt c.args.text.now place.at byte =
+    ascii_there (goal.at.returns c).After-run-place less byte (ap (λ (t : List ℕ). get_or t place.at 0) c.as_bytes.ensures.value) in
+    record {
+      passed = λ parts rules s table search same text from stop.
+          c.told.ensures.passed parts rules s table search (λ small. subst (λ (t : List ℕ). IsAsciiAt t place.at byte) (sym text) (ascii small))
+          (omega (arith, less, stop)) (stands_there (goal.at.returns c).After-run-place parts rules s table search same text from stop);
+      range = in_range c.args.text.now c.args.from c.args.stop place byte c.told.result run.low run.order run.boundaries less
+          (λ small. (ascii small).boundary_next) c.told.ensures.done;
+    }
