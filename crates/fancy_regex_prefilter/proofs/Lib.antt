@@ -9,6 +9,7 @@ pub mod StartsInRow
 pub mod LookBehindStarts
 pub mod NewlineLemmas
 pub mod StartLemmas
+pub mod PlannedStarts
 pub mod LeadingLoopLemmas
 pub mod TextLemmas
 pub mod WalkLemmas

@@ -2,6 +2,7 @@ pub mod RunContexts
 pub mod Runs
 pub mod LookBehindStarts
 pub mod CharLoops
+pub mod Readers
 pub mod Walks
 pub mod Ahead
 pub mod LeadingLoops

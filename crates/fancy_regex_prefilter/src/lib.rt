@@ -15,6 +15,7 @@ mod leading_loops;
 pub mod look_behind_starts;
 pub mod matching;
 pub mod newline;
+pub mod readers;
 pub mod refusals;
 mod repeated_characters;
 pub mod run_context;
