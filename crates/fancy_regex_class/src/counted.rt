@@ -1,12 +1,12 @@
-//! A haystack whose reads are counted, so that the work of a search can be bounded.
+//! A haystack that counts how often it is looked at, so that the work of a search can be bounded.
 
-ghost use Rattle.std.specs.Prelude.{◌≡◌, ℕ, ◌+◌, ◌-◌, ◌^◌, ◌≤◌, min, IfSome, IsCharBoundary};
+ghost use Rattle.std.specs.Prelude.{◌≡◌, ℕ, ◌+◌, ◌-◌, ◌^◌, ◌≤◌, length, min, IfSome, IsCharBoundary};
 ghost use Rattle.std.specs.Char.{len_utf8};
 ghost use Rattle.regex_hir.specs.Text.{char_at, char_before};
 
 use std::marker::Model;
 
-/// A counter of reads of a haystack. It saturates at `u64::MAX`.
+/// A counter of looks at a haystack. It saturates at `u64::MAX`.
 ///
 /// ```
 /// let mut steps = Steps::new();
@@ -33,22 +33,22 @@ impl Steps {
         Steps { count: 0 }
     }
 
-    /// The number of reads so far, or `u64::MAX` if there were more.
+    /// The number of looks so far, or `u64::MAX` if there were more.
     pub fn count(&self) -> u64
         ensures { result ≡ self.now }
     {
         self.count
     }
 
-    /// Counts so many reads.
+    /// Counts so many looks.
     #[inline(always)]
-    fn add(&mut self, reads: usize)
-        ensures { self.new ≡ min (self.old + reads) (2 ^ 64 - 1) }
+    fn add(&mut self, looks: usize)
+        ensures { self.new ≡ min (self.old + looks) (2 ^ 64 - 1) }
     {
-        self.count = self.count.saturating_add(reads as u64);
+        self.count = self.count.saturating_add(looks as u64);
     }
 
-    /// Counts one read.
+    /// Counts one look.
     #[inline(always)]
     fn tick(&mut self)
         ensures { self.new ≡ min (self.old + 1) (2 ^ 64 - 1) }
@@ -59,7 +59,8 @@ impl Steps {
     }
 }
 
-/// A haystack that is read through `look`, `skip_ascii` and `skip_ascii_pairs` only, and the counter that each read adds to.
+/// A haystack that is read through `look` and `skip_ascii` only, and the counter that each look adds to. A look is one test of one
+/// state against what stands at one place; who tests another state there, or the same one again, looks again.
 #[derive(Drop)]
 pub struct Counted<'t, 's> {
     text: &'t str,
@@ -69,7 +70,7 @@ pub struct Counted<'t, 's> {
 impl<'t, 's> Counted<'t, 's> {
     ghost use Rattle.fancy_regex_class.specs.Looks.{looked_text, look_count, SameCounter};
 
-    /// Wraps the haystack; its reads are added to `steps`.
+    /// Wraps the haystack; its looks are added to `steps`.
     pub fn new(text: &'t str, steps: &'s mut Steps) -> Counted<'t, 's>
         ensures text { looked_text result ≡ text.now }
         ensures count { look_count result ≡ steps.old }
@@ -78,7 +79,7 @@ impl<'t, 's> Counted<'t, 's> {
         Counted { text, steps }
     }
 
-    /// The haystack, for a loop that counts its reads when it ends.
+    /// The haystack, for a loop that counts its looks when it ends.
     #[inline(always)]
     pub(crate) fn text(&self) -> &'t str
         ensures { result.now ≡ looked_text self.now }
@@ -86,18 +87,21 @@ impl<'t, 's> Counted<'t, 's> {
         self.text
     }
 
-    /// Counts so many reads: of places that were read in a loop, or that need not be read since what stands there is of no use.
+    /// Counts a look at each byte offset from `from` up to `to`, which is not one of them. They stand for looks that are not made by
+    /// `look`: a table that has read the haystack by itself tested its row at each of them, or a state refuses each of them that
+    /// refuses every character, and is not shown any.
     #[inline(always)]
-    pub fn count_reads(&mut self, reads: usize)
-        ensures ticked { look_count self.new ≡ min (look_count self.old + reads) (2 ^ 64 - 1) }
+    pub fn count_places(&mut self, from: usize, to: usize)
+        requires range { (from ≤ to) × (to ≤ length (looked_text self.old)) }
+        ensures ticked { look_count self.new ≡ min (look_count self.old + (to - from)) (2 ^ 64 - 1) }
         ensures text { looked_text self.new ≡ looked_text self.old }
         ensures same_counter { SameCounter self.old self.new }
     {
-        self.steps.add(reads);
+        self.steps.add(to - from);
     }
 
     /// The character that ends at `position`, a byte offset, and the one that starts there; `None` at the start and at
-    /// the end of the haystack. Counts one read, and allocates nothing.
+    /// the end of the haystack. Counts one look, that of the state that is tested against them, and allocates nothing.
     #[inline(always)]
     pub fn look(&mut self, position: usize) -> (Option<char>, Option<char>)
         requires { IsCharBoundary (looked_text self.old) position }

@@ -1,4 +1,4 @@
-//! What both engines share: members of character classes, case folding, word characters, a haystack whose reads are
+//! What both engines share: members of character classes, case folding, word characters, a haystack whose looks are
 //! counted, and the input of a search. The meaning of a class text is that of the crate `regex`. Of these functions only
 //! `CharClassMatcher::new` allocates, so only it can run out of memory.
 #![tactic(auto)]
@@ -18,7 +18,7 @@ pub use class::{CharClassMatcher, ClassError};
 pub use counted::{Counted, Steps};
 pub use folding::{CaseiLiteral, fold, is_word};
 pub use input::{RunInput, Span};
-pub use skip::{skip_ascii, skip_ascii_pairs};
+pub use skip::skip_ascii;
 
 /// Law: a `regex::Regex` that is parsed from a class's text matches the text of a single character exactly if the class
 /// contains that character.

@@ -8,8 +8,6 @@ pub mod BoundLemmas
 pub mod VisitedLemmas
 pub mod WaysLemmas
 pub mod DfsLemmas
-pub mod LeadLemmas
-pub mod LoopLemmas
 pub mod StackLemmas
 pub mod StepLemmas
 pub mod StartLemmas
@@ -25,6 +23,5 @@ pub mod ShapeLemmas
 pub mod BuildLemmas
 pub mod TranslationLemmas
 pub mod ServedLemmas
-pub mod AheadLemmas
 pub mod LayerLemmas
 pub mod SettleLemmas

@@ -18,13 +18,10 @@ use Rattle.fancy_regex_states.specs.declared.state.State.{State}
 use Rattle.fancy_regex_states.specs.declared.state.State.TheVariants.{Split, Enter, Leave, Match}
 use Rattle.fancy_regex_states.specs.declared.state.State.TheVariants as S
 use Rattle.fancy_regex_states.specs.Attempts.{View, reads, Continuation, Trace, write, score, better_trace, Shows, NamesBelow, visit, AllAgree}
-use Rattle.fancy_regex_linear.specs.Search.{AllFail, Reaches as Attains, Explains, RefusesAscii}
-use Rattle.fancy_regex_linear.specs.Visited.{Has}
+use Rattle.fancy_regex_linear.specs.Search.{Explains, RefusesAscii}
 use Rattle.fancy_regex_class.proofs.AdjacentCharLemmas.{boundary_past_ascii}
-use Rattle.fancy_regex_linear.specs.Starts.{LeadsToVisited, LeadsInto, HasRefusedPair}
-use Rattle.fancy_regex_linear.specs.declared.starts.PairAhead.{PairAhead}
+use Rattle.fancy_regex_linear.specs.Starts.{HasRefusedPair}
 use Rattle.fancy_regex_states.specs.declared.atom.Leaf.{Leaf}
-use Rattle.fancy_regex_linear.specs.declared.visited.Visited.{Visited}
 use Rattle.fancy_regex_linear.specs.declared.search.SearchContext.{SearchContext}
 use Rattle.fancy_regex_linear.proofs.CharTestLemmas.{before_some}
 use Rattle.fancy_regex_linear.proofs.DfsLemmas.{guard_yes, guard_no}
@@ -201,59 +198,3 @@ pair_fails context text view go explains u at b some low pair =
     (ap is_none before.1) (explains.shows at b) (char_before text (at + 1)) (char_at text (at + 1)) (ap is_none two.1) further explains.agree
     (subst (λ (j : ℕ). j ≤ context.stop) (sym next_is) (omega (arith, pair.inside))) q (state_at context.states.now q) (explains.agree q lt).names
     ((explains.agree q lt).does at high) (cannot q from))
-
-none_attained : (longest : Bool) (a : Option Trace) → ((r : ℕ) → Attains longest r a → ⊥) → a ≡ None
-none_attained longest None h = refl
-none_attained longest (Some t) h = absurd (h (score longest t.end) (omega arith))
-
--- a marked pair fails where all do
-all_failed : (longest : Bool) (go : ℕ → Continuation) (Seen : ℕ → ℕ → Type 0) (q i : ℕ) → AllFail longest go Seen → Seen q i → (go q i).answer ≡ None
-all_failed longest go Seen q i failed seen =
-    none_attained longest (go q i).answer (λ r ok. elim (failed q i r seen ok) [ inl good ↦ good | inr below ↦ below ])
-
--- a state that reads fails where the next one does after the character
-pub read_into : (context : SearchContext) (q : ℕ) (leaf : Leaf) (next : ℕ) → q < length context.states.now → next < length context.states.now
-    → state_at context.states.now q ≡ S.Read leaf next → LeadsInto context q (record { state = next; past = 1 })
-read_into context q leaf next low below is = record {
-  below = below;
-  past = omega arith;
-  fails = λ text view go explains i high b c small here none.
-      let long : len_utf8 c ≡ 1 = cond-true _ _ _ (lt-ltb c 0x80 small) in
-      let next_is : view.next i ≡ i + 1 = (explains.shows i b).next ∙ ap (λ o. i + unwrap_or (option_map len_utf8 o) 1) here ∙ ap (λ n. i + n) long in
-      let does : go q i ≡ visit view context.stop go (S.Read leaf next) i =
-      (explains.agree q low).does i high ∙ ap (λ s. visit view context.stop go s i) is in
-      elim (true_or_false (reads view context.stop leaf i)) [
-        | inl passes ↦
-            (guard_yes (go q i) (go next (view.next i)) (reads view context.stop leaf i) does passes).0
-            ∙ ap (λ j. (go next j).answer) next_is
-            ∙ none
-        | inr never ↦ guard_no (go q i) (go next (view.next i)) (reads view context.stop leaf i) does never
-      ];
-}
-
--- a state leads to itself
-pub stays_into : (context : SearchContext) (q : ℕ) → q < length context.states.now → LeadsInto context q (record { state = q; past = 0 })
-stays_into context q low = record {
-  below = low;
-  past = omega arith;
-  fails = λ text view go explains i high b c small here none. let same : i + 0 ≡ i = omega arith in subst (λ (j : ℕ). (go q j).answer ≡ None) same none;
-}
-
--- so does the start of a group before it
-pub enters_into : (context : SearchContext) (q g p : ℕ) (pair : PairAhead) → q < length context.states.now → state_at context.states.now q ≡ Enter g p
-    → LeadsInto context p pair → LeadsInto context q pair
-enters_into context q g p pair low is into = record {
-  below = into.below;
-  past = into.past;
-  fails = λ text view go explains i high b c small here none.
-      ap (λ r. r.answer) ((explains.agree q low).does i high ∙ ap (λ s. visit view context.stop go s i) is)
-      ∙ none_saved (2 * g) i (go p i).answer (into.fails text view go explains i high b c small here none);
-}
-
--- no match begins where the character leads to a pair that was visited, and failed
-pub visited_fails : (context : SearchContext) (text : List ℕ) (view : View) (go : ℕ → Continuation) → Explains context text view go
-    → (visited : Visited) → AllFail view.longest go (Has visited) → (at : ℕ) → IsCharBoundary text at → at ≤ context.stop
-    → LeadsToVisited context text visited at → (go context.entry at).answer ≡ None
-visited_fails context text view go explains visited failed at b high to =
-    to.into.fails text view go explains at high b to.is_visited.0 to.is_visited.1 to.is_visited.2
-    (all_failed view.longest go (Has visited) to.pair.state (at + to.pair.past) failed to.is_visited.3)

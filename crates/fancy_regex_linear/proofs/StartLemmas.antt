@@ -1,5 +1,5 @@
 -- The starts that a search tries, one character after another.
-use Rattle.std.proofs.Common.{◌≡◌, ℕ, zero, suc, ◌+◌, ◌-◌, ◌<◌, ◌≤◌, ◌⊎◌, Bool, true, false, List, [], ◌∷◌, Option, Some, None, IfSome, unwrap_or, length, inl, inr, refl, sym, ap, ◌∙◌, arith, IsUtf8, IsCharBoundary, true≢false, lt-ltb}
+use Rattle.std.proofs.Common.{◌≡◌, ℕ, zero, suc, ◌+◌, ◌-◌, ◌^◌, ◌<◌, ◌≤◌, min, ◌⊎◌, Bool, true, false, List, [], ◌∷◌, Option, Some, None, IfSome, unwrap_or, length, inl, inr, refl, sym, ap, ◌∙◌, arith, IsUtf8, IsCharBoundary, true≢false, lt-ltb}
 use Rattle.std.specs.Char.{len_utf8}
 use Rattle.std.proofs.lemmas.Bool.{cond-true, cond-false}
 use Rattle.std.specs.List.{filter}
@@ -10,7 +10,11 @@ use Rattle.fancy_regex_meaning.proofs.BoundaryLemmas.{IsCharBoundary-of_test}
 use Rattle.fancy_regex_meaning.proofs.NextBoundaryLemmas.{from_here, next_place}
 use Rattle.fancy_regex_linear.specs.Meaning.{Spot}
 use Rattle.fancy_regex_linear.specs.Find.{earliest, attempted, places}
-use Rattle.fancy_regex_linear.specs.Starts.{IsAfter}
+use Rattle.fancy_regex_class.specs.Looks.{look_count}
+use Rattle.fancy_regex_class.specs.declared.counted.Counted.{Counted}
+use Rattle.fancy_regex_linear.specs.Starts.{IsAfter, IsCandidateFrom, IsDropped, IsPlaceFrom}
+use Rattle.fancy_regex_linear.specs.declared.starts.Candidate.{Candidate}
+use Rattle.fancy_regex_linear.specs.declared.visited.Visited.{Visited}
 
 pub earliest_next : (f : ℕ → Option Spot) (p : ℕ) (ps : List ℕ) → f p ≡ None → earliest f (p ∷ ps) ≡ earliest f ps
 unfolding earliest
@@ -136,3 +140,34 @@ none_from f text false from stop b le inside none =
     let all = none_among f text (stop + 1 - from) from
     (λ j low high is. none j (IsCharBoundary-of_test text j (omega arith) is) low (omega arith)) in
     (all.0, omega (arith, all.1))
+
+-- rows dropped one after the other
+pub dropped_on : {a b c : Visited} {low high next : ℕ} → IsDropped a b low → IsDropped b c high → high ≤ next → IsDropped a c next
+dropped_on one two on = record {
+  count = two.count ∙ one.count;
+  base = (omega (arith, one.base.0, two.base.0), omega (arith, two.base.1, on));
+  rows = λ stop rows. two.rows stop (one.rows stop rows);
+  pairs = λ q i has. one.pairs q i (two.pairs q i has);
+}
+
+-- none was dropped
+pub none_dropped : (v : Visited) (low : ℕ) → v.base ≤ low → IsDropped v v low
+none_dropped v low base = record { count = refl; base = (omega arith, base); rows = λ stop rows. rows; pairs = λ q i has. has }
+
+-- a place to which starts were passed over, with a look for each
+pub candidate_at : {old new : Counted} {visited : Visited} {from last stop : ℕ} {place : ℕ × Option ℕ} {found : Candidate} → IsPlaceFrom old new from last place → last ≤ stop
+    → look_count new ≡ min (look_count old + (place.0 - from + 1)) (2 ^ 64 - 1) → (found.at ≡ place.0) × (found.after ≡ place.1) → visited.base ≤ from
+    → IsCandidateFrom old new visited visited from stop found
+candidate_at {old} {new} {visited} {from} {last} {stop} {place} {found} is inside ticked same base = record {
+  place = record {
+    range = (omega (arith, same.0, is.range.0), omega (arith, same.0, is.range.1, inside));
+    boundary = rw same.0 is.boundary;
+    after = rw (same.0, same.1) is.after;
+    next = rw (same.0, same.1) is.next;
+    text = is.text;
+    same_counter = is.same_counter;
+  };
+  at_least = omega (arith, same.0, ticked);
+  counted = omega (arith, same.0, ticked);
+  dropped = none_dropped visited found.at (omega (arith, base, same.0, is.range.0));
+}

@@ -11,7 +11,7 @@ use Rattle.fancy_regex_linear.specs.Meaning.{Spot}
 use Rattle.fancy_regex_linear.specs.Visited.{Adds}
 use Rattle.fancy_regex_linear.specs.CharTests.{read_next}
 use Rattle.fancy_regex_states.specs.CharTests.{leaf_matches_char}
-use Rattle.fancy_regex_linear.specs.Search.{Dfs, After, IsStepWithin, LeadsTo}
+use Rattle.fancy_regex_linear.specs.Search.{Dfs, After, IsStepWithin}
 use Rattle.fancy_regex_states.specs.declared.atom.Leaf.{Leaf}
 use Rattle.fancy_regex_class.specs.declared.class.CharClassMatcher.{CharClassMatcher}
 use Rattle.fancy_regex_states.specs.declared.rules.Rules.{Rules}
@@ -64,30 +64,6 @@ read_tracked view matchers rules stop leaf next at id before (Some c) go goal be
     (λ no.
     Dfs-dead view.longest d adds (guard_no _ _ _ e (and_none (view.has leaf at) _ (nat_le width (stop - at)) (ap (λ b. b && nat_le width (stop - at)) (shows.has leaf) ∙ no)
     (λ yes far. and_right _ _ (let past : stop < view.next at = past_stop width at stop (view.next at) p next_is far in lt-leb (view.next at) stop past)))))
-
--- where a state leads that reads
-pub read_leads : (view : View) (matchers : List CharClassMatcher) (rules : Rules) (stop : ℕ) (leaf : Leaf) (next at id : ℕ) (before after : Option ℕ)
-    (go : ℕ → Continuation) → at ≤ stop → Shows matchers rules view at before after
-    → go id at ≡ guard (reads view stop leaf at) (go next (view.next at))
-    → LeadsTo go id at (read_next rules.unicode matchers stop leaf next at after)
-unfolding reads
-read_leads view matchers rules stop leaf next at id before None go p shows e = guard_no _ _ _ e (and_left _ _ (shows.has leaf))
-read_leads view matchers rules stop leaf next at id before (Some c) go p shows e =
-    let width : ℕ = len_utf8 c in
-    let some : 1 ≤ width = (len_utf8_bounds c).0 in
-    let next_is : view.next at ≡ at + width = shows.next in
-    let lower : at < view.next at = omega arith in
-    next_if (LeadsTo go id at) (leaf_matches_char rules.unicode matchers leaf c && nat_le width (stop - at)) (Pair next (at + width))
-    (λ yes.
-    let both = and_parts _ _ yes in
-    let fits : width ≤ stop - at = leb-true width (stop - at) both.1 in
-    let inside : view.next at ≤ stop = omega arith in
-    let on = guard_yes _ _ _ e (and_from _ _ (shows.has leaf ∙ both.0) (and_from _ _ (lt-ltb at (view.next at) lower) (le-leb (view.next at) stop inside))) in
-    let deep : (go next (at + width)).depth < (go id at).depth = subst (λ (j : ℕ). (go next j).depth < (go id at).depth) next_is on.1 in
-    (sym (on.0 ∙ ap (λ j. (go next j).answer) next_is), omega arith))
-    (λ no.
-    guard_no _ _ _ e (and_none (view.has leaf at) _ (nat_le width (stop - at)) (ap (λ b. b && nat_le width (stop - at)) (shows.has leaf) ∙ no)
-    (λ yes far. and_right _ _ (let past : stop < view.next at = past_stop width at stop (view.next at) p next_is far in lt-leb (view.next at) stop past))))
 
 pub write_tracked : (longest : Bool) (go : ℕ → Continuation) (goal best : Option Spot) (bottom : List ℕ) (Seen Marked : ℕ → ℕ → Type 0)
     (q i next slot real : ℕ) (frames new_frames : List Frame) (slots new_slots : List ℕ) (written : Bool)

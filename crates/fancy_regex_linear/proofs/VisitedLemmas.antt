@@ -15,7 +15,7 @@ use Rattle.std.specs.List.{range_with_len}
 use Rattle.std.proofs.Math.Nat.{mul-le-mul_left}
 use Rattle.std.proofs.Math.Seq.{set-append_seam}
 use Rattle.std.specs.Int.Bits.{or_zero_l}
-use Rattle.fancy_regex_linear.specs.Visited.{flag_at, flags, flags_of, Has, pair_count, visited_bound, Adds, AddsRun, IsSame, spare}
+use Rattle.fancy_regex_linear.specs.Visited.{flag_at, flags, flags_of, Has, pair_count, visited_bound, Adds, IsSame}
 use Rattle.fancy_regex_linear.specs.declared.visited.Visited.{Visited}
 
 -- what holds anyway holds on an error
@@ -298,96 +298,6 @@ unfolding pair_count
 counted_appended old new q q_in e =
     ap (count_by (λ b. b)) e
     ∙ count_appended (flags_of old) old.rows old.count q (length-flags old.count old.width old.rows old.words.items) q_in
-
--- New rows of one word each, with one bit.
-module _ (count width column : ℕ) (wide : width ≡ count / 64 + 1) (one : width ≡ 1) (low : column < count) where
-  abbrev bit : ℕ
-  bit = 1 * 2 ^ (column % 64) % 2 ^ 64
-
-  abbrev after_run : ℕ → ℕ → List ℕ → List Bool
-  after_run n rows words = flags count width (rows + n) (words ++ replicate n bit)
-
-  -- the first of them, and the others
-  run_begins : (n rows : ℕ) (words : List ℕ) → after_run (suc n) rows words ≡ after_run n (rows + 1) (words ++ bit ∷ [])
-  run_begins n rows words =
-      let more : rows + suc n ≡ rows + 1 + n = omega arith in
-      ap₂ (λ (r : ℕ) (ws : List ℕ). flags count width r ws) more (sym (append_assoc words (bit ∷ []) (replicate n bit)))
-
-  filled_again : (rows : ℕ) (words : List ℕ) → length words ≡ rows * width → length (words ++ bit ∷ []) ≡ (rows + 1) * width
-  filled_again rows words filled = omega (arith, length-append words (bit ∷ []), filled, one)
-
-  -- a flag is an old one, or that of the column in a new row
-  pub run_flag : (n rows : ℕ) (words : List ℕ) (k : ℕ) → length words ≡ rows * width → get_or (after_run n rows words) k false ≡ true
-      → (get_or (flags count width rows words) k false ≡ true) ⊎ ((i : ℕ) × (rows ≤ i) × (i < rows + n) × (k ≡ i * count + column))
-  run_flag zero rows words k filled h =
-      let same : rows + 0 ≡ rows = omega arith in
-      inl (ap (λ xs. get_or xs k false) (ap₂ (λ (r : ℕ) (ws : List ℕ). flags count width r ws) (sym same) (sym (append-nil words))) ∙ h)
-  run_flag (suc n) rows words k filled h =
-      elim (run_flag n (rows + 1) (words ++ bit ∷ []) k (filled_again rows words filled) (ap (λ xs. get_or xs k false) (sym (run_begins n rows words)) ∙ h)) [
-        | inl there ↦
-            elim (member-set (flags count width rows words ++ replicate count false) _ k
-            (ap (λ xs. get_or xs k false) (sym (flags-appended count width rows words column wide one filled low)) ∙ there)) [
-              | inl old ↦ inl (past_grown (flags count width rows words) count k old)
-              | inr place ↦ inr (rows, omega arith, omega arith, place)
-            ]
-        | inr fresh ↦ inr (fresh.0, omega (arith, fresh.1), omega (arith, fresh.2), fresh.3)
-      ]
-
-  -- each is one more
-  pub run_count : (n rows : ℕ) (words : List ℕ) → length words ≡ rows * width
-      → count_by (λ b. b) (after_run n rows words) ≡ count_by (λ b. b) (flags count width rows words) + n
-  run_count zero rows words filled =
-      let same : rows + 0 ≡ rows = omega arith in
-      ap (count_by (λ b. b)) (ap₂ (λ (r : ℕ) (ws : List ℕ). flags count width r ws) same (append-nil words)) ∙ omega arith
-  run_count (suc n) rows words filled =
-      let rest = run_count n (rows + 1) (words ++ bit ∷ []) (filled_again rows words filled) in
-      let first : count_by (λ b. b) (flags count width (rows + 1) (words ++ bit ∷ [])) ≡ count_by (λ b. b) (flags count width rows words) + 1 =
-      ap (count_by (λ b. b)) (flags-appended count width rows words column wide one filled low)
-      ∙ count_appended (flags count width rows words) rows count column (length-flags count width rows words) low in
-      ap (count_by (λ b. b)) (run_begins n rows words) ∙ rest ∙ omega (arith, first)
-
--- where there is room for new rows, they are the next ones, and of one word
-both_hold : (a b : Bool) (room n : ℕ) → 0 < n → n ≤ (if a && b then room else 0) → (a ≡ true) × (b ≡ true)
-both_hold true true room n some h = (refl, refl)
-both_hold true false room n some h = absurd (omega (arith, some, h))
-both_hold false b room n some h = absurd (omega (arith, some, h))
-
-pub spare_some : (v : Visited) (at n : ℕ) → 0 < n → n ≤ spare v at → (v.width ≡ 1) × (at - v.base ≡ v.rows)
-spare_some v at n some h =
-    let both = both_hold (v.width == 1) (at - v.base == v.rows) _ n some h in
-    (eqb-true _ _ both.0, eqb-true _ _ both.1)
-
--- words that were filled up
-pub words_resized : (old new : List ℕ) (n len count bit : ℕ) (done : Bool) → done ≡ true → length old ≡ len → n ≡ len + count
-    → new ≡ (if done then take n old ++ replicate (n - len) bit else old) → new ≡ old ++ replicate count bit
-words_resized old new n len count bit false is all to e = absurd (true≢false (sym is))
-words_resized old new n len count bit true is all to e =
-    let rest : n - len ≡ count = omega (arith, to) in
-    e ∙ ap₂ (λ (xs : List ℕ) (m : ℕ). xs ++ replicate m bit) (take_all n old (omega (arith, all, to))) rest
-
--- the pairs of a state in new rows
-pub adds_run : (old new : Visited) (q at n : ℕ) → old.width ≡ 1 → q < old.count → old.base ≤ at → at - old.base ≡ old.rows → new.count ≡ old.count → new.base ≡ old.base
-    → flags_of new ≡ flags old.count old.width (old.rows + n) (old.words.items ++ replicate n (1 * 2 ^ (q % 64) % 2 ^ 64))
-    → AddsRun (Has old) (Has new) q at (at + n)
-unfolding Has
-adds_run old new q at n narrow q_in low next c b e p j h =
-    let p_in : p < old.count = rw c at h.0 in
-    let j_low : old.base ≤ j = rw b at h.1 in
-    let flag : get_or (flags old.count old.width (old.rows + n) (old.words.items ++ replicate n (1 * 2 ^ (q % 64) % 2 ^ 64))) ((j - old.base) * old.count + p) false ≡ true =
-    ap (λ xs. get_or xs ((j - old.base) * old.count + p) false) (sym e) ∙ (rw (← c, ← b) h.2) in
-    elim (run_flag old.count old.width q old.wide narrow q_in n old.rows old.words.items _ old.filled flag) [
-      | inl there ↦ inl (p_in, j_low, there)
-      | inr fresh ↦
-          let same = same_from_place (j - old.base) p fresh.0 q old.count p_in q_in fresh.3 in
-          inr (same.1, omega (arith, same.0, fresh.1), omega (arith, same.0, fresh.2))
-    ]
-
-pub counted_run : (old new : Visited) (q n : ℕ) → old.width ≡ 1 → q < old.count
-    → flags_of new ≡ flags old.count old.width (old.rows + n) (old.words.items ++ replicate n (1 * 2 ^ (q % 64) % 2 ^ 64))
-    → pair_count new ≡ pair_count old + n
-unfolding pair_count
-counted_run old new q n narrow q_in e =
-    ap (count_by (λ b. b)) e ∙ run_count old.count old.width q old.wide narrow q_in n old.rows old.words.items old.filled
 
 -- a pair whose flag is set is in the set
 pub has_flag : (v : Visited) (q i : ℕ) → q < v.count → v.base ≤ i → get_or (flags_of v) ((i - v.base) * v.count + q) false ≡ true → Has v q i

@@ -1,7 +1,5 @@
 -- What each layer of a search needs, and what it leaves.
-use Rattle.std.specs.Prelude.{◌≡◌, ◌+◌, ◌-◌, ◌^◌, ◌<◌, ◌≤◌, ℕ, List, ◌∷◌, Option, None, length, vec_len, min, max, IfSome, IsCharBoundary}
-use Rattle.std.specs.Char.{len_utf8}
-use Rattle.regex_hir.specs.Text.{char_at}
+use Rattle.std.specs.Prelude.{◌≡◌, ◌+◌, ◌-◌, ◌^◌, ◌<◌, ◌≤◌, ℕ, List, ◌∷◌, Option, None, length, vec_len, min, max}
 use Rattle.fancy_regex_class.specs.Looks.{looked_text, look_count, SameCounter}
 use Rattle.fancy_regex_class.specs.declared.counted.Counted.{Counted}
 use Rattle.fancy_regex_states.specs.Attempts.{View, Continuation}
@@ -26,16 +24,6 @@ pub record IsSearchContext (context : SearchContext) : Type 0 where
 -- the text was looked at, and nothing else was done with it
 pub record IsOnlyLookedAt (old new : Counted) : Type 0 where
   pub more : min (look_count old) (2 ^ 64 - 1) ≤ look_count new
-  pub text : looked_text new ≡ looked_text old
-  pub same_counter : SameCounter old new
-
--- The characters from `from` on were passed over, one look for each, up to this place, where this character stands.
-pub record IsPassedTo (old new : Counted) (from stop : ℕ) (place : ℕ × Option ℕ) : Type 0 where
-  pub range : (from ≤ place.0) × (place.0 ≤ stop)
-  pub boundary : IsCharBoundary (looked_text old) place.0
-  pub after : place.1 ≡ char_at (looked_text old) place.0
-  pub next : IfSome place.1 (λ c. IsCharBoundary (looked_text old) (place.0 + len_utf8 c))
-  pub ticked : look_count new ≡ min (look_count old + (place.0 - from + 1)) (2 ^ 64 - 1)
   pub text : looked_text new ≡ looked_text old
   pub same_counter : SameCounter old new
 

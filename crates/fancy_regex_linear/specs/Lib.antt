@@ -14,7 +14,6 @@ pub mod Easy
 pub mod EasyPatterns
 pub mod Refusals
 pub mod Translation
-pub mod Ahead
 pub mod Layers
 pub mod Settled
 pub mod EasyTables

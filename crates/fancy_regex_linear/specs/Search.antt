@@ -6,18 +6,6 @@ use Rattle.fancy_regex_linear.specs.Attempt.{better_spot, trace_end}
 use Rattle.fancy_regex_states.specs.First.{state_at, CannotBegin, IsTableOf}
 use Rattle.fancy_regex_class.specs.declared.class.CharClassMatcher.{CharClassMatcher}
 use Rattle.fancy_regex_states.specs.declared.state.State.{State}
-use Rattle.fancy_regex_states.specs.declared.state.State.TheVariants.{Read, Split}
-use Rattle.fancy_regex_states.specs.declared.state.State.TheVariants.{Match as End}
-use Rattle.fancy_regex_states.specs.declared.atom.Leaf.{Leaf}
-use Rattle.fancy_regex_states.specs.CharTests.{leaf_matches_char}
-use Rattle.regex_hir.specs.Text.{is_some_and, char_at}
-use Rattle.std.specs.Char.{len_utf8}
-use Rattle.fancy_regex_linear.specs.declared.class_loop.ClassLoop.{ClassLoop}
-use Rattle.fancy_regex_linear.specs.declared.class_loop.Exit.{Exit}
-use Rattle.fancy_regex_linear.specs.declared.class_loop.Exit.TheVariants.{Match, Reads, Other}
-use Rattle.fancy_regex_linear.specs.declared.class_loop.Place.{Place}
-use Rattle.fancy_regex_linear.specs.declared.scan.Scan.{Scan}
-use Rattle.fancy_regex_linear.specs.declared.class_loop.Stretch.{Stretch}
 use Rattle.fancy_regex_linear.specs.declared.search.SearchContext.{SearchContext}
 use Rattle.fancy_regex_linear.specs.declared.frame.Frame.{Frame}
 use Rattle.fancy_regex_linear.specs.declared.frame.Frame.TheVariants.{Explore, Restore}
@@ -39,26 +27,12 @@ slots_at_bottom (Restore slot old ∷ rest) slots = slots_at_bottom rest (slice_
 abbrev pub Closed : List State → Type 0
 Closed states = (q : ℕ) → q < length states → NamesBelow (length states) (state_at states q)
 
--- the state q is the head of a greedy loop over one class
-pub record IsLoop (states : List State) (q : ℕ) (found : ClassLoop) : Type 0 where
-  pub is : found.head ≡ q
-  pub head : state_at states q ≡ Split found.body found.exit
-  pub body : state_at states found.body ≡ Read found.leaf q
-  pub below : (found.body < length states) × (found.exit < length states)
-
 -- q is a state, and i a place of the text between `base` and `stop`
 pub record IsPair (text : List ℕ) (count stop base q i : ℕ) : Type 0 where
   pub state : q < count
   pub low : base ≤ i
   pub high : i ≤ stop
   pub boundary : IsCharBoundary text i
-
--- the state q at a place from `from` on, with the character there
-pub record IsPlace (text : List ℕ) (count stop base q from : ℕ) (place : Place) : Type 0 where
-  pub onward : from ≤ place.at
-  pub pair : IsPair text count stop base q place.at
-  pub after : place.after ≡ char_at text place.at
-  pub next : IfSome place.after (λ c. IsCharBoundary text (place.at + len_utf8 c))
 
 abbrev pub AllWithin : List ℕ → ℕ → ℕ → ℕ → List Frame → Type 0
 AllWithin text count stop base [] = Unit {0}
@@ -70,54 +44,6 @@ pub record Explains (context : SearchContext) (text : List ℕ) (view : View) (g
   pub longest : view.longest ≡ context.rules.longest
   pub shows : ShowsAll context.matchers.now context.rules text view
   pub agree : AllAgree view context.stop context.states.now go
-
--- The state reads by this leaf, if it is one that reads: it fails at a character that the leaf does not match.
-abbrev pub IsReader : SearchContext → ℕ → Exit → Type 0
-IsReader context q Match = ⊥
-IsReader context q (Reads leaf) = (text : List ℕ) (view : View) (go : ℕ → Continuation) → Explains context text view go
-    → (i : ℕ) → i ≤ context.stop → IsCharBoundary text i → is_some_and (char_at text i) (leaf_matches_char context.rules.unicode context.matchers.now leaf) ≡ false
-    → (go q i).answer ≡ None
-IsReader context q Other = Unit {0}
-
--- what stands after a loop: a match, where the first is wanted, or what reads
-abbrev pub IsExit : SearchContext → ℕ → Exit → Type 0
-IsExit context q Match = (state_at context.states.now q ≡ End) × (context.rules.longest ≡ false)
-IsExit context q (Reads leaf) = IsReader context q (Reads leaf)
-IsExit context q Other = Unit {0}
-
--- a loop over this leaf reads the character, which is ASCII, and the exit is of no use before it
-abbrev pub IsUseless : SearchContext → Exit → ℕ → Type 0
-IsUseless context Match c = Unit {0}
-IsUseless context (Reads leaf) c = leaf_matches_char context.rules.unicode context.matchers.now leaf c ≡ false
-IsUseless context Other c = ⊥
-
-abbrev pub GoesOn : SearchContext → Leaf → Exit → Option ℕ → Type 0
-GoesOn context leaf exit None = ⊥
-GoesOn context leaf exit (Some c) = (c < 128) × (leaf_matches_char context.rules.unicode context.matchers.now leaf c ≡ true) × IsUseless context exit c
-
--- the stretch has this ASCII character
-abbrev pub IsInStretch : Stretch → ℕ → Type 0
-IsInStretch stretch c = (slice_index_or stretch.ascii.now c false ≡ true) × IfSome stretch.exit_char (λ w. w ≡ c → ⊥)
-
--- a loop over this leaf reads on over what the stretch has, and the exit is of no use there
-abbrev pub IsStretch : SearchContext → Leaf → Exit → Stretch → Type 0
-IsStretch context leaf exit stretch = (c : ℕ) → c < 128 → IsInStretch stretch c → GoesOn context leaf exit (Some c)
-
--- the pattern is one character, and after it a greedy loop over one class, and the first match is wanted
-pub record IsScan (context : SearchContext) (scan : Scan) : Type 0 where
-  pub entry : state_at context.states.now context.entry ≡ Read scan.leaf scan.head
-  pub head : scan.head < length context.states.now
-  pub is_loop : IsLoop context.states.now scan.head scan.found
-  pub exit : IsExit context scan.found.exit Match
-  pub stretch : IsStretch context scan.found.leaf Match scan.stretch
-
--- an ASCII character stands at i that the stretch has
-pub record HasInStretch (text : List ℕ) (stretch : Stretch) (i : ℕ) : Type 0 where
-  pub boundary : IsCharBoundary text i
-  pub c : ℕ
-  pub small : c < 128
-  pub here : char_at text i ≡ Some c
-  pub over : IsInStretch stretch c
 
 -- the table of first characters, if there is one, is that of the states
 abbrev pub HasTable : SearchContext → Type 0
@@ -172,12 +98,6 @@ module _ (longest : Bool) (go : ℕ → Continuation) where
   After Matched i goal best bottom Seen stack slots =
       Dfs goal (better_spot longest best (Some (record { at = i; slots = slots }))) bottom Seen stack slots
 
-  -- the same after the head of a loop was visited: its body and its exit at this place are next
-  abbrev pub AtHead : ClassLoop → Option Place → Option Spot → Option Spot → List ℕ → (ℕ → ℕ → Type 0) → List Frame → List ℕ → Type 0
-  AtHead found None goal best bottom Seen stack slots = Dfs goal best bottom Seen stack slots
-  AtHead found (Some place) goal best bottom Seen stack slots =
-      Dfs goal best bottom Seen (Explore found.body place.at ∷ Explore found.exit place.at ∷ stack) slots
-
   -- each marked pair fails
   abbrev pub AllFail : (ℕ → ℕ → Type 0) → Type 0
   AllFail Seen = Covers Seen None []
@@ -214,15 +134,3 @@ resume_result (Restore slot old ∷ rest) slots = resume_result rest (slice_set 
 abbrev pub end_spot : Option ℕ → List ℕ → Option Spot
 end_spot None slots = None
 end_spot (Some end) slots = Some (record { at = end; slots = slots })
-
--- The pair comes to the same as where it leads by the character there, which is no deeper.
-abbrev pub LeadsTo : (ℕ → Continuation) → ℕ → ℕ → SearchStep → Type 0
-LeadsTo go q i (Pair p j) = ((go p j).answer ≡ (go q i).answer) × ((go p j).depth ≤ (go q i).depth)
-LeadsTo go q i Backtrack = (go q i).answer ≡ None
-LeadsTo go q i Matched = ⊥
-
--- the frames, and the next pair on top if there is one
-abbrev pub with_step : SearchStep → List Frame → List Frame
-with_step (Pair q i) rest = Explore q i ∷ rest
-with_step Backtrack rest = rest
-with_step Matched rest = rest

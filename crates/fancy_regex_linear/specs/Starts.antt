@@ -1,17 +1,17 @@
 -- The starts of a search that are to be attempted.
-use Rattle.std.specs.Prelude.{◌≡◌, ◌⊎◌, ◌+◌, ◌<◌, ◌≤◌, ℕ, Bool, false, List, [], ◌∷◌, Option, Some, None, IfSome, IsCharBoundary, length}
+use Rattle.std.specs.Prelude.{◌≡◌, ◌⊎◌, ◌+◌, ◌-◌, ◌^◌, ◌<◌, ◌≤◌, min, ℕ, Bool, false, List, [], ◌∷◌, Option, Some, None, IfSome, IsCharBoundary, length}
 use Rattle.std.specs.Char.{len_utf8}
 use Rattle.regex_hir.specs.Text.{char_at}
-use Rattle.fancy_regex_class.specs.Looks.{HasMarkedAscii}
+use Rattle.fancy_regex_class.specs.Looks.{looked_text, look_count, SameCounter, HasMarkedAscii}
+use Rattle.fancy_regex_class.specs.declared.counted.Counted.{Counted}
 use Rattle.fancy_regex_states.specs.First.{CannotFollow}
 use Rattle.fancy_regex_states.specs.Attempts.{View, Continuation}
 use Rattle.fancy_regex_linear.specs.Meaning.{Spot}
 use Rattle.fancy_regex_linear.specs.Attempt.{trace_end}
 use Rattle.fancy_regex_linear.specs.Find.{places_from}
-use Rattle.fancy_regex_linear.specs.Search.{Explains}
-use Rattle.fancy_regex_linear.specs.Visited.{Has}
+use Rattle.fancy_regex_linear.specs.Visited.{Has, visited_bound}
 use Rattle.fancy_regex_linear.specs.declared.search.SearchContext.{SearchContext}
-use Rattle.fancy_regex_linear.specs.declared.starts.PairAhead.{PairAhead}
+use Rattle.fancy_regex_linear.specs.declared.starts.Candidate.{Candidate}
 use Rattle.fancy_regex_linear.specs.declared.starts.Start.{Start}
 use Rattle.fancy_regex_linear.specs.declared.visited.Visited.{Visited}
 
@@ -37,32 +37,10 @@ pub record IsStart (text : List ℕ) (stop from : ℕ) (start : Start) : Type 0 
   pub past : IfSome start.after (λ c. IsCharBoundary text (start.at + len_utf8 c))
   pub next : IfSome start.next (IsAfter text stop start.at)
 
--- the match from the state q at i ends here, and no slots are written
-abbrev pub EndsAt : (ℕ → Continuation) → ℕ → ℕ → ℕ → Type 0
-EndsAt go q i end = (go q i).answer ≡ Some (record { end = end; writes = [] })
-
 -- where the starts end that were passed over: at the one that is to be attempted, or at the end of the range
 abbrev pub passed_to : ℕ → Option Start → ℕ
 passed_to stop None = stop
 passed_to stop (Some start) = start.at
-
--- an ASCII character stands at i, and the pair was visited to which a start at i leads
-abbrev pub HasVisitedFrom : List ℕ → Visited → PairAhead → ℕ → Type 0
-HasVisitedFrom text visited pair i = (c : ℕ) × (c < 128) × (char_at text i ≡ Some c) × Has visited pair.state (i + pair.past)
-
--- The state q leads to this pair where an ASCII character stands: it fails there if the pair does.
-pub record LeadsInto (context : SearchContext) (q : ℕ) (pair : PairAhead) : Type 0 where
-  pub below : pair.state < length context.states.now
-  pub past : pair.past ≤ 1
-  pub fails : (text : List ℕ) (view : View) (go : ℕ → Continuation) → Explains context text view go
-      → (i : ℕ) → i ≤ context.stop → IsCharBoundary text i → (c : ℕ) → c < 128 → char_at text i ≡ Some c
-      → (go pair.state (i + pair.past)).answer ≡ None → (go q i).answer ≡ None
-
--- the entry leads to a pair that was visited
-pub record LeadsToVisited (context : SearchContext) (text : List ℕ) (visited : Visited) (i : ℕ) : Type 0 where
-  pub pair : PairAhead
-  pub into : LeadsInto context context.entry pair
-  pub is_visited : HasVisitedFrom text visited pair i
 
 -- an ASCII character stands at i, and after it one that is second in no match
 pub record HasRefusedPair (context : SearchContext) (text : List ℕ) (i : ℕ) : Type 0 where
@@ -75,8 +53,32 @@ pub record HasRefusedPair (context : SearchContext) (text : List ℕ) (i : ℕ) 
 abbrev pub IsRefusedAt : SearchContext → List ℕ → ℕ → Type 0
 IsRefusedAt context text i = HasMarkedAscii text context.refused.now i ⊎ HasRefusedPair context text i
 
--- the start at i is passed over for an ASCII character: one that is refused, or any where it leads to a pair that was visited
-pub record IsPassed (context : SearchContext) (text : List ℕ) (anchored : Bool) (visited : Visited) (i : ℕ) : Type 0 where
+-- the start at i is passed over for an ASCII character that is refused there, or after it
+pub record IsPassed (context : SearchContext) (text : List ℕ) (anchored : Bool) (i : ℕ) : Type 0 where
   pub many : anchored ≡ false
   pub not_first : 0 < i
-  pub ascii : IsRefusedAt context text i ⊎ LeadsToVisited context text visited i
+  pub refused : IsRefusedAt context text i
+
+-- a place of the text, from `from` on, and the character there
+pub record IsPlaceFrom (old new : Counted) (from stop : ℕ) (place : ℕ × Option ℕ) : Type 0 where
+  pub range : (from ≤ place.0) × (place.0 ≤ stop)
+  pub boundary : IsCharBoundary (looked_text old) place.0
+  pub after : place.1 ≡ char_at (looked_text old) place.0
+  pub next : IfSome place.1 (λ c. IsCharBoundary (looked_text old) (place.0 + len_utf8 c))
+  pub text : looked_text new ≡ looked_text old
+  pub same_counter : SameCounter old new
+
+-- Rows may have been dropped, all of them of offsets before the first that is left, which is none after `low`.
+pub record IsDropped (old new : Visited) (low : ℕ) : Type 0 where
+  pub count : new.count ≡ old.count
+  pub base : (old.base ≤ new.base) × (new.base ≤ low)
+  pub rows : (stop : ℕ) → old.rows ≤ stop - old.base + 1 → new.rows ≤ stop - new.base + 1
+  pub pairs : (q i : ℕ) → Has new q i → Has old q i
+
+-- The starts from `from` on were passed over, up to this one. There was a look at least for each; the looks are paid for by one for each
+-- start, and by the rows that were dropped.
+pub record IsCandidateFrom (old new : Counted) (visited new_visited : Visited) (from stop : ℕ) (found : Candidate) : Type 0 where
+  pub place : IsPlaceFrom old new from stop (found.at, found.after)
+  pub at_least : min (look_count old + (found.at - from + 1)) (2 ^ 64 - 1) ≤ look_count new
+  pub counted : look_count new + visited_bound visited ≤ look_count old + visited_bound new_visited + (found.at - from + 1)
+  pub dropped : IsDropped visited new_visited found.at

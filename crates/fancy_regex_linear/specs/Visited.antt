@@ -1,5 +1,5 @@
 -- The set of pairs of a state and a place that were looked at.
-use Rattle.std.specs.Prelude.{if◌then◌else◌, ◌&&◌, vec_len, vec_capacity, ◌≡◌, ℕ, ◌+◌, ◌-◌, ◌*◌, ◌/◌, ◌%◌, ◌<◌, ◌≤◌, ◌⊎◌, ◌==◌, Bool, true, false, List, map, slice_index, slice_index_or, count_by}
+use Rattle.std.specs.Prelude.{◌≡◌, ℕ, ◌+◌, ◌-◌, ◌*◌, ◌/◌, ◌%◌, ◌<◌, ◌≤◌, ◌⊎◌, ◌==◌, Bool, true, false, List, map, slice_index, slice_index_or, count_by}
 use Rattle.std.specs.List.{range_with_len}
 use Rattle.std.specs.Int.{bit_at}
 use Rattle.fancy_regex_linear.specs.declared.visited.Visited.{Visited}
@@ -30,14 +30,6 @@ visited_bound v = v.base * v.count + pair_count v
 -- `after` holds what `before` does, and perhaps (q, i)
 abbrev pub Adds : (ℕ → ℕ → Type 0) → (ℕ → ℕ → Type 0) → ℕ → ℕ → Type 0
 Adds before after q i = (p j : ℕ) → after p j → before p j ⊎ ((p ≡ q) × (j ≡ i))
-
--- `after` holds what `before` does, and perhaps q with each offset from `low` on, before `high`
-abbrev pub AddsRun : (ℕ → ℕ → Type 0) → (ℕ → ℕ → Type 0) → ℕ → ℕ → ℕ → Type 0
-AddsRun before after q low high = (p j : ℕ) → after p j → before p j ⊎ ((p ≡ q) × (low ≤ j) × (j < high))
-
--- how many rows from that of `at` on fit the memory at hand: none if that is not the next row, or a row is not one word
-abbrev pub spare : Visited → ℕ → ℕ
-spare v at = if (v.width == 1) && (at - v.base == v.rows) then vec_capacity v.words - vec_len v.words else 0
 
 -- the set is as it was
 pub record IsSame (old new : Visited) : Type 0 where

@@ -2,11 +2,10 @@
 
 ghost use Rattle.std.specs.Prelude.{◌≡◌, ℕ, List, ◌∷◌, ◌<◌, ◌≤◌, ◌+◌, ◌-◌, ◌*◌, ◌^◌, replicate, vec_len, IfSome, IfNone, IfOk, OnOk, slice_set, slice_index, length};
 ghost use Rattle.std.specs.Bool.{MatchBool};
-ghost use Rattle.fancy_regex_linear.specs.Search.{top_first, with_step, put_back, resume_result};
-ghost use Rattle.fancy_regex_linear.specs.Ahead.{slots_with};
+ghost use Rattle.fancy_regex_linear.specs.Search.{top_first, put_back, resume_result};
 ghost use Rattle.fancy_regex_linear.specs.declared.frame.Frame.TheVariants.{Explore, Restore};
 
-use crate::frame::{Frame, SearchStep};
+use crate::frame::Frame;
 use std::alloc::{AllocError, Global};
 
 /// The backtrack stack, and two slots for each capture group: the start of group k in slot 2k, its end in slot 2k + 1.
@@ -68,38 +67,6 @@ impl BacktrackState {
     {
         self.stack.push(Frame::Explore { state, at })?;
         Ok(())
-    }
-
-    /// Pushes the pair to explore later, if this is one. The error is want of memory.
-    #[inline(always)]
-    pub fn push_step(&mut self, next: SearchStep) -> Result<(), AllocError>
-        ensures pushed { OnOk result (top_first self.new.stack.items ≡ with_step next (top_first self.old.stack.items)) }
-        ensures len { OnOk result (vec_len self.new.stack ≤ vec_len self.old.stack + 1) }
-        ensures slots { self.new.slots ≡ self.old.slots }
-    {
-        match next {
-            SearchStep::Pair(state, at) => self.push_explore(state, at),
-            SearchStep::Backtrack | SearchStep::Matched => Ok(()),
-        }
-    }
-
-    /// Writes to a slot, if there is one, and pushes nothing; returns its old value, with which the same call undoes it.
-    #[inline(always)]
-    pub fn set_slot(&mut self, slot: Option<usize>, value: usize) -> usize
-        ensures written { self.new.slots.items ≡ slots_with slot value self.old.slots.items }
-        ensures undone { slots_with slot result self.new.slots.items ≡ self.old.slots.items }
-        ensures stack { self.new.stack ≡ self.old.stack }
-        ensures slots { vec_len self.new.slots ≡ vec_len self.old.slots }
-    {
-        let Some(slot) = slot else {
-            return value;
-        };
-        if slot >= self.slots.len() {
-            return value;
-        }
-        let old = self.slots[slot];
-        self.slots[slot] = value;
-        old
     }
 
     /// Writes to a slot and pushes its old value; returns whether the slot exists. The error is want of memory.

@@ -61,16 +61,16 @@ pub fn by_table(
         true,
     ) {
         Passed::Match { start, end, read } => {
-            text.count_reads(read - place.at);
+            text.count_places(place.at, read);
             load_match(context, text, start, memory, span_only)?;
             Ok(Some(Settled::Found { start, end }))
         }
         Passed::Ended => {
-            text.count_reads(context.stop - place.at);
+            text.count_places(place.at, context.stop);
             Ok(Some(Settled::On { next: None }))
         }
         Passed::Idle { at } => {
-            text.count_reads(at - place.at - 1);
+            text.count_places(place.at + 1, at);
             Ok(Some(Settled::On { next: Some(at) }))
         }
         Passed::Unknown { from, read } => {
@@ -132,7 +132,7 @@ fn by_attempts(
         (look_count text.new) span_only place from memory.old memory.new settled) }
     ensures settling { IsSettling context.now text.old text.new place memory.old memory.new }
 {
-    text.count_reads(read - place.at - 1);
+    text.count_places(place.at + 1, read);
     let (_, after) = text.look(read);
     let next = start_after(read, after, false, context.stop);
     match first_tried(context, text, from, read, memory)? {

@@ -195,7 +195,7 @@ impl Easy {
     }
 
     /// Searches the text, and answers the capture groups of the match: two byte offsets for each group, both `usize::MAX` if
-    /// the group is unset. `Ok(None)` means no match. `steps` grows by one for each look-up in the text, also after an error.
+    /// the group is unset. `Ok(None)` means no match. `steps` grows by one for each look, also after an error.
     /// The error is want of memory; the pattern is unchanged.
     pub fn search(
         &self,

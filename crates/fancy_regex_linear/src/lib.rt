@@ -1,6 +1,6 @@
 //! The linear-time engine for easy patterns: those without back references, look-around, atomic groups and the like. A
 //! pattern is compiled to states, and a search is a depth-first search over pairs of a state and a byte offset. A visited set
-//! that all starts of the search share lets it try each pair at most once, so the number of look-ups in the text is bounded
+//! that all starts of the search share lets it try each pair at most once, so the number of looks is bounded
 //! by the pattern's weight times the length of the range plus one. Where the first match is wanted, a table of the states goes
 //! through the text first, and only what it does not know is searched so. The set's memory goes by the span of an attempt: where
 //! all of it lies before a start, it begins anew there. A search fails for want of memory alone. What a search allocates is
@@ -10,15 +10,12 @@
 mod backtrack;
 mod build;
 mod by_table;
-mod class_loop;
 mod easy;
 mod emit;
 mod emit_both;
 mod frame;
 mod memory;
 mod node;
-mod run_ahead;
-mod scan;
 mod search;
 mod settle;
 mod starts;

@@ -1,4 +1,4 @@
-//! The starts of a search, which are settled one after another: by a scan, by the table of the pattern, or by an attempt.
+//! The starts of a search, which are settled one after another: by the table of the pattern, or by an attempt.
 
 ghost use Rattle.std.specs.Prelude.{Bool, IfOk, IfSome};
 ghost use Rattle.fancy_regex_class.specs.Looks.{looked_text, look_count};
@@ -7,9 +7,7 @@ ghost use Rattle.fancy_regex_linear.specs.Settled.{IsAtStart, IsSettled, IsSettl
 
 use crate::by_table::{TableSearch, by_table};
 use crate::memory::SearchMemory;
-use crate::run_ahead::run_ahead;
-use crate::scan::scanned;
-use crate::search::{SearchContext, attempt_run, attempt_start};
+use crate::search::{SearchContext, attempt_start};
 use crate::starts::Start;
 use fancy_regex_class::Counted;
 use std::alloc::AllocError;
@@ -41,12 +39,6 @@ pub fn settle(
         anchored span_only place memory.old memory.new) }
     ensures settling { IsSettling context.now text.old text.new place memory.old memory.new }
 {
-    if let Some(end) = scanned(context, text, place) {
-        return Ok(Settled::Found {
-            start: place.at,
-            end,
-        });
-    }
     if let Some(settled) = by_table(context, text, table, place, anchored, memory, span_only)? {
         return Ok(settled);
     }
@@ -54,8 +46,7 @@ pub fn settle(
     Ok(settled)
 }
 
-/// Settles this start by an attempt, or all starts of the stretch of a loop with which the pattern begins. The error is want
-/// of memory.
+/// Settles this start by an attempt. The error is want of memory.
 fn by_attempt(
     context: &SearchContext,
     text: &mut Counted,
@@ -70,17 +61,6 @@ fn by_attempt(
         anchored span_only place memory.old memory.new settled) }
     ensures settling { IsSettling context.now text.old text.new place memory.old memory.new }
 {
-    if let Some(run) = run_ahead(context, text, place, anchored, &mut memory.visited) {
-        if let Some(end) = attempt_run(context, text, place.at, run, memory)? {
-            return Ok(Settled::Found {
-                start: place.at,
-                end,
-            });
-        }
-        return Ok(Settled::On {
-            next: Some(run.end),
-        });
-    }
     if let Some(end) = attempt_start(context, text, place.at, memory)? {
         return Ok(Settled::Found {
             start: place.at,

@@ -23,7 +23,7 @@ pub struct Visited {
 }
 
 impl Visited {
-    ghost use Rattle.fancy_regex_linear.specs.Visited.{Has, pair_count, visited_bound, Adds, AddsRun, IsSame, spare};
+    ghost use Rattle.fancy_regex_linear.specs.Visited.{Has, pair_count, visited_bound, Adds, IsSame};
 
     /// The empty set, for no states. It allocates nothing.
     pub fn new(alloc: Global) -> Visited {
@@ -117,9 +117,18 @@ impl Visited {
     #[inline(always)]
     pub fn ends_before(&self, from: usize) -> bool
         requires { self.now.base ≤ from }
-        ensures { result ≡ true → self.now.rows ≤ from - self.now.base }
+        ensures { MatchBool result (self.now.rows ≤ from - self.now.base) (from - self.now.base < self.now.rows) }
     {
         self.rows <= from - self.base
+    }
+
+    /// The byte offset of the last row, which is not before `at`.
+    #[inline(always)]
+    pub fn last_row(&self, at: usize) -> usize
+        requires { (self.now.base ≤ at) × (at - self.now.base < self.now.rows) }
+        ensures { at ≤ result }
+    {
+        at.saturating_add(self.rows - (at - self.base) - 1)
     }
 
     /// Sets the bit of a pair whose row exists; returns whether it was clear.
@@ -139,52 +148,6 @@ impl Visited {
         let bit = 1u64 << (state % 64);
         self.words[place] = word | bit;
         word & bit == 0
-    }
-
-    /// How many rows, from that of the byte offset `at` on, can be added in the memory at hand: none where that row is not the
-    /// next one, or a row is longer than a word.
-    #[inline(always)]
-    pub fn spare_rows(&self, at: usize) -> usize
-        requires base { self.now.base ≤ at }
-        ensures { result ≡ spare self.now at }
-    {
-        if self.width != 1 || at - self.base != self.rows {
-            return 0;
-        }
-        self.words.capacity() - self.words.len()
-    }
-
-    /// Adds the pairs of a state and each of `count` byte offsets from `at` on, in new rows for which there is memory.
-    #[inline(always)]
-    pub fn insert_run(&mut self, state: usize, at: usize, count: usize)
-        requires state { state < self.old.count }
-        requires base { self.old.base ≤ at }
-        requires spare { count ≤ spare self.old at }
-        requires some { 0 < count }
-        ensures same { (self.new.count ≡ self.old.count) × (self.new.base ≡ self.old.base) }
-        ensures rows { self.new.rows ≡ at - self.old.base + count }
-        ensures adds { AddsRun (Has self.old) (Has self.new) state at (at + count) }
-        ensures counted { pair_count self.new ≡ pair_count self.old + count }
-    {
-        let length = self.words.len() + count;
-        if self.words.resize(length, 1u64 << (state % 64)).is_ok() {
-            self.rows += count;
-        }
-    }
-
-    /// Whether the pair is in the set.
-    #[inline(always)]
-    pub fn has(&self, state: usize, at: usize) -> bool
-        requires state { state < self.now.count }
-        ensures { result ≡ true → Has self.now state at }
-    {
-        if at < self.base || at - self.base >= self.rows {
-            return false;
-        }
-        let place = (at - self.base) * self.width + state / 64;
-        let bit = 1u64 << (state % 64);
-        let clear = self.words[place] & bit == 0;
-        !clear
     }
 
     /// Adds a pair; returns whether it is new. The error is want of memory, and then the set is unchanged.

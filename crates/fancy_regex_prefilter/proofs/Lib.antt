@@ -8,6 +8,7 @@ pub mod FailingStarts
 pub mod StartsInRow
 pub mod LookBehindStarts
 pub mod NewlineLemmas
+mod PlaceRanges
 pub mod StartLemmas
 pub mod PlannedStarts
 pub mod LeadingLoopLemmas

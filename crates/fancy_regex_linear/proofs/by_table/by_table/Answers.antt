@@ -29,7 +29,7 @@ returns-in_ok-load_match-in-Match-clause-settled c =
     let start : ℕ = c.in-Match.start in
     let end : ℕ = c.in-Match.end in
     let range : IsInRange text place.at context.stop (P.Match start end c.in-Match.read) = rw by.text_is at c.in-Match.ensures.range in
-    let loaded_is = rw c.count_reads.ensures.text at c.in_ok-load_match-in-Match.ensures.loaded in
+    let loaded_is = rw c.count_places.ensures.text at c.in_ok-load_match-in-Match.ensures.loaded in
     let settled : IsSettled context text (look_count c.args.text.now) (look_count c.load_match.new.text) false c.args.span_only place memory c.load_match.new.memory (Found start end) =
     record {
       says = λ view go explains failed.
@@ -41,7 +41,7 @@ returns-in_ok-load_match-in-Match-clause-settled c =
           let loaded = loaded_is.says view go explains failed end end_is in
           let found = found_says context text place memory here go start (record { at = end; slots = loaded.0 }) range.0 (omega (arith, range.1, range.2)) range.3 early (sym loaded.1) in (
             record { found_slots = loaded.0; is = sym found.0; kept = loaded.2 },
-            omega (arith, found.1, range.0, range.1, c.count_reads.ensures.ticked, c.load_match.ensures.attempt.looks.more),
+            omega (arith, found.1, range.0, range.1, c.count_places.ensures.ticked, c.load_match.ensures.attempt.looks.more),
           );
       on = tt;
     } in
@@ -58,7 +58,7 @@ returns-in-Ended-clause-settled c =
     let place = c.args.place in
     let memory = c.args.memory.now in
     let is = here.start.1 in
-    let settled : IsSettled context text (look_count c.args.text.now) (look_count c.count_reads-in-Ended.new.self) false c.args.span_only place memory memory (On None) =
+    let settled : IsSettled context text (look_count c.args.text.now) (look_count c.count_places-in-Ended.new.self) false c.args.span_only place memory memory (On None) =
     record {
       says = λ view go explains failed.
           let search_ok = is_search context text c.in-Some.it by view go explains place.at here.utf8 here.inside in
@@ -69,15 +69,15 @@ returns-in-Ended-clause-settled c =
           (λ i boundary low high. no_spot context text place memory here go i (fails i low (omega (arith, high)) boundary)) in
           let tried = ap (attempted f) here.split in
           let no_more = tried_none f in
-          (failed, refl, ap (earliest f) (sym here.split) ∙ none.0 ∙ sym (earliest_none f), omega (arith, tried, none.1, no_more, c.count_reads-in-Ended.ensures.ticked));
+          (failed, refl, ap (earliest f) (sym here.split) ∙ none.0 ∙ sym (earliest_none f), omega (arith, tried, none.1, no_more, c.count_places-in-Ended.ensures.ticked));
       on = record {
         after = tt;
         base = tt;
         between = here.between;
-        counted = omega (arith, c.count_reads-in-Ended.ensures.ticked, is.high);
+        counted = omega (arith, c.count_places-in-Ended.ensures.ticked, is.high);
       };
     } in
-    subst (λ (b : Bool). IsSettled context text (look_count c.args.text.now) (look_count c.count_reads-in-Ended.new.self) b c.args.span_only place memory memory (On None))
+    subst (λ (b : Bool). IsSettled context text (look_count c.args.text.now) (look_count c.count_places-in-Ended.new.self) b c.args.span_only place memory memory (On None))
     (sym c.if-anchored.false) settled
 
 pub returns-in-Idle-clause-settled : goal.returns-in-Idle-clause-settled
@@ -91,22 +91,22 @@ returns-in-Idle-clause-settled c =
     let memory = c.args.memory.now in
     let at : ℕ = c.in-Idle.at in
     let range : IsInRange text place.at context.stop (P.Idle at) = rw by.text_is at c.in-Idle.ensures.range in
-    let settled : IsSettled context text (look_count c.args.text.now) (look_count c.count_reads-in-Idle.new.self) false c.args.span_only place memory memory (On (Some at)) =
+    let settled : IsSettled context text (look_count c.args.text.now) (look_count c.count_places-in-Idle.new.self) false c.args.span_only place memory memory (On (Some at)) =
     record {
       says = λ view go explains failed.
           let search_ok = is_search context text c.in-Some.it by view go explains place.at here.utf8 here.inside in
           let fails = fail_by context text c.in-Some.it by view go explains place.at at
           (λ t. (c.in-Idle.ensures.passed (parts_of context) context.rules (search_of context text c.in-Some.it by view go explains place.at) t search_ok refl (sym by.text_is) refl refl).0.early) in
           let on = on_says context text place memory here go at (omega (arith, range.0)) range.1 fails in
-          (failed, refl, on.0, omega (arith, on.1, range.0, c.count_reads-in-Idle.ensures.ticked));
+          (failed, refl, on.0, omega (arith, on.1, range.0, c.count_places-in-Idle.ensures.ticked));
       on = record {
         after = (range.0, range.1, range.2);
         base = omega (arith, here.base, range.0);
         between = here.between;
-        counted = omega (arith, c.count_reads-in-Idle.ensures.ticked, range.0);
+        counted = omega (arith, c.count_places-in-Idle.ensures.ticked, range.0);
       };
     } in
-    subst (λ (b : Bool). IsSettled context text (look_count c.args.text.now) (look_count c.count_reads-in-Idle.new.self) b c.args.span_only place memory memory (On (Some at)))
+    subst (λ (b : Bool). IsSettled context text (look_count c.args.text.now) (look_count c.count_places-in-Idle.new.self) b c.args.span_only place memory memory (On (Some at)))
     (sym c.if-anchored.false) settled
 
 pub returns-in_ok-settled-in-Unknown-clause-settled : goal.returns-in_ok-settled-in-Unknown-clause-settled

@@ -4,8 +4,8 @@ use Rattle.fancy_regex_states.specs.Attempts.{View, Continuation}
 use Rattle.fancy_regex_linear.specs.Meaning.{Spot}
 use Rattle.fancy_regex_linear.specs.Find.{FoundMatch, earliest, attempted, places}
 use Rattle.fancy_regex_linear.specs.Starts.{places_left, spot_from}
-use Rattle.fancy_regex_linear.specs.Visited.{visited_bound}
-use Rattle.fancy_regex_linear.specs.Search.{Explains}
+use Rattle.fancy_regex_linear.specs.Visited.{Has, visited_bound}
+use Rattle.fancy_regex_linear.specs.Search.{AllFail, Explains}
 use Rattle.fancy_regex_linear.specs.Settled.{IsAnswer, IsSettled}
 use Rattle.fancy_regex_linear.specs.declared.visited.Visited.{Visited}
 use Rattle.fancy_regex_linear.proofs.VisitedLemmas.{visited_bound_most, looks_within, none_has}
@@ -43,8 +43,8 @@ passed : (c : After-next_start) (view : View) (go : ℕ → Continuation) → Ex
 passed c view go explains =
     let inv = rw c.in-Some.is at (c.starts.invariant.found view go explains) in
     let here : Explains c.args.context.now (looked_text c.starts.text) view go = rw c.starts.invariant.looks.text explains in
-    let over = rw c.starts.invariant.looks.text at (c.next_start.ensures.passed view go here inv.0 c.args.memory.now.backtrack.slots.items) in
-    let least = rw c.starts.invariant.looks.text at (c.next_start.ensures.at_least view go here inv.0 c.args.memory.now.backtrack.slots.items) in
+    let over = rw c.starts.invariant.looks.text at (c.next_start.ensures.passed view go here c.args.memory.now.backtrack.slots.items) in
+    let least = rw c.starts.invariant.looks.text at (c.next_start.ensures.at_least view go here c.args.memory.now.backtrack.slots.items) in
     (inv.2 ∙ over, omega (arith, inv.3, least))
 
 -- no more pairs were visited_bound than there are
@@ -70,8 +70,10 @@ returns-in_default-next_start-clause-at_most c =
     let stop : ℕ = c.args.context.now.stop in
     let from = rw c.in-Some.is at c.starts.invariant.from in
     let so_far = rw c.in-Some.is at c.starts.invariant.at_most in
-    let cap = capped c.starts.memory.visited stop count c.starts.invariant.between.count c.starts.invariant.base.1 c.starts.invariant.between.rows in
-    looks_within (look_count c.next_start.new.text) (look_count c.args.text.now) (visited_bound c.starts.memory.visited) c.args.start stop count (stop + 1 - c.args.start) c.requires.range.0
+    let dropped = c.in_default-next_start.ensures.dropped in
+    let visited = c.next_start.new.visited in
+    let cap = capped visited stop count (dropped.count ∙ c.starts.invariant.between.count) dropped.base.1 (dropped.rows stop c.starts.invariant.between.rows) in
+    looks_within (look_count c.next_start.new.text) (look_count c.args.text.now) (visited_bound visited) c.args.start stop count (stop + 1 - c.args.start) c.requires.range.0
     (omega (arith, so_far, c.in_default-next_start.ensures.at_most, from.0, from.1)) cap (omega (arith, c.requires.range.0))
 
 pub returns-clause-answer : goal.returns-clause-answer
@@ -107,7 +109,7 @@ bound c =
     let from = rw c.in-Some.is at c.starts.invariant.from in
     let so_far = rw c.in-Some.is at c.starts.invariant.at_most in
     let settling = c.settle.ensures.settling in
-    let cap = capped c.settle.new.memory.visited stop count (settling.count ∙ c.starts.invariant.between.count) settling.base.1 settling.rows in
+    let cap = capped c.settle.new.memory.visited stop count (settling.count ∙ c.in-Some-next_start.ensures.dropped.count ∙ c.starts.invariant.between.count) settling.base.1 settling.rows in
     looks_within (look_count c.settle.new.text) (look_count c.args.text.now) (visited_bound c.settle.new.memory.visited) c.args.start stop count (stop + 1 - c.args.start) c.requires.range.0
     (omega (arith, so_far, settling.counted, c.in-Some-next_start.ensures.at_most, from.0, is.low, is.high)) cap (omega (arith, c.requires.range.0))
 
@@ -119,11 +121,38 @@ returns-in-Found-clause-at_most c = bound (goal.at.returns-in-Found-clause-at_mo
 
 -- what was settled, of the text of the search
 settled_is : (c : In_ok-start) → IsSettled c.args.context.now (looked_text c.args.text.now) (look_count c.next_start.new.text) (look_count c.settle.new.text)
-    c.args.anchored c.args.span_only c.in-Some-next_start.place c.starts.memory c.settle.new.memory c.in_ok-start.field-0
+    c.args.anchored c.args.span_only c.in-Some-next_start.place (record c.starts.memory { visited = c.next_start.new.visited }) c.settle.new.memory c.in_ok-start.field-0
 settled_is c =
     subst (λ (t : List ℕ). IsSettled c.args.context.now t (look_count c.next_start.new.text) (look_count c.settle.new.text)
-    c.args.anchored c.args.span_only c.in-Some-next_start.place c.starts.memory c.settle.new.memory c.in_ok-start.field-0)
+    c.args.anchored c.args.span_only c.in-Some-next_start.place (record c.starts.memory { visited = c.next_start.new.visited }) c.settle.new.memory c.in_ok-start.field-0)
     (c.next_start.ensures.looks.text ∙ c.starts.invariant.looks.text) c.in_ok-start.ensures.settled
+
+-- the pairs that are left fail
+still_fail : (c : After-next_start) (view : View) (go : ℕ → Continuation) → AllFail view.longest go (Has c.starts.memory.visited)
+    → AllFail view.longest go (Has c.next_start.new.visited)
+still_fail c view go failed q i r has = failed q i r (c.next_start.ensures.dropped.pairs q i has)
+
+pub next_start-requires-clause-base : goal.next_start-requires-clause-base
+next_start-requires-clause-base c = let base = rw c.in-Some.is at c.starts.invariant.base in base.2
+
+pub settle-requires-clause-start : goal.settle-requires-clause-start
+settle-requires-clause-start c =
+    let dropped = c.in-Some-next_start.ensures.dropped in
+    let text = c.next_start.ensures.looks.text in
+    let between = c.starts.invariant.between in
+    record {
+      inside = rw (text, c.starts.invariant.looks.text) c.requires.range.1;
+      utf8 = rw (text, c.starts.invariant.looks.text) c.requires.text;
+      start = rw text (c.in-Some.least, c.in-Some-next_start.ensures.start);
+      split = rw text c.in-Some-next_start.ensures.split;
+      base = dropped.base.1;
+      between = record {
+        count = dropped.count ∙ between.count;
+        rows = dropped.rows c.args.context.now.stop between.rows;
+        empty = between.empty;
+        farthest = between.farthest;
+      };
+    }
 
 pub returns-in-Found-clause-answer : goal.returns-in-Found-clause-answer
 returns-in-Found-clause-answer c view go explains =
@@ -131,7 +160,7 @@ returns-in-Found-clause-answer c view go explains =
     let inv = c.starts.invariant.found view go explains in
     let over = rw c.in-Some-next_start.is at (passed d view go explains) in
     let settled = rw c.in-Found.is at (settled_is (goal.at.returns-in-Found-clause-answer c).In_ok-start) in
-    let says = rw inv.1 at (settled.says view go explains inv.0).0 in
+    let says = rw inv.1 at (settled.says view go explains (still_fail d view go inv.0)).0 in
     subst (λ (found : Option FoundMatch). IsAnswer c.args.span_only (Some (c.in-Found.start, c.in-Found.end)) c.settle.new.memory.backtrack.slots.items found) (sym over.0) says
 
 pub returns-in-Found-clause-at_least : goal.returns-in-Found-clause-at_least
@@ -140,7 +169,7 @@ returns-in-Found-clause-at_least c view go explains =
     let inv = c.starts.invariant.found view go explains in
     let over = rw c.in-Some-next_start.is at (passed d view go explains) in
     let settled = rw c.in-Found.is at (settled_is (goal.at.returns-in-Found-clause-at_least c).In_ok-start) in
-    let says = rw inv.1 at (settled.says view go explains inv.0).1 in
+    let says = rw inv.1 at (settled.says view go explains (still_fail d view go inv.0)).1 in
     omega (arith, over.1, says)
 
 pub starts-preserved : goal.starts-preserved
@@ -158,13 +187,13 @@ starts-preserved c =
       found = λ view go explains.
           let inv = c.starts.invariant.found view go explains in
           let over = rw c.in-Some-next_start.is at (passed d view go explains) in
-          let says = settled.says view go explains inv.0 in
+          let says = settled.says view go explains (still_fail d view go inv.0) in
           let same = rw inv.1 at says.2 in
           let looks = rw inv.1 at says.3 in
           (says.0, says.1 ∙ inv.1, over.0 ∙ same, omega (arith, over.1, looks));
       from = after_from text stop c.args.start place.at c.in-On.next (omega (arith, from.0, is.low)) settled.on.after;
       between = settled.on.between;
-      base = (omega (arith, c.starts.invariant.base.0, settling.base.0), settling.base.1, settled.on.base);
+      base = (omega (arith, c.starts.invariant.base.0, c.in-Some-next_start.ensures.dropped.base.0, settling.base.0), settling.base.1, settled.on.base);
       at_most = omega (arith, so_far, settled.on.counted, c.in-Some-next_start.ensures.at_most, from.0, is.low);
       looks = record {
         more = omega (arith, c.next_start.ensures.looks.more, settling.looks.more, c.starts.invariant.looks.more);

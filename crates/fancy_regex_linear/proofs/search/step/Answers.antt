@@ -1,10 +1,9 @@
 use Rattle.std.proofs.Common.{◌≡◌, ◌∙◌, ◌+◌, ◌*◌, false, true, ap, ap₂, sym, length, arith}
 use Rattle.fancy_regex_states.specs.Attempts.{visit as state_visit}
-use Rattle.regex_hir.specs.Text.{char_before}
 use Rattle.fancy_regex_class.specs.Looks.{looked_text}
 use Rattle.fancy_regex_states.specs.CharTests.{passes}
 use Rattle.fancy_regex_linear.specs.Visited.{Has}
-use Rattle.fancy_regex_linear.proofs.DfsLemmas.{Dfs-dead, Dfs-moved, Dfs-matched, guard_yes, guard_no}
+use Rattle.fancy_regex_linear.proofs.DfsLemmas.{Dfs-dead, Dfs-moved, Dfs-matched, Dfs-split, guard_yes, guard_no}
 use Rattle.fancy_regex_linear.proofs.StepLemmas.{read_tracked, read_within, write_tracked}
 use Rattle.fancy_regex_linear.proofs.search.step.Goals as goal
 
@@ -30,18 +29,30 @@ returns-else-test_holds-clause-tracking c view go id far shows agree does goal b
     let no : view.holds c.in-Look.test c.args.at ≡ false = shows.holds c.in-Look.test ∙ ap₂ (passes c.args.context.now.matchers.now c.args.context.now.rules c.in-Look.test) (sym c.look-before.ensures.before) (sym c.look-before.ensures.after) ∙ sym c.test_holds.ensures ∙ c.if-test_holds.false in
     Dfs-dead view.longest d adds (guard_no _ _ _ (does ∙ ap (λ s. state_visit view c.args.context.now.stop go s c.args.at) c.in-Look.is) no)
 
-pub returns-in_ok-next-in-Split-clause-tracking : goal.returns-in_ok-next-in-Split-clause-tracking
-returns-in_ok-next-in-Split-clause-tracking c view go id far shows agree does goal best bottom seen marked adds d =
-    c.in_ok-next-in-Split.ensures.tracking view go id (char_before (looked_text c.args.text.now) c.args.at) (rw c.look-after-in-Split.ensures.after shows) agree
-    (does ∙ ap (λ s. state_visit view c.args.context.now.stop go s c.args.at) c.in-Split.is) goal best bottom seen marked adds d
+pub returns-in_ok-push_explore-in-Split-clause-tracking : goal.returns-in_ok-push_explore-in-Split-clause-tracking
+returns-in_ok-push_explore-in-Split-clause-tracking c view go id far shows agree does goal best bottom seen marked adds d =
+    rw (c.in_ok-push_explore-in-Split.ensures.pushed, c.in_ok-push_explore-in-Split.ensures.slots)
+    (Dfs-split view.longest d adds c.in-Split.first c.in-Split.second (does ∙ ap (λ s. state_visit view c.args.context.now.stop go s c.args.at) c.in-Split.is))
 
-pub returns-in_ok-next-in-Split-clause-next : goal.returns-in_ok-next-in-Split-clause-next
-returns-in_ok-next-in-Split-clause-next c base low =
-    (c.in_ok-next-in-Split.ensures.within (looked_text c.args.text.now) base low c.requires.boundary c.look-after-in-Split.ensures.next).0
+pub returns-in_ok-push_explore-in-Split-clause-next : goal.returns-in_ok-push_explore-in-Split-clause-next
+returns-in_ok-push_explore-in-Split-clause-next c base low = record {
+  state = (rw c.in-Split.is at c.requires.names).0;
+  low = low;
+  high = c.requires.low;
+  boundary = c.requires.boundary;
+}
 
-pub returns-in_ok-next-in-Split-clause-within : goal.returns-in_ok-next-in-Split-clause-within
-returns-in_ok-next-in-Split-clause-within c base low =
-    (c.in_ok-next-in-Split.ensures.within (looked_text c.args.text.now) base low c.requires.boundary c.look-after-in-Split.ensures.next).1
+pub returns-in_ok-push_explore-in-Split-clause-within : goal.returns-in_ok-push_explore-in-Split-clause-within
+returns-in_ok-push_explore-in-Split-clause-within c base low within =
+    rw c.in_ok-push_explore-in-Split.ensures.pushed (
+      record {
+        state = (rw c.in-Split.is at c.requires.names).1;
+        low = low;
+        high = c.requires.low;
+        boundary = c.requires.boundary;
+      },
+      within,
+    )
 
 pub returns-in_ok-write-in-Enter-clause-tracking : goal.returns-in_ok-write-in-Enter-clause-tracking
 returns-in_ok-write-in-Enter-clause-tracking c view go id far shows agree does goal best bottom seen marked adds d =

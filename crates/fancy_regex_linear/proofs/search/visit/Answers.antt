@@ -1,17 +1,9 @@
-use Rattle.std.proofs.Common.{ℕ, false, sym, subst, rules, arith}
+use Rattle.std.proofs.Common.{false, rules, arith}
 use Rattle.std.proofs.lemmas.List.{get_or_default}
 use Rattle.fancy_regex_states.specs.declared.state.State.TheVariants.{Match, Read}
 use Rattle.fancy_regex_states.specs.declared.atom.Leaf.TheVariants.{Any}
-use Rattle.fancy_regex_linear.specs.Search.{IsLoop}
 use Rattle.fancy_regex_linear.proofs.DfsLemmas.{Dfs-seen}
 use Rattle.fancy_regex_linear.proofs.search.visit.Goals as goal
-
-pub run_loop-requires-clause-place : goal.run_loop-requires-clause-place
-run_loop-requires-clause-place c = rw c.in-Some.ensures.is c.requires.place
-
-pub run_loop-requires-clause-is_loop : goal.run_loop-requires-clause-is_loop
-run_loop-requires-clause-is_loop c =
-    subst (λ (q : ℕ). IsLoop c.args.context.now.states.now q c.in-Some.found) (sym c.in-Some.ensures.is) c.in-Some.ensures
 
 pub returns-then-not-branch-clause-visit : goal.returns-then-not-branch-clause-visit
 returns-then-not-branch-clause-visit c = record {
@@ -29,13 +21,13 @@ returns-clause-visit c =
     record {
       tracking = λ view go explains aim best bottom d.
           let here = get_or_default c.args.context.now.states.now c.args.id (Read (Any false false) 0) Match pair.state in
-          c.in_ok-next-2.ensures.tracking view go c.args.id explains.longest
+          c.in_ok-next.ensures.tracking view go c.args.id explains.longest
           (explains.shows c.args.at pair.boundary)
           explains.agree
           (rw here ((explains.agree c.args.id pair.state).does c.args.at pair.high))
           aim best bottom c.args.visited.now c.insert_pair.new.self c.insert_pair.ensures.adds d;
-      next = c.in_ok-next-2.ensures.next c.args.visited.now.base pair.low;
-      within = c.in_ok-next-2.ensures.within c.args.visited.now.base pair.low c.requires.place.within;
+      next = c.in_ok-next.ensures.next c.args.visited.now.base pair.low;
+      within = c.in_ok-next.ensures.within c.args.visited.now.base pair.low c.requires.place.within;
       progress = search rules;
     }
 
