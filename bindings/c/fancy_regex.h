@@ -100,7 +100,7 @@ typedef struct fancy_regex_options {
     bool unicode_mode;           /* classes and cases are those of Unicode, not of ASCII: true */
     bool find_not_empty;         /* no empty match is found */
     bool ignore_numbered_groups; /* unnamed groups do not capture if the pattern has a named one */
-    bool seek;                   /* places at which no match can start are skipped; the matches are the same */
+    bool seek;                   /* a backtracking program skips places at which no match can start; the matches are the same */
     bool oniguruma_mode;         /* a dialect close to Oniguruma's: \< \>, reversed counts, repeated quantifiers are read as it does */
     bool leftmost_longest;       /* the longest match at each place is found, not the first */
 } fancy_regex_options;
@@ -181,9 +181,10 @@ static inline int32_t fancy_regex_find_by(fancy_regex *regex, const char *text, 
 }
 
 /* As fancy_regex_find_by, and writes into `looks`, which must not be null, a count of the looks at the text that the linear engine
- * makes: 0 where nothing is searched and for a pattern that needs a backtracking program; for another pattern at most W * (N + 1),
- * where N is the number of bytes from the place of the search to the end of the text, 0 past the end, and W is a number that the pattern
- * and its options give; and, where the search answers, at least one for each place at which it tries to begin a match. */
+ * makes: 0 where nothing is searched and for a pattern that is not plain, which has look-around, a reference or another fancy part, or
+ * is built with find_not_empty; for a plain pattern at most W * (N + 1), where N is the number of bytes from the place of the search to
+ * the end of the text, 0 past the end, and W is a number that the pattern and its options give; and, where the search answers, at least
+ * one for each place at which it tries to begin a match. */
 static inline int32_t fancy_regex_find_counted(fancy_regex *regex, const char *text, size_t length, const fancy_regex_query *query, fancy_regex_span *span, uint64_t *looks) {
     fancy_regex_span ignored = {FANCY_REGEX_UNSET, FANCY_REGEX_UNSET};
     int32_t tested = fancy_regex_test(text, length, 1);
