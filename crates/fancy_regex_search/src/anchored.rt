@@ -26,8 +26,11 @@ pub struct AnchoredMatch<'r, S: Input> {
 }
 
 /// The match that starts at `position`; `None` if no match starts there. `\G` matches at `continue_at` alone, and nowhere if
-/// that is `None`. The memory is that of earlier searches, and changes no answer. `RuntimeError` if the search exceeds a limit;
-/// `Memory` if memory runs out.
+/// that is `None`. `position` is a byte offset. The memory is that of earlier searches, and changes no answer.
+///
+/// # Errors
+///
+/// `RuntimeError` if the search exceeds a limit, which only a search that runs a program does; `Memory` if memory runs out.
 pub fn match_at<'r, S: Input>(
     alloc: Global,
     regex: &'r Regex,

@@ -18,8 +18,13 @@ use fancy_regex_input::{Input, RegexInput};
 use fancy_regex_meta::{MatchDetail, Result};
 use std::alloc::Global;
 
-/// The capture groups of the non-overlapping matches in a haystack, from left to right. An item may be an error; after an
-/// error or `None` there are no more items.
+/// The capture groups of the non-overlapping matches in a haystack, from left to right. After an error or `None` there are no more
+/// items.
+///
+/// # Errors
+///
+/// An item is `RuntimeError` if its search exceeds a limit, which only a search that runs a program does, and `Memory` if memory runs
+/// out.
 ///
 /// ```
 /// let regex = Regex::new(alloc, "(a)n")?;
@@ -94,6 +99,8 @@ impl<'r, S: Input> Iterator for CaptureMatches<'r, S> {
     ghost remaining = { λ s. at_most (remaining_searches (S.text s.match_iter.input.haystack) s.match_iter.input.config
         s.match_iter.state) };
 
+    /// The groups of the next match, or the error of its search, after which the iteration is over. `None` after the last match and
+    /// after an error.
     fn next(&mut self) -> Option<Result<Captures<'r, S>>> {
         let regex = self.match_iter.regex;
         let haystack = self.match_iter.input.haystack();

@@ -160,7 +160,8 @@ impl<'r, 't> Captures<'r, &'t str> {
     }
 }
 
-/// The iterator over the groups of one match, from group 0: the match of each, or `None` if it did not participate.
+/// The iterator over the groups of one match in order of their numbers, from group 0: the match of each, or `None` if it did not
+/// participate.
 ///
 /// ```
 /// let regex = Regex::new(alloc, "(a)|(b)")?;
@@ -187,6 +188,7 @@ impl<'c, 'r, S: Input> Iterator for SubCaptureMatches<'c, 'r, S> {
 
     ghost remaining = { λ s. at_most (vec_len s.captures.now.slots / 2 - s.next) };
 
+    /// The match of the next group, or `Some(None)` if it did not participate; `None` after the last group.
     fn next(&mut self) -> Option<Option<S::Match>> {
         let group = self.next;
         if group >= self.captures.len() {

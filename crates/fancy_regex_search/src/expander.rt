@@ -63,10 +63,13 @@ impl Expander {
         }
     }
 
-    /// Accepts a template whose references all exist in the regex and whose signs all begin something. Otherwise the error
-    /// tells the first fault from the left: `CompileError` with `NamedBackrefOnly` for a number above 0 although groups have
-    /// names, `InvalidBackref` for a number that no group has, or `InvalidGroupNameBackref` for a name that no group has;
-    /// `ParseError` at 0 for a sign that begins nothing. `Memory` if memory runs out.
+    /// Accepts a template whose references all exist in the regex and whose signs all begin something.
+    ///
+    /// # Errors
+    ///
+    /// The first fault from the left: `CompileError` with `NamedBackrefOnly` for a number above 0 although groups have names, with
+    /// `InvalidBackref` for a number that no group has, or with `InvalidGroupNameBackref` for a name that no group has; `ParseError`
+    /// at 0 for a sign that begins nothing. `Memory` if memory runs out.
     ///
     /// ```
     /// let date = Regex::new(alloc, r"(?<year>\d+)")?;
@@ -86,7 +89,11 @@ impl Expander {
     }
 
     /// The text with each sign doubled: a template that expands to the text. A text without a sign is borrowed, and
-    /// nothing is allocated. `Memory` if memory runs out.
+    /// nothing is allocated.
+    ///
+    /// # Errors
+    ///
+    /// `Memory` if memory runs out; never for a text without a sign.
     ///
     /// ```
     /// assert!(rt; Expander::default().escape(alloc, "$5")?.as_str() == "$$5");
@@ -101,7 +108,11 @@ impl Expander {
         Ok(escape_template(alloc, self.syntax, text)?)
     }
 
-    /// What the template stands for in a match. `Memory` if memory runs out.
+    /// What the template stands for in a match.
+    ///
+    /// # Errors
+    ///
+    /// `Memory` if memory runs out.
     pub fn expansion(
         &self,
         alloc: Global,
@@ -117,7 +128,11 @@ impl Expander {
         Ok(text)
     }
 
-    /// Appends what the template stands for in a match. `Memory` if memory runs out, and the buffer is as it was.
+    /// Appends what the template stands for in a match.
+    ///
+    /// # Errors
+    ///
+    /// `Memory` if memory runs out. The buffer is as it was.
     ///
     /// ```
     /// let word = Regex::new(alloc, r"(\w+)!")?;
@@ -143,8 +158,11 @@ impl Expander {
         Ok(())
     }
 
-    /// Writes what the template stands for in a match. It fails only where the writer fails or takes no byte; a beginning of
-    /// the expansion is written then, but not all of it.
+    /// Writes what the template stands for in a match, in UTF-8.
+    ///
+    /// # Errors
+    ///
+    /// That of the writer, or `WriteZero` if it takes no byte. A beginning of the expansion is written then, but not all of it.
     ///
     /// ```
     /// let word = Regex::new(alloc, r"(\w+)!")?;
@@ -168,7 +186,11 @@ impl Expander {
         write_to_sink(&mut Sink::new(dst), self.syntax, template, captures)
     }
 
-    /// Appends the bytes of what the template stands for in a match. `Memory` if memory runs out, and the buffer is as it was.
+    /// Appends the bytes of what the template stands for in a match, in UTF-8.
+    ///
+    /// # Errors
+    ///
+    /// `Memory` if memory runs out. The buffer is as it was.
     ///
     /// ```
     /// let word = Regex::new(alloc, r"(\w+)!")?;
@@ -216,6 +238,10 @@ fn write_to_sink<W: Write>(
 
 impl<'r, 't> Captures<'r, &'t str> {
     /// Appends what a template stands for in this match, as `Expander::append_expansion` of the default form does.
+    ///
+    /// # Errors
+    ///
+    /// `Memory` if memory runs out. The buffer is as it was.
     pub fn expand(&self, alloc: Global, template: &str, dst: &mut String) -> Result<()>
         ensures appends { OnOk result (string_bytes dst.new ≡ string_bytes dst.old
             ++ expanded Dollar self.now.regex.now.meta self.now.haystack.now self.now.slots.items template.now) }
@@ -227,7 +253,11 @@ impl<'r, 't> Captures<'r, &'t str> {
 
 /// The text as a pattern that matches exactly it: a backslash stands before each of `\.+*?()|[]{}^$#`, and newlines, tabs and
 /// carriage returns are `\n`, `\t` and `\r`. A text without one of these fifteen characters is borrowed as it is, and nothing
-/// is allocated. `Memory` if memory runs out.
+/// is allocated.
+///
+/// # Errors
+///
+/// `Memory` if memory runs out; never for a text without one of these characters.
 ///
 /// ```
 /// assert!(rt; escape(alloc, "1+1")?.as_str() == r"1\+1");

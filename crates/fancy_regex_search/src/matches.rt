@@ -16,8 +16,12 @@ use fancy_regex_input::{Input, RegexInput};
 use fancy_regex_meta::{MatchDetail, Result};
 use std::alloc::Global;
 
-/// The non-overlapping matches in a haystack, from left to right. An item may be an error; after an error or `None` there are
-/// no more items.
+/// The non-overlapping matches in a haystack, from left to right. After an error or `None` there are no more items.
+///
+/// # Errors
+///
+/// An item is `RuntimeError` if its search exceeds a limit, which only a search that runs a program does, and `Memory` if memory runs
+/// out.
 ///
 /// ```
 /// let regex = Regex::new(alloc, "a")?;
@@ -100,6 +104,7 @@ impl<'r, S: Input> Iterator for Matches<'r, S> {
     ghost remaining = { λ s. at_most (remaining_searches (S.text s.match_iter.input.haystack) s.match_iter.input.config
         s.match_iter.state) };
 
+    /// The next match, or the error of its search, after which the iteration is over. `None` after the last match and after an error.
     fn next(&mut self) -> Option<Result<S::Match>> {
         let haystack = self.match_iter.input.haystack();
         match self.match_iter.advance()? {

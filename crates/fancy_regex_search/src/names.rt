@@ -64,6 +64,7 @@ impl<'r> Iterator for CaptureNames<'r> {
 
     ghost remaining = { λ s. at_most (length (meta_pattern s.regex.now.meta).groups - s.next) };
 
+    /// The name of the next group, or `Some(None)` if it has none; `None` after the last group.
     fn next(&mut self) -> Option<Option<&'r str>> {
         let group = self.next;
         if group >= self.regex.captures_len() {
@@ -77,6 +78,7 @@ impl<'r> Iterator for CaptureNames<'r> {
 impl fmt::Debug for CaptureNames<'_> {
     ghost debug_output = { λ _. Some (codes "<CaptureNames>") };
 
+    /// Writes `<CaptureNames>`.
     fn fmt<W: fmt::Write>(&self, f: &mut fmt::Formatter<W>) -> fmt::Result {
         f.write_str("<CaptureNames>")
     }

@@ -18,6 +18,8 @@ use std::fmt;
 /// assert!(rt; regex.captures_len() == 3);
 /// assert!(rt; regex.as_str() == r"(\d+) (?<unit>\w+)(?!\w|!)");
 /// assert!(rt; regex.is_match(alloc, "80 columns!, 24 lines")?);
+/// let same = Regex::try_from((regex.as_str(), alloc))?;
+/// assert!(rt; same.captures_len() == 3);
 /// ```
 #[derive(Drop)]
 pub struct Regex {
@@ -27,8 +29,12 @@ pub struct Regex {
 
 impl Regex {
     /// Parses and compiles a pattern with the default options: Unicode mode, a backtrack limit of 1,000,000, no cap on the
-    /// program's size, and every other option false. `ParseError` if the text is no pattern, with the first error and its
-    /// byte offset; `CompileError` if the pattern is refused, with one of the reasons that hold; `Memory` if memory runs out.
+    /// program's size, and every other option false.
+    ///
+    /// # Errors
+    ///
+    /// `ParseError` if the text is no pattern, with the first error and its byte offset; `CompileError` if the pattern is refused,
+    /// with one of the reasons that hold, `RepeatBoundsReversed` before all others; `Memory` if memory runs out.
     ///
     /// ```
     /// assert!(rt; Regex::new(alloc, r"\bfancy\b(?=!)").is_ok());
@@ -46,8 +52,12 @@ impl Regex {
         Regex::with_options(alloc, pattern, &RegexOptions::default())
     }
 
-    /// Parses and compiles a pattern with these options, with the errors of `new`. If the pattern needs a program, that has at
-    /// most `max_prog_size` instructions.
+    /// Parses and compiles a pattern with these options. If the pattern needs a program, that has at most `max_prog_size`
+    /// instructions.
+    ///
+    /// # Errors
+    ///
+    /// Those of `new`.
     pub fn with_options(alloc: Global, pattern: String, options: &RegexOptions) -> Result<Regex>
         ensures pattern { IfOk result (λ regex. regex.meta.pattern ≡ pattern) }
         ensures options { IfOk result (λ regex. regex.meta.options ≡ options.now) }
@@ -60,7 +70,7 @@ impl Regex {
         })
     }
 
-    /// The text of the pattern.
+    /// The text of the pattern, as it was given.
     pub fn as_str(&self) -> &str
         ensures { result.now ≡ string_bytes self.now.meta.pattern }
     {
@@ -99,6 +109,11 @@ impl TryFrom<(&str, Global)> for Regex {
         × Accepts default_options source.0.now)
         (λ e. Refuses default_options source.0.now e) };
 
+    /// The regex of a text, by an allocator: `Regex::new`.
+    ///
+    /// # Errors
+    ///
+    /// Those of `Regex::new`.
     fn try_from(source: (&str, Global)) -> Result<Regex> {
         let (re, alloc) = source;
         Regex::new(alloc, re)
@@ -113,6 +128,11 @@ impl TryFrom<(String, Global)> for Regex {
         (string_bytes source.0))
         (λ e. Refuses default_options (string_bytes source.0) e) };
 
+    /// The regex of a text, by an allocator: `Regex::new`. The text is taken, and not copied.
+    ///
+    /// # Errors
+    ///
+    /// Those of `Regex::new`.
     fn try_from(source: (String, Global)) -> Result<Regex> {
         let (pattern, alloc) = source;
         Regex::with_options(alloc, pattern, &RegexOptions::default())
@@ -122,6 +142,7 @@ impl TryFrom<(String, Global)> for Regex {
 impl fmt::Display for Regex {
     ghost output = { λ regex. Some (string_bytes regex.meta.pattern) };
 
+    /// Writes the text of the pattern.
     fn fmt<W: fmt::Write>(&self, f: &mut fmt::Formatter<W>) -> fmt::Result {
         f.write_str(self.as_str())
     }
@@ -130,6 +151,7 @@ impl fmt::Display for Regex {
 impl fmt::Debug for Regex {
     ghost debug_output = { λ regex. Some (string_bytes regex.meta.pattern) };
 
+    /// Writes the text of the pattern.
     fn fmt<W: fmt::Write>(&self, f: &mut fmt::Formatter<W>) -> fmt::Result {
         fmt::Display::fmt(self, f)
     }

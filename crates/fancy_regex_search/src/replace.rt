@@ -95,7 +95,11 @@ fn replace_by_calls<'t, R: Replacer>(
 }
 
 impl Regex {
-    /// The text with its first match replaced. The text itself if it has no match. Errors as of `try_replacen`.
+    /// The text with its first match replaced. The text itself if it has no match.
+    ///
+    /// # Errors
+    ///
+    /// Those of `try_replacen`.
     ///
     /// ```
     /// let name = Regex::new(alloc, r"(\w+), (\w+)")?;
@@ -121,7 +125,11 @@ impl Regex {
         self.try_replacen(alloc, text, 1, rep)
     }
 
-    /// The text with all its matches replaced. The text itself if it has no match. Errors as of `try_replacen`.
+    /// The text with all its matches replaced. The text itself if it has no match.
+    ///
+    /// # Errors
+    ///
+    /// Those of `try_replacen`.
     ///
     /// ```
     /// let vowel = Regex::new(alloc, "[aeiou](?!$)")?;
@@ -147,7 +155,10 @@ impl Regex {
     }
 
     /// The text with its first `limit` matches replaced, or with all of them for limit 0. The text itself if it has no match.
-    /// Errors as of `try_replacen`.
+    ///
+    /// # Errors
+    ///
+    /// Those of `try_replacen`.
     ///
     /// ```
     /// let vowel = Regex::new(alloc, "a")?;
@@ -175,8 +186,12 @@ impl Regex {
 
     /// The text with its first `limit` matches replaced, or with all of them for limit 0. The text itself if it has no match.
     /// If `no_expansion` returns a text, each match is replaced by it; otherwise the replacer is called once for each match
-    /// that is replaced, in order. One match more than the limit is searched for. Errors: `RuntimeError` of a search at a
-    /// limit, the error of a call of the replacer, or `Memory`.
+    /// that is replaced, in order. One match more than the limit is searched for.
+    ///
+    /// # Errors
+    ///
+    /// `RuntimeError` if a search exceeds a limit, which only a search that runs a program does; the error of a call of the replacer;
+    /// `Memory` if memory runs out. No text is returned then, and the regex can be used again.
     ///
     /// ```
     /// let vowel = Regex::new(alloc, "a")?;
@@ -205,6 +220,10 @@ impl Regex {
 
     /// As `try_replacen`, by a replacer that is lent, and that can be used again afterwards. It keeps what its calls changed,
     /// also where the replacement ends in an error: it has been called once for each match before that place, in order.
+    ///
+    /// # Errors
+    ///
+    /// Those of `try_replacen`.
     ///
     /// ```
     /// let vowel = Regex::new(alloc, "a")?;

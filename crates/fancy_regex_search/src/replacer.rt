@@ -38,7 +38,11 @@ pub trait Replacer: Drop {
     /// The text that each call would append, if the replacer says so.
     ghost fixed_text: { Self → Option (List ℕ) } = { λ _. None };
 
-    /// Appends what replaces the match to a buffer. After an error the buffer is as it was.
+    /// Appends what replaces the match to a buffer.
+    ///
+    /// # Errors
+    ///
+    /// That of the replacer, or `Memory` if memory runs out. The buffer is as it was.
     fn replace_append(
         &mut self,
         alloc: Global,
@@ -109,6 +113,11 @@ impl<'a, R: Replacer> Replacer for ReplacerRef<'a, R> {
 
     ghost fixed_text_is_answered = { λ s t m w next e h. R.fixed_text_is_answered s.0.now t m w next.0.now e h.0 };
 
+    /// Appends what the lent replacer does.
+    ///
+    /// # Errors
+    ///
+    /// Those of the lent replacer. The buffer is as it was.
     fn replace_append(
         &mut self,
         alloc: Global,
@@ -118,6 +127,7 @@ impl<'a, R: Replacer> Replacer for ReplacerRef<'a, R> {
         self.0.replace_append(alloc, captures, dst)
     }
 
+    /// The text that the lent replacer has for all matches, if it says so.
     fn no_expansion(&self) -> Option<CowStr<'_>> {
         self.0.no_expansion()
     }
@@ -140,6 +150,11 @@ impl<'t> Replacer for NoExpand<'t> {
 
     ghost fixed_text_is_answered = { Prim.search rules };
 
+    /// Appends the text as it stands.
+    ///
+    /// # Errors
+    ///
+    /// `Memory` if memory runs out. The buffer is as it was.
     fn replace_append(
         &mut self,
         _alloc: Global,
@@ -150,6 +165,7 @@ impl<'t> Replacer for NoExpand<'t> {
         Ok(())
     }
 
+    /// The text.
     fn no_expansion(&self) -> Option<CowStr<'_>>
         ensures agrees { IfSome result (λ t. Some self.now.0.now ≡ Some (cow_str_bytes t)) }
         ensures value { option_map cow_str_bytes result ≡ Some self.now.0.now }
@@ -158,7 +174,8 @@ impl<'t> Replacer for NoExpand<'t> {
     }
 }
 
-/// A function of the match's groups as a replacer: it is called once for each match that is replaced, in order.
+/// A function of the match's groups as a replacer: it is called once for each match that is replaced, in order. An error that it
+/// returns is that of the replacement.
 ///
 /// ```
 /// let word = Regex::new(alloc, r"\w+")?;
@@ -193,6 +210,11 @@ impl<F: FnMut(&Captures<'_, &str>) -> Result<String> + Drop> Replacer for FnRepl
 
     ghost fixed_text_is_answered = { Prim.search rules };
 
+    /// Appends what the function returns for the match.
+    ///
+    /// # Errors
+    ///
+    /// That of the function, or `Memory` if memory runs out. The buffer is as it was.
     fn replace_append(
         &mut self,
         _alloc: Global,

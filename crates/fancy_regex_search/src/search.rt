@@ -1,5 +1,6 @@
-//! The searches of `Regex`. Every offset is in bytes from the start of the haystack. A search fails with `RuntimeError` at the
-//! backtrack limit or the limit of open branches, or with `Memory`, and the regex can be used again afterwards.
+//! The searches of `Regex`. Every offset is in bytes from the start of the haystack. A search that runs a program fails with
+//! `RuntimeError` at the backtrack limit or the limit of open branches; each may fail with `Memory`. The regex can be used again
+//! afterwards.
 
 ghost use Rattle.std.specs.Prelude.{◌≡◌, ◌≤◌, ◌+◌, ◌-◌, ◌^◌, IfOk, IfErr, IfSome, is_some, option_map, length, true, false, min, None, IsCharBoundary};
 ghost use Rattle.fancy_regex_input.specs.SearchInputs.{whole};
@@ -19,7 +20,12 @@ use fancy_regex_meta::{MetaMemory, Result};
 use std::alloc::Global;
 
 impl Regex {
-    /// Whether the haystack has a match. `RuntimeError` if the search exceeds a limit; `Memory` if memory runs out.
+    /// Whether the haystack has a match.
+    ///
+    /// # Errors
+    ///
+    /// `RuntimeError` if the search exceeds a limit, which only a search that runs a program does; `Memory` if memory runs out. The
+    /// regex can be used again.
     ///
     /// ```
     /// let regex = Regex::new(alloc, r"\w+(?=!)")?;
@@ -34,7 +40,11 @@ impl Regex {
         self.is_match_input(alloc, RegexInput::new(haystack))
     }
 
-    /// Whether `find_input` returns a match for this input, with its errors.
+    /// Whether `find_input` returns a match for this input.
+    ///
+    /// # Errors
+    ///
+    /// Those of `find_input`.
     ///
     /// ```
     /// let regex = Regex::new(alloc, "a")?;
@@ -48,8 +58,12 @@ impl Regex {
         self.is_match_in(alloc, input, &mut MetaMemory::new(alloc))
     }
 
-    /// The first match in the haystack; `None` if there is none. `RuntimeError` if the search exceeds a limit; `Memory` if
-    /// memory runs out.
+    /// The first match in the haystack, with its byte offsets; `None` if there is none.
+    ///
+    /// # Errors
+    ///
+    /// `RuntimeError` if the search exceeds a limit, which only a search that runs a program does; `Memory` if memory runs out. The
+    /// regex can be used again.
     ///
     /// ```
     /// let regex = Regex::new(alloc, r"\d+(?!\.)")?;
@@ -67,8 +81,12 @@ impl Regex {
         self.find_input_counted(alloc, RegexInput::new(haystack), &mut Steps::new())
     }
 
-    /// The first match that starts at the byte offset `position` or later, with the errors of `find`; `\G` matches at
-    /// `position`, which must be a character boundary of the haystack or lie past its end, where nothing is found.
+    /// The first match that starts at the byte offset `position` or later; `None` if there is none. `\G` matches at `position`,
+    /// which must be a character boundary of the haystack or lie past its end, where nothing is found.
+    ///
+    /// # Errors
+    ///
+    /// Those of `find`.
     ///
     /// ```
     /// let regex = Regex::new(alloc, r"\bb|\Gc")?;
@@ -94,8 +112,12 @@ impl Regex {
         self.find_input_counted(alloc, input, &mut Steps::new())
     }
 
-    /// The first match of an input; `None` if there is none. `RuntimeError` if the search exceeds a limit; `Memory` if memory
-    /// runs out.
+    /// The first match of an input; `None` if there is none.
+    ///
+    /// # Errors
+    ///
+    /// `RuntimeError` if the search exceeds a limit, which only a search that runs a program does; `Memory` if memory runs out. The
+    /// regex can be used again.
     ///
     /// ```
     /// let regex = Regex::new(alloc, "b+")?;
@@ -116,8 +138,14 @@ impl Regex {
         self.find_input_counted(alloc, input, &mut Steps::new())
     }
 
-    /// `find_input` that also counts: the counter is raised by one each time the linear-time matcher inspects a position of the
-    /// haystack, also if memory runs out, and it never falls. It stays as it is for a regex that needs a backtracking program.
+    /// `find_input` that also counts, for a plain pattern: one without look-around, reference or other fancy part, in a regex whose
+    /// empty matches are wanted. The counter is raised by one each time the linear-time matcher inspects a position of the haystack,
+    /// also if memory runs out, and it never falls. For every other pattern it stays as it is, also where the linear-time matcher
+    /// runs it.
+    ///
+    /// # Errors
+    ///
+    /// Those of `find_input`.
     ///
     /// ```
     /// let regex = Regex::new(alloc, "a+b")?;
@@ -147,8 +175,12 @@ impl Regex {
         self.find_counted_in(alloc, input, steps, &mut MetaMemory::new(alloc))
     }
 
-    /// The capture groups of the first match in the haystack; `None` if there is none. `RuntimeError` if the search exceeds a
-    /// limit; `Memory` if memory runs out.
+    /// The capture groups of the first match in the haystack; `None` if there is none.
+    ///
+    /// # Errors
+    ///
+    /// `RuntimeError` if the search exceeds a limit, which only a search that runs a program does; `Memory` if memory runs out. The
+    /// regex can be used again.
     ///
     /// ```
     /// let regex = Regex::new(alloc, r"(\d+)-(\d+)")?;
@@ -169,9 +201,12 @@ impl Regex {
         self.captures_input(alloc, RegexInput::new(haystack))
     }
 
-    /// The capture groups of the first match that starts at the byte offset `position` or later, with the errors of
-    /// `captures`; `\G` matches at `position`, which must be a character boundary of the haystack or lie past its end, where
-    /// nothing is found.
+    /// The capture groups of the first match that starts at the byte offset `position` or later; `None` if there is none. `\G`
+    /// matches at `position`, which must be a character boundary of the haystack or lie past its end, where nothing is found.
+    ///
+    /// # Errors
+    ///
+    /// Those of `captures`.
     ///
     /// ```
     /// let regex = Regex::new(alloc, r"a(b)?")?;
@@ -197,8 +232,12 @@ impl Regex {
         self.captures_input(alloc, RegexInput::new(haystack).from_pos(position))
     }
 
-    /// The capture groups of the first match of an input; `None` if there is none. `RuntimeError` if the search exceeds a
-    /// limit; `Memory` if memory runs out.
+    /// The capture groups of the first match of an input; `None` if there is none.
+    ///
+    /// # Errors
+    ///
+    /// `RuntimeError` if the search exceeds a limit, which only a search that runs a program does; `Memory` if memory runs out. The
+    /// regex can be used again.
     ///
     /// ```
     /// let regex = Regex::new(alloc, r"(b)")?;
@@ -220,7 +259,7 @@ impl Regex {
         self.captures_in(alloc, input, &mut MetaMemory::new(alloc))
     }
 
-    /// The non-overlapping matches in the haystack, from left to right. An item may be an error, and is the last one then.
+    /// The non-overlapping matches in the haystack, from left to right. An item may be an error of `find`, and is the last one then.
     ///
     /// ```
     /// let regex = Regex::new(alloc, r"\w+(?=!)")?;
@@ -244,7 +283,8 @@ impl Regex {
         self.find_iter_input(alloc, RegexInput::new(haystack))
     }
 
-    /// The non-overlapping matches of an input, from left to right. An item may be an error, and is the last one then.
+    /// The non-overlapping matches of an input, from left to right. An item may be an error of `find_input`, and is the last one
+    /// then.
     ///
     /// ```
     /// let regex = Regex::new(alloc, "a|b")?;
@@ -266,8 +306,8 @@ impl Regex {
         Matches::new(alloc, self, input)
     }
 
-    /// The capture groups of the non-overlapping matches in the haystack, from left to right. An item may be an error, and is
-    /// the last one then.
+    /// The capture groups of the non-overlapping matches in the haystack, from left to right. An item may be an error of `captures`,
+    /// and is the last one then.
     ///
     /// ```
     /// let regex = Regex::new(alloc, r"(\w)=(\d)?")?;
@@ -291,8 +331,8 @@ impl Regex {
         self.captures_iter_input(alloc, RegexInput::new(haystack))
     }
 
-    /// The capture groups of the non-overlapping matches of an input, from left to right. An item may be an error, and is the
-    /// last one then.
+    /// The capture groups of the non-overlapping matches of an input, from left to right. An item may be an error of
+    /// `captures_input`, and is the last one then.
     ///
     /// ```
     /// let regex = Regex::new(alloc, "(a)|b")?;

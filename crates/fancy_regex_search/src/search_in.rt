@@ -19,6 +19,10 @@ use std::alloc::Global;
 impl Regex {
     /// `is_match_input` that uses the memory of earlier searches again. Where that has the room nothing is allocated.
     ///
+    /// # Errors
+    ///
+    /// Those of `is_match_input`. The regex and the memory can be used again.
+    ///
     /// ```
     /// let regex = Regex::new(alloc, r"(\w)\1")?;
     /// let mut memory = SearchMemory::new(alloc);
@@ -41,6 +45,10 @@ impl Regex {
     }
 
     /// `find_input` that uses the memory of earlier searches again. Where that has the room nothing is allocated.
+    ///
+    /// # Errors
+    ///
+    /// Those of `find_input`. The regex and the memory can be used again.
     ///
     /// ```
     /// let words = Regex::new(alloc, r"\w+")?;
@@ -67,6 +75,10 @@ impl Regex {
     }
 
     /// `find_input_counted` that uses the memory of earlier searches again. Where that has the room nothing is allocated.
+    ///
+    /// # Errors
+    ///
+    /// Those of `find_input_counted`. The regex and the memory can be used again.
     ///
     /// ```
     /// let regex = Regex::new(alloc, "a+b")?;
@@ -104,6 +116,10 @@ impl Regex {
     }
 
     /// `captures_input` that uses the memory of earlier searches again. The list of the groups is allocated.
+    ///
+    /// # Errors
+    ///
+    /// Those of `captures_input`. The regex and the memory can be used again.
     ///
     /// ```
     /// let regex = Regex::new(alloc, r"(\d+)-(\d+)")?;

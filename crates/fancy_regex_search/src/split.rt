@@ -16,8 +16,12 @@ use fancy_regex_meta::{MatchDetail, Result};
 use std::alloc::Global;
 use std::iter::FusedIterator;
 
-/// The pieces of a text between the matches, and the rest after the last match. An item may be an error; after an error only
-/// the rest of the text comes.
+/// The pieces of a text between the matches, and the rest after the last match. After an error only the rest of the text comes,
+/// from the end of the last match on.
+///
+/// # Errors
+///
+/// An item is `RuntimeError` if a search exceeds a limit, which only a search that runs a program does, and `Memory` if memory runs out.
 ///
 /// ```
 /// let comma = Regex::new(alloc, r"\s*,\s*")?;
@@ -136,6 +140,7 @@ impl<'r, 'h> Iterator for Split<'r, 'h> {
     ghost remaining = { λ s. at_most (if s.is_done then 0 else
         1 + remaining_searches s.gaps.match_iter.input.haystack.now s.gaps.match_iter.input.config s.gaps.match_iter.state) };
 
+    /// The next piece, the error of its search, or the rest of the text, which is the last item.
     fn next(&mut self) -> Option<Result<&'h str>> {
         self.next_piece()
     }
@@ -143,8 +148,12 @@ impl<'r, 'h> Iterator for Split<'r, 'h> {
 
 impl FusedIterator for Split<'_, '_> {}
 
-/// The first pieces of a text between the matches, and then the rest of the text as the last piece. An item may be an error,
-/// which counts as an item; after an error only the rest of the text comes.
+/// The first pieces of a text between the matches, and then the rest of the text as the last piece. An error counts as an item;
+/// after it only the rest of the text comes.
+///
+/// # Errors
+///
+/// Those of `Split`. The last item that the limit allows is the rest, and no error.
 ///
 /// ```
 /// let comma = Regex::new(alloc, ",")?;
@@ -188,6 +197,7 @@ impl<'r, 'h> Iterator for SplitN<'r, 'h> {
 
     ghost remaining = { λ s. at_most s.limit };
 
+    /// The next piece, the error of its search, or the rest of the text, which is the last item.
     fn next(&mut self) -> Option<Result<&'h str>> {
         if self.limit == 0 {
             return None;
@@ -204,7 +214,7 @@ impl FusedIterator for SplitN<'_, '_> {}
 
 impl Regex {
     /// The pieces of a text between its matches, from left to right, and the rest after the last match: one piece more than
-    /// there are matches. An item may be an error, and then only the rest of the text follows.
+    /// there are matches. An item may be an error of `find`, and then only the rest of the text follows.
     ///
     /// ```
     /// let blank = Regex::new(alloc, " ")?;
@@ -225,7 +235,8 @@ impl Regex {
     }
 
     /// The first pieces of `split`, and then the rest of the text: at most `limit` items, the last of which is the rest, for
-    /// which no search is made. Limit 0 returns nothing.
+    /// which no search is made. Limit 0 returns nothing. An item before the last may be an error of `find`, and then only the rest of
+    /// the text follows.
     ///
     /// ```
     /// let blank = Regex::new(alloc, " ")?;

@@ -43,6 +43,11 @@ impl<'a> Replacer for &'a str {
 
     ghost fixed_text_is_answered = { template_text (λ s. s.now) };
 
+    /// Appends what the template stands for in the match.
+    ///
+    /// # Errors
+    ///
+    /// `Memory` if memory runs out. The buffer is as it was.
     fn replace_append(
         &mut self,
         alloc: Global,
@@ -52,6 +57,7 @@ impl<'a> Replacer for &'a str {
         captures.expand(alloc, *self, dst)
     }
 
+    /// The template, if it has no `$`.
     fn no_expansion(&self) -> Option<CowStr<'_>>
         ensures agrees { IfSome result (λ t. text_without_sign self.now.now ≡ Some (cow_str_bytes t)) }
         ensures value { option_map cow_str_bytes result ≡ text_without_sign self.now.now }
@@ -67,6 +73,11 @@ impl<'a> Replacer for &'a String {
 
     ghost fixed_text_is_answered = { template_text (λ s. string_bytes s.now) };
 
+    /// Appends what the template stands for in the match.
+    ///
+    /// # Errors
+    ///
+    /// `Memory` if memory runs out. The buffer is as it was.
     fn replace_append(
         &mut self,
         alloc: Global,
@@ -76,6 +87,7 @@ impl<'a> Replacer for &'a String {
         captures.expand(alloc, (*self).as_str(), dst)
     }
 
+    /// The template, if it has no `$`.
     fn no_expansion(&self) -> Option<CowStr<'_>>
         ensures agrees { IfSome result (λ t. text_without_sign (string_bytes self.now.now) ≡ Some (cow_str_bytes t)) }
         ensures value { option_map cow_str_bytes result ≡ text_without_sign (string_bytes self.now.now) }
@@ -91,6 +103,11 @@ impl Replacer for String {
 
     ghost fixed_text_is_answered = { template_text (λ s. string_bytes s) };
 
+    /// Appends what the template stands for in the match.
+    ///
+    /// # Errors
+    ///
+    /// `Memory` if memory runs out. The buffer is as it was.
     fn replace_append(
         &mut self,
         alloc: Global,
@@ -100,6 +117,7 @@ impl Replacer for String {
         captures.expand(alloc, self.as_str(), dst)
     }
 
+    /// The template, if it has no `$`.
     fn no_expansion(&self) -> Option<CowStr<'_>>
         ensures agrees { IfSome result (λ t. text_without_sign (string_bytes self.now) ≡ Some (cow_str_bytes t)) }
         ensures value { option_map cow_str_bytes result ≡ text_without_sign (string_bytes self.now) }
@@ -115,6 +133,11 @@ impl<'a> Replacer for CowStr<'a> {
 
     ghost fixed_text_is_answered = { template_text (λ s. cow_str_bytes s) };
 
+    /// Appends what the template stands for in the match.
+    ///
+    /// # Errors
+    ///
+    /// `Memory` if memory runs out. The buffer is as it was.
     fn replace_append(
         &mut self,
         alloc: Global,
@@ -124,6 +147,7 @@ impl<'a> Replacer for CowStr<'a> {
         captures.expand(alloc, self.as_str(), dst)
     }
 
+    /// The template, if it has no `$`.
     fn no_expansion(&self) -> Option<CowStr<'_>>
         ensures agrees { IfSome result (λ t. text_without_sign (cow_str_bytes self.now) ≡ Some (cow_str_bytes t)) }
         ensures value { option_map cow_str_bytes result ≡ text_without_sign (cow_str_bytes self.now) }
@@ -139,6 +163,11 @@ impl<'c, 'a> Replacer for &'c CowStr<'a> {
 
     ghost fixed_text_is_answered = { template_text (λ s. cow_str_bytes s.now) };
 
+    /// Appends what the template stands for in the match.
+    ///
+    /// # Errors
+    ///
+    /// `Memory` if memory runs out. The buffer is as it was.
     fn replace_append(
         &mut self,
         alloc: Global,
@@ -148,6 +177,7 @@ impl<'c, 'a> Replacer for &'c CowStr<'a> {
         captures.expand(alloc, (*self).as_str(), dst)
     }
 
+    /// The template, if it has no `$`.
     fn no_expansion(&self) -> Option<CowStr<'_>>
         ensures agrees { IfSome result (λ t. text_without_sign (cow_str_bytes self.now.now) ≡ Some (cow_str_bytes t)) }
         ensures value { option_map cow_str_bytes result ≡ text_without_sign (cow_str_bytes self.now.now) }
