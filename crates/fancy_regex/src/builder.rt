@@ -29,7 +29,11 @@ pub struct RegexBuilder {
 
 impl RegexBuilder {
     /// This pattern with the default options: Unicode mode, a backtrack limit of 1,000,000, no cap on the program's size, and
-    /// every other option false. `Memory` if memory runs out.
+    /// every other option false. The pattern is copied, and not parsed yet.
+    ///
+    /// # Errors
+    ///
+    /// `Memory` if memory runs out.
     ///
     /// ```
     /// let mut builder = RegexBuilder::new(alloc, "a.b")?;
@@ -47,10 +51,14 @@ impl RegexBuilder {
         })
     }
 
-    /// Parses and compiles the pattern with these options. `ParseError` if the text is no pattern, with the first error and
-    /// its byte offset; `CompileError` if the pattern is refused, with one of the reasons that hold, `RepeatBoundsReversed`
-    /// before all others; `Memory` if memory runs out. The builder can be used again, also after an error. If the pattern needs
-    /// a program, that has at most `max_prog_size` instructions.
+    /// Parses and compiles the pattern with these options. The builder can be used again. If the pattern needs a program, that has
+    /// at most `max_prog_size` instructions.
+    ///
+    /// # Errors
+    ///
+    /// `ParseError` if the text is no pattern, with the first error and its byte offset; `CompileError` if the pattern is refused,
+    /// with one of the reasons that hold, `RepeatBoundsReversed` before all others; `Memory` if memory runs out. The builder can be
+    /// used again.
     ///
     /// ```
     /// let mut builder = RegexBuilder::new(alloc, r"\w+(?=!)")?;
@@ -195,7 +203,8 @@ impl RegexBuilder {
         self
     }
 
-    /// How often one search by a program may backtrack before it fails with `BacktrackLimitExceeded`. Default: 1,000,000.
+    /// How often one search by a program may backtrack before it fails with `BacktrackLimitExceeded`. A search that runs no program
+    /// has no limit. Default: 1,000,000.
     ///
     /// ```
     /// let mut builder = RegexBuilder::new(alloc, r"(a|aa)+\1b")?;
@@ -211,8 +220,8 @@ impl RegexBuilder {
         self
     }
 
-    /// How many instructions a program may have. A pattern whose program is longer is refused with `PatternTooComplex`.
-    /// Default: no cap.
+    /// How many instructions a program may have. A pattern whose program is longer is refused with `PatternTooComplex`; a plain
+    /// pattern has no program. Default: no cap.
     ///
     /// ```
     /// let mut builder = RegexBuilder::new(alloc, r"(a\g<1>?b)")?;
@@ -264,8 +273,7 @@ impl RegexBuilder {
         self
     }
 
-    /// Allows a search to skip start offsets at which no match can start. It changes no answer, and has no effect on plain patterns.
-    /// Default: false.
+    /// Allows a search that runs a program to skip start offsets at which no match can start. It changes no answer. Default: false.
     ///
     /// ```
     /// let mut builder = RegexBuilder::new(alloc, r"ab(?!c)")?;

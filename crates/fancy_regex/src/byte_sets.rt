@@ -20,6 +20,8 @@ impl RegexOptionsBuilder {
     /// built of it with these options starts at a byte of the set. `None` if a match may be empty or may have its start moved
     /// by `\K`, or if the bytes are not known. The pattern is not compiled, and may be one that `build` refuses.
     ///
+    /// # Errors
+    ///
     /// `ParseError` if the text is no pattern, with the first error and its byte offset; `CompileError` with `InnerError` and
     /// the text of a character class that `regex` rejects; `Memory` if memory runs out.
     ///
@@ -48,6 +50,9 @@ impl RegexOptionsBuilder {
 
     /// Bytes that each haystack has in which the pattern matches, if it is parsed with these options, in a search or as a member
     /// of a set; none are known of a part that may be left out. The pattern is not compiled, and may be one that `build` refuses.
+    ///
+    /// # Errors
+    ///
     /// `ParseError` if the text is no pattern, with the first error and its byte offset; `Memory` if memory runs out.
     ///
     /// ```

@@ -49,11 +49,14 @@ impl RegexOptionsBuilder {
         }
     }
 
-    /// Parses and compiles a pattern with these options. `ParseError` if the text is no pattern, with the first error and its
-    /// byte offset; `CompileError` if the pattern is refused, with one of the reasons that hold, `RepeatBoundsReversed` before
-    /// all others; `Memory` if memory runs out.
-    /// The builder can be used again, also after an error. If the pattern needs a program, that has at most `max_prog_size`
-    /// instructions.
+    /// Parses and compiles a pattern with these options. The text is taken, and not copied; the builder can be used again. If the
+    /// pattern needs a program, that has at most `max_prog_size` instructions.
+    ///
+    /// # Errors
+    ///
+    /// `ParseError` if the text is no pattern, with the first error and its byte offset; `CompileError` if the pattern is refused,
+    /// with one of the reasons that hold, `RepeatBoundsReversed` before all others; `Memory` if memory runs out. The builder can be
+    /// used again.
     ///
     /// ```
     /// let options = RegexOptionsBuilder::new();
@@ -178,7 +181,8 @@ impl RegexOptionsBuilder {
         self
     }
 
-    /// How often one search by a program may backtrack before it fails with `BacktrackLimitExceeded`. Default: 1,000,000.
+    /// How often one search by a program may backtrack before it fails with `BacktrackLimitExceeded`. A search that runs no program
+    /// has no limit. Default: 1,000,000.
     ///
     /// ```
     /// let mut options = RegexOptionsBuilder::new();
@@ -195,8 +199,8 @@ impl RegexOptionsBuilder {
         self
     }
 
-    /// How many instructions a program may have. A pattern whose program is longer is refused with `PatternTooComplex`.
-    /// Default: no cap.
+    /// How many instructions a program may have. A pattern whose program is longer is refused with `PatternTooComplex`; a plain
+    /// pattern has no program. Default: no cap.
     ///
     /// ```
     /// let mut options = RegexOptionsBuilder::new();
@@ -245,8 +249,7 @@ impl RegexOptionsBuilder {
         self
     }
 
-    /// Allows a search to skip start offsets at which no match can start. It changes no answer, and has no effect on plain patterns.
-    /// Default: false.
+    /// Allows a search that runs a program to skip start offsets at which no match can start. It changes no answer. Default: false.
     ///
     /// ```
     /// let mut options = RegexOptionsBuilder::new();

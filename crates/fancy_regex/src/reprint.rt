@@ -19,7 +19,11 @@ impl RegexOptionsBuilder {
     /// another one, or if 64 or more groups are nested in the printed text. Names of groups are lost, their numbers are kept.
     ///
     /// A regex of the printed text with the same Unicode mode, the same options of searches and no other flag has the same
-    /// matches. `ParseError` if the text is no pattern, with the first error and its byte offset; `Memory` if memory runs out.
+    /// matches.
+    ///
+    /// # Errors
+    ///
+    /// `ParseError` if the text is no pattern, with the first error and its byte offset; `Memory` if memory runs out.
     ///
     /// ```
     /// let mut options = RegexOptionsBuilder::new();

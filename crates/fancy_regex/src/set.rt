@@ -36,7 +36,11 @@ pub struct RegexSet {
 }
 
 impl RegexSet {
-    /// Parses and compiles each pattern with the default options. The errors are those of `new_with_options`.
+    /// Parses and compiles each pattern with the default options.
+    ///
+    /// # Errors
+    ///
+    /// Those of `new_with_options`.
     ///
     /// ```
     /// assert!(rt; RegexSet::new(alloc, &["a", "b"])?.len() == 2);
@@ -49,9 +53,12 @@ impl RegexSet {
         RegexSet::new_with_options(alloc, patterns, &RegexOptionsBuilder::new())
     }
 
-    /// Parses and compiles each pattern with these options. The error is that of the first pattern that is refused:
-    /// `ParseError` if it is no pattern, with its first error and the byte offset of that in it; `CompileError` with one of the
-    /// reasons that hold. `Memory` if memory runs out.
+    /// Parses and compiles each pattern with these options. Its number is its place in the list.
+    ///
+    /// # Errors
+    ///
+    /// That of the first pattern that is refused: `ParseError` if it is no pattern, with its first error and the byte offset of that
+    /// in it; `CompileError` with one of the reasons that hold, `RepeatBoundsReversed` before all others. `Memory` if memory runs out.
     ///
     /// ```
     /// let mut options = RegexOptionsBuilder::new();

@@ -51,7 +51,7 @@ impl<'s, S: Input> RegexSetMatch<'s, S> {
         &self.matched.captures
     }
 
-    /// The match.
+    /// The match, with its byte offsets.
     pub fn get(&self) -> S::Match
         ensures span { S.span result ≡ (self.now.matched.start, self.now.matched.end) }
         ensures text { S.match_text result ≡ S.text self.now.haystack }
@@ -84,9 +84,13 @@ impl<'s, 't> RegexSetMatch<'s, &'t str> {
     }
 }
 
-/// The matches of the members of a set that match at one position, in the order of their numbers. An item is an error if the
-/// search of its member failed; the members after it are still asked. The first item was found by the set's search, and each
-/// later member is asked when its item is wanted.
+/// The matches of the members of a set that match at one position, in the order of their numbers. The first item was found by the
+/// set's search, and each later member is asked when its item is wanted.
+///
+/// # Errors
+///
+/// An item is `RuntimeError` if the search of its member exceeds a limit, and `Memory` if memory runs out. The members after it are
+/// still asked.
 ///
 /// ```
 /// let set = RegexSet::new(alloc, &["b+", "b"])?;

@@ -28,9 +28,13 @@ impl RegexSet {
     /// The members that match at the earliest position at which one of them matches: each match starts there, as if that member
     /// were searched from there alone, but `\G` matches where the set's search starts. `None` if no member matches anywhere.
     ///
-    /// At each position the members are asked in the order of their numbers, up to the first that matches; the error is the
-    /// first one met: `RuntimeError` if a member's search exceeds a limit, which each of them has for itself; `Memory` if memory
-    /// runs out. The members after the first match are asked by the iterator.
+    /// At each position the members are asked in the order of their numbers, up to the first that matches. The members after that
+    /// are asked by the iterator.
+    ///
+    /// # Errors
+    ///
+    /// The first one met: `RuntimeError` if a member's search exceeds a limit, which each of them has for itself; `Memory` if memory
+    /// runs out. The set can be used again.
     ///
     /// ```
     /// let set = RegexSet::new(alloc, &["b", "c", "bc"])?;
