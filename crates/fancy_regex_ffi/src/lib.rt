@@ -78,9 +78,9 @@ pub extern "C" fn fancy_regex_raw_find(
     find_counted(alloc, handle, text, query, span, &mut Steps::new())
 }
 
-/// The first match of a search, and how many looks at the text are counted: none where the handle holds no regex or a backtracking
-/// program runs, and else at most as many as the linear-time matcher may make; where the search answers, at least one for each start that
-/// it tries.
+/// The first match of a search, and how many looks at the text are counted: none where the handle holds no regex, or that of a pattern
+/// that is not plain, and else at most as many as the linear-time matcher may make; where the search answers, at least one for each start
+/// that it tries.
 #[unsafe(no_mangle)]
 pub extern "C" fn fancy_regex_raw_find_counted(
     alloc: Global,

@@ -12,8 +12,11 @@ use std::alloc::{AllocError, Global};
 
 /// The groups of the members of a set that match at the earliest place of the text, from the byte offset `position` on, at which one
 /// of them does: the members in the order of their numbers, and of each all its groups in the order of theirs, from group 0, the whole
-/// match, on; none if no member matches. `\G` matches at `position` if `continues`. `RuntimeError` if the search of a member exceeds
-/// a limit, or `Memory`.
+/// match, on; none if no member matches. `\G` matches at `position` if `continues`.
+///
+/// # Errors
+///
+/// `RuntimeError` if the search of a member exceeds a limit; `Memory` if memory runs out. The set can be used again.
 pub fn set_groups(
     alloc: Global,
     set: &RegexSet,

@@ -12,7 +12,11 @@ use crate::spans::Span;
 use fancy_regex::{Match, Regex, Result};
 use std::alloc::Global;
 
-/// The span of each match of the text, from left to right. `RuntimeError` if a search exceeds a limit, or `Memory`.
+/// The span of each match of the text, from left to right.
+///
+/// # Errors
+///
+/// `RuntimeError` if a search exceeds a limit; `Memory` if memory runs out. The regex can be used again.
 pub fn match_spans(alloc: Global, regex: &Regex, text: &str) -> Result<Vec<Span>>
     ensures spans { IfOk result (λ spans. spans.items ≡ match_spans (matches_of regex.now text.now)) }
     ensures fails { IfErr result (IsErrorOfSearch regex.now.meta.options (string_bytes regex.now.meta.pattern) text.now) }
@@ -34,8 +38,11 @@ fn span_at(found: Match<'_>) -> Span
     Span::of(Some((found.start(), found.end())))
 }
 
-/// The spans of the pieces of the text between its matches, and of the rest after the last one, from left to right. `RuntimeError`
-/// if a search exceeds a limit, or `Memory`.
+/// The spans of the pieces of the text between its matches, and of the rest after the last one, from left to right.
+///
+/// # Errors
+///
+/// `RuntimeError` if a search exceeds a limit; `Memory` if memory runs out. The regex can be used again.
 pub fn piece_spans(alloc: Global, regex: &Regex, text: &str) -> Result<Vec<Span>>
     ensures spans { IfOk result (λ spans. spans.items ≡ gap_spans 0 (length text.now) (matches_of regex.now text.now)) }
     ensures fails { IfErr result (IsErrorOfSearch regex.now.meta.options (string_bytes regex.now.meta.pattern) text.now) }

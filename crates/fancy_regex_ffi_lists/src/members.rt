@@ -8,8 +8,11 @@ use fancy_regex::{RegexInput, RegexSet, RegexSetMatch, Result};
 use std::alloc::Global;
 
 /// The members of a set that match at the earliest place of the text, from the byte offset `position` on, at which one of them does,
-/// in the order of their numbers; none if no member matches. `\G` matches at `position` if `continues`. `RuntimeError` if the search
-/// of a member exceeds a limit, or `Memory`.
+/// in the order of their numbers; none if no member matches. `\G` matches at `position` if `continues`.
+///
+/// # Errors
+///
+/// `RuntimeError` if the search of a member exceeds a limit; `Memory` if memory runs out. The set can be used again.
 pub fn set_members(
     alloc: Global,
     set: &RegexSet,

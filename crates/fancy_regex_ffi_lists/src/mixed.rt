@@ -7,7 +7,11 @@ use crate::options::Options;
 use fancy_regex::{Regex, RegexSet, Result};
 use std::alloc::Global;
 
-/// The set of a regex of each pattern, each with its own options. The error is that of the first pattern that is refused, or `Memory`.
+/// The set of a regex of each pattern, each with its own options: as many options as patterns, in the same order.
+///
+/// # Errors
+///
+/// That of the first pattern that is refused, as the builder of its options tells it; `Memory` if memory runs out.
 pub fn mixed_set(alloc: Global, patterns: &[&str], options: &[Options]) -> Result<RegexSet>
     requires { length options.now ≡ length patterns.now }
     ensures members { IfOk result (λ set. AreBuiltEach options.now (map (λ p. p.now) patterns.now) set.regexes.items) }

@@ -10,7 +10,11 @@ use fancy_regex::{Regex, Result};
 use std::alloc::{AllocError, Global};
 
 /// The names of the groups of a regex in UTF-8, a line for each group in order of their numbers, from group 0 on; the line of a group
-/// without a name is empty. `Memory` if memory runs out.
+/// without a name is empty.
+///
+/// # Errors
+///
+/// `Memory` if memory runs out.
 pub fn group_names(alloc: Global, regex: &Regex) -> Result<String>
     ensures lines { IfOk result (λ text. string_bytes text
         ≡ name_lines (meta_group_names regex.now.meta) (length (meta_pattern regex.now.meta).groups) 0) }

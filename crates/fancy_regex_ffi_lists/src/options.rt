@@ -9,7 +9,7 @@ use fancy_regex::RegexOptionsBuilder;
 #[repr(C)]
 #[derive(Clone, Copy)]
 pub struct Options {
-    /// How often one search may go back.
+    /// How often one search by a program may go back.
     pub backtrack_limit: usize,
     /// The most instructions that a program may have, if `has_max_prog_size`.
     pub max_prog_size: usize,
@@ -31,7 +31,7 @@ pub struct Options {
     pub find_not_empty: bool,
     /// Unnamed groups do not capture if the pattern has a named group.
     pub ignore_numbered_groups: bool,
-    /// Places at which no match can start are skipped.
+    /// Places at which no match can start are skipped in searches by a program.
     pub seek: bool,
     /// Oniguruma mode: the pattern is read in a dialect that is close to Oniguruma's.
     pub oniguruma_mode: bool,

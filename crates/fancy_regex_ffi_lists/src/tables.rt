@@ -13,7 +13,11 @@ use fancy_regex::{ByteSet, Result};
 use std::alloc::Global;
 
 /// Marks the bytes that the matches of a pattern start with, and tells whether they are known; else the table stays as it was. The
-/// errors are those of the builder's `start_bytes`.
+/// place of a byte in the table is its value.
+///
+/// # Errors
+///
+/// Those of the builder's `start_bytes`. The table stays as it was.
 pub fn mark_start_bytes(
     alloc: Global,
     pattern: &str,
@@ -32,7 +36,11 @@ pub fn mark_start_bytes(
     }
 }
 
-/// Marks bytes that each text has in which the pattern matches. The errors are those of the builder's `required_bytes`.
+/// Marks bytes that each text has in which the pattern matches. The place of a byte in the table is its value.
+///
+/// # Errors
+///
+/// Those of the builder's `required_bytes`. The table stays as it was.
 pub fn mark_required_bytes(
     alloc: Global,
     pattern: &str,
