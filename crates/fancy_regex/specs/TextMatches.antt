@@ -28,7 +28,8 @@ choices_from o pattern text q continue_disabled = choices (setting_from o text (
 abbrev pub Searches : RegexOptions → List ℕ → List ℕ → ℕ → Bool → Type 0
 Searches o pattern text q continue_disabled = MakesSearch text (match_from o pattern text (whole text)) 0 (length text) 0 false q continue_disabled
 
--- An error of one of these searches: a limit only where its choices exceed it and the pattern runs a program; or `Memory`.
+-- An error of one of these searches: a limit only where its choices exceed it and the pattern is not plain (`pattern_uses_easy`); or
+-- `Memory`.
 abbrev pub IsErrorOfSearch : RegexOptions → List ℕ → List ℕ → Error → Type 0
 IsErrorOfSearch o pattern text error =
     (q : ℕ) × (continue_disabled : Bool) × Searches o pattern text q continue_disabled

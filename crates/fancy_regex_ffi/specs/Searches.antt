@@ -69,8 +69,8 @@ IsFoundBy (subjects.Set set) text query (Err fault) = fault ≡ faults.NoRegex
 IsFoundBy subjects.Nothing text query (Ok _) = ⊥
 IsFoundBy subjects.Nothing text query (Err fault) = fault ≡ faults.NoRegex
 
--- How a search raises the counter of looks: at most as often as the linear-time matcher may look, and not at all where a program
--- is run.
+-- How a search raises the counter of looks: at most as often as the linear-time matcher may look, and not at all where the pattern is
+-- not plain.
 abbrev pub CountsLooks : MetaRegex → List ℕ → Query → ℕ → ℕ → Type 0
 CountsLooks meta text query old new = (meta_uses_easy meta ≡ true → new ≤ old + max_looks meta (config_of text query)) × (meta_uses_easy meta ≡ false → new ≡ old) × (old ≤ new)
 
@@ -80,7 +80,7 @@ CountsLooksBy (subjects.Regex regex) text query old new = CountsLooks regex.meta
 CountsLooksBy (subjects.Set set) text query old new = new ≡ old
 CountsLooksBy subjects.Nothing text query old new = new ≡ old
 
--- How often a search that answers raises the counter at least, where the linear-time matcher runs: once for each start that it tries,
+-- How often a search that answers raises the counter at least, where the pattern is plain: once for each start that it tries,
 -- as far as the counter reaches.
 abbrev pub CountsStarts : MetaRegex → List ℕ → Query → ℕ → ℕ → Type 0
 CountsStarts meta text query old new = meta_uses_easy meta ≡ true → min (old + meta_starts_tried meta text (config_of text query) false) (2 ^ 64 - 1) ≤ new

@@ -58,7 +58,7 @@ module _ (sources : List Source) (text : List ℕ) where
       ⊎ ((answer : SetAnswer) × (answer_in ≡ Some answer) × (answer.position ≡ p)))
 
   -- the error of a member's search from a position at which the members are asked: a limit only where its choices exceed it, and
-  -- only where a program runs the pattern
+  -- only where the pattern is not plain (`pattern_uses_easy`)
   pub record IsMemberSearchError (e : Error) : Type 0 where
     pub position : ℕ
     pub number : ℕ
