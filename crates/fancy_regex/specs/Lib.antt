@@ -5,6 +5,7 @@ pub mod SetStarts
 pub mod MemberStarts
 pub mod StartTables
 pub mod SetAnswers
+pub mod SetLimits
 pub mod TextMatches
 pub mod ReplacedTexts
 -- what the public clauses cite of the crates below, under this crate's name
@@ -45,5 +46,6 @@ pub use Rattle.fancy_regex_meta.specs.Refusals
 pub use Rattle.fancy_regex_meta.specs.SearchLimits
 pub use Rattle.fancy_regex_meta.specs.declared.options.RegexOptions
 pub use Rattle.fancy_regex_meta.specs.declared.error.Error
+pub use Rattle.fancy_regex_search.specs.declared.regex.Regex
 pub use Rattle.fancy_regex_meta.specs.declared.meta_regex.MetaRegex
 pub use Rattle.fancy_regex_meta.specs.Reading

@@ -6,10 +6,11 @@ use Rattle.fancy_regex.specs.Error.{Error}
 use Rattle.fancy_regex.specs.Error.TheVariants.{Memory}
 use Rattle.fancy_regex.specs.IterationErrors.{IsErrorOfIteration}
 use Rattle.fancy_regex.specs.IterationLimits.{IterationStays}
+use Rattle.fancy_regex.specs.SetLimits.{SetStays}
 use Rattle.fancy_regex.specs.TextMatches.{matches_of, IsErrorOfSearch}
 use Rattle.fancy_regex.specs.ReplacedTexts.{replaced_in}
 use Rattle.fancy_regex_ffi_lists.specs.Groups.{AreMatchingGroups}
-use Rattle.fancy_regex_ffi_lists.specs.Lists.{gap_spans, match_spans, matching_members, IsMemberError, SetStays}
+use Rattle.fancy_regex_ffi_lists.specs.Lists.{gap_spans, match_spans, matching_members, IsMemberError}
 use Rattle.fancy_regex_ffi_lists.specs.declared.member.Member.{Member}
 use Rattle.fancy_regex_ffi_lists.specs.declared.spans.Span.{Span}
 use Rattle.fancy_regex_ffi.specs.Codes.{code_of, fault_status}

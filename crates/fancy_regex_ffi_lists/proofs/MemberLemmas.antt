@@ -1,15 +1,15 @@
 -- The members that a search of a set has still to show, and its errors.
 use Rattle.std.proofs.Common.{◌≡◌, ◌∙◌, ℕ, ◌+◌, ◌<◌, ◌≤◌, List, [], ◌∷◌, length, Option, Some, None, Result, Ok, Err, ap, sym, subst, inl, inr, ⊎_elim}
 use Rattle.std.specs.Prelude.{MatchOption}
-use Rattle.std.proofs.lemmas.Bool.{cases_lt}
 use Rattle.fancy_regex.specs.Searches.{Match, SetAnswer}
 use Rattle.fancy_regex.specs.SearchConfig.{SearchConfig}
 use Rattle.fancy_regex.specs.CaptureSpans.{span_in}
 use Rattle.fancy_regex.specs.Error.{Error}
 use Rattle.fancy_regex.specs.Error.TheVariants as errors
-use Rattle.fancy_regex.specs.SetAnswers.{answer_of_set, found_from, last_tried, AreInLimits, AreInLimitsBefore, IsAnswerOfSet, IsErrorOfMember, IsSetError}
+use Rattle.fancy_regex.specs.SetAnswers.{answer_of_set, found_from, AreInLimits, AreInLimitsBefore, IsAnswerOfSet, IsErrorOfMember, IsSetError}
+use Rattle.fancy_regex.proofs.SetLimitLemmas.{limits_join}
 use Rattle.fancy_regex_search.specs.declared.regex.Regex.{Regex}
-use Rattle.fancy_regex_ffi_lists.specs.Lists.{members_found, IsErrorAtAnswer, IsMemberError, SetStays}
+use Rattle.fancy_regex_ffi_lists.specs.Lists.{members_found, IsErrorAtAnswer, IsMemberError}
 
 module _ (regexes : List Regex) (text : List ℕ) (config : SearchConfig) where
   -- the error of the search of the set
@@ -26,49 +26,21 @@ module _ (regexes : List Regex) (text : List ℕ) (config : SearchConfig) where
   answer_error_is (errors.CompileError cause) h = inr h
   answer_error_is (errors.RuntimeError cause) h = inr h
 
-  abbrev limits : ℕ → ℕ → ℕ → Type 0
-  limits = AreInLimits regexes text config
-
-  -- what is passed over in two goes
-  pub limits_join : (p i j : ℕ) → limits p 0 i → limits p i j → limits p 0 j
-  limits_join p i j h g = λ k low high. ⊎_elim (λ (lt : k < i). h k low lt) (λ (ge : i ≤ k). g k ge high) (cases_lt k i)
-
   -- an error is that of a member at the position of the answer
   pub error_at_answer : {X : Type 0} (answer : SetAnswer) (p : ℕ) (first : Option X) (next after : ℕ) (e : Error) → answer_of_set regexes text config ≡ Some answer → answer.position ≡ p
-      → AreInLimitsBefore regexes text config p → limits p 0 next
+      → AreInLimitsBefore regexes text config p → AreInLimits regexes text config p 0 next
       → MatchOption first ((k : ℕ) × (next ≤ k) × (after ≡ k + 1) × (found_from regexes text config p next ≡ found_from regexes text config p k) × IsErrorOfMember regexes text config p k e)
       (λ y. (◌≡◌ {A = Option (Result X Error)} (Some (Err e)) (Some (Ok y))) × (after ≡ next))
-      → MatchOption first ((k : ℕ) → after ≡ k + 1 → limits p next k) (λ _. Unit {0}) → IsErrorAtAnswer regexes text config e
+      → MatchOption first ((k : ℕ) → after ≡ k + 1 → AreInLimits regexes text config p next k) (λ _. Unit {0}) → IsErrorAtAnswer regexes text config e
   error_at_answer answer p None next after e is at before h told passed = record {
     answer = answer;
     is_answer = is;
     number = told.0;
     is_error = subst (λ (q : ℕ). IsErrorOfMember regexes text config q told.0 e) (sym at) told.4;
     before = subst (λ (q : ℕ). AreInLimitsBefore regexes text config q) (sym at) before;
-    here = subst (λ (q : ℕ). limits q 0 told.0) (sym at) (limits_join p next told.0 h (passed told.0 told.2));
+    here = subst (λ (q : ℕ). AreInLimits regexes text config q 0 told.0) (sym at) (limits_join regexes text config p next told.0 h (passed told.0 told.2));
   }
   error_at_answer answer p (Some y) next after e is at before h told passed = cc (told.0)
-
-module _ (regexes : List Regex) (text : List ℕ) (config : SearchConfig) where
-  -- where none is left to show, all members at the position stay within their limits
-  pub all_in_limits : {X : Type 0} (p : ℕ) (first : Option X) (next after : ℕ) → AreInLimits regexes text config p 0 next
-      → MatchOption first ((found_from regexes text config p next ≡ []) × (found_from regexes text config p after ≡ []))
-      (λ y. (◌≡◌ {A = Option (Result X Error)} None (Some (Ok y))) × (after ≡ next))
-      → MatchOption first (AreInLimits regexes text config p next (length regexes)) (λ _. Unit {0}) → AreInLimits regexes text config p 0 (length regexes)
-  all_in_limits p None next after h told passed = limits_join regexes text config p next (length regexes) h passed
-  all_in_limits p (Some y) next after h told passed = cc (told.0)
-
-  pub set_stays : (answer : SetAnswer) (p : ℕ) → answer_of_set regexes text config ≡ Some answer → answer.position ≡ p → AreInLimitsBefore regexes text config p
-      → AreInLimits regexes text config p 0 (length regexes) → SetStays regexes text config
-  set_stays answer p is at before here =
-      subst (λ (o : Option SetAnswer). MatchOption o (AreInLimitsBefore regexes text config (last_tried config + 1))
-      (λ a. AreInLimitsBefore regexes text config a.position × AreInLimits regexes text config a.position 0 (length regexes))) (sym is)
-      (subst (λ (q : ℕ). AreInLimitsBefore regexes text config q × AreInLimits regexes text config q 0 (length regexes)) (sym at) (before, here))
-
-  pub set_without_answer_stays : answer_of_set regexes text config ≡ None → AreInLimitsBefore regexes text config (last_tried config + 1) → SetStays regexes text config
-  set_without_answer_stays is before =
-      subst (λ (o : Option SetAnswer). MatchOption o (AreInLimitsBefore regexes text config (last_tried config + 1))
-      (λ a. AreInLimitsBefore regexes text config a.position × AreInLimits regexes text config a.position 0 (length regexes))) (sym is) before
 
 -- What is left to show, by the member that is shown next, if it is known, of which something is told, and the number of the one after it.
 abbrev pub IsLeft : {X : Type 0} → (X → ℕ × Match → Type 0) → List Regex → List ℕ → SearchConfig → ℕ → Option X → ℕ → List (ℕ × Match) → Type 0

@@ -1,11 +1,11 @@
 -- The spans of the matches of a text, and of the pieces between them, and the members of a set that match.
-use Rattle.std.specs.Prelude.{◌≡◌, ◌⊎◌, ℕ, ◌+◌, Bool, List, [], ◌∷◌, length, map, Option, Some, None, MatchOption}
+use Rattle.std.specs.Prelude.{◌≡◌, ◌⊎◌, ℕ, Bool, List, [], ◌∷◌, map, Option, Some, None}
 use Rattle.fancy_regex.specs.Searches.{Match, SetAnswer}
 use Rattle.fancy_regex.specs.SearchConfig.{SearchConfig}
 use Rattle.fancy_regex.specs.SearchInputs.{whole}
 use Rattle.fancy_regex.specs.Error.{Error}
 use Rattle.fancy_regex.specs.Error.TheVariants.{Memory}
-use Rattle.fancy_regex.specs.SetAnswers.{answer_of_set, last_tried, AreInLimits, AreInLimitsBefore, IsErrorOfMember, IsSetError}
+use Rattle.fancy_regex.specs.SetAnswers.{answer_of_set, AreInLimits, AreInLimitsBefore, IsErrorOfMember, IsSetError}
 use Rattle.fancy_regex_search.specs.declared.regex.Regex.{Regex}
 use Rattle.fancy_regex_ffi_lists.specs.Spans.{span_of}
 use Rattle.fancy_regex_ffi_lists.specs.declared.member.Member.{Member}
@@ -51,10 +51,3 @@ pub record IsErrorAtAnswer (regexes : List Regex) (text : List ℕ) (config : Se
 abbrev pub IsMemberError : List Regex → List ℕ → SearchConfig → Error → Type 0
 IsMemberError regexes text config Memory = Unit {0}
 IsMemberError regexes text config e = IsSetError regexes text config e ⊎ IsErrorAtAnswer regexes text config e
-
--- The search of a set for all members at the position of its answer stays within the limits: the search of each member at each tried
--- position up to there stays within its limits, or is not needed.
-abbrev pub SetStays : List Regex → List ℕ → SearchConfig → Type 0
-SetStays regexes text config =
-    MatchOption (answer_of_set regexes text config) (AreInLimitsBefore regexes text config (last_tried config + 1))
-    (λ answer. AreInLimitsBefore regexes text config answer.position × AreInLimits regexes text config answer.position 0 (length regexes))

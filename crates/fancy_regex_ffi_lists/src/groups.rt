@@ -2,7 +2,8 @@
 
 ghost use Rattle.std.specs.Prelude.{◌≡◌, IfOk, IfErr, OnOk, IsCharBoundary};
 ghost use Rattle.fancy_regex_ffi_lists.specs.Groups.{IsGroupSpan, AreGroupsAdded, AreMatchingGroups};
-ghost use Rattle.fancy_regex_ffi_lists.specs.Lists.{config_at, IsMemberError, SetStays};
+ghost use Rattle.fancy_regex.specs.SetLimits.{SetStays};
+ghost use Rattle.fancy_regex_ffi_lists.specs.Lists.{config_at, IsMemberError};
 
 use crate::member::Member;
 use crate::members::input_at;

@@ -1,7 +1,8 @@
 //! The members of a set that match.
 
 ghost use Rattle.std.specs.Prelude.{◌≡◌, IfOk, IfErr, OnOk, IsCharBoundary};
-ghost use Rattle.fancy_regex_ffi_lists.specs.Lists.{config_at, matching_members, IsMemberError, SetStays};
+ghost use Rattle.fancy_regex.specs.SetLimits.{SetStays};
+ghost use Rattle.fancy_regex_ffi_lists.specs.Lists.{config_at, matching_members, IsMemberError};
 
 use crate::member::Member;
 use fancy_regex::{RegexInput, RegexSet, RegexSetMatch, Result};

@@ -9,7 +9,7 @@ ghost use Rattle.fancy_regex_search.specs.IterationErrors.{IsItemError};
 ghost use Rattle.fancy_regex_search.specs.IterationLimits.{NextStays};
 ghost use Rattle.fancy_regex_search.specs.IterationSearches.{KeepsSearches};
 ghost use Rattle.fancy_regex_search.specs.RemainingMatches.{remaining_matches, all_matches, remaining_searches, Yields};
-ghost use Rattle.fancy_regex_search.specs.IterationSteps.{NextEnds, NextKeeps};
+ghost use Rattle.fancy_regex_search.specs.IterationSteps.{NextEnds, NextKeeps, NextReturns};
 
 use crate::captures::Captures;
 use crate::match_iter::MatchIter;
@@ -94,7 +94,9 @@ impl<'r, S: Input> Iterator for CaptureMatches<'r, S> {
         t.match_iter.input.config t.match_iter.state.continue_disabled))
         × NextEnds r t.match_iter.state
         × NextKeeps (λ c. slice_index c.slots.items 1) r t.match_iter.state
-        × NextStays s.match_iter.regex.now.meta (S.text s.match_iter.input.haystack) s.match_iter.input.config s.match_iter.state r };
+        × NextStays s.match_iter.regex.now.meta (S.text s.match_iter.input.haystack) s.match_iter.input.config s.match_iter.state r
+        × NextReturns s.match_iter.regex.now.meta (S.text s.match_iter.input.haystack) s.match_iter.input.config s.match_iter.state r
+        t.match_iter.input.config t.match_iter.state };
 
     ghost remaining = { λ s. at_most (remaining_searches (S.text s.match_iter.input.haystack) s.match_iter.input.config
         s.match_iter.state) };

@@ -7,6 +7,7 @@ ghost use Rattle.fancy_regex_meaning.specs.Searches.{pieces, pieces_up_to};
 ghost use Rattle.fancy_regex_search.specs.IterationErrors.{IsItemError};
 ghost use Rattle.fancy_regex_search.specs.IterationLimits.{PieceStays};
 ghost use Rattle.fancy_regex_search.specs.IterationSearches.{KeepsSearches};
+ghost use Rattle.fancy_regex_search.specs.IterationSteps.{NextReturns};
 ghost use Rattle.fancy_regex_search.specs.RemainingMatches.{remaining_matches, remaining_searches, all_matches};
 ghost use Rattle.fancy_regex_search.specs.Pieces.{pieces_left, pieces_left_up_to, MovesPiece, YieldsPiece, PieceEnds};
 
@@ -54,6 +55,7 @@ impl<'r, 'h> Split<'r, 'h> {
         ensures regex { result.gaps.match_iter.regex ≡ regex.entry }
         ensures begins { (result.gaps.match_iter.state.continue_disabled ≡ false) × (result.gaps.last_end ≡ 0) × (result.is_done ≡ false) }
         ensures going { result.gaps.match_iter.state.is_done ≡ false }
+        ensures first { result.gaps.match_iter.state.last ≡ None }
     {
         Split {
             gaps: GapIter::new(alloc, regex, text, MatchDetail::Span),
@@ -88,6 +90,10 @@ impl<'r, 'h> Split<'r, 'h> {
             (λ _. KeepsSearches self.old.gaps.match_iter.regex.now.meta self.old.gaps.match_iter.input.haystack.now
             self.old.gaps.match_iter.input.config self.old.gaps.match_iter.state.continue_disabled
             self.new.gaps.match_iter.input.config self.new.gaps.match_iter.state.continue_disabled)) }
+        ensures returns { self.new.is_done ≡ false → NextReturns self.old.gaps.match_iter.regex.now.meta
+            self.old.gaps.match_iter.input.haystack.now
+            self.old.gaps.match_iter.input.config
+            self.old.gaps.match_iter.state result self.new.gaps.match_iter.input.config self.new.gaps.match_iter.state }
         ensures ends { PieceEnds result self.old.gaps.match_iter.state self.new.is_done self.new.gaps.match_iter.state }
     {
         if self.is_done {
@@ -135,7 +141,10 @@ impl<'r, 'h> Iterator for Split<'r, 'h> {
         s.gaps.match_iter.state.continue_disabled t.gaps.match_iter.input.config t.gaps.match_iter.state.continue_disabled)))
         × PieceEnds r s.gaps.match_iter.state t.is_done t.gaps.match_iter.state
         × PieceStays s.gaps.match_iter.regex.now.meta s.gaps.match_iter.input.haystack.now s.gaps.match_iter.input.config
-        s.gaps.match_iter.state r };
+        s.gaps.match_iter.state r
+        × (t.is_done ≡ false → NextReturns s.gaps.match_iter.regex.now.meta s.gaps.match_iter.input.haystack.now
+        s.gaps.match_iter.input.config
+        s.gaps.match_iter.state r t.gaps.match_iter.input.config t.gaps.match_iter.state) };
 
     ghost remaining = { λ s. at_most (if s.is_done then 0 else
         1 + remaining_searches s.gaps.match_iter.input.haystack.now s.gaps.match_iter.input.config s.gaps.match_iter.state) };
@@ -225,11 +234,16 @@ impl Regex {
             (remaining_matches result.gaps.match_iter.regex.now.meta result.gaps.match_iter.input.haystack.now
             result.gaps.match_iter.input.config result.gaps.match_iter.state)
             ≡ pieces target.entry.now (all_matches self.entry.now.meta target.entry.now (whole target.entry.now)) }
+        ensures matches { remaining_matches result.gaps.match_iter.regex.now.meta result.gaps.match_iter.input.haystack.now
+            result.gaps.match_iter.input.config
+            result.gaps.match_iter.state
+            ≡ all_matches self.entry.now.meta target.entry.now (whole target.entry.now) }
         ensures input { (result.gaps.match_iter.input.haystack ≡ target.entry)
             × (result.gaps.match_iter.input.config ≡ whole target.entry.now) }
         ensures regex { result.gaps.match_iter.regex ≡ self.entry }
         ensures begins { (result.gaps.match_iter.state.continue_disabled ≡ false) × (result.is_done ≡ false) }
         ensures going { result.gaps.match_iter.state.is_done ≡ false }
+        ensures first { result.gaps.match_iter.state.last ≡ None }
     {
         Split::new(alloc, self, target)
     }

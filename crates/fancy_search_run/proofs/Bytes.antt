@@ -1,7 +1,7 @@
 -- Bytes that are written, or read, one part after another.
-use Rattle.std.proofs.Common.{◌≡◌, ℕ, List, ◌++◌, Option, Some, None, take, ap, sym, ◌∙◌, append_assoc, append-nil}
+use Rattle.std.proofs.Common.{◌≡◌, ℕ, List, ◌++◌, Option, Some, None, take, ap, refl, sym, ◌∙◌, append_assoc, append-nil}
 use Rattle.std.specs.Prelude.{IfSome}
-use Rattle.std.specs.Io.KnownBytes.{Appends, Consumes, IsAtEnd}
+use Rattle.std.specs.Io.KnownBytes.{Appends, Consumes, IsAtEnd, Keeps}
 
 pub Appends-more : (a b c : Option (List ℕ)) (xs ys : List ℕ) → Appends a b xs → Appends b c ys → Appends a c (xs ++ ys)
 Appends-more None b c xs ys p q = tt
@@ -18,3 +18,8 @@ given_all (Some x) (Some y) None bytes chunk n p q e h = absurd q
 given_all (Some x) (Some y) (Some z) bytes chunk n p q e h =
     let empty : y ≡ z = q ∙ ap (λ k. take k chunk ++ z) e in
     sym (p ∙ ap (λ v. bytes ++ v) (empty ∙ h) ∙ append-nil bytes)
+
+-- known bytes that nothing was done to
+pub keeps_same : (bytes : Option (List ℕ)) → Keeps bytes bytes
+keeps_same None = tt
+keeps_same (Some xs) = refl

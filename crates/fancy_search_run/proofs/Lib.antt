@@ -1,4 +1,3 @@
 pub mod AnswerLemmas
 pub mod Bytes
 pub mod Outcomes
-pub mod ReadingLemmas

@@ -4,10 +4,14 @@ use Rattle.std.specs.Cow.{cow_str_bytes}
 use Rattle.fancy_regex.specs.Searches.{Match, pieces}
 use Rattle.fancy_regex.specs.Reading.{IsReadingError}
 use Rattle.fancy_regex.specs.Refusals as building
-use Rattle.fancy_regex.specs.SetMembers.{RefusesPatterns}
+use Rattle.fancy_regex.specs.IterationLimits.{IterationStays}
+use Rattle.fancy_regex.specs.SearchInputs.{whole}
+use Rattle.fancy_regex.specs.SetLimits.{SetStays}
+use Rattle.fancy_regex.specs.SetMembers.{AreBuiltOf, IsBuiltOf, RefusesPatterns}
 use Rattle.fancy_regex.specs.WayLaws.{Each}
 use Rattle.fancy_regex.specs.Error.{Error}
 use Rattle.fancy_regex.specs.Error.TheVariants as errors
+use Rattle.fancy_regex.specs.Regex.{Regex}
 use Rattle.fancy_regex.specs.RegexOptions.{RegexOptions}
 use Rattle.fancy_search_text.specs.Lines.{span_lines, group_lines, piece_lines}
 use Rattle.fancy_regex.specs.TextMatches.{matches_in, IsErrorOfSearch}
@@ -44,14 +48,28 @@ sources_with o patterns = map (λ p. record { options = o; pattern = p }) patter
 abbrev pub members_in : RegexOptions → List (List ℕ) → List ℕ → List (ℕ × Match)
 members_in o patterns text = members_found (answer_in (sources_with o patterns) text)
 
--- These are the bytes that a command writes for a text, and the status of its call.
+-- A regex of the pattern with these options searches the text for all its matches within its limits: no search goes back more often
+-- than the options allow, and none has more than 1,000,000 branches open at once.
+abbrev pub StaysInLimits : RegexOptions → List ℕ → List ℕ → Type 0
+StaysInLimits o pattern text = (regex : Regex) × IsBuiltOf o pattern regex × IterationStays regex.meta text
+
+-- So does a set of the patterns with these options, for its members at the position of its answer.
+abbrev pub SetStaysInLimits : RegexOptions → List (List ℕ) → List ℕ → Type 0
+SetStaysInLimits o patterns text = (regexes : List Regex) × AreBuiltOf o patterns regexes × SetStays regexes text (whole text)
+
+-- These are the bytes that a command writes for a text, and the status of its call. Each search that it makes stays within its limits.
 abbrev pub IsDue : RegexOptions → Command → List ℕ → List ℕ → Status → Type 0
-IsDue o (commands.find p) text out status = IsAccepted o p × (out ≡ span_lines (matches_in o p text)) × (status ≡ status_of (matches_in o p text))
-IsDue o (commands.captures p) text out status = IsAccepted o p × (out ≡ group_lines (matches_in o p text)) × (status ≡ status_of (matches_in o p text))
-IsDue o (commands.split p) text out status = IsAccepted o p × (out ≡ piece_lines (pieces text (matches_in o p text))) × (status ≡ Done)
-IsDue o (commands.replace p template) text out status = IsAccepted o p × (out ≡ replaced_in o p template text) × (status ≡ Done)
+IsDue o (commands.find p) text out status =
+    IsAccepted o p × (out ≡ span_lines (matches_in o p text)) × (status ≡ status_of (matches_in o p text)) × StaysInLimits o p text
+IsDue o (commands.captures p) text out status =
+    IsAccepted o p × (out ≡ group_lines (matches_in o p text)) × (status ≡ status_of (matches_in o p text)) × StaysInLimits o p text
+IsDue o (commands.split p) text out status =
+    IsAccepted o p × (out ≡ piece_lines (pieces text (matches_in o p text))) × (status ≡ Done) × StaysInLimits o p text
+IsDue o (commands.replace p template) text out status =
+    IsAccepted o p × (out ≡ replaced_in o p template text) × (status ≡ Done) × StaysInLimits o p text
 IsDue o (commands.print p) text out status = IsPrinted o p (Some out) × (status ≡ Done)
-IsDue o (commands.set ps) text out status = Each (IsAccepted o) ps × (out ≡ member_lines (members_in o ps text)) × (status ≡ status_of (members_in o ps text))
+IsDue o (commands.set ps) text out status =
+    Each (IsAccepted o) ps × (out ≡ member_lines (members_in o ps text)) × (status ≡ status_of (members_in o ps text)) × SetStaysInLimits o ps text
 
 -- the error is not the library's `Memory`, which the program tells as its own
 abbrev pub IsNotMemory : Error → Type 0

@@ -3,7 +3,7 @@ use Rattle.std.specs.Prelude.{◌≡◌, ℕ, zero, suc, Result, Ok, Err}
 use Rattle.fancy_search_run.specs.declared.fault.Fault.{Fault}
 use Rattle.fancy_search_run.specs.declared.fault.Fault.TheVariants as faults
 use Rattle.fancy_search_run.specs.declared.source.LastRead.{LastRead}
-use Rattle.fancy_search_run.specs.declared.source.LastRead.TheVariants.{NotYet, Bytes, End, Failure}
+use Rattle.fancy_search_run.specs.declared.source.LastRead.TheVariants.{Bytes, End, Failure}
 use Rattle.fancy_search_run.specs.declared.status.Status.{Status}
 
 -- what a read with room for some bytes gave
@@ -11,13 +11,6 @@ abbrev pub last_read : {E : Type 0} → Result ℕ E → LastRead
 last_read (Ok zero) = End
 last_read (Ok (suc n)) = Bytes
 last_read (Err e) = Failure
-
--- what is noted after a read that gave this: a failure for good
-abbrev pub after_read : LastRead → LastRead → LastRead
-after_read NotYet given = given
-after_read Bytes given = given
-after_read End given = given
-after_read Failure given = Failure
 
 -- a fault of reading: `Input` only where a read failed; or `Memory`
 abbrev pub IsReadFault : LastRead → Fault → Type 0

@@ -9,7 +9,7 @@ use crate::fault::Fault;
 use crate::sink::Sink;
 use std::io::Write;
 
-/// Writes all bytes. `Fault::Output` if a write fails or accepts no byte; a proper prefix of the bytes is written then.
+/// Writes all bytes. `Fault::Output` if a write fails or accepts no byte, or one did before; a proper prefix of the bytes is written then.
 pub fn write_all<W: Write>(sink: &mut Sink<'_, W>, bytes: &[u8]) -> Result<(), Fault>
     ensures same_writer { sink.new.writer.ghost_name ≡ sink.old.writer.ghost_name }
     ensures ok { OnOk result (Appends (W.contents sink.old.writer.now) (W.contents sink.new.writer.now) bytes.now) }
@@ -17,6 +17,7 @@ pub fn write_all<W: Write>(sink: &mut Sink<'_, W>, bytes: &[u8]) -> Result<(), F
     ensures fault { IfErr result (λ f. f ≡ Output) }
     ensures failed { OnErr result (sink.new.has_failed ≡ true) }
     ensures unfailed { OnOk result (sink.new.has_failed ≡ sink.old.has_failed) }
+    ensures refused { sink.old.has_failed ≡ true → sink.new.writer.now ≡ sink.old.writer.now }
 {
     let mut done = 0;
     while done < bytes.len() {

@@ -1,6 +1,7 @@
 //! The regex of a pattern and the options that the words give.
 
 ghost use Rattle.std.specs.Prelude.{◌≡◌, IfOk, IfErr, string_bytes};
+ghost use Rattle.fancy_regex.specs.Caps.{MetaKeepsCap};
 ghost use Rattle.fancy_regex.specs.Refusals.{Accepts, Refuses};
 ghost use Rattle.fancy_regex.specs.SetMembers.{AreBuiltOf, RefusesPatterns};
 ghost use Rattle.fancy_search_words.specs.Requests.{texts_of};
@@ -15,6 +16,7 @@ use std::alloc::Global;
 pub fn regex(alloc: Global, options: Options, pattern: &str) -> Result<Regex>
     ensures pattern { IfOk result (λ regex. string_bytes regex.meta.pattern ≡ pattern.now) }
     ensures options { IfOk result (λ regex. regex.meta.options ≡ regex_options options) }
+    ensures cap { IfOk result (λ regex. MetaKeepsCap regex.meta) }
     ensures accepted { IfOk result (λ _. Accepts (regex_options options) pattern.now) }
     ensures refused { IfErr result (Refuses (regex_options options) pattern.now) }
 {

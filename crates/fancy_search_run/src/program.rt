@@ -2,7 +2,7 @@
 
 ghost use Rattle.std.specs.Prelude.{◌≡◌, ◌≢◌, ℕ, List, [], true, false, map, None, Some, IfOk, IfErr, IfSome, OnOk};
 ghost use Rattle.std.specs.Io.KnownBytes.{IsAtEnd};
-ghost use Rattle.fancy_search_run.specs.Reading.{AfterReading, IsReadFault, after_read};
+ghost use Rattle.fancy_search_run.specs.Reading.{AfterReading, IsReadFault};
 ghost use Rattle.fancy_search_run.specs.RunOutcome.{Outcome, RefusesWords};
 ghost use Rattle.fancy_search_run.specs.Requests.{reads_input};
 ghost use Rattle.fancy_search_run.specs.declared.fault.Fault.TheVariants.{Input, Output};
@@ -59,7 +59,8 @@ pub fn run<S: AsStr, R: Read, W: Write>(
 
 /// `run` on a source and a sink, which note what reads and writes gave. `Fault::Input` is the fault only if a read failed, and
 /// `Fault::Output` only if a write failed or took no byte although some were left. An answer, and a fault of what comes after
-/// reading, come only if the last read told the end and none failed; an answer only if no write failed.
+/// reading, come only if the last read told the end and none failed. A source of which a read failed before is not read again, and
+/// a sink of which a write failed before is not written to again: an answer comes then only if it is empty.
 pub fn run_from<S: AsStr, R: Read, W: Write>(
     alloc: Global,
     words: &[S],
@@ -75,9 +76,12 @@ pub fn run_from<S: AsStr, R: Read, W: Write>(
         × Outcome request (W.contents sink.old.writer.now) (W.contents sink.new.writer.now) input result }
     ensures end { (request : Request) → requested (map S.text words.now) ≡ Some request → reads_input request.command ≡ true
         → AfterReading (source.new.last ≡ Failure) (IsAtEnd (R.remaining source.new.reader.now)
-        × (source.new.last ≡ after_read source.old.last End)) result }
+        × (source.new.last ≡ End)) result }
     ensures unread { (request : Request) → requested (map S.text words.now) ≡ Some request → reads_input request.command ≡ false
         → source.new.reader.now ≡ source.old.reader.now }
+    ensures failed { source.old.last ≡ Failure → source.new.reader.now ≡ source.old.reader.now }
+    ensures stays { source.old.last ≡ Failure → source.new.last ≡ Failure }
+    ensures refused { sink.old.has_failed ≡ true → sink.new.writer.now ≡ sink.old.writer.now }
     ensures output { IfErr result (λ f. f ≡ Output → sink.new.has_failed ≡ true) }
     ensures unfailed { OnOk result (sink.new.has_failed ≡ sink.old.has_failed) }
     ensures untouched { IfErr result (λ f. f ≢ Output → sink.new.writer.now ≡ sink.old.writer.now) }
@@ -88,7 +92,7 @@ pub fn run_from<S: AsStr, R: Read, W: Write>(
 }
 
 /// The input of a subcommand: all bytes up to the end of the source; none for `print`, which leaves the source as it is.
-/// `Fault::Input` if a read fails, or `Fault::Memory`.
+/// `Fault::Input` if a read fails or failed before, or `Fault::Memory`.
 fn input_for<R: Read>(
     alloc: Global,
     subcommand: &Subcommand<'_>,
@@ -98,9 +102,11 @@ fn input_for<R: Read>(
     ensures read { reads_input (command_of subcommand.now) ≡ true →
         IfOk result (λ v. IfSome (R.remaining source.old.reader.now) (λ xs. v.items ≡ xs)) }
     ensures end { reads_input (command_of subcommand.now) ≡ true →
-        OnOk result (IsAtEnd (R.remaining source.new.reader.now) × (source.new.last ≡ after_read source.old.last End)) }
+        OnOk result (IsAtEnd (R.remaining source.new.reader.now) × (source.new.last ≡ End)) }
     ensures unread { reads_input (command_of subcommand.now) ≡ false →
         (source.new.reader.now ≡ source.old.reader.now) × IfOk result (λ v. v.items ≡ []) }
+    ensures failed { source.old.last ≡ Failure → source.new.reader.now ≡ source.old.reader.now }
+    ensures stays { source.old.last ≡ Failure → source.new.last ≡ Failure }
     ensures fault { IfErr result (λ f. IsReadFault source.new.last f × (f ≡ Input → reads_input (command_of subcommand.now) ≡ true)) }
 {
     match subcommand {
@@ -121,6 +127,7 @@ fn respond<W: Write>(
     ensures outcome { Outcome (request_of_arguments arguments.entry) (W.contents sink.old.writer.now) (W.contents sink.new.writer.now)
         input.now result }
     ensures input { IfErr result (λ f. f ≢ Input) }
+    ensures refused { sink.old.has_failed ≡ true → sink.new.writer.now ≡ sink.old.writer.now }
     ensures output { IfErr result (λ f. f ≡ Output → sink.new.has_failed ≡ true) }
     ensures unfailed { OnOk result (sink.new.has_failed ≡ sink.old.has_failed) }
     ensures untouched { IfErr result (λ f. f ≢ Output → sink.new.writer.now ≡ sink.old.writer.now) }

@@ -1,13 +1,13 @@
-//! `Source`: a reader that notes what its last read gave, and a failure for good.
+//! `Source`: a reader that notes what its last read gave, and is not read after a failure.
 
-ghost use Rattle.std.specs.Prelude.{◌≡◌, ◌↔◌, IsTrue};
+ghost use Rattle.std.specs.Prelude.{◌≡◌};
 ghost use Rattle.std.specs.Io.{ReadsAtMost};
 ghost use Rattle.std.specs.Io.KnownBytes.{ReadConsumes};
-ghost use Rattle.fancy_search_run.specs.Reading.{last_read, after_read};
-ghost use Rattle.fancy_search_run.specs.declared.source.LastRead.TheVariants.{NotYet, End, Failure};
+ghost use Rattle.fancy_search_run.specs.Reading.{last_read};
+ghost use Rattle.fancy_search_run.specs.declared.source.LastRead.TheVariants.{NotYet, Failure};
 
 use std::io;
-use std::io::Read;
+use std::io::{ErrorKind, Read};
 
 /// The number of bytes that one read may return.
 pub(crate) const CHUNK: usize = 8192;
@@ -25,7 +25,7 @@ pub enum LastRead {
     Failure,
 }
 
-/// A reader, and what its last read gave. That a read failed is noted for good.
+/// A reader, and what its last read gave. After a read that failed the reader is not read again.
 #[derive(Drop)]
 pub struct Source<'r, R> {
     reader: &'r mut R,
@@ -52,30 +52,35 @@ impl<'r, R: Read> Source<'r, R> {
         self.last
     }
 
-    /// One read of at most as many bytes as the chunk has room for.
+    /// One read of at most as many bytes as the chunk has room for. After a read that failed nothing more is read: the call fails.
+    #[tactic(auto, using(crate::proofs::Bytes::keeps_same))]
     pub(crate) fn read(&mut self, chunk: &mut [u8; CHUNK]) -> io::Result<usize>
         ensures same_reader { self.new.reader.ghost_name ≡ self.old.reader.ghost_name }
         ensures bound { ReadsAtMost result chunk.new }
         ensures bytes { ReadConsumes (R.remaining self.old.reader.now) (R.remaining self.new.reader.now) result chunk.new }
-        ensures last { self.new.last ≡ after_read self.old.last (last_read result) }
+        ensures last { self.new.last ≡ last_read result }
+        ensures failed { self.old.last ≡ Failure → self.new.reader.now ≡ self.old.reader.now }
+        ensures stays { self.old.last ≡ Failure → self.new.last ≡ Failure }
+    {
+        match self.last {
+            LastRead::Failure => Err(ErrorKind::Other.into()),
+            LastRead::NotYet | LastRead::Bytes | LastRead::End => self.read_on(chunk),
+        }
+    }
+
+    /// One read of the reader, none of whose reads has failed.
+    fn read_on(&mut self, chunk: &mut [u8; CHUNK]) -> io::Result<usize>
+        ensures same_reader { self.new.reader.ghost_name ≡ self.old.reader.ghost_name }
+        ensures bound { ReadsAtMost result chunk.new }
+        ensures bytes { ReadConsumes (R.remaining self.old.reader.now) (R.remaining self.new.reader.now) result chunk.new }
+        ensures last { self.new.last ≡ last_read result }
     {
         let result = self.reader.read(chunk);
-        let given = match &result {
+        self.last = match &result {
             Ok(0) => LastRead::End,
             Ok(_) => LastRead::Bytes,
             Err(_) => LastRead::Failure,
         };
-        self.last = noted(self.last, given);
         result
-    }
-}
-
-/// What is noted once a read gave this: that one before it failed, or what it gave.
-fn noted(before: LastRead, given: LastRead) -> LastRead
-    ensures { result ≡ after_read before given }
-{
-    match before {
-        LastRead::Failure => LastRead::Failure,
-        LastRead::NotYet | LastRead::Bytes | LastRead::End => given,
     }
 }

@@ -93,6 +93,36 @@ impl Write for Narrow {
     }
 }
 
+/// A reader that has no byte, and a writer that takes every byte, but for the first call, which fails.
+#[derive(Drop)]
+struct Flaky {
+    has_failed: bool,
+}
+
+impl Read for Flaky {
+    fn read(&mut self, _buf: &mut [u8]) -> io::Result<usize> {
+        if self.has_failed {
+            return Ok(0);
+        }
+        self.has_failed = true;
+        Err(io::Error::from(ErrorKind::BrokenPipe))
+    }
+}
+
+impl Write for Flaky {
+    fn write(&mut self, buf: &[u8]) -> io::Result<usize> {
+        if self.has_failed {
+            return Ok(buf.len());
+        }
+        self.has_failed = true;
+        Err(io::Error::from(ErrorKind::BrokenPipe))
+    }
+
+    fn flush(&mut self) -> io::Result<()> {
+        Ok(())
+    }
+}
+
 /// Whether the program tells this: the text of a fault, or a word for another end.
 fn is_told(alloc: Global, ended: &Result<Status, Fault>, wanted: &str) -> bool {
     match ended {
@@ -262,4 +292,51 @@ fn shows_faults(rt: HostRuntime) -> Result<(), Fail> {
     }
     assert!(rt; shows_texts_of_words(rt.alloc())?);
     Ok(())
+}
+
+/// Whether the line of a fault is told as far as its writer has room, and telling it fails where some of the line is left.
+fn is_told_in_room(alloc: Global, fault: &Fault, line: &str, room: usize, fails: bool) -> bool {
+    let mut written: Vec<u8> = Vec::new(alloc);
+    let mut told = writer_with_room(alloc, room, fails);
+    let is_done = tell(fault, &mut written, &mut told).is_ok();
+    is_done == (room == line.len()) && written.is_empty() && is_full_of(&told, line)
+}
+
+#[test]
+fn faults_are_told_as_far_as_there_is_room(rt: HostRuntime) {
+    let line = "fancy_search: cannot read input\n";
+    for room in 0..=line.len() {
+        assert!(rt;
+            is_told_in_room(rt.alloc(), &Fault::Input, line, room, true),
+            "{room}"
+        );
+        assert!(rt;
+            is_told_in_room(rt.alloc(), &Fault::Input, line, room, false),
+            "{room}"
+        );
+    }
+}
+
+#[test]
+fn a_source_that_failed_is_not_read_again(rt: HostRuntime) {
+    let mut reader = Flaky { has_failed: false };
+    let mut writer: Vec<u8> = Vec::new(rt.alloc());
+    let mut source = Source::new(&mut reader);
+    let mut sink = Sink::new(&mut writer);
+    for _ in 0..2 {
+        let ended = run_from(rt.alloc(), &["find", "a"], &mut source, &mut sink);
+        assert!(rt; matches!(ended, Err(Fault::Input)) && source.last_read() == LastRead::Failure);
+    }
+}
+
+#[test]
+fn a_sink_that_failed_is_not_written_again(rt: HostRuntime) {
+    let mut reader = b"".as_slice();
+    let mut writer = Flaky { has_failed: false };
+    let mut source = Source::new(&mut reader);
+    let mut sink = Sink::new(&mut writer);
+    for _ in 0..2 {
+        let ended = run_from(rt.alloc(), &["print", "a"], &mut source, &mut sink);
+        assert!(rt; matches!(ended, Err(Fault::Output)) && sink.has_failed());
+    }
 }

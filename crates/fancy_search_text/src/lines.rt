@@ -1,6 +1,7 @@
 //! The matches of a regex in a text, as lines. Offsets are in bytes, in decimal digits.
 
 ghost use Rattle.std.specs.Prelude.{◌≡◌, ◌++◌, IfOk, IfErr, OnOk, codes, string_bytes};
+ghost use Rattle.fancy_regex.specs.IterationLimits.{IterationStays};
 ghost use Rattle.fancy_regex.specs.Ways.{Pairs};
 ghost use Rattle.fancy_search_text.specs.Lines.{span_lines, group_lines, groups_text, span_text};
 ghost use Rattle.fancy_regex.specs.TextMatches.{matches_of, IsErrorOfSearch};
@@ -14,6 +15,7 @@ use std::alloc::{AllocError, Global};
 pub fn span_lines(alloc: Global, regex: &Regex, text: &str) -> Result<String>
     ensures lines { IfOk result (λ lines. string_bytes lines ≡ span_lines (matches_of regex.now text.now)) }
     ensures fails { IfErr result (IsErrorOfSearch regex.now.meta.options (string_bytes regex.now.meta.pattern) text.now) }
+    ensures stays { OnOk result (IterationStays regex.now.meta text.now) }
 {
     let mut lines = String::new(alloc);
     let mut matches = regex.find_iter(alloc, text);
@@ -29,6 +31,7 @@ pub fn span_lines(alloc: Global, regex: &Regex, text: &str) -> Result<String>
 pub fn group_lines(alloc: Global, regex: &Regex, text: &str) -> Result<String>
     ensures lines { IfOk result (λ lines. string_bytes lines ≡ group_lines (matches_of regex.now text.now)) }
     ensures fails { IfErr result (IsErrorOfSearch regex.now.meta.options (string_bytes regex.now.meta.pattern) text.now) }
+    ensures stays { OnOk result (IterationStays regex.now.meta text.now) }
 {
     laws_of_items();
     let mut lines = String::new(alloc);

@@ -1,6 +1,8 @@
 //! The members of a set that match in a text, as lines.
 
 ghost use Rattle.std.specs.Prelude.{◌≡◌, ◌++◌, IfOk, IfErr, OnOk, string_bytes};
+ghost use Rattle.fancy_regex.specs.SearchInputs.{whole};
+ghost use Rattle.fancy_regex.specs.SetLimits.{SetStays};
 ghost use Rattle.fancy_search_text.specs.Members.{answer_in, member_line, member_lines, members_found, sources_of, IsErrorOfSet};
 
 use fancy_regex::{RegexInput, RegexSet, Result};
@@ -12,6 +14,7 @@ use std::alloc::{AllocError, Global};
 pub fn member_lines(alloc: Global, set: &RegexSet, text: &str) -> Result<String>
     ensures lines { IfOk result (λ lines. string_bytes lines ≡ member_lines (members_found (answer_in (sources_of set.now) text.now))) }
     ensures fails { IfErr result (IsErrorOfSet (sources_of set.now) text.now) }
+    ensures stays { OnOk result (SetStays set.now.regexes.items text.now (whole text.now)) }
 {
     let mut lines = String::new(alloc);
     let Some(mut members) = set.find_input(alloc, RegexInput::new(text))? else {

@@ -1,6 +1,7 @@
 //! The pieces of a text between the matches of a regex, as lines.
 
 ghost use Rattle.std.specs.Prelude.{◌≡◌, ◌++◌, IfOk, IfErr, OnOk, string_bytes};
+ghost use Rattle.fancy_regex.specs.IterationLimits.{IterationStays};
 ghost use Rattle.fancy_regex.specs.Searches.{pieces};
 ghost use Rattle.fancy_search_text.specs.Lines.{piece_line, piece_lines};
 ghost use Rattle.fancy_regex.specs.TextMatches.{matches_of, IsErrorOfSearch};
@@ -13,6 +14,7 @@ use std::alloc::{AllocError, Global};
 pub fn piece_lines(alloc: Global, regex: &Regex, text: &str) -> Result<String>
     ensures lines { IfOk result (λ lines. string_bytes lines ≡ piece_lines (pieces text.now (matches_of regex.now text.now))) }
     ensures fails { IfErr result (IsErrorOfSearch regex.now.meta.options (string_bytes regex.now.meta.pattern) text.now) }
+    ensures stays { OnOk result (IterationStays regex.now.meta text.now) }
 {
     let mut lines = String::new(alloc);
     let mut pieces = regex.split(alloc, text);

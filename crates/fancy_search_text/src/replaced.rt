@@ -1,7 +1,8 @@
 //! A text with the matches of a regex replaced.
 
-ghost use Rattle.std.specs.Prelude.{◌≡◌, IfOk, IfErr, string_bytes};
+ghost use Rattle.std.specs.Prelude.{◌≡◌, IfOk, IfErr, OnOk, string_bytes};
 ghost use Rattle.std.specs.Cow.{cow_str_bytes};
+ghost use Rattle.fancy_regex.specs.IterationLimits.{IterationStays};
 ghost use Rattle.fancy_regex.specs.TextMatches.{IsErrorOfSearch};
 ghost use Rattle.fancy_regex.specs.ReplacedTexts.{replaced_in};
 
@@ -20,6 +21,7 @@ pub fn replaced_text<'t>(
     ensures text { IfOk result (λ v. cow_str_bytes v
         ≡ replaced_in regex.now.meta.options (string_bytes regex.now.meta.pattern) template.now text.entry.now) }
     ensures fails { IfErr result (IsErrorOfSearch regex.now.meta.options (string_bytes regex.now.meta.pattern) text.entry.now) }
+    ensures stays { OnOk result (IterationStays regex.now.meta text.entry.now) }
 {
     regex.replace_all(alloc, text, template)
 }

@@ -3,7 +3,8 @@ use Rattle.std.proofs.lemmas.Result.{err_from_is_err_and}
 use Rattle.fancy_regex.specs.SetAnswers.{answer_of_set, found_from, IsMatchOfMember}
 use Rattle.fancy_regex_ffi_lists.specs.Lists.{config_at, members_found}
 use Rattle.fancy_regex_ffi_lists.proofs.GroupLemmas.{added_of_member, completes_all, completes_next, completes_none}
-use Rattle.fancy_regex_ffi_lists.proofs.MemberLemmas.{all_in_limits, answer_error_is, error_at_answer, left_first, left_next, left_none, set_error_is, set_stays, set_without_answer_stays}
+use Rattle.fancy_regex.proofs.SetLimitLemmas.{all_in_limits, set_stays, set_without_answer_stays}
+use Rattle.fancy_regex_ffi_lists.proofs.MemberLemmas.{answer_error_is, error_at_answer, left_first, left_next, left_none, set_error_is}
 use Rattle.fancy_regex_ffi_lists.proofs.groups.set_groups.Goals as goal
 
 pub returns-in_err-found-clause-fails : goal.returns-in_err-found-clause-fails

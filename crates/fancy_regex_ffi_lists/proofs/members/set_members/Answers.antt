@@ -3,7 +3,8 @@ use Rattle.std.proofs.lemmas.Result.{err_from_is_err_and}
 use Rattle.fancy_regex.specs.SetAnswers.{found_from}
 use Rattle.fancy_regex_ffi_lists.specs.Lists.{config_at, member_found, members_found}
 use Rattle.fancy_regex_ffi_lists.proofs.ListLemmas.{members_more, members_all}
-use Rattle.fancy_regex_ffi_lists.proofs.MemberLemmas.{IsShownAs, all_in_limits, answer_error_is, error_at_answer, left_first, left_next, left_none, set_error_is, set_stays, set_without_answer_stays}
+use Rattle.fancy_regex.proofs.SetLimitLemmas.{all_in_limits, set_stays, set_without_answer_stays}
+use Rattle.fancy_regex_ffi_lists.proofs.MemberLemmas.{IsShownAs, answer_error_is, error_at_answer, left_first, left_next, left_none, set_error_is}
 use Rattle.fancy_regex_ffi_lists.proofs.members.set_members.Goals as goal
 
 pub returns-in_err-found-clause-fails : goal.returns-in_err-found-clause-fails

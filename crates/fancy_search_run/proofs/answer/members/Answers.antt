@@ -32,4 +32,4 @@ returns c =
     let found = members_in o patterns text in
     let lines : string_bytes c.in_ok-member_lines.field-0 ≡ member_lines found =
     c.in_ok-member_lines.ensures.lines ∙ ap (λ (s : List Source). member_lines (members_found (answer_in s text))) (sources_same o patterns regexes built) in
-    (all_accepted o patterns regexes built, c.found.ensures.output ∙ lines, c.found.ensures.status ∙ ap status_of_lines lines ∙ members_status found)
+    (all_accepted o patterns regexes built, c.found.ensures.output ∙ lines, c.found.ensures.status ∙ ap status_of_lines lines ∙ members_status found, (regexes, built, c.in_ok-member_lines.ensures.stays))

@@ -2,6 +2,7 @@ use Rattle.std.proofs.Common.{◌∙◌, ap}
 use Rattle.std.specs.Cow.{cow_str_bytes}
 use Rattle.std.proofs.lemmas.Result.{err_from_is_err_and}
 use Rattle.fancy_regex.specs.ReplacedTexts.{replaced_in}
+use Rattle.fancy_regex.specs.SetMembers.{IsBuiltOf}
 use Rattle.fancy_search_run.specs.Requests.{regex_options}
 use Rattle.fancy_search_run.proofs.AnswerLemmas.{of_compiled, refusal_is_fault, error_is_fault}
 use Rattle.fancy_search_run.proofs.answer.replace.Goals as goal
@@ -19,9 +20,12 @@ returns-in_err-replaced_text c =
 
 pub returns : goal.returns
 returns c =
-    let made = c.in_ok-regex.ensures in (
+    let made = c.in_ok-regex.ensures in
+    let built : IsBuiltOf (regex_options c.args.options) c.args.pattern.now c.in_ok-regex.regex =
+    record { pattern_is = made.pattern; options_are = made.options; cap = made.cap; accepted = made.accepted } in (
       made.accepted,
       ap cow_str_bytes c.done.ensures.output ∙ c.in_ok-replaced_text.ensures.text
           ∙ of_compiled (λ o p. replaced_in o p c.args.template.now c.args.text.now) c.in_ok-regex.regex.meta (regex_options c.args.options) c.args.pattern.now made.pattern made.options,
       c.done.ensures.status,
+      (c.in_ok-regex.regex, built, c.in_ok-replaced_text.ensures.stays),
     )

@@ -4,6 +4,7 @@ use Rattle.std.proofs.lemmas.Result.{err_from_is_err_and}
 use Rattle.fancy_regex.specs.Searches.{pieces}
 use Rattle.fancy_search_text.specs.Lines.{piece_lines}
 use Rattle.fancy_regex.specs.TextMatches.{matches_in}
+use Rattle.fancy_regex.specs.SetMembers.{IsBuiltOf}
 use Rattle.fancy_search_run.specs.Requests.{regex_options}
 use Rattle.fancy_search_run.proofs.AnswerLemmas.{of_compiled, refusal_is_fault, error_is_fault}
 use Rattle.fancy_search_run.proofs.answer.split.Goals as goal
@@ -22,9 +23,12 @@ returns-in_err-lines c =
 pub returns : goal.returns
 returns c =
     let made = c.in_ok-regex.ensures in
+    let built : IsBuiltOf (regex_options c.args.options) c.args.pattern.now c.in_ok-regex.regex =
+    record { pattern_is = made.pattern; options_are = made.options; cap = made.cap; accepted = made.accepted } in
     let text = c.args.text.now in (
       made.accepted,
       ap cow_str_bytes c.done.ensures.output ∙ c.in_ok-lines.ensures.lines
           ∙ of_compiled (λ o p. piece_lines (pieces text (matches_in o p text))) c.in_ok-regex.regex.meta (regex_options c.args.options) c.args.pattern.now made.pattern made.options,
       c.done.ensures.status,
+      (c.in_ok-regex.regex, built, c.in_ok-lines.ensures.stays),
     )

@@ -1,4 +1,4 @@
-use Rattle.std.proofs.Common.{rules, ◌-◌, ◌≤◌, take, drop, length, sym, subst, List, ℕ}
+use Rattle.std.proofs.Common.{rules, ◌-◌, ◌≤◌, take, drop, length, sym, subst, List, ℕ, ◌∙◌}
 use Rattle.std.proofs.Math.Seq.{take-add}
 use Rattle.std.proofs.lemmas.List.{take-take}
 use Rattle.std.specs.Io.KnownBytes.{Appends}
@@ -22,4 +22,5 @@ loop-done-preserved g c =
       subst (λ (xs : List ℕ). Appends first next xs) (sym (take-add done n bs)) (Appends-more first here next (take done bs) (take n (drop done bs)) inv.1 wrote),
       search rules,
       search rules,
+      λ failed. absurd (c.in-Ok.ensures.refused (inv.3 ∙ failed)).0,
     )

@@ -11,6 +11,7 @@ use Rattle.fancy_regex.specs.Patterns.{options_in, setting_in}
 use Rattle.fancy_regex.specs.RemainingMatches.{remaining_matches, all_matches}
 use Rattle.fancy_regex.specs.IterationSearches.{MakesSearchFrom}
 use Rattle.std.proofs.lemmas.Result.{err_from_is_err_and}
+use Rattle.fancy_regex.proofs.IterationProgress.{iterated_first, iterated_next, iterated_stays}
 use Rattle.fancy_regex.proofs.SearchErrorLemmas.{item_error_is, memory_is_error}
 use Rattle.fancy_search_text.proofs.SpanLemmas.{HasSpans, all_have_spans, first_spans, each_later}
 use Rattle.fancy_search_text.proofs.LineLemmas.{line_more}
@@ -35,14 +36,20 @@ loop-found-init c =
     (laws.cuts setting (meta_pattern s) (options_in s.options) (input_of (whole text)) c.utf8.text (start, start, end)) in
     let config : c.captures_iter-matches.result.match_iter.input.config ≡ whole text = c.captures_iter-matches.ensures.input.1 in
     let from : ℕ → SearchConfig = λ k. record (whole text) { start = k } in
+    let made = c.captures_iter-matches.ensures in
+    let match_iter = c.captures_iter-matches.result.match_iter in
+    let remain : remaining_matches s text match_iter.input.config match_iter.state ≡ all_matches s text (whole text) =
+    (λ i. remaining_matches (sym (ap (λ r. r.meta) made.regex) i) (sym same i) match_iter.input.config match_iter.state) ∙ left in
     record {
       lines = rw c.new-lines.ensures.bytes (ap (λ ms. group_lines ms) left);
       cut = rw (left, same) all;
       text = same;
       config = config ∙ ap from (sym (ap (λ (a : SearchConfig). a.start) config));
       regex = c.captures_iter-matches.ensures.regex;
-      passes = λ q o made. subst (λ (b : Bool). MakesSearchFrom s text (whole text) b q o) c.captures_iter-matches.ensures.begins
-          (subst (λ (a : SearchConfig). MakesSearchFrom s text a c.captures_iter-matches.result.match_iter.state.continue_disabled q o) config made);
+      passes = λ q o makes. subst (λ (b : Bool). MakesSearchFrom s text (whole text) b q o) c.captures_iter-matches.ensures.begins
+          (subst (λ (a : SearchConfig). MakesSearchFrom s text a c.captures_iter-matches.result.match_iter.state.continue_disabled q o) config makes);
+      going = made.going;
+      progress = iterated_first s text match_iter.input.config match_iter.state _ config made.first made.begins remain;
     }
 
 pub loop-found-preserved : goal.loop-found-preserved
@@ -60,6 +67,8 @@ loop-found-preserved c =
     let of = rw c.in_ok-found.was at steps.1 in
     let shown : c.in_ok-found.field-0.haystack.now ≡ text = λ i. (of.0 i).now in
     let passes = rw (c.in_ok-found.was, c.loop-found.invariant.regex, c.loop-found.invariant.text) at steps.7 in
+    let stays = rw (c.in_ok-found.was, c.loop-found.invariant.regex, c.loop-found.invariant.text) at steps.10 in
+    let returns = rw (c.in_ok-found.was, c.loop-found.invariant.regex, c.loop-found.invariant.text) at steps.11 in
     let again : SearchConfig → SearchConfig = λ a. record a { start = new.input.config.start } in
     record {
       lines =
@@ -77,6 +86,10 @@ loop-found-preserved c =
       config = steps.5 ∙ ap again c.loop-found.invariant.config;
       regex = searches ∙ c.loop-found.invariant.regex;
       passes = λ q o made. c.loop-found.invariant.passes q o (passes q o made);
+      going = rw c.in_ok-found.was at steps.8;
+      progress = iterated_next c.args.regex.now.meta c.args.text.now old.input.config old.state (remaining_matches c.args.regex.now.meta c.args.text.now old.input.config old.state)
+          c.loop-found.invariant.config c.loop-found.invariant.progress new.input.config new.state
+          (remaining_matches c.args.regex.now.meta c.args.text.now new.input.config new.state) returns.0 returns.1 returns stays;
     }
 
 pub returns-in_err-found-clause-fails : goal.returns-in_err-found-clause-fails
@@ -104,3 +117,13 @@ returns-clause-lines c =
     let text = c.args.text.now in
     let done : string_bytes c.loop-found.lines ≡ group_lines (all_matches s text (whole text)) = first_of (search rules, grind (arith, common_steps)) in
     done ∙ ap (λ ms. group_lines ms) (all_are s text)
+
+pub returns-clause-stays : goal.returns-clause-stays
+returns-clause-stays c =
+    let s = c.args.regex.now.meta in
+    let text = c.args.text.now in
+    let match_iter = c.loop-found.matches.match_iter in
+    let none = rw (c.loop-found.invariant.regex, c.loop-found.invariant.text) at c.in_default.ensures.steps.0 in
+    let stays = rw (c.loop-found.invariant.regex, c.loop-found.invariant.text) at c.in_default.ensures.steps.10 in
+    iterated_stays s text match_iter.input.config match_iter.state (remaining_matches s text match_iter.input.config match_iter.state) c.loop-found.invariant.config c.loop-found.invariant.progress
+    none.0 (stays c.loop-found.invariant.going)

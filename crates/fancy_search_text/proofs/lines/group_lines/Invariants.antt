@@ -4,6 +4,7 @@ use Rattle.fancy_regex.specs.SearchInputs.{whole}
 use Rattle.fancy_regex.specs.WayLaws.{Each}
 use Rattle.fancy_regex.specs.RemainingMatches.{remaining_matches, all_matches}
 use Rattle.fancy_regex.specs.IterationSearches.{KeepsSearches}
+use Rattle.fancy_regex.proofs.IterationProgress.{Iterated}
 use Rattle.fancy_search_text.proofs.SpanLemmas.{HasSpans}
 use Rattle.fancy_search_text.specs.Lines.{group_lines}
 use Rattle.fancy_search_text.proofs.lines.group_lines.Given as goal
@@ -20,4 +21,6 @@ invariant-loop-found l =
       config : match_iter.input.config ≡ record (whole l.fn.text) { start = match_iter.input.config.start };
       regex : match_iter.regex.now ≡ l.fn.regex;
       passes : KeepsSearches l.fn.regex.meta l.fn.text (whole l.fn.text) false match_iter.input.config match_iter.state.continue_disabled;
+      going : match_iter.state.is_done ≡ false;
+      progress : Iterated l.fn.regex.meta l.fn.text match_iter.input.config match_iter.state (remaining_matches l.fn.regex.meta l.fn.text match_iter.input.config match_iter.state);
     }

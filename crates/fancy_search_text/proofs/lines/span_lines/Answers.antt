@@ -1,4 +1,4 @@
-use Rattle.std.proofs.Common.{◌≡◌, ◌∙◌, ◌∷◌, ◌++◌, ap, rules, arith}
+use Rattle.std.proofs.Common.{◌≡◌, ◌∙◌, ◌∷◌, ◌++◌, ap, rules, arith, sym}
 use Rattle.std.specs.Prelude.{codes, string_bytes}
 use Rattle.std.proofs.lemmas.Result.{err_from_is_err_and}
 use Rattle.std.proofs.lemmas.Grind.{common_steps}
@@ -8,9 +8,28 @@ use Rattle.fancy_regex.specs.Searches.{Match}
 use Rattle.fancy_regex.specs.RemainingMatches.{remaining_matches, all_matches}
 use Rattle.fancy_search_text.specs.Lines.{span_lines, span_text}
 use Rattle.fancy_search_text.proofs.LineLemmas.{line_more}
+use Rattle.fancy_regex.proofs.IterationProgress.{iterated_first, iterated_next, iterated_stays}
 use Rattle.fancy_regex.proofs.SearchErrorLemmas.{item_error_is, memory_is_error}
 use Rattle.fancy_regex.proofs.TextMatchLemmas.{all_are}
 use Rattle.fancy_search_text.proofs.lines.span_lines.Goals as goal
+
+pub loop-found-init : goal.loop-found-init
+loop-found-init c =
+    let made = c.find_iter-matches.ensures in
+    let match_iter = c.find_iter-matches.result.match_iter in
+    let s = c.args.regex.now.meta in
+    let text = c.args.text.now in
+    let left : remaining_matches s text match_iter.input.config match_iter.state ≡ all_matches s text (whole text) =
+    (λ i. remaining_matches (sym (ap (λ r. r.meta) made.regex) i) (sym (ap (λ t. t.now) made.input.0) i) match_iter.input.config match_iter.state) ∙ made.left in
+    record {
+      lines = rw c.new-lines.ensures.bytes (ap (λ ms. span_lines ms) made.left);
+      text = search rules;
+      config = search rules;
+      regex = search rules;
+      passes = search rules;
+      going = made.going;
+      progress = iterated_first s text match_iter.input.config match_iter.state _ made.input.1 made.first made.begins left;
+    }
 
 pub loop-found-preserved : goal.loop-found-preserved
 loop-found-preserved c =
@@ -25,6 +44,8 @@ loop-found-preserved c =
     let after = remaining_matches new.regex.now.meta new.input.haystack.now new.input.config new.state in
     let gave : (m : Match) × (before ≡ m ∷ after) × ((found.start, found.end) ≡ (m.start, m.end)) = rw c.in_ok-found.was at steps.0 in
     let passes = rw (c.in_ok-found.was, c.loop-found.invariant.regex, c.loop-found.invariant.text) at steps.7 in
+    let stays = rw (c.in_ok-found.was, c.loop-found.invariant.regex, c.loop-found.invariant.text) at steps.12 in
+    let returns = rw (c.in_ok-found.was, c.loop-found.invariant.regex, c.loop-found.invariant.text) at steps.13 in
     let again : SearchConfig → SearchConfig = λ a. record a { start = new.input.config.start } in
     record {
       lines =
@@ -39,6 +60,10 @@ loop-found-preserved c =
       config = steps.5 ∙ ap again c.loop-found.invariant.config;
       regex = searches ∙ c.loop-found.invariant.regex;
       passes = λ q o made. c.loop-found.invariant.passes q o (passes q o made);
+      going = rw c.in_ok-found.was at steps.8;
+      progress = iterated_next c.args.regex.now.meta c.args.text.now old.input.config old.state (remaining_matches c.args.regex.now.meta c.args.text.now old.input.config old.state)
+          c.loop-found.invariant.config c.loop-found.invariant.progress new.input.config new.state
+          (remaining_matches c.args.regex.now.meta c.args.text.now new.input.config new.state) returns.0 returns.1 returns stays;
     }
 
 pub returns-in_err-found-clause-fails : goal.returns-in_err-found-clause-fails
@@ -66,3 +91,13 @@ returns-clause-lines c =
     let text = c.args.text.now in
     let done : string_bytes c.loop-found.lines ≡ span_lines (all_matches s text (whole text)) = first_of (search rules, grind (arith, common_steps)) in
     done ∙ ap (λ ms. span_lines ms) (all_are s text)
+
+pub returns-clause-stays : goal.returns-clause-stays
+returns-clause-stays c =
+    let s = c.args.regex.now.meta in
+    let text = c.args.text.now in
+    let match_iter = c.loop-found.matches.match_iter in
+    let none = rw (c.loop-found.invariant.regex, c.loop-found.invariant.text) at c.in_default.ensures.steps.0 in
+    let stays = rw (c.loop-found.invariant.regex, c.loop-found.invariant.text) at c.in_default.ensures.steps.12 in
+    iterated_stays s text match_iter.input.config match_iter.state (remaining_matches s text match_iter.input.config match_iter.state) c.loop-found.invariant.config c.loop-found.invariant.progress
+    none.0 (stays c.loop-found.invariant.going)

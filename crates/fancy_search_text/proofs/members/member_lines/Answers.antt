@@ -2,6 +2,7 @@ use Rattle.std.proofs.Common.{◌≡◌, ◌∙◌, ◌++◌, ◌≤◌, length,
 use Rattle.std.proofs.lemmas.Result.{err_from_is_err_and}
 use Rattle.fancy_regex.specs.SearchInputs.{whole}
 use Rattle.fancy_regex.specs.SetAnswers.{found_from}
+use Rattle.fancy_regex.proofs.SetLimitLemmas.{all_in_limits, passes_on, set_stays, set_without_answer_stays}
 use Rattle.fancy_search_text.specs.Members.{member_lines, members_found}
 use Rattle.fancy_search_text.proofs.MemberLemmas.{answer_asked, answer_same, error_is, left_error, left_first, left_next, left_none, lines_done, lines_more, set_error_is}
 use Rattle.fancy_search_text.proofs.members.member_lines.Goals as goal
@@ -25,6 +26,7 @@ loop-member-init c =
     let s = c.in-Some.members in
     let of = rw (c.in-Some.is, c.new.ensures.haystack, c.new.ensures.config) at c.in_ok-members.ensures.of in
     let told = rw (c.in-Some.is, c.new.ensures.haystack, c.new.ensures.config) at c.in_ok-members.ensures.answer in
+    let stays = rw (c.in-Some.is, c.new.ensures.haystack, c.new.ensures.config) at c.in_ok-members.ensures.stays in
     let seen : s.members.haystack.now ≡ text = ap (λ b. b.now) of.1 in
     let cut : IsCharBoundary text s.members.position = rw (seen) at s.members.boundary in
     let within : s.members.position ≤ length text = rw (of.2) at s.members.inside in
@@ -34,6 +36,11 @@ loop-member-init c =
       text = seen;
       config = of.2;
       asked = answer_asked set text s.members.position cut within told.0 told.1 told.2;
+      answer = told.0;
+      is_answer = told.1;
+      at = told.2;
+      before = stays.0;
+      here = stays.1;
       left = left.0;
       is_left = left.2;
       lines = ap (λ out. out ++ member_lines left.0) c.new-lines.ensures.bytes ∙ ap member_lines left.1;
@@ -59,6 +66,7 @@ loop-member-preserved c =
     let inv = c.loop-member.invariant in
     let steps = c.in-Some-next.ensures.steps in
     let told = rw (c.in_ok-member.was, inv.set, inv.text, inv.config) at steps.2 in
+    let passed = rw (c.in_ok-member.was, inv.set, inv.text, inv.config) at steps.3 in
     let found = left_next (λ x. (x.pattern, (x.matched.start, x.matched.end))) set text s.members.position s.first s.next t.next c.in_ok-member.member inv.left inv.is_left told (λ f h i. (h.0.number_is i, h.0.span_is i)) in
     let m = c.in_ok-member.member in
     let line = c.in_ok-write_member.ensures in
@@ -68,6 +76,11 @@ loop-member-preserved c =
       text = inv.text;
       config = inv.config;
       asked = inv.asked;
+      answer = inv.answer;
+      is_answer = inv.is_answer;
+      at = inv.at;
+      before = inv.before;
+      here = passes_on set.regexes.items text (whole text) _ s.members.position s.first s.next t.next c.in_ok-member.member inv.here told passed;
       left = found_from set.regexes.items text (whole text) s.members.position t.next;
       is_left = refl;
       lines = lines_more _ _ _ found.0 inv.left _ (c.pattern.result, (c.start.result, c.end.result)) inv.lines found.1 (shown ∙ found.2) line;
@@ -80,3 +93,20 @@ returns-clause-lines c =
     let told = rw (inv.set, inv.text, inv.config) at c.in_default-next.ensures.steps.2 in
     let none = left_none (λ x. (x.pattern, (x.matched.start, x.matched.end))) c.args.set.now c.args.text.now s.members.position s.first s.next _ inv.left inv.is_left told in
     lines_done _ _ inv.left inv.lines none
+
+pub returns-in_default-clause-stays : goal.returns-in_default-clause-stays
+returns-in_default-clause-stays c =
+    let told = rw (c.in_default.is, c.new.ensures.haystack, c.new.ensures.config) at c.in_ok-members.ensures.answer in
+    let stays = rw (c.in_default.is, c.new.ensures.haystack, c.new.ensures.config) at c.in_ok-members.ensures.stays in
+    set_without_answer_stays c.args.set.now.regexes.items c.args.text.now (whole c.args.text.now) told stays
+
+pub returns-clause-stays : goal.returns-clause-stays
+returns-clause-stays c =
+    let s = c.loop-member.members in
+    let inv = c.loop-member.invariant in
+    let regexes = c.args.set.now.regexes.items in
+    let text = c.args.text.now in
+    let told = rw (inv.set, inv.text, inv.config) at c.in_default-next.ensures.steps.2 in
+    let passed = rw (inv.set, inv.text, inv.config) at c.in_default-next.ensures.steps.3 in
+    set_stays regexes text (whole text) inv.answer s.members.position inv.is_answer inv.at inv.before
+    (all_in_limits regexes text (whole text) s.members.position s.first s.next c.next.new.self.next inv.here told passed)

@@ -1,10 +1,12 @@
 use Rattle.std.proofs.Common.{◌≡◌, ◌++◌}
-use Rattle.std.specs.Prelude.{false, string_bytes}
+use Rattle.std.specs.Prelude.{true, false, string_bytes}
 use Rattle.fancy_regex.specs.Searches.{pieces}
 use Rattle.fancy_regex.specs.SearchInputs.{whole}
 use Rattle.fancy_regex.specs.Pieces.{pieces_left}
 use Rattle.fancy_regex.specs.RemainingMatches.{remaining_matches, all_matches}
 use Rattle.fancy_regex.specs.IterationSearches.{KeepsSearches}
+use Rattle.fancy_regex.specs.IterationLimits.{IterationStays}
+use Rattle.fancy_regex.proofs.IterationProgress.{Iterated}
 use Rattle.fancy_search_text.specs.Lines.{piece_lines}
 use Rattle.fancy_search_text.proofs.pieces.piece_lines.Given as goal
 
@@ -21,4 +23,8 @@ invariant-loop-piece l =
       config : match_iter.input.config ≡ record (whole l.fn.text) { start = match_iter.input.config.start };
       regex : match_iter.regex.now ≡ l.fn.regex;
       passes : l.pieces.is_done ≡ false → KeepsSearches l.fn.regex.meta l.fn.text (whole l.fn.text) false match_iter.input.config match_iter.state.continue_disabled;
+      going : l.pieces.is_done ≡ false → match_iter.state.is_done ≡ false;
+      progress : l.pieces.is_done ≡ false
+          → Iterated l.fn.regex.meta l.fn.text match_iter.input.config match_iter.state (remaining_matches l.fn.regex.meta l.fn.text match_iter.input.config match_iter.state);
+      stays : l.pieces.is_done ≡ true → IterationStays l.fn.regex.meta l.fn.text;
     }

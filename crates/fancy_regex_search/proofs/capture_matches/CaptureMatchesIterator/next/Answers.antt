@@ -12,6 +12,7 @@ returns-in-Ok-clause-steps g c =
     let ends = rw c.in-Ok.is at told.ends in
     let keeps = rw c.in-Ok.is at told.keeps in
     let stays = rw c.in-Ok.is at told.stays in
+    let returns = rw c.in-Ok.is at told.returns in
     let slots = ap (λ w. w.items) c.new.ensures.slots in (
       (gives.0, gives.1, slots ∙ gives.2.2),
       (c.new.ensures.haystack ∙ c.haystack-haystack.ensures, c.new.ensures.regex),
@@ -24,4 +25,5 @@ returns-in-Ok-clause-steps g c =
       ends,
       keeps ∙ ap (λ (k : ℕ). Some k) (sym within.second ∙ ap (λ (xs : List ℕ). slice_index xs 1) (sym slots)),
       stays,
+      returns,
     )

@@ -24,4 +24,5 @@ returns-clause-steps c =
       moved.passes,
       moved.ends,
       moved.stays,
+      moved.returns,
     )
