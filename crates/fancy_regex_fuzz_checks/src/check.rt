@@ -20,6 +20,8 @@ pub enum Check {
     Engine,
     /// So does the machine, which runs every pattern.
     Machine,
+    /// The linear engine has the same matches with its table and without, from several places on.
+    Table,
     /// The ends of an iteration's matches increase, and its first match is that of `find`.
     Ends,
     /// After a match that is not empty the iteration finds what `find_from_pos` finds from its end.
@@ -49,7 +51,7 @@ pub enum Check {
 }
 
 /// All checks of a pattern that is built.
-pub static CHECKS: [Check; 20] = [
+pub static CHECKS: [Check; 21] = [
     Check::Plain,
     Check::Whole,
     Check::Part,
@@ -57,6 +59,7 @@ pub static CHECKS: [Check; 20] = [
     Check::Groups,
     Check::Engine,
     Check::Machine,
+    Check::Table,
     Check::Ends,
     Check::Next,
     Check::Items,

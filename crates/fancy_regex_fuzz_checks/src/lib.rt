@@ -20,5 +20,6 @@ mod searches;
 mod sets;
 pub mod setting;
 pub mod shrink;
+mod tables;
 pub mod text;
 mod variants;
