@@ -25,7 +25,8 @@ pub struct TableSearch<'p> {
 }
 
 /// Settles the starts from this one on as far as the table tells something of them. `None` says nothing, and costs no look. Each
-/// character that the table reads costs one, but for the first, at which the search has looked. The error is want of memory.
+/// character that the table reads costs one; where it leads on to a later start, the look by which the search found this one stands for
+/// the first. The error is want of memory.
 #[inline(always)]
 pub fn by_table(
     context: &SearchContext,
