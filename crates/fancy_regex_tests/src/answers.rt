@@ -45,25 +45,30 @@ static QUESTIONS: [(&str, Question); 13] = [
 
 /// Whether the regex of a pattern answers rightly.
 fn is_right(alloc: Global, pattern: &str, question: Question) -> bool {
-    let Ok(regex) = Regex::new(alloc, pattern) else {
-        return false;
-    };
+    match Regex::new(alloc, pattern) {
+        Ok(regex) => is_answered(alloc, &regex, question),
+        Err(_error) => false,
+    }
+}
+
+/// Whether a regex answers what is asked.
+fn is_answered(alloc: Global, regex: &Regex, question: Question) -> bool {
     match question {
-        Question::AsksOnce => asks_once(alloc, &regex, OF_A.as_slice()),
-        Question::AsksOnceOfAny => asks_once(alloc, &regex, OF_ANY_A.as_slice()),
-        Question::Borrows => borrows(alloc, &regex),
-        Question::CallsForTheReplaced => calls_for_the_replaced(alloc, &regex, OF_A.as_slice()),
+        Question::AsksOnce => asks_once(alloc, regex, OF_A.as_slice()),
+        Question::AsksOnceOfAny => asks_once(alloc, regex, OF_ANY_A.as_slice()),
+        Question::Borrows => borrows(alloc, regex),
+        Question::CallsForTheReplaced => calls_for_the_replaced(alloc, regex, OF_A.as_slice()),
         Question::CallsForAnyReplaced => {
-            calls_for_the_replaced(alloc, &regex, OF_ANY_A.as_slice())
+            calls_for_the_replaced(alloc, regex, OF_ANY_A.as_slice())
         }
-        Question::Counts => counts(alloc, &regex),
-        Question::StaysAtTheItem => stays_at_the_item(alloc, &regex),
-        Question::Stops => stops(alloc, &regex),
-        Question::Swaps => swaps(alloc, &regex),
-        Question::TakesCows => takes_cows(alloc, &regex),
-        Question::TakesStrings => takes_strings(alloc, &regex),
-        Question::TellsWhatFailed => tells_what_failed(alloc, &regex),
-        Question::Writes => writes(alloc, &regex),
+        Question::Counts => counts(alloc, regex),
+        Question::StaysAtTheItem => stays_at_the_item(alloc, regex),
+        Question::Stops => stops(alloc, regex),
+        Question::Swaps => swaps(alloc, regex),
+        Question::TakesCows => takes_cows(alloc, regex),
+        Question::TakesStrings => takes_strings(alloc, regex),
+        Question::TellsWhatFailed => tells_what_failed(alloc, regex),
+        Question::Writes => writes(alloc, regex),
     }
 }
 
