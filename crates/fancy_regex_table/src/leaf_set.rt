@@ -72,6 +72,7 @@ impl LeafSet {
     }
 
     /// Whether the sets have the same leaves, in the same places.
+    #[inline(always)]
     pub fn is_same(self, other: LeafSet) -> bool
         ensures { result ≡ true → self ≡ other }
     {
@@ -82,6 +83,7 @@ impl LeafSet {
     }
 
     /// Those that match the character; `None` is an end of the text.
+    #[inline(always)]
     pub fn matching(self, reader: &Reader, c: Option<char>) -> LeafSet
         ensures { result ≡ matching_set reader.now.unicode reader.now.matchers.now self c }
     {
@@ -96,6 +98,7 @@ impl LeafSet {
 
 /// Whether both are the same leaf, or none.
 #[tactic(auto, using(crate::proofs::LeafSetLemmas::leaves_are))]
+#[inline(always)]
 fn are_same(one: Option<Leaf>, other: Option<Leaf>) -> bool
     ensures { result ≡ true → one ≡ other }
 {
@@ -117,6 +120,7 @@ fn is(found: Option<Leaf>, leaf: Leaf) -> bool
 }
 
 /// Whether the leaves are the same.
+#[inline(always)]
 fn is_same(one: Leaf, other: Leaf) -> bool
     ensures { result ≡ same_leaf one other }
 {
@@ -136,6 +140,7 @@ fn is_same(one: Leaf, other: Leaf) -> bool
 }
 
 /// The leaf, if it matches the character.
+#[inline(always)]
 fn if_matches(reader: &Reader, leaf: Option<Leaf>, c: Option<char>) -> Option<Leaf>
     ensures { result ≡ if_matched reader.now.unicode reader.now.matchers.now leaf c }
 {

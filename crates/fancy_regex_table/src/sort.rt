@@ -41,6 +41,7 @@ pub struct Sort {
 }
 
 /// The sort of a character; `None` is an end of the text.
+#[inline(always)]
 pub fn sort_of(asked: Asked, reader: &Reader, c: Option<char>) -> Sort
     ensures { result ≡ sort_at reader.now.matchers.now asked reader.now.unicode c }
 {
@@ -55,6 +56,7 @@ pub fn sort_of(asked: Asked, reader: &Reader, c: Option<char>) -> Sort
 
 impl Sort {
     /// Whether the sorts are the same.
+    #[inline(always)]
     pub fn is_same(self, other: Sort) -> bool
         ensures { result ≡ true → self ≡ other }
     {
@@ -66,6 +68,7 @@ impl Sort {
     }
 }
 
+#[inline(always)]
 fn is_char(wanted: char, c: Option<char>) -> bool
     ensures { result ≡ is_char_of wanted c }
 {

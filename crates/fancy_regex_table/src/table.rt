@@ -180,6 +180,7 @@ impl Table {
     }
 
     /// The row for a search that begins after this character.
+    #[inline(always)]
     fn fresh_row(&self, matchers: &[CharClassMatcher], before: Option<char>) -> Option<usize>
         ensures { IfSome result (IsFreshRow self.now.fresh.items (sort_at matchers.now self.now.asked self.now.unicode before)) }
     {
