@@ -1,4 +1,4 @@
--- Which patterns the linear-time matcher executes.
+-- Which patterns are plain: the linear-time matcher executes them, and they have no program.
 use Rattle.std.specs.Prelude.{ℕ, Bool, true, false, not, ◌&&◌, List, length}
 use Rattle.fancy_regex_tree.specs.Tree.{Tree}
 use Rattle.fancy_regex_meaning.specs.Groups.{pattern_of}
@@ -13,11 +13,11 @@ use Rattle.fancy_regex_meta.specs.declared.strategy.Strategy.TheVariants.{Easy, 
 abbrev pub is_easy_tree : Tree → Bool
 is_easy_tree t = is_easy (is_read (length (pattern_of t).groups) t) (pattern_of t).first_group t
 
--- the linear-time matcher executes the tree: it is easy, and empty matches are allowed
+-- the tree is plain: it is easy, and empty matches are allowed
 abbrev pub uses_easy : RegexOptions → Tree → Bool
 uses_easy o t = not o.find_not_empty && is_easy_tree t
 
--- the linear-time matcher executes the pattern of the text
+-- the pattern of the text is plain
 abbrev pub pattern_uses_easy : RegexOptions → List ℕ → Bool
 pattern_uses_easy o text = uses_easy o (tree_in o text)
 

@@ -95,7 +95,7 @@ search_at o config q = record { first = q; stop = config.range_end; anchored = c
 abbrev pub meta_tree : MetaRegex → Tree
 meta_tree s = tree_in s.options (string_bytes s.pattern)
 
--- a compiled pattern is searched by the linear-time matcher
+-- a compiled pattern is plain
 abbrev pub meta_uses_easy : MetaRegex → Bool
 meta_uses_easy s = pattern_uses_easy s.options (string_bytes s.pattern)
 

@@ -45,6 +45,7 @@ pub enum Error {
 impl From<TreeError> for Error {
     ghost from_gives = { λ cause e. e ≡ from_tree_error cause };
 
+    /// The same position and error, or `Memory`.
     fn from(cause: TreeError) -> Error {
         match cause {
             TreeError::ParseError(position, kind) => Error::ParseError(position, kind),
@@ -56,6 +57,7 @@ impl From<TreeError> for Error {
 impl From<CompileError> for Error {
     ghost from_gives = { λ cause e. e ≡ from_compile_error cause };
 
+    /// The same reason, or `Memory`.
     fn from(cause: CompileError) -> Error {
         match cause {
             CompileError::Memory => Error::Memory,
@@ -67,6 +69,7 @@ impl From<CompileError> for Error {
 impl From<RuntimeError> for Error {
     ghost from_gives = { λ cause e. e ≡ from_runtime_error cause };
 
+    /// The same limit, or `Memory`.
     fn from(cause: RuntimeError) -> Error {
         match cause {
             RuntimeError::Memory => Error::Memory,
@@ -78,6 +81,7 @@ impl From<RuntimeError> for Error {
 impl From<AllocError> for Error {
     ghost from_gives = { λ _ e. e ≡ Memory };
 
+    /// `Memory`.
     fn from(_cause: AllocError) -> Error {
         Error::Memory
     }
@@ -86,6 +90,7 @@ impl From<AllocError> for Error {
 impl<T: Drop> From<AllocFailed<T>> for Error {
     ghost from_gives = { λ _ e. e ≡ Memory };
 
+    /// `Memory`. What could not be kept is dropped.
     fn from(_cause: AllocFailed<T>) -> Error {
         Error::Memory
     }

@@ -1,6 +1,6 @@
 //! The meta layer: it parses, analyzes and compiles a pattern, chooses the linear-time matcher (for patterns without
-//! look-around, backreferences and the like) or a backtracking program, and searches with it. Both give the match of the
-//! definitions. It also has the options and the errors of the library.
+//! backreferences and the like, whose look-arounds are for one character) or a backtracking program, and searches with it. Both
+//! give the match of the definitions. It also has the options and the errors of the library.
 #![tactic(auto)]
 
 mod error;

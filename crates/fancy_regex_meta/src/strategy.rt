@@ -1,4 +1,5 @@
-//! What executes a compiled pattern: the linear-time matcher in bounded steps, or a backtracking program.
+//! What executes a compiled pattern: the linear-time matcher in bounded steps, or a backtracking program. A pattern that is easy but for
+//! look-arounds for one character keeps its program, and is searched by the matcher.
 
 ghost use Rattle.std.specs.Prelude.{◌≡◌, ◌≤◌, ◌+◌, ◌-◌, ◌*◌, ◌^◌, ◌<◌, min, true, false, not, length, IfOk, IfErr, IfSome, option_map, IsCharBoundary};
 ghost use Rattle.fancy_regex_tree.specs.Tree.{Tree, tree_of};
@@ -141,8 +142,12 @@ impl Strategy {
     ghost use Rattle.fancy_regex_meta.specs.SearchLimits.{IsSearchError, IsStrategyError, StrategyStaysInLimits, weight_of, run_choices, run_tried};
 
     /// Compiles an analyzed tree, all of whose references must be to existing groups: for the linear-time matcher if the
-    /// tree is easy and empty matches are allowed, otherwise to a program, with its seek table if the options ask for it. The
-    /// error says why the tree cannot be compiled, or is `Memory`.
+    /// tree is easy and empty matches are allowed, otherwise to a program, with its seek table if the options ask for it. A
+    /// linear-time matcher is kept beside the program where it can search in its place.
+    ///
+    /// # Errors
+    ///
+    /// Why the tree cannot be compiled, or `Memory` if memory runs out.
     pub fn new(
         alloc: Global,
         info: &Info<'_>,
