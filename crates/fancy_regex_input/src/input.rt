@@ -87,6 +87,7 @@ pub trait Input: Copy {
         ensures after { index < result };
 }
 
+/// Offsets are bytes of the text.
 impl<'t> Input for &'t str {
     type Match = Match<'t>;
 
@@ -125,6 +126,7 @@ impl<'t> Input for &'t str {
     }
 }
 
+/// As for its text.
 impl<'t> Input for &'t String {
     type Match = Match<'t>;
 

@@ -65,6 +65,7 @@ impl<'t> Match<'t> {
     }
 }
 
+/// The byte range of a match.
 impl<'t> From<Match<'t>> for Range<usize> {
     ghost from_gives = { λ m range. (range.start ≡ m.start) × (range.end ≡ m.end) };
 
@@ -73,6 +74,7 @@ impl<'t> From<Match<'t>> for Range<usize> {
     }
 }
 
+/// The text of a match.
 impl<'t> From<Match<'t>> for &'t str {
     ghost from_gives = { λ m piece. piece.now ≡ slice_range m.text.now m.start m.end };
 

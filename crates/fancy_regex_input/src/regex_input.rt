@@ -188,6 +188,7 @@ impl<S: Input> RegexInput<S> {
     }
 }
 
+/// The haystack is lent again, not copied. It allocates nothing, and never fails.
 impl<S: Input> Clone for RegexInput<S> {
     ghost is_clone = { λ input copy. (copy.haystack ≡ input.haystack) × (copy.config ≡ input.config) };
 
@@ -201,6 +202,7 @@ impl<S: Input> Clone for RegexInput<S> {
     }
 }
 
+/// A search of the whole haystack, from its start.
 impl<S: Input> From<S> for RegexInput<S> {
     ghost from_gives = { λ s input. (input.haystack ≡ s) × (input.config ≡ whole (S.text s)) };
 
