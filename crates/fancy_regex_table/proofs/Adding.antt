@@ -85,6 +85,7 @@ goes_to_number {s} {after} {at} {next} {start} {last} {begins} {ends} {row} rows
   goes = record {
     sort = sort_same row is.same is.says ∙ goes.sort;
     is_in = is_in_same s row is.same next (begun_at begins at start) (begun_at ends at last) is.says goes.is_in;
+    sign = goes.sign;
   };
 }
 

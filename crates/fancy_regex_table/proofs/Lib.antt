@@ -11,3 +11,4 @@ pub mod PlaceLemmas
 pub mod TableLemmas
 pub mod AlphabetLemmas
 pub mod MadeLemmas
+pub mod SignLemmas

@@ -74,7 +74,7 @@ module _ {parts : Parts} {rules : Rules} {s : Search} {table : Table} (t : IsTab
       let right_here = subst (λ (x : Column). IsRight parts t.rows stands.row x.sort x.sample cell) column_is right in
       right_here s place.at next place.start place.last at_place stands.is_in
 
-begun_low : (b : Bool) (low at start : ℕ) → low ≤ at → low ≤ start → low ≤ begun_at b at start
+pub begun_low : (b : Bool) (low at start : ℕ) → low ≤ at → low ≤ start → low ≤ begun_at b at start
 begun_low true low at start a b = a
 begun_low false low at start a b = b
 
@@ -82,7 +82,7 @@ begun_high : (b : Bool) (at start : ℕ) → start ≤ at → begun_at b at star
 begun_high true at start le = omega arith
 begun_high false at start le = omega arith
 
-begun_boundary : (text : List ℕ) (b : Bool) (at start : ℕ) → IsCharBoundary text at → IsCharBoundary text start → IsCharBoundary text (begun_at b at start)
+pub begun_boundary : (text : List ℕ) (b : Bool) (at start : ℕ) → IsCharBoundary text at → IsCharBoundary text start → IsCharBoundary text (begun_at b at start)
 begun_boundary text true at start a b = a
 begun_boundary text false at start a b = b
 

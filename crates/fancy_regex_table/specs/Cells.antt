@@ -1,5 +1,5 @@
 -- What rows and cells say of a search.
-use Rattle.std.specs.Prelude.{◌≡◌, ◌<◌, ◌≤◌, ℕ, Bool, List, Option, Some, None, slice_get, IsCharBoundary, if◌then◌else◌}
+use Rattle.std.specs.Prelude.{◌≡◌, ◌<◌, ◌≤◌, ℕ, Bool, List, Option, Some, None, true, is_some, slice_get, IsCharBoundary, if◌then◌else◌}
 use Rattle.fancy_regex_class.specs.declared.class.CharClassMatcher.{CharClassMatcher}
 use Rattle.fancy_regex_states.specs.Attempts.{View, Continuation}
 use Rattle.fancy_regex_states.specs.declared.state.State.{State}
@@ -89,10 +89,11 @@ pub record IsFirstMatch (s : Search) (start end : ℕ) : Type 0 where
 abbrev pub begun_at : Bool → ℕ → ℕ → ℕ
 begun_at begins at start = if begins then at else start
 
--- the search is in this row after the character
+-- the search is in this row after the character; where an end is noted the first attempt has a match
 pub record GoesTo (s : Search) (after : Sort) (at next start last : ℕ) (begins ends : Bool) (row : Row) : Type 0 where
   pub sort : sort_before row ≡ after
   pub is_in : IsIn s row next (begun_at begins at start) (begun_at ends at last)
+  pub sign : ends ≡ true → is_some (end_at s.go (begun_at begins at start) s.entry) ≡ true
 
 -- it is in the row of this number
 pub record GoesToRow (s : Search) (rows : List Row) (after : Sort) (at next start last : ℕ) (begins ends : Bool) (number : ℕ) : Type 0 where

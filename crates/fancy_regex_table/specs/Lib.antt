@@ -11,3 +11,4 @@ pub mod Made
 pub mod Alphabets
 pub mod Tables
 pub mod ByClass
+pub mod Signs

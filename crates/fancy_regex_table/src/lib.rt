@@ -11,9 +11,11 @@ mod maker;
 mod pattern;
 mod row;
 mod rows;
+mod sign;
 mod sort;
 mod step;
 mod table;
 mod target;
 
+pub use sign::Sign;
 pub use table::{Passed, Table};

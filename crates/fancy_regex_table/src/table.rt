@@ -46,22 +46,22 @@ pub enum Passed {
 
 /// Where a pass stands.
 #[derive(Clone, Copy)]
-struct Place {
-    row: usize,
-    at: usize,
+pub(crate) struct Place {
+    pub row: usize,
+    pub at: usize,
     /// Where the first attempt began that is under way.
-    start: usize,
+    pub start: usize,
     /// Where its match ended that was noted last.
-    last: usize,
+    pub last: usize,
 }
 
 /// A table of the states of a pattern, by which a search goes through a text.
 #[derive(Drop)]
 pub struct Table {
     /// For each class of characters the cells, one for each row. The first class is the end of the text.
-    cells: Vec<Vec<Cell>>,
+    pub(crate) cells: Vec<Vec<Cell>>,
     /// The number of each ASCII character's class.
-    ascii: [u8; 128],
+    pub(crate) ascii: [u8; 128],
     asked: Asked,
     unicode: bool,
     fresh: Vec<FreshRow>,
@@ -181,7 +181,11 @@ impl Table {
 
     /// The row for a search that begins after this character.
     #[inline(always)]
-    fn fresh_row(&self, matchers: &[CharClassMatcher], before: Option<char>) -> Option<usize>
+    pub(crate) fn fresh_row(
+        &self,
+        matchers: &[CharClassMatcher],
+        before: Option<char>,
+    ) -> Option<usize>
         ensures { IfSome result (IsFreshRow self.now.fresh.items (sort_at matchers.now self.now.asked self.now.unicode before)) }
     {
         let reader = Reader {
@@ -254,7 +258,7 @@ impl Table {
     }
 
     /// What is found at the end of the range. With `at_end` that is the end of the text.
-    fn at_stop(&self, place: Place, at_end: bool) -> Passed
+    pub(crate) fn at_stop(&self, place: Place, at_end: bool) -> Passed
         requires { place.start ≤ place.at }
         ensures passed { (parts : Parts) (rules : Rules) (s : Search) (table : IsTable parts self.now) → IsSearchOf parts rules s
             → place.at ≡ s.stop → (at_end ≡ true → s.stop ≡ length s.text)
@@ -272,7 +276,7 @@ impl Table {
 
     /// The place after the character at this one, whose first byte this is, if it is ASCII and leads to a row.
     #[inline(always)]
-    fn step(&self, byte: u8, place: Place) -> Option<Place>
+    pub(crate) fn step(&self, byte: u8, place: Place) -> Option<Place>
         requires next { place.at + 1 < 2 ^ 64 }
         requires order { place.start ≤ place.at }
         ensures onward { IfSome result (IsOnward place byte) }
@@ -296,7 +300,7 @@ impl Table {
     }
 
     /// What is told at the place where a run ends, before a character whose first byte this is.
-    fn told(&self, byte: u8, place: Place) -> Passed
+    pub(crate) fn told(&self, byte: u8, place: Place) -> Passed
         requires next { place.at + 1 < 2 ^ 64 }
         requires order { place.start ≤ place.at }
         ensures done { IsDoneAt place byte result }

@@ -1,0 +1,48 @@
+-- What the first sign of a match says of a search.
+use Rattle.std.specs.Prelude.{◌≡◌, ◌<◌, ◌≤◌, ◌+◌, ℕ, Bool, true, List, length, is_some, slice_index, IsCharBoundary}
+use Rattle.fancy_regex_table.specs.ByClass.{IsFoundCell}
+use Rattle.fancy_regex_table.specs.Cells.{Search, NoneBefore}
+use Rattle.fancy_regex_table.specs.Ends.{end_at}
+use Rattle.fancy_regex_table.specs.Tables.{IsPlaceOf}
+use Rattle.fancy_regex_table.specs.declared.row.Cell.TheVariants.{Next}
+use Rattle.fancy_regex_table.specs.declared.sign.Sign.{Sign}
+use Rattle.fancy_regex_table.specs.declared.sign.Sign.TheVariants as G
+use Rattle.fancy_regex_table.specs.declared.table.Passed.{Passed}
+use Rattle.fancy_regex_table.specs.declared.table.Passed.TheVariants as P
+use Rattle.fancy_regex_table.specs.declared.table.Table.{Table}
+
+-- a match starts somewhere in the range
+pub record HasMatch (s : Search) : Type 0 where
+  pub start : ℕ
+  pub low : s.from ≤ start
+  pub high : start ≤ s.stop
+  pub boundary : IsCharBoundary s.text start
+  pub some : is_some (end_at s.go start s.entry) ≡ true
+
+-- what the sign says is so
+abbrev pub IsSign : Search → Sign → Type 0
+IsSign s G.Match = HasMatch s
+IsSign s G.Ended = NoneBefore s (s.stop + 1)
+IsSign s (G.Idle at) = IsPlaceOf s at at × (s.from < at)
+IsSign s (G.Unknown from) = IsPlaceOf s from from
+
+-- what was found lies in the text, from this place on
+abbrev pub IsSignInRange : List ℕ → ℕ → Sign → Type 0
+IsSignInRange text low G.Match = Unit {0}
+IsSignInRange text low G.Ended = Unit {0}
+IsSignInRange text low (G.Idle at) = (low < at) × (at ≤ length text) × IsCharBoundary text at
+IsSignInRange text low (G.Unknown from) = (low ≤ from) × (from ≤ length text) × IsCharBoundary text from
+
+-- what a whole pass says of the matches
+abbrev pub sign_in : Passed → Sign
+sign_in (P.Match start end read) = G.Match
+sign_in P.Ended = G.Ended
+sign_in (P.Idle at) = G.Idle at
+sign_in (P.Unknown from read) = G.Unknown from
+
+-- the cell of the row and of this ASCII character notes an end
+pub record IsNoted (table : Table) (byte row : ℕ) : Type 0 where
+  pub small : byte < 128
+  pub next : ℕ
+  pub begins : Bool
+  pub found : IsFoundCell table.cells.items (slice_index table.ascii byte) row (Next begins true next)
