@@ -25,3 +25,4 @@ pub mod TranslationLemmas
 pub mod ServedLemmas
 pub mod LayerLemmas
 pub mod SettleLemmas
+pub mod ToldLemmas

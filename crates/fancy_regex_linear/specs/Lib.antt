@@ -17,3 +17,4 @@ pub mod Translation
 pub mod Layers
 pub mod Settled
 pub mod EasyTables
+pub mod Tellings

@@ -172,7 +172,7 @@ fn first_tried(
 
 /// The character that ends at the byte offset `position`. An ASCII character is read as one byte.
 #[inline(always)]
-fn char_before(text: &str, position: usize) -> Option<char>
+pub fn char_before(text: &str, position: usize) -> Option<char>
     requires { IsCharBoundary text.now position }
     ensures { result ≡ char_before_of text.now position }
 {

@@ -15,6 +15,7 @@ use crate::memory::SearchMemory;
 use crate::search::{SearchContext, earliest_match};
 use crate::starts::refused_ascii;
 use crate::state::add;
+use crate::told::{Told, told_by_table};
 use fancy_regex_class::{CharClassMatcher, Counted, RunInput, Steps};
 use fancy_regex_info::{BytesMode, CompileError, CompileOptions, Info};
 use fancy_regex_states::{FirstChars, Rules, State};
@@ -59,6 +60,8 @@ pub struct Easy {
 impl Easy {
     ghost use Rattle.fancy_regex_linear.specs.EasyPatterns.{IsEasyOf, IsMatchSlots, IsMatchSpan, LooksAtMost, LooksAtLeast};
     ghost use Rattle.fancy_regex_linear.specs.EasyTables.{IsTableFor};
+    ghost use Rattle.fancy_regex_linear.specs.Tellings.{IsMatchFlag, IsToldFor, GoesOnIn};
+    ghost use Rattle.fancy_regex_meaning.specs.Groups.{Pattern};
     ghost use Rattle.fancy_regex_linear.specs.Plain.{IsPlain};
     ghost use Rattle.fancy_regex_linear.specs.Refusals.{IsTaken, IsCause};
     ghost use Rattle.fancy_regex_info.specs.Analysis.{analysis};
@@ -262,6 +265,60 @@ impl Easy {
     {
         let span = self.span_in(text, input, steps, memory, true)?;
         Ok(span)
+    }
+
+    /// Whether `search_in` finds a match. Where the table tells it, the text is read up to the first sign of a match alone; nothing is
+    /// allocated where the memory has the room. The error is want of memory; the memory may be used again.
+    pub fn has_match_in(
+        &self,
+        text: &str,
+        input: &RunInput,
+        memory: &mut SearchMemory,
+    ) -> Result<bool, AllocError>
+        requires first { IsCharBoundary text.now input.now.first }
+        requires range { input.now.range.end ≤ length text.now }
+        ensures { IfOk result (IsMatchFlag self.now text.now input.now) }
+    {
+        let first = match self.told(text, input) {
+            Told::Match => return Ok(true),
+            Told::NoMatch => return Ok(false),
+            Told::NoneBefore { at } => at,
+        };
+        let rest = RunInput { first, ..*input };
+        let span = self.span_in(text, &rest, &mut Steps::new(), memory, true)?;
+        Ok(span.is_some())
+    }
+
+    /// What the table tells of the matches in the text; that none starts before the first start, where it does not serve.
+    fn told(&self, text: &str, input: &RunInput) -> Told
+        requires first { IsCharBoundary text.now input.now.first }
+        requires range { input.now.range.end ≤ length text.now }
+        ensures told { (pattern : Pattern) → IsEasyOf self.now pattern → IsToldFor self.now text.now input.now result pattern }
+        ensures goes_on { GoesOnIn text.now result }
+    {
+        let at = input.first;
+        let stop = input.range.end;
+        if input.anchored {
+            return Told::NoneBefore { at };
+        }
+        if at > stop {
+            return Told::NoneBefore { at };
+        }
+        let Some(it) = self.table_search(text, input) else {
+            return Told::NoneBefore { at };
+        };
+        let context = SearchContext {
+            states: &self.states,
+            matchers: &self.matchers,
+            rules: self.rules(input),
+            entry: self.entry,
+            first: &self.first,
+            stop,
+            refused: &self.refused,
+        };
+        let mut steps = Steps::new();
+        let mut counted = Counted::new(text, &mut steps);
+        told_by_table(&context, &mut counted, it, at)
     }
 
     /// Searches the text as `search_in` does, and answers where the match starts and ends. The slots of the match are in the

@@ -20,6 +20,7 @@ mod search;
 mod settle;
 mod starts;
 mod state;
+mod told;
 mod visited;
 
 pub use easy::Easy;

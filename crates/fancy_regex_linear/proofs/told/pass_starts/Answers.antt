@@ -1,0 +1,20 @@
+use Rattle.std.proofs.Common.{refl, arith}
+use Rattle.fancy_regex_class.specs.Looks.{looked_text}
+use Rattle.regex_hir.specs.Text.{char_at}
+use Rattle.fancy_regex_linear.proofs.RefusalLemmas.{start_fails}
+use Rattle.fancy_regex_linear.proofs.ToldLemmas.{refused_between}
+use Rattle.fancy_regex_linear.proofs.told.pass_starts.Goals as goal
+
+pub returns-then-at-eq0-clause-passed : goal.returns-then-at-eq0-clause-passed
+returns-then-at-eq0-clause-passed c view go explains p low less boundary = absurd (omega (arith, low, less))
+
+pub returns-then-refuses_all-clause-passed : goal.returns-then-refuses_all-clause-passed
+returns-then-refuses_all-clause-passed c view go explains p low less boundary =
+    let text = looked_text c.args.text.now in
+    start_fails c.args.context.now text view go explains c.requires.text p (char_at text p) boundary (omega (arith, low, c.if-at-eq0.false)) (omega (arith, less))
+    c.requires.context.entry refl (c.refuses_all.ensures c.if-refuses_all.true (char_at text p))
+
+pub returns-clause-passed : goal.returns-clause-passed
+returns-clause-passed c view go explains =
+    refused_between c.args.context.now (looked_text c.args.text.now) view go explains c.requires.text c.requires.context.entry c.requires.context.marks
+    c.args.at c.pass_refused-start.result.0 (omega (arith, c.if-at-eq0.false)) c.pass_refused-start.ensures.place.range.1 c.pass_refused-start.ensures.passed
