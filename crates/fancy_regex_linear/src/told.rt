@@ -45,6 +45,13 @@ fn pass_starts(context: &SearchContext, text: &mut Counted, at: usize) -> Option
     Some(pass_pairs(context, text, at, second).0)
 }
 
+/// Whether a character that is not ASCII stands at the byte offset `at`: the table does not know it.
+#[inline(always)]
+fn is_wide(text: &str, at: usize) -> bool {
+    let bytes = text.as_bytes();
+    at < bytes.len() && bytes[at] >= 128
+}
+
 /// What the table tells of the matches from the byte offset `from` on.
 pub fn told_by_table(
     context: &SearchContext,
@@ -65,6 +72,9 @@ pub fn told_by_table(
         let Some(start) = pass_starts(context, text, at) else {
             return Told::NoMatch;
         };
+        if is_wide(it.text, start) {
+            return Told::NoneBefore { at: start };
+        }
         let before = char_before(it.text, start);
         match it.table.sign(context.matchers, it.text, start, before) {
             Sign::Match => return Told::Match,

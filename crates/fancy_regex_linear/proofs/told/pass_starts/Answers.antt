@@ -1,4 +1,4 @@
-use Rattle.std.proofs.Common.{refl, arith}
+use Rattle.std.proofs.Common.{inl, refl, arith}
 use Rattle.fancy_regex_class.specs.Looks.{looked_text}
 use Rattle.regex_hir.specs.Text.{char_at}
 use Rattle.fancy_regex_linear.proofs.RefusalLemmas.{start_fails}
@@ -14,7 +14,12 @@ returns-then-refuses_all-clause-passed c view go explains p low less boundary =
     start_fails c.args.context.now text view go explains c.requires.text p (char_at text p) boundary (omega (arith, low, c.if-at-eq0.false)) (omega (arith, less))
     c.requires.context.entry refl (c.refuses_all.ensures c.if-refuses_all.true (char_at text p))
 
+pub returns-in_default-clause-passed : goal.returns-in_default-clause-passed
+returns-in_default-clause-passed c view go explains =
+    refused_between c.args.context.now (looked_text c.args.text.now) view go explains c.requires.text c.requires.context.entry c.requires.context.marks
+    c.args.at c.skip_ascii.result.0 (omega (arith, c.if-at-eq0.false)) c.skip_ascii.ensures.range.1 (λ i low high. inl (c.skip_ascii.ensures.passed i low high))
+
 pub returns-clause-passed : goal.returns-clause-passed
 returns-clause-passed c view go explains =
     refused_between c.args.context.now (looked_text c.args.text.now) view go explains c.requires.text c.requires.context.entry c.requires.context.marks
-    c.args.at c.pass_refused-start.result.0 (omega (arith, c.if-at-eq0.false)) c.pass_refused-start.ensures.place.range.1 c.pass_refused-start.ensures.passed
+    c.args.at c.pass_pairs.result.0 (omega (arith, c.if-at-eq0.false)) c.pass_pairs.ensures.place.range.1 c.pass_pairs.ensures.passed

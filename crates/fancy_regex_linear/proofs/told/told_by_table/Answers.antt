@@ -12,25 +12,25 @@ use Rattle.fancy_regex_linear.specs.Tellings.{IsPassedOver}
 use Rattle.fancy_regex_linear.proofs.SettleLemmas.{search_of, is_search, fail_by}
 use Rattle.fancy_regex_linear.proofs.ToldLemmas.{some_by, none_by, on_by}
 use Rattle.fancy_regex_linear.proofs.told.told_by_table.Goals as goal
-use Rattle.fancy_regex_linear.proofs.told.told_by_table.Goals.{After-sign}
+use Rattle.fancy_regex_linear.proofs.told.told_by_table.Goals.{After-is_wide}
 
-abbrev text_of : After-sign → List ℕ
+abbrev text_of : After-is_wide → List ℕ
 text_of c = looked_text c.args.text.now
 
 -- the table tells of the whole text
-whole : (c : After-sign) → c.args.context.now.stop ≡ length c.args.it.text.now
+whole : (c : After-is_wide) → c.args.context.now.stop ≡ length c.args.it.text.now
 whole c = c.requires.table.whole ∙ ap length (sym c.requires.table.text_is)
 
 -- where the pass begins
-record Here (c : After-sign) : Type 0 where
+record Here (c : After-is_wide) : Type 0 where
   pub range : (c.starts.at ≤ c.in-Some.start) × (c.in-Some.start ≤ c.args.context.now.stop) × IsCharBoundary (text_of c) c.in-Some.start
   pub fails : IsPassedOver c.args.context.now (text_of c) c.starts.at (Some c.in-Some.start)
 
-here : (c : After-sign) → Here c
+here : (c : After-is_wide) → Here c
 here c = record { range = rw c.starts.invariant.text at c.in-Some.ensures.range; fails = rw c.starts.invariant.text at c.in-Some.ensures.passed }
 
 -- no match starts before it
-earlier : (c : After-sign) (view : View) (go : ℕ → Continuation) → Explains c.args.context.now (text_of c) view go → (slots : List ℕ)
+earlier : (c : After-is_wide) (view : View) (go : ℕ → Continuation) → Explains c.args.context.now (text_of c) view go → (slots : List ℕ)
     → earliest (spot_from go c.args.context.now.entry slots) (places (text_of c) false c.args.from c.args.context.now.stop)
     ≡ earliest (spot_from go c.args.context.now.entry slots) (places (text_of c) false c.in-Some.start c.args.context.now.stop)
 earlier c view go explains slots =
@@ -48,9 +48,17 @@ returns-in_default-clause-told c view go explains slots =
     ap is_some (inv.passed view go explains slots)
     ∙ none_by context text c.args.it c.requires.table view go explains slots c.starts.at inv.boundary inv.range.1 c.requires.range.1 (over view go explains)
 
+pub returns-then-is_wide-clause-told : goal.returns-then-is_wide-clause-told
+returns-then-is_wide-clause-told c view go explains slots = earlier (goal.at.returns-then-is_wide-clause-told c).After-is_wide view go explains slots
+
+pub returns-then-is_wide-clause-range : goal.returns-then-is_wide-clause-range
+returns-then-is_wide-clause-range c =
+    let at = here (goal.at.returns-then-is_wide-clause-range c).After-is_wide in
+    (omega (arith, c.starts.invariant.range.0, at.range.0), at.range.1, at.range.2)
+
 pub returns-in-Match-clause-told : goal.returns-in-Match-clause-told
 returns-in-Match-clause-told c view go explains slots =
-    let d = (goal.at.returns-in-Match-clause-told c).After-sign in
+    let d = (goal.at.returns-in-Match-clause-told c).After-is_wide in
     let context = c.args.context.now in
     let text = looked_text c.args.text.now in
     let by = c.requires.table in
@@ -58,11 +66,11 @@ returns-in-Match-clause-told c view go explains slots =
     ap is_some (earlier d view go explains slots)
     ∙ some_by context text c.args.it by view go explains slots start
     (λ t. c.in-Match.ensures.sign (parts_of context) context.rules (search_of context text c.args.it by view go explains start) t
-    (is_search context text c.args.it by view go explains start c.requires.text c.requires.range.1) (sym by.text_is) refl (whole d))
+    (is_search context text c.args.it by view go explains start c.requires.text c.requires.range.1) refl (sym by.text_is) refl (whole d))
 
 pub returns-in-Ended-clause-told : goal.returns-in-Ended-clause-told
 returns-in-Ended-clause-told c view go explains slots =
-    let d = (goal.at.returns-in-Ended-clause-told c).After-sign in
+    let d = (goal.at.returns-in-Ended-clause-told c).After-is_wide in
     let context = c.args.context.now in
     let text = looked_text c.args.text.now in
     let by = c.requires.table in
@@ -72,11 +80,11 @@ returns-in-Ended-clause-told c view go explains slots =
     ∙ none_by context text c.args.it by view go explains slots start at.range.2 at.range.1 c.requires.range.1
     (fail_by context text c.args.it by view go explains start (context.stop + 1)
     (λ t. c.in-Ended.ensures.sign (parts_of context) context.rules (search_of context text c.args.it by view go explains start) t
-    (is_search context text c.args.it by view go explains start c.requires.text c.requires.range.1) (sym by.text_is) refl (whole d)))
+    (is_search context text c.args.it by view go explains start c.requires.text c.requires.range.1) refl (sym by.text_is) refl (whole d)))
 
 pub starts-preserved : goal.starts-preserved
 starts-preserved c =
-    let d = (goal.at.starts-preserved c).After-sign in
+    let d = (goal.at.starts-preserved c).After-is_wide in
     let context = c.args.context.now in
     let text = looked_text c.args.text.now in
     let by = c.requires.table in
@@ -94,12 +102,12 @@ starts-preserved c =
           ∙ on_by context text c.args.it by view go explains slots start next (omega (arith, range.0)) inside c.requires.range.1
           (fail_by context text c.args.it by view go explains start next
           (λ t. (c.in-Idle.ensures.sign (parts_of context) context.rules (search_of context text c.args.it by view go explains start) t
-          (is_search context text c.args.it by view go explains start c.requires.text c.requires.range.1) (sym by.text_is) refl (whole d)).0.early));
+          (is_search context text c.args.it by view go explains start c.requires.text c.requires.range.1) refl (sym by.text_is) refl (whole d)).0.early));
     }
 
 pub returns-in-Unknown-clause-told : goal.returns-in-Unknown-clause-told
 returns-in-Unknown-clause-told c view go explains slots =
-    let d = (goal.at.returns-in-Unknown-clause-told c).After-sign in
+    let d = (goal.at.returns-in-Unknown-clause-told c).After-is_wide in
     let context = c.args.context.now in
     let text = looked_text c.args.text.now in
     let by = c.requires.table in
@@ -110,4 +118,4 @@ returns-in-Unknown-clause-told c view go explains slots =
     ∙ on_by context text c.args.it by view go explains slots start from range.0 (omega (arith, range.1, by.whole)) c.requires.range.1
     (fail_by context text c.args.it by view go explains start from
     (λ t. (c.in-Unknown.ensures.sign (parts_of context) context.rules (search_of context text c.args.it by view go explains start) t
-    (is_search context text c.args.it by view go explains start c.requires.text c.requires.range.1) (sym by.text_is) refl (whole d)).early))
+    (is_search context text c.args.it by view go explains start c.requires.text c.requires.range.1) refl (sym by.text_is) refl (whole d)).early))
