@@ -1,6 +1,6 @@
 -- The table that is made of its parts.
-use Rattle.std.proofs.Common.{◌≡◌, ◌∙◌, ℕ, ◌<◌, Bool, List, length, Option, Some, None, refl, sym, subst, arith, get_or, Vec}
-use Rattle.std.specs.Prelude.{slice_index}
+use Rattle.std.proofs.Common.{◌≡◌, ◌∙◌, ℕ, ◌<◌, Bool, List, ◌∷◌, ◌++◌, [], length, Option, Some, None, refl, sym, ap, subst, arith, get_or, Vec}
+use Rattle.std.specs.Prelude.{slice_index, slice_get, IfSome}
 use Rattle.std.proofs.lemmas.Option.{slice_get_within, slice_get-get_or}
 use Rattle.std.specs.declared.alloc.Global.{Global}
 use Rattle.fancy_regex_class.specs.declared.class.CharClassMatcher.{CharClassMatcher}
@@ -12,7 +12,8 @@ use Rattle.fancy_regex_table.specs.ByClass.{AreByClass}
 use Rattle.fancy_regex_table.specs.Cells.{Parts}
 use Rattle.fancy_regex_table.specs.Made.{IsMadeOf}
 use Rattle.fancy_regex_table.specs.Making.{AreColumnsOf, ReadsAlike}
-use Rattle.fancy_regex_table.specs.Tables.{IsTable, HasColumn}
+use Rattle.fancy_regex_table.specs.Tables.{IsTable, HasColumn, IsFreshRow, AreBegins}
+use Rattle.fancy_regex_table.proofs.Adding.{pushed}
 use Rattle.fancy_regex_table.specs.declared.alphabet.Alphabet.{Alphabet}
 use Rattle.fancy_regex_table.specs.declared.columns.Column.{Column}
 use Rattle.fancy_regex_table.specs.declared.row.Cell.{Cell}
@@ -52,10 +53,12 @@ module _ (parts : Parts) (columns : List Column) (alphabet : Alphabet) (is_alpha
             (alike_same parts.unicode parts.matchers None (state_at parts.states q));
       }
 
-  pub table_is : (cells : Vec (Vec Cell Global) Global) (made_cells : List (Vec Cell Global)) (fresh : Vec FreshRow Global) (is_whole : Bool)
+  pub table_is : (cells : Vec (Vec Cell Global) Global) (made_cells : List (Vec Cell Global)) (fresh : Vec FreshRow Global)
+      (begins : Vec (Option ℕ) Global) (is_whole : Bool)
       → IsMadeOf parts columns made_cells fresh.items → length cells.items ≡ length columns → AreByClass made_cells cells.items
-      → IsTable parts (record { cells = cells; ascii = alphabet.ascii; asked = alphabet.asked; unicode = parts.unicode; fresh = fresh; is_whole = is_whole })
-  table_is cells made_cells fresh is_whole made long by_class = record {
+      → AreBegins columns fresh.items begins.items
+      → IsTable parts (record { cells = cells; ascii = alphabet.ascii; asked = alphabet.asked; unicode = parts.unicode; fresh = fresh; begins = begins; is_whole = is_whole })
+  table_is cells made_cells fresh begins is_whole made long by_class are_begins = record {
     rows = made.rows;
     columns = columns;
     unicode = refl;
@@ -68,6 +71,19 @@ module _ (parts : Parts) (columns : List Column) (alphabet : Alphabet) (is_alpha
         let column_is = slice_get-get_or columns class end_column.column (omega arith) in
         record { row = row.row; column = column; row_is = row.is_there; column_is = column_is; right = row.right class column cell column_is here.is_cell };
     fresh = made.fresh_rows;
+    begins = are_begins;
     ascii = ascii_column;
     end = end_column;
   }
+
+-- one more class
+pub begins_more : (columns : List Column) (fresh : List FreshRow) (begins : List (Option ℕ)) (found : Option ℕ) (column : Column) → AreBegins columns fresh begins
+    → slice_get columns (length begins) ≡ Some column → IfSome found (IsFreshRow fresh column.sort) → AreBegins columns fresh (begins ++ found ∷ [])
+begins_more columns fresh begins found column right there is class number other at column_is =
+    pushed (λ (k : ℕ) (x : Option ℕ). (n : ℕ) (col : Column) → x ≡ Some n → slice_get columns k ≡ Some col → IsFreshRow fresh col.sort n) begins found
+    (λ k x e n col same col_is. right k n col (e ∙ ap Some same) col_is)
+    (λ n col same col_is.
+    let two : Some column ≡ Some col = sym there ∙ col_is in
+    let one : column ≡ col = cc in
+    subst (λ (o : Option ℕ). IfSome o (IsFreshRow fresh col.sort)) same (subst (λ (x : Column). IfSome found (IsFreshRow fresh x.sort)) one is))
+    class (Some number) at number other refl column_is

@@ -42,6 +42,19 @@ abbrev pub AreCells : Parts → List Row → List Column → List (Vec Cell Glob
 AreCells parts rows columns cells = (class : ℕ) (made : Vec Cell Global) (number : ℕ) (cell : Cell) → slice_get cells class ≡ Some made
     → slice_get made.items number ≡ Some cell → IsCellAt parts rows columns class number cell
 
+-- a row for searches that begin after a character of this sort
+pub record IsFreshRow (fresh : List FreshRow) (sort : Sort) (number : ℕ) : Type 0 where
+  pub place : ℕ
+  pub row : FreshRow
+  pub is_there : slice_get fresh place ≡ Some row
+  pub sort_is : row.before ≡ sort
+  pub number_is : row.row ≡ number
+
+-- for each class the row for searches that begin after one of its characters, if there is one
+abbrev pub AreBegins : List Column → List FreshRow → List (Option ℕ) → Type 0
+AreBegins columns fresh begins = (class number : ℕ) (column : Column) → slice_get begins class ≡ Some (Some number)
+    → slice_get columns class ≡ Some column → IsFreshRow fresh column.sort number
+
 -- each cell of the table is right
 pub record IsTable (parts : Parts) (table : Table) : Type 0 where
   pub rows : List Row
@@ -50,6 +63,7 @@ pub record IsTable (parts : Parts) (table : Table) : Type 0 where
   pub asks : AreAsked table.asked parts.states
   pub cells : AreCells parts rows columns table.cells.items
   pub fresh : AreFresh rows table.fresh.items
+  pub begins : AreBegins columns table.fresh.items table.begins.items
   pub ascii : (c : ℕ) → c < 128 → HasColumn parts columns table.asked (Some c) (slice_index table.ascii c)
   pub end : HasColumn parts columns table.asked None 0
 
@@ -136,14 +150,6 @@ pub record IsAsciiAt (text : List ℕ) (at c : ℕ) : Type 0 where
   pub here : char_at text at ≡ Some c
   pub before_next : char_before text (at + 1) ≡ Some c
   pub boundary_next : IsCharBoundary text (at + 1)
-
--- a row for searches that begin after a character of this sort
-pub record IsFreshRow (fresh : List FreshRow) (sort : Sort) (number : ℕ) : Type 0 where
-  pub place : ℕ
-  pub row : FreshRow
-  pub is_there : slice_get fresh place ≡ Some row
-  pub sort_is : row.before ≡ sort
-  pub number_is : row.row ≡ number
 
 -- the start, or this place in a row for searches that begin
 abbrev pub IsStartAt : List FreshRow → Place → ℕ → Type 0

@@ -2,8 +2,10 @@
 
 ghost use Rattle.std.specs.Prelude.{◌≡◌, ℕ, IfOk, IfSome};
 ghost use Rattle.fancy_regex_table.specs.Rows.{IsNumberOf, IsPlaceOf};
+ghost use Rattle.fancy_regex_table.specs.Tables.{IsFreshRow, AreBegins};
 ghost use Rattle.fancy_regex_table.specs.Making.{BeginsWith};
 
+use crate::columns::Column;
 use crate::leaf_set::LeafSet;
 use crate::row::{Found, Row, is_same};
 use crate::sort::Sort;
@@ -92,6 +94,36 @@ impl Rows {
         }
         Place::Full
     }
+}
+
+/// The number of the row for a search that begins after a character of this sort.
+pub fn fresh_for(fresh: &[FreshRow], sort: Sort) -> Option<usize>
+    ensures { IfSome result (IsFreshRow fresh.now sort) }
+{
+    for i in 0..fresh.len() {
+        let it = fresh[i];
+        if it.before.is_same(sort) {
+            return Some(it.row);
+        }
+    }
+    None
+}
+
+/// For each class the row for a search that begins after one of its characters, if there is one. The error is want of memory.
+pub fn begins_of(
+    alloc: Global,
+    columns: &[Column],
+    fresh: &[FreshRow],
+) -> Result<Vec<Option<usize>>, AllocError>
+    ensures { IfOk result (λ begins. AreBegins columns.now fresh.now begins.items) }
+{
+    let mut begins = Vec::new(alloc);
+    for k in 0..columns.len() {
+        let column = columns[k];
+        let found = fresh_for(fresh, column.sort);
+        begins.push(found)?;
+    }
+    Ok(begins)
 }
 
 /// A number that is the same for rows that are.

@@ -45,7 +45,7 @@ impl Table {
             → parts.matchers ≡ matchers.now → s.text ≡ text.now → s.from ≡ from → s.stop ≡ length text.now → IsSign s result }
         ensures range { IsSignInRange text.now from result }
     {
-        let Some(row) = self.fresh_row(matchers, before) else {
+        let Some(row) = self.first_row(matchers, before) else {
             return Sign::Unknown { from };
         };
         let bytes = text.as_bytes();

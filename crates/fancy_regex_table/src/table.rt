@@ -1,6 +1,6 @@
 //! The table, and the pass over a text by it.
 
-ghost use Rattle.std.specs.Prelude.{◌≡◌, ◌+◌, ◌^◌, ◌<◌, ◌≤◌, ℕ, true, IfOk, IfSome, IsCharBoundary, length};
+ghost use Rattle.std.specs.Prelude.{◌≡◌, ◌+◌, ◌^◌, ◌<◌, ◌≤◌, ℕ, Option, true, IfOk, IfSome, IsCharBoundary, length};
 ghost use Rattle.regex_hir.specs.Text.{char_before};
 ghost use Rattle.fancy_regex_states.specs.declared.rules.Rules.{Rules};
 ghost use Rattle.fancy_regex_table.specs.Cells.{Parts, Search, begun_at as noted_at};
@@ -12,7 +12,7 @@ use crate::columns::columns_of;
 use crate::maker::rows_of;
 use crate::pattern::Pattern;
 use crate::row::Cell;
-use crate::rows::FreshRow;
+use crate::rows::{FreshRow, begins_of, fresh_for};
 use crate::sort::{Asked, asked_by, sort_of};
 use crate::step::Reader;
 use fancy_regex_class::CharClassMatcher;
@@ -65,11 +65,13 @@ pub struct Table {
     asked: Asked,
     unicode: bool,
     fresh: Vec<FreshRow>,
+    /// For each class of characters the row for a search that begins after one of them, if there is one.
+    begins: Vec<Option<usize>>,
     is_whole: bool,
 }
 
 impl Table {
-    ghost use Rattle.fancy_regex_table.specs.Tables.{IsTable, IsSearchOf, IsPassed, Stands, IsStartAt, IsFreshRow, IsOnward, IsRunTo, IsAsciiAt, IsLeft, IsDoneAt, IsInRange};
+    ghost use Rattle.fancy_regex_table.specs.Tables.{IsTable, IsSearchOf, IsPassed, Stands, IsStartAt, IsFreshRow, HasColumn, IsOnward, IsRunTo, IsAsciiAt, IsLeft, IsDoneAt, IsInRange};
     ghost use Rattle.fancy_regex_table.specs.Cells.{Tells};
     ghost use Rattle.fancy_regex_table.specs.Sorts.{sort_at};
     ghost use Rattle.fancy_regex_table.specs.declared.sort.Sort.{Sort as SortValue};
@@ -105,12 +107,14 @@ impl Table {
         let homes = homes_of(alloc, &pattern, &columns, &mut steps)?;
         let made = rows_of(alloc, &pattern, &columns, &homes, &mut steps)?;
         let cells = by_class(alloc, &made.cells, columns.len())?;
+        let begins = begins_of(alloc, &columns, &made.fresh)?;
         Ok(Some(Table {
             cells,
             ascii: alphabet.ascii,
             asked: alphabet.asked,
             unicode,
             fresh: made.fresh,
+            begins,
             is_whole: made.is_whole,
         }))
     }
@@ -140,7 +144,7 @@ impl Table {
             → parts.matchers ≡ matchers.now → s.text ≡ text.now → s.from ≡ from → s.stop ≡ stop → IsPassed s result }
         ensures range { IsInRange text.now from stop result }
     {
-        let Some(row) = self.fresh_row(matchers, before) else {
+        let Some(row) = self.first_row(matchers, before) else {
             return Passed::Unknown { from, read: from };
         };
         let first = Place {
@@ -179,13 +183,40 @@ impl Table {
         place
     }
 
-    /// The row for a search that begins after this character.
+    /// The row for a search that begins after this character, by its class where it is ASCII.
     #[inline(always)]
-    pub(crate) fn fresh_row(
+    pub(crate) fn first_row(
         &self,
         matchers: &[CharClassMatcher],
         before: Option<char>,
     ) -> Option<usize>
+        ensures { (parts : Parts) → IsTable parts self.now → parts.matchers ≡ matchers.now
+            → IfSome result (IsFreshRow self.now.fresh.items (sort_at parts.matchers self.now.asked self.now.unicode before)) }
+    {
+        match before {
+            None => self.row_of_class(0),
+            Some(c) if (c as u32) < 128 => self.row_of_class(self.ascii[c as usize] as usize),
+            _ => self.fresh_row(matchers, before),
+        }
+    }
+
+    /// The row for a search that begins after a character of this class.
+    #[inline(always)]
+    fn row_of_class(&self, class: usize) -> Option<usize>
+        ensures { (parts : Parts) (table : IsTable parts self.now) (c : Option ℕ)
+            → HasColumn parts table.columns self.now.asked c class
+            → IfSome result (IsFreshRow self.now.fresh.items (sort_at parts.matchers self.now.asked self.now.unicode c)) }
+    {
+        if class < self.begins.len() {
+            return self.begins[class];
+        }
+        None
+    }
+
+    /// The row for a search that begins after this character.
+    // Not inlined: few searches come to it.
+    #[inline(never)]
+    fn fresh_row(&self, matchers: &[CharClassMatcher], before: Option<char>) -> Option<usize>
         ensures { IfSome result (IsFreshRow self.now.fresh.items (sort_at matchers.now self.now.asked self.now.unicode before)) }
     {
         let reader = Reader {
@@ -193,14 +224,7 @@ impl Table {
             matchers,
             unicode: self.unicode,
         };
-        let sort = sort_of(self.asked, &reader, before);
-        for i in 0..self.fresh.len() {
-            let it = self.fresh[i];
-            if it.before.is_same(sort) {
-                return Some(it.row);
-            }
-        }
-        None
+        fresh_for(&self.fresh, sort_of(self.asked, &reader, before))
     }
 
     /// Where the first attempt began, or the place itself in a row for searches that begin.

@@ -1,10 +1,8 @@
 use Rattle.std.proofs.Common.{◌∙◌, ◌<◌, ◌≤◌, ◌≡◌, ◌+◌, ℕ, List, sym, ap, subst, arith, get_or, length, IsCharBoundary}
 use Rattle.regex_hir.specs.Text.{char_before}
-use Rattle.fancy_regex_class.specs.declared.class.CharClassMatcher.{CharClassMatcher}
 use Rattle.fancy_regex_states.specs.declared.rules.Rules.{Rules}
 use Rattle.fancy_regex_table.specs.Cells.{Parts, Search}
-use Rattle.fancy_regex_table.specs.Sorts.{sort_at}
-use Rattle.fancy_regex_table.specs.Tables.{IsTable, IsSearchOf, IsFreshRow, IsAsciiAt, IsLeft, IsDoneAt, IsInRange, AreBoundaries, Stands}
+use Rattle.fancy_regex_table.specs.Tables.{IsTable, IsSearchOf, IsAsciiAt, IsLeft, IsDoneAt, IsInRange, AreBoundaries, Stands}
 use Rattle.fancy_regex_table.specs.declared.table.Passed.{Passed}
 use Rattle.fancy_regex_table.specs.declared.table.Passed.TheVariants as P
 use Rattle.fancy_regex_table.specs.declared.table.Place.{Place}
@@ -19,7 +17,7 @@ stands_there : (c : After-run-place) (parts : Parts) (rules : Rules) (s : Search
 stands_there c parts rules s table search same text from stop =
     c.run-place.ensures.stands parts rules s table search text stop
     (stands_first s c.args.self.now.fresh.items c.args.before c.in-Some.row c.args.from table.fresh
-    (subst (λ (ms : List CharClassMatcher). IsFreshRow c.args.self.now.fresh.items (sort_at ms c.args.self.now.asked c.args.self.now.unicode c.args.before) c.in-Some.row) (sym same) c.in-Some.ensures)
+    (c.in-Some.ensures parts table same)
     (c.requires.before ∙ ap (λ (t : List ℕ). char_before t c.args.from) (sym text)) from (omega (arith, c.requires.range.0, stop))
     (subst (λ (t : List ℕ). IsCharBoundary t c.args.from) (sym text) c.requires.boundary))
 

@@ -1,10 +1,8 @@
 use Rattle.std.proofs.Common.{◌∙◌, ◌<◌, ◌≤◌, ◌≡◌, ◌+◌, inl, inr, ℕ, List, sym, ap, subst, arith, get_or, length, IsCharBoundary}
 use Rattle.std.proofs.lemmas.Bool.{cases_lt}
 use Rattle.regex_hir.specs.Text.{char_before}
-use Rattle.fancy_regex_class.specs.declared.class.CharClassMatcher.{CharClassMatcher}
 use Rattle.fancy_regex_table.specs.Signs.{IsSign, IsSignInRange, sign_in}
-use Rattle.fancy_regex_table.specs.Sorts.{sort_at}
-use Rattle.fancy_regex_table.specs.Tables.{IsFreshRow, IsAsciiAt, IsDoneAt, AreBoundaries}
+use Rattle.fancy_regex_table.specs.Tables.{IsAsciiAt, IsDoneAt, AreBoundaries}
 use Rattle.fancy_regex_table.specs.declared.table.Passed.{Passed}
 use Rattle.fancy_regex_table.specs.declared.table.Passed.TheVariants as P
 use Rattle.fancy_regex_table.specs.declared.table.Place.{Place}
@@ -21,7 +19,7 @@ chars-init c = record {
   read = λ i low high. let same : c.args.from ≡ i = omega (arith, low, high) in subst (IsCharBoundary c.args.text.now) same c.requires.boundary;
   stands = λ parts rules s table by same text from stop.
       stands_first s c.args.self.now.fresh.items c.args.before c.in-Some.row c.args.from table.fresh
-      (subst (λ (ms : List CharClassMatcher). IsFreshRow c.args.self.now.fresh.items (sort_at ms c.args.self.now.asked c.args.self.now.unicode c.args.before) c.in-Some.row) (sym same) c.in-Some.ensures)
+      (c.in-Some.ensures parts table same)
       (c.requires.before ∙ ap (λ (t : List ℕ). char_before t c.args.from) (sym text)) from (omega (arith, c.requires.boundary.0, stop))
       (subst (λ (t : List ℕ). IsCharBoundary t c.args.from) (sym text) c.requires.boundary);
 }
