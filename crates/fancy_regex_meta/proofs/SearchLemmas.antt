@@ -1,6 +1,6 @@
 -- A search of the code as a search of the definitions.
-use Rattle.std.proofs.Common.{◌≡◌, ◌<◌, ℕ, Bool, true, false, not, ◌&&◌, List, Some, None, refl, ap, subst, ◌∙◌, rules, nat_lt, if◌then◌else◌}
-use Rattle.std.specs.Prelude.{◌||◌}
+use Rattle.std.proofs.Common.{◌≡◌, ◌<◌, ℕ, Bool, true, false, not, ◌&&◌, List, Option, Some, None, Result, Ok, Err, refl, sym, ap, subst, ◌∙◌, rules, nat_lt, if◌then◌else◌}
+use Rattle.std.specs.Prelude.{◌||◌, is_some, option_map, IfOk, IfErr}
 use Rattle.fancy_regex_tree.specs.Tree.{Tree}
 use Rattle.fancy_regex_meaning.specs.Groups.{Pattern, pattern_of}
 use Rattle.fancy_regex_meaning.specs.Choices.{choices}
@@ -26,6 +26,23 @@ use Rattle.std.proofs.Math.Bool.{Bool-set}
 use Rattle.fancy_regex_meta.specs.declared.options.RegexOptions.{RegexOptions}
 use Rattle.fancy_regex_meta.specs.declared.strategy.Strategy.{Strategy}
 use Rattle.fancy_regex_meta.specs.declared.strategy.Strategy.TheVariants.{Easy, Linear, Program}
+
+-- what holds of the value or the error of a result
+pub if_ok : {A E : Type 0} {P Q : A → Type 0} (r : Result A E) → IfOk r P → ((x : A) → P x → Q x) → IfOk r Q
+if_ok (Ok x) h f = f x h
+if_ok (Err e) h f = tt
+
+pub if_err : {A E : Type 0} {P Q R : E → Type 0} (r : Result A E) → IfErr r P → IfErr r Q → ((e : E) → P e → Q e → R e) → IfErr r R
+if_err (Ok x) h k f = tt
+if_err (Err e) h k f = f e h k
+
+map-some : {A B : Type 0} (f : A → B) (o : Option A) → is_some (option_map f o) ≡ is_some o
+map-some f None = refl
+map-some f (Some m) = refl
+
+-- two have the same parts only if both are there
+pub some-same : {A B C : Type 0} (f : A → C) (g : B → C) (x : Option A) (y : Option B) → option_map f x ≡ option_map g y → is_some x ≡ is_some y
+some-same f g x y e = sym (map-some f x) ∙ ap is_some e ∙ map-some g y
 
 continues-same : (c continue_disabled : Bool) (q : ℕ) → (if c && not continue_disabled then Some q else None) ≡ (if continue_disabled || not c then None else Some q)
 continues-same true true q = refl

@@ -1,6 +1,6 @@
 //! A compiled pattern: its text, its options, the names and the number of its groups, and what executes it.
 
-ghost use Rattle.std.specs.Prelude.{◌≡◌, ◌≤◌, ◌+◌, ◌-◌, ◌^◌, true, false, min, length, IfOk, IfErr, IfSome, option_map, string_bytes, IsCharBoundary};
+ghost use Rattle.std.specs.Prelude.{◌≡◌, ◌≤◌, ◌+◌, ◌-◌, ◌^◌, true, false, min, is_some, length, IfOk, IfErr, IfSome, option_map, string_bytes, IsCharBoundary};
 ghost use Rattle.fancy_regex_tree.specs.Tree.{tree_of};
 ghost use Rattle.fancy_regex_meaning.specs.Groups.{pattern_of};
 ghost use Rattle.fancy_regex_meta.specs.Strategies.{Executes, StrategyKeepsCap};
@@ -155,5 +155,25 @@ impl MetaRegex {
         }
         self.strategy
             .search(alloc, text, input, wanted, steps, memory)
+    }
+
+    /// Whether `search` finds a match, with its errors.
+    pub fn has_match(
+        &self,
+        alloc: Global,
+        text: &str,
+        input: &RunInput,
+        memory: &mut MetaMemory,
+    ) -> Result<bool>
+        requires first { input.now.first ≤ input.now.range.end → IsCharBoundary text.now input.now.first }
+        requires range { input.now.range.end ≤ length text.now }
+        ensures answer { IfOk result (λ yes. yes ≡ is_some (meta_match_for self.now text.now input.now)) }
+        ensures limits { IfErr result (λ e. IsRunError self.now text.now input.now e) }
+        ensures stays { IfOk result (λ _. RunStaysInLimits self.now text.now input.now) }
+    {
+        if input.range.end < input.first {
+            return Ok(false);
+        }
+        self.strategy.has_match(alloc, text, input, memory)
     }
 }

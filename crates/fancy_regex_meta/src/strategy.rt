@@ -1,7 +1,7 @@
 //! What executes a compiled pattern: the linear-time matcher in bounded steps, or a backtracking program. A pattern that is easy but for
 //! look-arounds for one character keeps its program, and is searched by the matcher.
 
-ghost use Rattle.std.specs.Prelude.{◌≡◌, ◌≤◌, ◌+◌, ◌-◌, ◌*◌, ◌^◌, ◌<◌, min, true, false, not, length, IfOk, IfErr, IfSome, option_map, IsCharBoundary};
+ghost use Rattle.std.specs.Prelude.{◌≡◌, ◌≤◌, ◌+◌, ◌-◌, ◌*◌, ◌^◌, ◌<◌, min, true, false, not, is_some, length, IfOk, IfErr, IfSome, option_map, IsCharBoundary};
 ghost use Rattle.fancy_regex_tree.specs.Tree.{Tree, tree_of};
 ghost use Rattle.fancy_regex_meaning.specs.Choices.{program_nodes};
 ghost use Rattle.fancy_regex_meaning.specs.Groups.{pattern_of};
@@ -243,6 +243,43 @@ impl Strategy {
                         Ok(found_groups(slots))
                     }
                 }
+            }
+        }
+    }
+
+    /// Whether `search` finds a match, with its errors. The linear-time matcher reads the text up to the first sign of a match alone,
+    /// where its table tells it.
+    pub fn has_match(
+        &self,
+        alloc: Global,
+        text: &str,
+        input: &RunInput,
+        memory: &mut MetaMemory,
+    ) -> Result<bool>
+        requires first { IsCharBoundary text.now input.now.first }
+        requires range { input.now.range.end ≤ length text.now }
+        requires whole { is_whole self.now ≡ true }
+        ensures answer { IfOk result (λ yes. (o : RegexOptions) (t : Tree) → Executes self.now o t → yes
+            ≡ is_some (first_match (setting_for o.unicode_mode text.now input.now) (pattern_of t) (search_of o input.now))) }
+        ensures limits { IfErr result (λ e. (o : RegexOptions) (t : Tree) → Executes self.now o t
+            → IsSearchError (is_easy_strategy self.now) o.backtrack_limit (run_choices o text.now input.now t) e) }
+        ensures passed { IfErr result (λ e. (o : RegexOptions) (t : Tree) → Executes self.now o t
+            → IsStrategyError self.now o text.now input.now e) }
+        ensures stays { IfOk result (λ _. (o : RegexOptions) → RunsUnder self.now o → StrategyStaysInLimits self.now o text.now input.now) }
+    {
+        match self {
+            Strategy::Easy(easy) => {
+                let answer = easy.has_match_in(text, input, &mut memory.easy)?;
+                Ok(answer)
+            }
+            Strategy::Linear { linear, .. } => {
+                let answer = linear.has_match_in(text, input, &mut memory.easy)?;
+                Ok(answer)
+            }
+            Strategy::Program { .. } => {
+                let steps = &mut Steps::new();
+                let found = self.search(alloc, text, input, MatchDetail::Span, steps, memory)?;
+                Ok(found.is_some())
             }
         }
     }

@@ -1,5 +1,5 @@
-use Rattle.std.proofs.Common.{◌∙◌, ℕ, subst, Result, Ok, Err, sym, ap, arith}
-use Rattle.std.specs.Prelude.{option_map, string_bytes, IfOk, IfErr}
+use Rattle.std.proofs.Common.{◌∙◌, ℕ, subst, sym, ap, arith}
+use Rattle.std.specs.Prelude.{option_map, string_bytes}
 use base.Stored.{Coded-set}
 use Rattle.std.specs.Coded.{coded_option}
 use mathlib.Core.Logic.{∥∥₁_elim}
@@ -10,17 +10,9 @@ use Rattle.fancy_regex_meta.specs.MetaMatches.{meta_pattern}
 use Rattle.fancy_regex_meta.specs.FoundParts.{wanted_parts}
 use Rattle.fancy_regex_meta.specs.Strategies.{search_of}
 use Rattle.fancy_regex_meta.specs.SearchLimits.{IsSearchError, meta_tree, meta_uses_easy, run_choices}
-use Rattle.fancy_regex_meta.proofs.SearchLemmas.{no-match, none-tried, IsSearchError-prop, IsStrategyError-prop, StrategyStaysInLimits-prop, executes-under}
+use Rattle.fancy_regex_meta.proofs.SearchLemmas.{if_ok, if_err, no-match, none-tried, IsSearchError-prop, IsStrategyError-prop, StrategyStaysInLimits-prop, executes-under}
 use Rattle.fancy_regex_meta.proofs.MatchOffsetLemmas.{found_within, coded_parts}
 use Rattle.fancy_regex_meta.proofs.meta_regex.MetaRegex.search.Goals as goal
-
-if_ok : {A E : Type 0} {P Q : A → Type 0} (r : Result A E) → IfOk r P → ((x : A) → P x → Q x) → IfOk r Q
-if_ok (Ok x) h f = f x h
-if_ok (Err e) h f = tt
-
-if_err : {A E : Type 0} {P Q R : E → Type 0} (r : Result A E) → IfErr r P → IfErr r Q → ((e : E) → P e → Q e → R e) → IfErr r R
-if_err (Ok x) h k f = tt
-if_err (Err e) h k f = f e h k
 
 -- past the range nothing is found
 pub returns-then-input-clause-answer : goal.returns-then-input-clause-answer
