@@ -1,6 +1,6 @@
 -- What a search has found of a match, and where it searched.
-use Rattle.std.proofs.Common.{◌≡◌, ℕ, ◌≤◌, List, [], ◌∷◌, length, max, false, Option, Some, None, refl, sym, ◌∙◌, ap, arith}
-use Rattle.std.specs.Prelude.{option_map, is_some}
+use Rattle.std.proofs.Common.{◌≡◌, ℕ, ◌≤◌, List, [], ◌∷◌, length, max, false, Option, Some, None, refl, ap, arith}
+use Rattle.std.specs.Prelude.{option_map}
 use Rattle.fancy_regex_meaning.specs.Groups.{Pattern}
 use Rattle.fancy_regex_meaning.specs.Searches.{Match, find_input}
 use Rattle.fancy_regex_input.specs.declared.config.SearchConfig.{SearchConfig}
@@ -23,13 +23,6 @@ some-of f (Some m) v e = (m, refl, cc)
 pub none-of : {A B : Type 0} (f : A → B) (o : Option A) → None ≡ option_map f o → o ≡ None
 none-of f None e = refl
 none-of f (Some m) e = absurd (cc)
-
-map-some : {A B : Type 0} (f : A → B) (o : Option A) → is_some (option_map f o) ≡ is_some o
-map-some f None = refl
-map-some f (Some m) = refl
-
-pub some-same : {A B C : Type 0} (f : A → C) (g : B → C) (x : Option A) (y : Option B) → option_map f x ≡ option_map g y → is_some x ≡ is_some y
-some-same f g x y e = sym (map-some f x) ∙ ap is_some e ∙ map-some g y
 
 -- a search of an input is one from where it starts
 pub found-is : (s : MetaRegex) (text : List ℕ) (a : SearchConfig) → meta_match s text a ≡ meta_match_from s text a (max a.start a.range_start) false

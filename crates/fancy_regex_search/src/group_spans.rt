@@ -1,9 +1,9 @@
 //! Searches a haystack with a regex, and turns the start and end offsets of groups into matches of the haystack.
 
-ghost use Rattle.std.specs.Prelude.{◌≡◌, ◌≤◌, ◌+◌, ◌-◌, ◌^◌, true, false, IfOk, IfErr, IfSome, option_map, min};
+ghost use Rattle.std.specs.Prelude.{◌≡◌, ◌≤◌, ◌+◌, ◌-◌, ◌^◌, true, false, IfOk, IfErr, IfSome, is_some, option_map, min};
 ghost use Rattle.fancy_regex_input.specs.SearchInputs.{effective_start, run_input_of};
 ghost use Rattle.fancy_regex_meta.specs.SearchLimits.{IsMetaSearchError, MetaStaysInLimits, meta_uses_easy, meta_starts_tried, max_looks};
-ghost use Rattle.fancy_regex_meta.specs.MetaMatches.{meta_pattern, meta_match_from};
+ghost use Rattle.fancy_regex_meta.specs.MetaMatches.{meta_pattern, meta_match, meta_match_from};
 ghost use Rattle.fancy_regex_meta.specs.MatchOffsets.{AreBoundaries, IsMatchWithin};
 ghost use Rattle.fancy_regex_meta.specs.FoundParts.{found_parts, wanted_parts};
 ghost use Rattle.fancy_regex_search.specs.CaptureSpans.{IsSpanAt};
@@ -62,6 +62,27 @@ pub fn find_match<S: Input>(
     let haystack = input.haystack();
     let run_input = run_input_for(input, continue_disabled);
     regex.meta.search(alloc, haystack.as_str(), &run_input, wanted, steps, memory)
+}
+
+/// Whether an input has a match. What earlier searches left in the memory changes no answer. Errors: `RuntimeError` at a limit, or
+/// `Memory`.
+#[inline(always)]
+pub fn has_match<S: Input>(
+    alloc: Global,
+    regex: &Regex,
+    input: &RegexInput<S>,
+    memory: &mut MetaMemory,
+) -> Result<bool>
+    ensures answer { IfOk result (λ yes. yes ≡ is_some (meta_match regex.now.meta (S.text input.now.haystack) input.now.config)) }
+    ensures limits { IfErr result (λ e.
+        IsMetaSearchError regex.now.meta (S.text input.now.haystack) input.now.config false e) }
+    ensures stays { IfOk result (λ _. MetaStaysInLimits regex.now.meta (S.text input.now.haystack) input.now.config false) }
+{
+    let haystack = input.haystack();
+    let run_input = run_input_for(input, false);
+    regex
+        .meta
+        .has_match(alloc, haystack.as_str(), &run_input, memory)
 }
 
 /// The start and end byte offsets of a group; `None` if it did not participate or there is no such group.

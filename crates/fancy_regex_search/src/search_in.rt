@@ -8,7 +8,7 @@ ghost use Rattle.fancy_regex_search.specs.Looks.{MetaHasNoCountedRepeats, plain_
 ghost use Rattle.fancy_regex_search.specs.CaptureSpans.{span_in, AreGroupsOf, IsResultFor};
 
 use crate::captures::Captures;
-use crate::group_spans::{find_match, whole_match};
+use crate::group_spans::{find_match, has_match, whole_match};
 use crate::regex::Regex;
 use fancy_regex_class::Steps;
 use fancy_regex_input::{Input, RegexInput};
@@ -39,9 +39,7 @@ impl Regex {
         ensures limits { IfErr result (λ e. IsMetaSearchError self.now.meta (S.text input.haystack) input.config false e) }
         ensures stays { IfOk result (λ _. MetaStaysInLimits self.now.meta (S.text input.haystack) input.config false) }
     {
-        let steps = &mut Steps::new();
-        let found = find_match(alloc, self, &input, false, MatchDetail::Span, steps, memory)?;
-        Ok(found.is_some())
+        has_match(alloc, self, &input, memory)
     }
 
     /// `find_input` that uses the memory of earlier searches again. Where that has the room nothing is allocated.
