@@ -23,6 +23,8 @@ static int right_calls(void) {
     WANT(fancy_regex_groups(&regex) == 3);
     WANT(fancy_regex_find(&regex, "xxb", 3, 0, &span) == FANCY_REGEX_DONE && span.start == 2 && span.end == 3);
     WANT(fancy_regex_find(&regex, "xxb", 3, 0, NULL) == FANCY_REGEX_DONE);
+    WANT(fancy_regex_is_match(&regex, "xxb", 3, 0) == FANCY_REGEX_DONE);
+    WANT(fancy_regex_is_match(&regex, "xxb", 3, 3) == FANCY_REGEX_NO_MATCH);
     WANT(fancy_regex_find_counted(&regex, "xxb", 3, &known, &span, &looks) == FANCY_REGEX_DONE && span.end == 3 && looks > 0);
     WANT(fancy_regex_find(&regex, "xxb", 3, 3, &span) == FANCY_REGEX_NO_MATCH && span.start == FANCY_REGEX_UNSET);
     WANT(fancy_regex_find_by(&regex, "xxb", 3, &known, &span) == FANCY_REGEX_DONE && span.start == 2);
@@ -228,6 +230,7 @@ static int options(void) {
     options.backtrack_limit = 1;
     WANT(fancy_regex_build(&regex, "(a|b|ab)*bc(?=xy)", 17, &options) == FANCY_REGEX_DONE);
     WANT(fancy_regex_find(&regex, "abababababababab", 16, 0, &span) == FANCY_REGEX_LIMIT);
+    WANT(fancy_regex_is_match(&regex, "abababababababab", 16, 0) == FANCY_REGEX_LIMIT);
     WANT(fancy_regex_fault_text(&regex, NULL, 0) > 0);
     fancy_regex_free(&regex);
     return 0;
@@ -251,9 +254,11 @@ static int wrong_calls(void) {
     WANT(fancy_regex_groups(&regex) == 0 && fancy_regex_groups(NULL) == 0);
     fancy_regex_free(&regex);
     WANT(fancy_regex_find(&regex, "a", 1, 0, &span) == FANCY_REGEX_EMPTY_HANDLE);
+    WANT(fancy_regex_is_match(&regex, "a", 1, 0) == FANCY_REGEX_EMPTY_HANDLE);
     WANT(fancy_regex_build(&regex, "a", 1, NULL) == FANCY_REGEX_DONE);
     WANT(fancy_regex_build(&regex, NULL, 1, NULL) == FANCY_REGEX_NULL_POINTER && fancy_regex_groups(&regex) == 1);
     WANT(fancy_regex_find(NULL, "a", 1, 0, &span) == FANCY_REGEX_NULL_POINTER);
+    WANT(fancy_regex_is_match(NULL, "a", 1, 0) == FANCY_REGEX_NULL_POINTER);
     WANT(fancy_regex_find(&regex, NULL, 1, 0, &span) == FANCY_REGEX_NULL_POINTER);
     WANT(fancy_regex_find(&regex, "a", SIZE_MAX, 0, &span) == FANCY_REGEX_TOO_LONG);
     span.start = looks = 7;

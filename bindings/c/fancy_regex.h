@@ -118,6 +118,7 @@ typedef struct fancy_regex_query {
 /* The library's own functions, which the functions below call once they have tested the pointers and lengths. Call those. */
 int32_t fancy_regex_raw_build(fancy_regex *regex, const uint8_t *pattern, size_t length, const fancy_regex_options *options);
 void fancy_regex_raw_free(fancy_regex *regex);
+int32_t fancy_regex_raw_is_match(fancy_regex *regex, const uint8_t *text, size_t length, const fancy_regex_query *query);
 int32_t fancy_regex_raw_find(fancy_regex *regex, const uint8_t *text, size_t length, const fancy_regex_query *query, fancy_regex_span *span);
 int32_t fancy_regex_raw_find_counted(fancy_regex *regex, const uint8_t *text, size_t length, const fancy_regex_query *query, fancy_regex_span *span, uint64_t *looks);
 int32_t fancy_regex_raw_captures(fancy_regex *regex, const uint8_t *text, size_t length, const fancy_regex_query *query, fancy_regex_span *spans, size_t room);
@@ -180,6 +181,14 @@ static inline int32_t fancy_regex_find_by(fancy_regex *regex, const char *text, 
     return fancy_regex_raw_find(regex, fancy_regex_bytes(text), length, query, span != NULL ? span : &ignored);
 }
 
+/* Whether the search that the query describes has a match; the answers are those of fancy_regex_is_match. */
+static inline int32_t fancy_regex_is_match_by(fancy_regex *regex, const char *text, size_t length, const fancy_regex_query *query) {
+    int32_t tested = fancy_regex_test(text, length, 1);
+    if (regex == NULL || query == NULL) return FANCY_REGEX_NULL_POINTER;
+    if (tested != FANCY_REGEX_DONE) return tested;
+    return fancy_regex_raw_is_match(regex, fancy_regex_bytes(text), length, query);
+}
+
 /* As fancy_regex_find_by, and writes into `looks`, which must not be null, a count of the looks at the text that the linear engine
  * makes: 0 where nothing is searched and for a pattern that is not plain, which has look-around, a reference or another fancy part, or
  * is built with find_not_empty; for a plain pattern at most W * (N + 1), where N is the number of bytes from the place of the search to
@@ -214,6 +223,13 @@ static inline int32_t fancy_regex_captures_by(fancy_regex *regex, const char *te
 static inline int32_t fancy_regex_find(fancy_regex *regex, const char *text, size_t length, size_t position, fancy_regex_span *span) {
     fancy_regex_query query = {position, false, true};
     return fancy_regex_find_by(regex, text, length, &query, span);
+}
+
+/* Answers FANCY_REGEX_DONE where fancy_regex_find finds a match, FANCY_REGEX_NO_MATCH where it finds none, or a fault, one of those of
+ * fancy_regex_find. It may read less of the text: for many patterns it stops at the first sign of a match. */
+static inline int32_t fancy_regex_is_match(fancy_regex *regex, const char *text, size_t length, size_t position) {
+    fancy_regex_query query = {position, false, true};
+    return fancy_regex_is_match_by(regex, text, length, &query);
 }
 
 /* As fancy_regex_find, and writes the spans of the groups into `spans`, which has `room` of them: group 0, the whole match,

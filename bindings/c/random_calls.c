@@ -93,6 +93,7 @@ static int32_t any_search(fancy_regex *regex) {
     if (below(2) == 0) {
         int32_t answer = fancy_regex_find(regex, at, claimed, position, &spans[0]);
         if (answer == FANCY_REGEX_DONE && !is_span(spans[0], length)) wrong(__LINE__);
+        if (fancy_regex_is_match(regex, at, claimed, position) != answer) wrong(__LINE__);
         return answer;
     }
     size_t room = below(7);

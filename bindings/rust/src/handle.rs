@@ -78,6 +78,21 @@ impl Owned {
         self.told(status).map(drop)
     }
 
+    /// Whether there is a match.
+    #[inline]
+    pub fn is_match(&self, search: &Search<'_>) -> Result<bool> {
+        // The text is UTF-8, as the query says, and borrowed for the call, as the query is.
+        let status = unsafe {
+            raw::fancy_regex_raw_is_match(
+                self.at(),
+                search.text.as_ptr(),
+                search.text.len(),
+                &search.query(),
+            )
+        };
+        self.told(status)
+    }
+
     /// The span of the first match.
     #[inline]
     pub fn find(&self, search: &Search<'_>) -> Result<Option<Span>> {

@@ -121,6 +121,12 @@ extern "C" {
         query: *const Query,
         span: *mut Span,
     ) -> i32;
+    pub fn fancy_regex_raw_is_match(
+        handle: *mut Handle,
+        text: *const u8,
+        length: usize,
+        query: *const Query,
+    ) -> i32;
     pub fn fancy_regex_raw_captures(
         handle: *mut Handle,
         text: *const u8,

@@ -192,7 +192,12 @@ impl Regex {
     ///
     /// Those of [searches](Regex#errors-of-searches).
     pub fn is_match_input<S: Input + ?Sized>(&self, input: RegexInput<'_, S>) -> Result<bool> {
-        Ok(self.span_in(&input)?.is_some())
+        let text = input.haystack().text();
+        match input.search(text, self.overrides_assertions())? {
+            Some(search) if !search.anchored => self.with_handle(|handle| handle.is_match(&search)),
+            Some(search) => Ok(self.find_span(&search)?.is_some()),
+            None => Ok(false),
+        }
     }
 
     /// The first match in the input.

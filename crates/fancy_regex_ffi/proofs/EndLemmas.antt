@@ -12,8 +12,8 @@ use Rattle.fancy_regex_search.specs.declared.regex.Regex.{Regex}
 use Rattle.fancy_regex_search.specs.CaptureSpans.{AreGroupsOf}
 use Rattle.fancy_regex_ffi.specs.Codes.{code_of, fault_status}
 use Rattle.fancy_regex_ffi_lists.specs.Spans.{span_of}
-use Rattle.fancy_regex_ffi.specs.Ends.{FindEnds, CapturesEnd, FindReports, CapturesReport, LooksCounted, NameReports, IsNameWritten, IsBuilt, IsAnswer, IsBuildFault, BuildEnds, IsStored}
-use Rattle.fancy_regex_ffi.specs.Searches.{IsFoundBy, IsCapturedBy, CountsLooksBy, CountsStartsBy, AreGroupSpans, AreGroupsFound, config_of}
+use Rattle.fancy_regex_ffi.specs.Ends.{FindEnds, MatchEnds, CapturesEnd, FindReports, MatchReports, CapturesReport, LooksCounted, NameReports, IsNameWritten, IsBuilt, IsAnswer, IsBuildFault, BuildEnds, IsStored}
+use Rattle.fancy_regex_ffi.specs.Searches.{IsFoundBy, IsToldBy, IsCapturedBy, CountsLooksBy, CountsStartsBy, AreGroupSpans, AreGroupsFound, config_of}
 use Rattle.fancy_regex_ffi.specs.Bytes.{IsFaultStored, AreStartsOrFault, AreRequiredOrFault, IsAskedEnd, StartBytesEnd, RequiredBytesEnd}
 use Rattle.fancy_regex_ffi.specs.declared.fault.CallError.{CallError}
 use Rattle.fancy_regex_ffi.specs.declared.fault.CallError.TheVariants as faults
@@ -61,6 +61,20 @@ pub captures_fault_ends : (subject : Subject) (text : List ℕ) (query : Query) 
     → new ≡ Some fault → CapturesEnd subject text query (fault_status fault) spans written old new
 captures_fault_ends subject text query fault spans written old new by told = record { answer = Err fault; is_captured = by; is_told = refl; recorded = told }
 
+-- a search that answers whether there is a match
+pub matched_ends : (subject : Subject) (text : List ℕ) (query : Query) (old new : Option CallError) → IsToldBy subject text query (Ok true) → new ≡ old
+    → MatchEnds subject text query statuses.Done old new
+matched_ends subject text query old new by same = record { answer = Ok true; is_matched = by; is_told = refl; recorded = same }
+
+pub unmatched_ends : (subject : Subject) (text : List ℕ) (query : Query) (old new : Option CallError) → IsToldBy subject text query (Ok false) → new ≡ old
+    → MatchEnds subject text query statuses.NoMatch old new
+unmatched_ends subject text query old new by same = record { answer = Ok false; is_matched = by; is_told = refl; recorded = same }
+
+-- one that has a fault
+pub match_fault_ends : (subject : Subject) (text : List ℕ) (query : Query) (fault : CallError) (old new : Option CallError) → IsToldBy subject text query (Err fault)
+    → new ≡ Some fault → MatchEnds subject text query (fault_status fault) old new
+match_fault_ends subject text query fault old new by told = record { answer = Err fault; is_matched = by; is_told = refl; recorded = told }
+
 -- a regex that is built
 pub built_ends : (options : RegexOptions) (pattern : List ℕ) (subject : Subject) (recorded : Option CallError) (regex : Regex) → subject ≡ subjects.Regex regex → recorded ≡ None
     → string_bytes regex.meta.pattern ≡ pattern → regex.meta.options ≡ options → MetaKeepsCap regex.meta → Accepts options pattern → IsBuilt options pattern subject recorded statuses.Done
@@ -78,6 +92,12 @@ pub find_reports : (old left : Option Contents) (contents after : Contents) (tex
     → FindEnds contents.subject text query status span contents.fault after.fault → after.subject ≡ contents.subject → FindReports old left text query code span
 find_reports old left contents after text query status code span before following told ends same =
     subst (λ (o : Option Contents). FindReports o left text query code span) (sym before) (after, status, following, told, same, ends)
+
+-- what a question of a handle that holds something reports
+pub match_reports : (old left : Option Contents) (contents after : Contents) (text : List ℕ) (query : Query) (status : Status) (code : ℤ) → old ≡ Some contents → left ≡ Some after → code ≡ code_of status
+    → MatchEnds contents.subject text query status contents.fault after.fault → after.subject ≡ contents.subject → MatchReports old left text query code
+match_reports old left contents after text query status code before following told ends same =
+    subst (λ (o : Option Contents). MatchReports o left text query code) (sym before) (after, status, following, told, same, ends)
 
 -- what a search for groups of a handle that holds something reports
 pub captures_report : (old left : Option Contents) (contents after : Contents) (text : List ℕ) (query : Query) (status : Status) (code : ℤ) (spans written : List Span) → old ≡ Some contents → left ≡ Some after → code ≡ code_of status
@@ -135,3 +155,5 @@ name_reported old contents group room written count before told = subst (λ (o :
 pub ruleset ends_of_find = (found_ends, missing_ends, fault_ends, no_answer)
 
 pub ruleset ends_of_captures = (captured_ends, uncaptured_ends, captures_fault_ends)
+
+pub ruleset ends_of_match = (matched_ends, unmatched_ends, match_fault_ends)

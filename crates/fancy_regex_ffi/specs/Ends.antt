@@ -10,7 +10,7 @@ use Rattle.fancy_regex_ffi.specs.Codes.{code_of, fault_status}
 use Rattle.fancy_regex_ffi_lists.specs.Spans.{span_of}
 use Rattle.fancy_regex_ffi.specs.Places.{place_of}
 use Rattle.fancy_regex_ffi_lists.specs.Fronts.{IsFrontOf}
-use Rattle.fancy_regex_ffi.specs.Searches.{IsFoundBy, IsCapturedBy, CountsLooksBy, CountsStartsBy}
+use Rattle.fancy_regex_ffi.specs.Searches.{IsFoundBy, IsToldBy, IsCapturedBy, CountsLooksBy, CountsStartsBy}
 use Rattle.fancy_regex_ffi.specs.declared.fault.CallError.{CallError}
 use Rattle.fancy_regex_ffi.specs.declared.fault.CallError.TheVariants as faults
 use Rattle.fancy_regex_ffi.specs.declared.contents.Contents.{Contents}
@@ -85,7 +85,7 @@ pub record FindEnds (subject : Subject) (text : List ℕ) (query : Query) (statu
   pub is_told : IsSpanTold answer status span
   pub recorded : FaultAfter answer old new
 
--- how a search for groups that answers this ends
+-- how a search for groups, or whether there is a match, that answers this ends
 abbrev pub captured_status : Result Bool CallError → Status
 captured_status (Ok true) = statuses.Done
 captured_status (Ok false) = statuses.NoMatch
@@ -99,12 +99,25 @@ pub record CapturesEnd (subject : Subject) (text : List ℕ) (query : Query) (st
   pub is_told : status ≡ captured_status answer
   pub recorded : FaultAfter answer old new
 
+-- How a search of what was built ends that asks whether there is a match: with that; or with a fault, which is recorded.
+pub record MatchEnds (subject : Subject) (text : List ℕ) (query : Query) (status : Status) (old new : Option CallError) : Type 0 where
+  pub answer : Result Bool CallError
+  pub is_matched : IsToldBy subject text query answer
+  pub is_told : status ≡ captured_status answer
+  pub recorded : FaultAfter answer old new
+
 -- The number that a search of what a handle holds returns, the span, and what the handle holds afterwards: what was built, and the fault
 -- that is recorded.
 abbrev pub FindReports : Option Contents → Option Contents → List ℕ → Query → ℤ → Span → Type 0
 FindReports (Some contents) left text query code span = (after : Contents) × (status : Status) × (left ≡ Some after) × (code ≡ code_of status)
     × (after.subject ≡ contents.subject) × FindEnds contents.subject text query status span contents.fault after.fault
 FindReports None left text query code span = (code ≡ code_of statuses.EmptyHandle) × (span ≡ span_of None) × (left ≡ None)
+
+-- the number that a call returns that asks whether what a handle holds has a match, and what the handle holds afterwards
+abbrev pub MatchReports : Option Contents → Option Contents → List ℕ → Query → ℤ → Type 0
+MatchReports (Some contents) left text query code = (after : Contents) × (status : Status) × (left ≡ Some after) × (code ≡ code_of status)
+    × (after.subject ≡ contents.subject) × MatchEnds contents.subject text query status contents.fault after.fault
+MatchReports None left text query code = (code ≡ code_of statuses.EmptyHandle) × (left ≡ None)
 
 -- the number that a search for groups of what a handle holds returns, the spans, and what the handle holds afterwards
 abbrev pub CapturesReport : Option Contents → Option Contents → List ℕ → Query → ℤ → List Span → List Span → Type 0

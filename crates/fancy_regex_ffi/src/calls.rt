@@ -5,15 +5,15 @@ ghost use Rattle.fancy_regex_meta.specs.Caps.{MetaKeepsCap};
 ghost use Rattle.fancy_regex_meta.specs.Refusals.{Accepts};
 ghost use Rattle.fancy_regex_ffi_lists.specs.Choices.{chosen};
 ghost use Rattle.fancy_regex_ffi.specs.Codes.{fault_status};
-ghost use Rattle.fancy_regex_ffi.specs.Ends.{IsAnswer, IsBuildFault, IsBuilt, FindEnds, CapturesEnd, groups_for, place_or_max, IsGroupName, IsNameOf, IsNameWritten};
-ghost use Rattle.fancy_regex_ffi.specs.Searches.{IsFoundBy, CountsLooksBy, CountsStartsBy, IsCapturedBy, IsCapturedIn, AreGroupSpans};
+ghost use Rattle.fancy_regex_ffi.specs.Ends.{IsAnswer, IsBuildFault, IsBuilt, FindEnds, MatchEnds, CapturesEnd, groups_for, place_or_max, IsGroupName, IsNameOf, IsNameWritten};
+ghost use Rattle.fancy_regex_ffi.specs.Searches.{IsFoundBy, IsToldBy, CountsLooksBy, CountsStartsBy, IsCapturedBy, IsCapturedIn, AreGroupSpans};
 ghost use Rattle.fancy_regex_ffi.specs.Texts.{IsFaultWritten, IsTextWritten};
 ghost use Rattle.fancy_regex_ffi.specs.declared.contents.Subject.TheVariants as subjects;
 
 use crate::contents::{Contents, Subject};
 use crate::fault::CallError;
 use crate::kept_memory::KeptMemory;
-use crate::query::{Query, check_place, find_in, text_of};
+use crate::query::{Query, check_place, find_in, is_match_in, text_of};
 use crate::status::Status;
 use fancy_regex::{Captures, Error, Regex, RegexInput, SearchMemory, Steps};
 use fancy_regex_ffi_lists::{Options, Span, group_span, write_error, write_front};
@@ -92,6 +92,41 @@ fn find(
     match subject {
         Subject::Regex(regex) => match text_of(text, query.is_utf8) {
             Ok(text) => find_in(alloc, regex, text, query, steps, &mut memory.memory),
+            Err(fault) => Err(fault),
+        },
+        Subject::Set(_) | Subject::Nothing => Err(CallError::NoRegex),
+    }
+}
+
+/// How a search ends that asks whether there is a match; a fault is recorded.
+#[tactic(auto, using(crate::proofs::EndLemmas::ends_of_match))]
+pub fn tell_match(alloc: Global, contents: &mut Contents, text: &[u8], query: &Query) -> Status
+    requires { query.now.is_utf8 ≡ true → IsUtf8 text.now }
+    ensures subject { contents.new.subject ≡ contents.old.subject }
+    ensures answer { MatchEnds contents.old.subject text.now query.now result contents.old.fault contents.new.fault }
+{
+    let memory = &mut contents.memory;
+    match is_match(alloc, &contents.subject, text, query, memory) {
+        Ok(true) => Status::Done,
+        Ok(false) => Status::NoMatch,
+        Err(fault) => record_fault(contents, fault),
+    }
+}
+
+/// Whether there is a match.
+fn is_match(
+    alloc: Global,
+    subject: &Subject,
+    text: &[u8],
+    query: &Query,
+    memory: &mut KeptMemory,
+) -> Result<bool, CallError>
+    requires { query.now.is_utf8 ≡ true → IsUtf8 text.now }
+    ensures { IsToldBy subject.now text.now query.now result }
+{
+    match subject {
+        Subject::Regex(regex) => match text_of(text, query.is_utf8) {
+            Ok(text) => is_match_in(alloc, regex, text, query, &mut memory.memory),
             Err(fault) => Err(fault),
         },
         Subject::Set(_) | Subject::Nothing => Err(CallError::NoRegex),

@@ -4,7 +4,7 @@
 
 ghost use Rattle.std.specs.Prelude.{◌≡◌, true, None, IsUtf8, length};
 ghost use Rattle.fancy_regex_ffi_lists.specs.Choices.{chosen};
-ghost use Rattle.fancy_regex_ffi.specs.Ends.{BuildEnds, FindReports, CapturesReport, LooksCounted, NameReports, groups_in, place_in};
+ghost use Rattle.fancy_regex_ffi.specs.Ends.{BuildEnds, FindReports, MatchReports, CapturesReport, LooksCounted, NameReports, groups_in, place_in};
 ghost use Rattle.fancy_regex_ffi.specs.Lists.{ListReports, OfRegex, AreMatchSpans, ArePieceSpans, IsReplacedText, AreMembers, AreMemberGroups};
 ghost use Rattle.fancy_regex_ffi.specs.Sets.{SetBuildEnds, MixedBuildEnds};
 ghost use Rattle.fancy_regex_ffi.specs.Templates.{CheckReports, EscapeEnds, NamesReport};
@@ -27,7 +27,10 @@ mod templates;
 
 use answers::{answer_done, answer_items, answer_text, end_text, store};
 use bytes::{end_asked, required_of, starts_of};
-use calls::{built, find_span, groups_of, place_of_fault, write_captures, write_fault, write_name};
+use calls::{
+    built, find_span, groups_of, place_of_fault, tell_match, write_captures, write_fault,
+    write_name,
+};
 use fancy_regex::{Error, Steps};
 use fancy_regex_ffi_lists::{Member, Options, Span};
 use handle::Handle;
@@ -123,6 +126,27 @@ fn find_counted(
     let (status, found) = find_span(alloc, &mut contents, text, query, steps);
     contents.bound_memory(alloc, text, query.position, found.end);
     *span = found;
+    handle.put(alloc, contents);
+    status.code()
+}
+
+/// Whether a search has a match: 1 if it has one, and 0 if not.
+#[tactic(auto, using(crate::proofs::EndLemmas::match_reports))]
+#[unsafe(no_mangle)]
+pub extern "C" fn fancy_regex_raw_is_match(
+    alloc: Global,
+    handle: &mut Handle,
+    text: &[u8],
+    query: &Query,
+) -> i32
+    requires { query.now.is_utf8 ≡ true → IsUtf8 text.now }
+    ensures { MatchReports handle.old.contents handle.new.contents text.now query.now result }
+{
+    let Some(mut contents) = handle.take(alloc) else {
+        return Status::EmptyHandle.code();
+    };
+    let status = tell_match(alloc, &mut contents, text, query);
+    contents.bound_memory(alloc, text, query.position, text.len());
     handle.put(alloc, contents);
     status.code()
 }

@@ -1,7 +1,7 @@
 //! The searches over texts of bytes: each test that a Rust caller's types would make is made here.
 
 ghost use Rattle.std.specs.Prelude.{◌≡◌, true, IfOk, IsUtf8};
-ghost use Rattle.fancy_regex_ffi.specs.Searches.{IsTextOrFault, IsPlaceOrFault, IsFoundIn, CountsLooks, CountsStarts};
+ghost use Rattle.fancy_regex_ffi.specs.Searches.{IsTextOrFault, IsPlaceOrFault, IsFoundIn, IsToldIn, CountsLooks, CountsStarts};
 
 use crate::fault::CallError;
 use fancy_regex::{Regex, RegexInput, SearchMemory, Steps};
@@ -68,4 +68,21 @@ pub fn find_in(
         Some(found) => Ok(Some((found.start(), found.end()))),
         None => Ok(None),
     }
+}
+
+/// Whether a search has a match.
+pub fn is_match_in(
+    alloc: Global,
+    regex: &Regex,
+    text: &str,
+    query: &Query,
+    memory: &mut SearchMemory,
+) -> Result<bool, CallError>
+    ensures { IsToldIn regex.now.meta text.now query.now result }
+{
+    check_place(text, query.position)?;
+    let input = RegexInput::new(text)
+        .from_pos(query.position)
+        .continue_from_previous_match_end(query.continues);
+    Ok(regex.is_match_in(alloc, input, memory)?)
 }
