@@ -4,19 +4,24 @@ use Rattle.std.specs.Prelude.{codes, string_bytes}
 use Rattle.fancy_regex.specs.Searches.{Match}
 use Rattle.fancy_regex.specs.Reading.{IsReadingError}
 use Rattle.fancy_regex.specs.Refusals as building
-use Rattle.fancy_regex.specs.SetMembers.{AreBuiltOf, RefusesPatterns}
+use Rattle.fancy_regex.specs.IterationErrors.{IsErrorOfIteration}
+use Rattle.fancy_regex.specs.SetMembers.{AreBuiltOf, IsBuiltOf, RefusesPatterns}
 use Rattle.fancy_regex.specs.WayLaws.{Each}
 use Rattle.fancy_regex.specs.MetaRegex.{MetaRegex}
+use Rattle.fancy_regex.specs.Regex.{Regex}
 use Rattle.fancy_regex.specs.Error.{Error}
 use Rattle.fancy_regex.specs.Error.TheVariants as errors
 use Rattle.fancy_regex.specs.RegexOptions.{RegexOptions}
 use Rattle.std.specs.Fmt.{decimal}
 use Rattle.fancy_search_text.specs.Lines.{lines_of, span_text}
 use Rattle.fancy_regex.specs.TextMatches.{IsErrorOfSearch}
-use Rattle.fancy_search_text.specs.Members.{Source, member_lines, IsErrorOfSet}
-use Rattle.fancy_search_run.specs.Answers.{IsAccepted, IsSearchFault, IsPrintFault, IsSetFault, sources_with, status_of, status_of_lines}
+use Rattle.fancy_search_text.specs.Members.{Source, member_lines, IsErrorOfSet, IsFirstError}
+use Rattle.fancy_search_run.specs.Answers.{IsAccepted, IsNotMemory, IsSearchFault, IsPrintFault, IsSetFault, MeetsError, SetMeetsError, sources_with, status_of, status_of_lines}
 use Rattle.fancy_search_run.specs.FaultConversions.{fault_of_error}
 use Rattle.fancy_search_run.specs.declared.status.Status.TheVariants.{Done}
+
+not_memory : (e : Error) → IsNotMemory e → e ≡ errors.Memory → ⊥
+not_memory e h is = subst IsNotMemory is h
 
 module _ (o : RegexOptions) (pattern text : List ℕ) where
   -- why the pattern is refused
@@ -27,17 +32,19 @@ module _ (o : RegexOptions) (pattern text : List ℕ) where
   refusal_is_fault (errors.RuntimeError cause) h = (tt, inl h)
 
   -- the error of a search
-  search_error_is_fault : (e : Error) → IsAccepted o pattern → IsErrorOfSearch o pattern text e → IsSearchFault o pattern text (fault_of_error e)
-  search_error_is_fault errors.Memory a h = tt
-  search_error_is_fault (errors.ParseError position kind) a h = (tt, inr (a, h))
-  search_error_is_fault (errors.CompileError cause) a h = (tt, inr (a, h))
-  search_error_is_fault (errors.RuntimeError cause) a h = (tt, inr (a, h))
+  search_error_is_fault : (e : Error) → IsAccepted o pattern → IsErrorOfSearch o pattern text e → ((e ≡ errors.Memory → ⊥) → MeetsError o pattern text e) → IsSearchFault o pattern text (fault_of_error e)
+  search_error_is_fault errors.Memory a h met = tt
+  search_error_is_fault (errors.ParseError position kind) a h met = (tt, inr (a, h, met (not_memory _ tt)))
+  search_error_is_fault (errors.CompileError cause) a h met = (tt, inr (a, h, met (not_memory _ tt)))
+  search_error_is_fault (errors.RuntimeError cause) a h met = (tt, inr (a, h, met (not_memory _ tt)))
 
   -- the error of a search of the regex that was compiled
-  pub error_is_fault : (s : MetaRegex) → string_bytes s.pattern ≡ pattern → s.options ≡ o → IsAccepted o pattern → (e : Error) → IsErrorOfSearch s.options (string_bytes s.pattern) text e
-      → IsSearchFault o pattern text (fault_of_error e)
-  error_is_fault s named made a e h =
-      search_error_is_fault e a (subst (λ (x : RegexOptions). IsErrorOfSearch x pattern text e) made (subst (λ (p : List ℕ). IsErrorOfSearch s.options p text e) named h))
+  pub error_is_fault : (regex : Regex) → IsBuiltOf o pattern regex → (e : Error) → IsErrorOfSearch regex.meta.options (string_bytes regex.meta.pattern) text e
+      → ((e ≡ errors.Memory → ⊥) → IsErrorOfIteration regex.meta text e) → IsSearchFault o pattern text (fault_of_error e)
+  error_is_fault regex built e h met =
+      search_error_is_fault e built.accepted (
+      subst (λ (x : RegexOptions). IsErrorOfSearch x pattern text e) built.options_are (subst (λ (p : List ℕ). IsErrorOfSearch regex.meta.options p text e) built.pattern_is h)
+      ) (λ other. (regex, built, met other))
 
 -- what the members of a set were compiled from
 pub sources_same : (o : RegexOptions) (patterns : List (List ℕ)) (regexes : List _) → AreBuiltOf o patterns regexes →
@@ -62,15 +69,18 @@ module _ (o : RegexOptions) (patterns : List (List ℕ)) (text : List ℕ) where
   set_refusal_is_fault (errors.RuntimeError cause) h = (tt, inl h)
 
   -- the error of a member's search
-  pub set_error_is_fault : (sources : List Source) → sources ≡ sources_with o patterns → Each (IsAccepted o) patterns → (e : Error) → IsErrorOfSet sources text e
-      → IsSetFault o patterns text (fault_of_error e)
-  set_error_is_fault sources same a e h = by_kind e (subst (λ (s : List Source). IsErrorOfSet s text e) same h)
+  pub set_error_is_fault : (sources : List Source) → sources ≡ sources_with o patterns → (regexes : List Regex) → AreBuiltOf o patterns regexes → (e : Error) → IsErrorOfSet sources text e
+      → ((e ≡ errors.Memory → ⊥) → IsFirstError regexes text e) → IsSetFault o patterns text (fault_of_error e)
+  set_error_is_fault sources same regexes built e h met = by_kind e (subst (λ (s : List Source). IsErrorOfSet s text e) same h) (λ other. (regexes, built, met other))
     where
-      by_kind : (e : Error) → IsErrorOfSet (sources_with o patterns) text e → IsSetFault o patterns text (fault_of_error e)
-      by_kind errors.Memory h = tt
-      by_kind (errors.ParseError position kind) h = (tt, inr (a, h))
-      by_kind (errors.CompileError cause) h = (tt, inr (a, h))
-      by_kind (errors.RuntimeError cause) h = (tt, inr (a, h))
+      a : Each (IsAccepted o) patterns
+      a = all_accepted o patterns regexes built
+
+      by_kind : (e : Error) → IsErrorOfSet (sources_with o patterns) text e → ((e ≡ errors.Memory → ⊥) → SetMeetsError o patterns text e) → IsSetFault o patterns text (fault_of_error e)
+      by_kind errors.Memory h met = tt
+      by_kind (errors.ParseError position kind) h met = (tt, inr (a, h, met (not_memory _ tt)))
+      by_kind (errors.CompileError cause) h met = (tt, inr (a, h, met (not_memory _ tt)))
+      by_kind (errors.RuntimeError cause) h met = (tt, inr (a, h, met (not_memory _ tt)))
 
 -- why the pattern of a printing is no pattern
 pub reading_error_is_fault : (o : RegexOptions) (pattern : List ℕ) (e : Error) → IsReadingError o pattern e → IsPrintFault o pattern (fault_of_error e)

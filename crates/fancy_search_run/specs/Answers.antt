@@ -4,6 +4,7 @@ use Rattle.std.specs.Cow.{cow_str_bytes}
 use Rattle.fancy_regex.specs.Searches.{Match, pieces}
 use Rattle.fancy_regex.specs.Reading.{IsReadingError}
 use Rattle.fancy_regex.specs.Refusals as building
+use Rattle.fancy_regex.specs.IterationErrors.{IsErrorOfIteration}
 use Rattle.fancy_regex.specs.IterationLimits.{IterationStays}
 use Rattle.fancy_regex.specs.SearchInputs.{whole}
 use Rattle.fancy_regex.specs.SetLimits.{SetStays}
@@ -15,7 +16,7 @@ use Rattle.fancy_regex.specs.Regex.{Regex}
 use Rattle.fancy_regex.specs.RegexOptions.{RegexOptions}
 use Rattle.fancy_search_text.specs.Lines.{span_lines, group_lines, piece_lines}
 use Rattle.fancy_regex.specs.TextMatches.{matches_in, IsErrorOfSearch}
-use Rattle.fancy_search_text.specs.Members.{Source, answer_in, member_lines, members_found, IsErrorOfSet}
+use Rattle.fancy_search_text.specs.Members.{Source, answer_in, member_lines, members_found, IsErrorOfSet, IsFirstError}
 use Rattle.fancy_search_text.specs.Printed.{IsPrinted}
 use Rattle.fancy_regex.specs.ReplacedTexts.{replaced_in}
 use Rattle.fancy_search_words.specs.Requests.{Command}
@@ -76,19 +77,30 @@ abbrev pub IsNotMemory : Error → Type 0
 IsNotMemory errors.Memory = ⊥
 IsNotMemory _ = Unit {0}
 
--- A fault of a command that searches: why its pattern does not parse or is refused; or, if it is accepted, the error of a
--- search; or `Memory`.
+-- A regex of the pattern with these options meets this error where it searches the text for all its matches: it is that of the search
+-- right after some of them, which passes the limit, and each search before it stays within the limits.
+abbrev pub MeetsError : RegexOptions → List ℕ → List ℕ → Error → Type 0
+MeetsError o pattern text error = (regex : Regex) × IsBuiltOf o pattern regex × IsErrorOfIteration regex.meta text error
+
+-- A set of the patterns with these options meets this error first, on the way to its answer or at the position of it.
+abbrev pub SetMeetsError : RegexOptions → List (List ℕ) → List ℕ → Error → Type 0
+SetMeetsError o patterns text error = (regexes : List Regex) × AreBuiltOf o patterns regexes × IsFirstError regexes text error
+
+-- A fault of a command that searches: why its pattern does not parse or is refused; or, if it is accepted, the error of the first
+-- search that passes a limit, which has more choices than that; or `Memory`.
 abbrev pub IsSearchFault : RegexOptions → List ℕ → List ℕ → Fault → Type 0
 IsSearchFault o pattern text (faults.Regex error) =
-    IsNotMemory error × (building.Refuses o pattern error ⊎ (IsAccepted o pattern × IsErrorOfSearch o pattern text error))
+    IsNotMemory error × (building.Refuses o pattern error
+    ⊎ (IsAccepted o pattern × IsErrorOfSearch o pattern text error × MeetsError o pattern text error))
 IsSearchFault o pattern text faults.Memory = Unit {0}
 IsSearchFault o pattern text _ = ⊥
 
--- A fault of a set: why the first pattern that does not parse or is refused is none; or, if all are accepted, the error of the
--- search of one of them; or `Memory`.
+-- A fault of a set: why the first pattern that does not parse or is refused is none; or, if all are accepted, the error of the first
+-- search of one of them that passes a limit, which has more choices than that; or `Memory`.
 abbrev pub IsSetFault : RegexOptions → List (List ℕ) → List ℕ → Fault → Type 0
 IsSetFault o patterns text (faults.Regex error) =
-    IsNotMemory error × (RefusesPatterns o patterns error ⊎ (Each (IsAccepted o) patterns × IsErrorOfSet (sources_with o patterns) text error))
+    IsNotMemory error × (RefusesPatterns o patterns error
+    ⊎ (Each (IsAccepted o) patterns × IsErrorOfSet (sources_with o patterns) text error × SetMeetsError o patterns text error))
 IsSetFault o patterns text faults.Memory = Unit {0}
 IsSetFault o patterns text _ = ⊥
 

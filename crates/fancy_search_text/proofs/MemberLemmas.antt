@@ -1,14 +1,16 @@
 -- The members that a set's search finds, by what they were compiled from.
-use Rattle.std.proofs.Common.{◌≡◌, ◌∙◌, ◌∷◌, ◌++◌, ◌≤◌, ◌+◌, ℕ, zero, suc, inl, inr, List, [], Option, Some, None, Result, Ok, Err, map, refl, sym, ap, append_assoc, append-nil, arith, IsCharBoundary}
+use Rattle.std.proofs.Common.{◌≡◌, ◌∙◌, ◌∷◌, ◌++◌, ◌≤◌, ◌+◌, ℕ, zero, suc, inl, inr, List, [], Option, Some, None, Result, Ok, Err, map, refl, sym, ap, subst, append_assoc, append-nil, arith, IsCharBoundary}
 use Rattle.std.specs.Prelude.{string_bytes, slice_get, length, MatchOption}
 use Rattle.fancy_regex.specs.Searches.{Match, found_at, set_answer, SetAnswer}
 use Rattle.fancy_regex.specs.SearchInputs.{whole, input_of}
 use Rattle.fancy_regex.specs.CaptureSpans.{span_in}
-use Rattle.fancy_regex.specs.SetAnswers.{answer_of_set, found_from, member_of, members_of, IsAnswerOfSet, IsErrorOfMember, IsSetError}
+use Rattle.fancy_regex.specs.SetAnswers.{answer_of_set, found_from, member_of, members_of, AreInLimits, AreInLimitsBefore, IsAnswerOfSet, IsErrorOfMember, IsSetError}
 use Rattle.fancy_regex.specs.Error.{Error}
 use Rattle.fancy_regex.specs.Error.TheVariants as errors
+use Rattle.fancy_regex.specs.Regex.{Regex}
 use Rattle.fancy_regex.specs.declared.set.RegexSet.{RegexSet}
-use Rattle.fancy_search_text.specs.Members.{answer_in, found_at_position, member_in, member_line, member_lines, members_found, sources_of, IsAskedAt, IsErrorOfSet, IsMemberSearchError}
+use Rattle.fancy_regex.proofs.SetLimitLemmas.{limits_join}
+use Rattle.fancy_search_text.specs.Members.{answer_in, found_at_position, member_in, member_line, member_lines, members_found, sources_of, IsAskedAt, IsErrorAtAnswer, IsErrorOfSet, IsMemberSearchError}
 
 -- one map after another
 maps : {A B C : Type 0} (f : A → B) (g : B → C) (h : A → C) → ((x : A) → g (f x) ≡ h x) → (xs : List A) → map g (map f xs) ≡ map h xs
@@ -103,6 +105,23 @@ pub left_error : {X : Type 0} (set : RegexSet) (text : List ℕ) (p : ℕ) (firs
     (λ y. (◌≡◌ {A = Option (Result X Error)} (Some (Err e)) (Some (Ok y))) × (after ≡ next)) → (k : ℕ) × IsErrorOfMember set.regexes.items text (whole text) p k e
 left_error set text p None next after e h = (h.0, h.4)
 left_error set text p (Some y) next after e h = cc (h.0)
+
+-- and the first one met at the position of the answer
+pub error_at_answer : {X : Type 0} (regexes : List Regex) (text : List ℕ) (answer : SetAnswer) (p : ℕ) (first : Option X) (next after : ℕ) (e : Error) → answer_of_set regexes text (whole text) ≡ Some answer
+    → answer.position ≡ p → AreInLimitsBefore regexes text (whole text) p → AreInLimits regexes text (whole text) p 0 next
+    → MatchOption first ((k : ℕ) × (next ≤ k) × (after ≡ k + 1)
+    × (found_from regexes text (whole text) p next ≡ found_from regexes text (whole text) p k) × IsErrorOfMember regexes text (whole text) p k e)
+    (λ y. (◌≡◌ {A = Option (Result X Error)} (Some (Err e)) (Some (Ok y))) × (after ≡ next))
+    → MatchOption first ((k : ℕ) → after ≡ k + 1 → AreInLimits regexes text (whole text) p next k) (λ _. Unit {0}) → IsErrorAtAnswer regexes text e
+error_at_answer regexes text answer p None next after e is at before h told passed = record {
+  answer = answer;
+  is_answer = is;
+  number = told.0;
+  is_error = subst (λ (q : ℕ). IsErrorOfMember regexes text (whole text) q told.0 e) (sym at) told.4;
+  before = subst (λ (q : ℕ). AreInLimitsBefore regexes text (whole text) q) (sym at) before;
+  here = subst (λ (q : ℕ). AreInLimits regexes text (whole text) q 0 told.0) (sym at) (limits_join regexes text (whole text) p next told.0 h (passed told.0 told.2));
+}
+error_at_answer regexes text answer p (Some y) next after e is at before h told passed = cc (told.0)
 
 -- a line more
 pub lines_more : (out line all : List ℕ) (found : ℕ × Match) (left after : List (ℕ × Match)) (shown : ℕ × (ℕ × ℕ)) → out ++ member_lines left ≡ all → left ≡ found ∷ after

@@ -8,9 +8,10 @@ use Rattle.fancy_regex.specs.SearchInputs.{whole, input_of}
 use Rattle.fancy_regex.specs.SearchLimits.{IsSearchError}
 use Rattle.fancy_regex.specs.Patterns.{pattern_in, options_in, setting_in}
 use Rattle.fancy_regex.specs.EasyPatterns.{pattern_uses_easy}
-use Rattle.fancy_regex.specs.SetAnswers.{IsTriedAt}
+use Rattle.fancy_regex.specs.SetAnswers.{answer_of_set, AreInLimits, AreInLimitsBefore, IsErrorOfMember, IsSetError, IsTriedAt}
 use Rattle.fancy_regex.specs.Error.{Error}
 use Rattle.fancy_regex.specs.Error.TheVariants as errors
+use Rattle.fancy_regex.specs.Regex.{Regex}
 use Rattle.fancy_regex.specs.RegexOptions.{RegexOptions}
 use Rattle.fancy_regex.specs.declared.set.RegexSet.{RegexSet}
 use Rattle.fancy_search_text.specs.Lines.{span_text}
@@ -71,6 +72,20 @@ module _ (sources : List Source) (text : List ℕ) where
   abbrev pub IsErrorOfSet : Error → Type 0
   IsErrorOfSet errors.Memory = Unit {0}
   IsErrorOfSet e = IsMemberSearchError e
+
+-- The error is the first one met at the position of the answer: that of the member with this number. All searches before it stay within
+-- their limits, or are not needed.
+pub record IsErrorAtAnswer (regexes : List Regex) (text : List ℕ) (e : Error) : Type 0 where
+  pub answer : SetAnswer
+  pub is_answer : answer_of_set regexes text (whole text) ≡ Some answer
+  pub number : ℕ
+  pub is_error : IsErrorOfMember regexes text (whole text) answer.position number e
+  pub before : AreInLimitsBefore regexes text (whole text) answer.position
+  pub here : AreInLimits regexes text (whole text) answer.position 0 number
+
+-- the first error met: on the way to the answer, or at its position
+abbrev pub IsFirstError : List Regex → List ℕ → Error → Type 0
+IsFirstError regexes text e = IsSetError regexes text (whole text) e ⊎ IsErrorAtAnswer regexes text e
 
 -- the number of a member, in decimal digits, and its span
 abbrev pub member_line : ℕ → ℕ × ℕ → List ℕ

@@ -1,6 +1,8 @@
 //! The matches of a regex in a text, as lines. Offsets are in bytes, in decimal digits.
 
-ghost use Rattle.std.specs.Prelude.{◌≡◌, ◌++◌, IfOk, IfErr, OnOk, codes, string_bytes};
+ghost use Rattle.std.specs.Prelude.{◌≡◌, ◌≢◌, ◌++◌, IfOk, IfErr, OnOk, codes, string_bytes};
+ghost use Rattle.fancy_regex.specs.Error.TheVariants.{Memory};
+ghost use Rattle.fancy_regex.specs.IterationErrors.{IsErrorOfIteration};
 ghost use Rattle.fancy_regex.specs.IterationLimits.{IterationStays};
 ghost use Rattle.fancy_regex.specs.Ways.{Pairs};
 ghost use Rattle.fancy_search_text.specs.Lines.{span_lines, group_lines, groups_text, span_text};
@@ -16,6 +18,7 @@ pub fn span_lines(alloc: Global, regex: &Regex, text: &str) -> Result<String>
     ensures lines { IfOk result (λ lines. string_bytes lines ≡ span_lines (matches_of regex.now text.now)) }
     ensures fails { IfErr result (IsErrorOfSearch regex.now.meta.options (string_bytes regex.now.meta.pattern) text.now) }
     ensures stays { OnOk result (IterationStays regex.now.meta text.now) }
+    ensures passes { IfErr result (λ e. e ≢ Memory → IsErrorOfIteration regex.now.meta text.now e) }
 {
     let mut lines = String::new(alloc);
     let mut matches = regex.find_iter(alloc, text);
@@ -32,6 +35,7 @@ pub fn group_lines(alloc: Global, regex: &Regex, text: &str) -> Result<String>
     ensures lines { IfOk result (λ lines. string_bytes lines ≡ group_lines (matches_of regex.now text.now)) }
     ensures fails { IfErr result (IsErrorOfSearch regex.now.meta.options (string_bytes regex.now.meta.pattern) text.now) }
     ensures stays { OnOk result (IterationStays regex.now.meta text.now) }
+    ensures passes { IfErr result (λ e. e ≢ Memory → IsErrorOfIteration regex.now.meta text.now e) }
 {
     laws_of_items();
     let mut lines = String::new(alloc);

@@ -1,9 +1,10 @@
 //! The members of a set that match in a text, as lines.
 
-ghost use Rattle.std.specs.Prelude.{◌≡◌, ◌++◌, IfOk, IfErr, OnOk, string_bytes};
+ghost use Rattle.std.specs.Prelude.{◌≡◌, ◌≢◌, ◌++◌, IfOk, IfErr, OnOk, string_bytes};
+ghost use Rattle.fancy_regex.specs.Error.TheVariants.{Memory};
 ghost use Rattle.fancy_regex.specs.SearchInputs.{whole};
 ghost use Rattle.fancy_regex.specs.SetLimits.{SetStays};
-ghost use Rattle.fancy_search_text.specs.Members.{answer_in, member_line, member_lines, members_found, sources_of, IsErrorOfSet};
+ghost use Rattle.fancy_search_text.specs.Members.{answer_in, member_line, member_lines, members_found, sources_of, IsErrorOfSet, IsFirstError};
 
 use fancy_regex::{RegexInput, RegexSet, Result};
 use std::alloc::{AllocError, Global};
@@ -15,6 +16,7 @@ pub fn member_lines(alloc: Global, set: &RegexSet, text: &str) -> Result<String>
     ensures lines { IfOk result (λ lines. string_bytes lines ≡ member_lines (members_found (answer_in (sources_of set.now) text.now))) }
     ensures fails { IfErr result (IsErrorOfSet (sources_of set.now) text.now) }
     ensures stays { OnOk result (SetStays set.now.regexes.items text.now (whole text.now)) }
+    ensures passes { IfErr result (λ e. e ≢ Memory → IsFirstError set.now.regexes.items text.now e) }
 {
     let mut lines = String::new(alloc);
     let Some(mut members) = set.find_input(alloc, RegexInput::new(text))? else {

@@ -18,7 +18,9 @@ pub returns-in_err-group_lines : goal.returns-in_err-group_lines
 returns-in_err-group_lines c =
     let p = err_from_is_err_and c.from_residual-in_err-group_lines.result c.from_residual-in_err-group_lines.ensures.1 in
     let made = c.in_ok-regex.ensures in
-    rw (p.1, p.2) (error_is_fault (regex_options c.args.options) c.args.pattern.now c.args.text.now c.in_ok-regex.regex.meta made.pattern made.options made.accepted _ c.in_err-group_lines.ensures.fails)
+    let built : IsBuiltOf (regex_options c.args.options) c.args.pattern.now c.in_ok-regex.regex =
+    record { pattern_is = made.pattern; options_are = made.options; cap = made.cap; accepted = made.accepted } in
+    rw (p.1, p.2) (error_is_fault (regex_options c.args.options) c.args.pattern.now c.args.text.now c.in_ok-regex.regex built _ c.in_err-group_lines.ensures.fails c.in_err-group_lines.ensures.passes)
 
 pub returns : goal.returns
 returns c =

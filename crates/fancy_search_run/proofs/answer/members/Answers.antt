@@ -20,7 +20,7 @@ returns-in_err-member_lines c =
     let patterns = texts_of c.args.patterns.now in
     let built = c.in_ok-set.ensures.members in
     rw (p.1, p.2) (set_error_is_fault o patterns c.args.text.now (sources_of c.in_ok-set.set) (sources_same o patterns c.in_ok-set.set.regexes.items built)
-    (all_accepted o patterns c.in_ok-set.set.regexes.items built) _ c.in_err-member_lines.ensures.fails)
+    c.in_ok-set.set.regexes.items built _ c.in_err-member_lines.ensures.fails c.in_err-member_lines.ensures.passes)
 
 pub returns : goal.returns
 returns c =

@@ -11,7 +11,7 @@ use Rattle.fancy_regex.specs.Patterns.{options_in, setting_in}
 use Rattle.fancy_regex.specs.RemainingMatches.{remaining_matches, all_matches}
 use Rattle.fancy_regex.specs.IterationSearches.{MakesSearchFrom}
 use Rattle.std.proofs.lemmas.Result.{err_from_is_err_and}
-use Rattle.fancy_regex.proofs.IterationProgress.{iterated_first, iterated_next, iterated_stays}
+use Rattle.fancy_regex.proofs.IterationProgress.{iterated_first, iterated_next, iterated_stays, iterated_fails}
 use Rattle.fancy_regex.proofs.SearchErrorLemmas.{item_error_is, memory_is_error}
 use Rattle.fancy_search_text.proofs.SpanLemmas.{HasSpans, all_have_spans, first_spans, each_later}
 use Rattle.fancy_search_text.proofs.LineLemmas.{line_more}
@@ -100,6 +100,16 @@ returns-in_err-found-clause-fails c =
     let match_iter = c.loop-found.matches.match_iter in
     let told = rw (c.in_err-found.was, c.loop-found.invariant.regex, c.loop-found.invariant.text) at c.in-Some.ensures.steps.6 in
     rw (p.1, p.2) (item_error_is s text match_iter.input.config match_iter.input.config.start match_iter.state c.loop-found.invariant.config c.loop-found.invariant.passes _ told)
+
+pub returns-in_err-found-clause-passes : goal.returns-in_err-found-clause-passes
+returns-in_err-found-clause-passes c =
+    let p = err_from_is_err_and c.from_residual.result c.from_residual.ensures.1 in
+    let s = c.args.regex.now.meta in
+    let text = c.args.text.now in
+    let match_iter = c.loop-found.matches.match_iter in
+    let told = rw (c.in_err-found.was, c.loop-found.invariant.regex, c.loop-found.invariant.text) at c.in-Some.ensures.steps.6 in
+    rw (p.1, p.2) (λ other. iterated_fails s text match_iter.input.config match_iter.state (remaining_matches s text match_iter.input.config match_iter.state) c.loop-found.invariant.config
+    c.loop-found.invariant.progress _ told)
 
 pub returns-in_err-write_groups-clause-fails : goal.returns-in_err-write_groups-clause-fails
 returns-in_err-write_groups-clause-fails c =

@@ -1,10 +1,10 @@
-use Rattle.std.proofs.Common.{◌≡◌, ◌∙◌, ◌++◌, ◌≤◌, length, ap, sym, refl, IsCharBoundary}
+use Rattle.std.proofs.Common.{◌≡◌, ◌∙◌, ◌++◌, ◌≤◌, inl, inr, length, ap, sym, refl, IsCharBoundary}
 use Rattle.std.proofs.lemmas.Result.{err_from_is_err_and}
 use Rattle.fancy_regex.specs.SearchInputs.{whole}
 use Rattle.fancy_regex.specs.SetAnswers.{found_from}
 use Rattle.fancy_regex.proofs.SetLimitLemmas.{all_in_limits, passes_on, set_stays, set_without_answer_stays}
 use Rattle.fancy_search_text.specs.Members.{member_lines, members_found}
-use Rattle.fancy_search_text.proofs.MemberLemmas.{answer_asked, answer_same, error_is, left_error, left_first, left_next, left_none, lines_done, lines_more, set_error_is}
+use Rattle.fancy_search_text.proofs.MemberLemmas.{answer_asked, answer_same, error_at_answer, error_is, left_error, left_first, left_next, left_none, lines_done, lines_more, set_error_is}
 use Rattle.fancy_search_text.proofs.members.member_lines.Goals as goal
 
 pub returns-in_err-members-clause-fails : goal.returns-in_err-members-clause-fails
@@ -12,6 +12,12 @@ returns-in_err-members-clause-fails c =
     let p = err_from_is_err_and c.from_residual.result c.from_residual.ensures.1 in
     let told = rw (c.new.ensures.haystack, c.new.ensures.config) at c.in_err-members.ensures.limits in
     rw (p.1, p.2) (set_error_is c.args.set.now c.args.text.now _ told)
+
+pub returns-in_err-members-clause-passes : goal.returns-in_err-members-clause-passes
+returns-in_err-members-clause-passes c =
+    let p = err_from_is_err_and c.from_residual.result c.from_residual.ensures.1 in
+    let told = rw (c.new.ensures.haystack, c.new.ensures.config) at c.in_err-members.ensures.limits in
+    rw (p.1, p.2) (λ other. inl told)
 
 pub returns-in_default-clause-lines : goal.returns-in_default-clause-lines
 returns-in_default-clause-lines c =
@@ -56,6 +62,16 @@ returns-in_err-member-clause-fails c =
     let told = rw (c.in_err-member.was, inv.set, inv.text, inv.config) at c.in-Some-next.ensures.steps.2 in
     let of_member = left_error set text s.members.position s.first s.next _ _ told in
     rw (p.1, p.2) (error_is set text s.members.position of_member.0 _ inv.asked of_member.1)
+
+pub returns-in_err-member-clause-passes : goal.returns-in_err-member-clause-passes
+returns-in_err-member-clause-passes c =
+    let p = err_from_is_err_and c.from_residual-in_err-member.result c.from_residual-in_err-member.ensures.1 in
+    let s = c.loop-member.members in
+    let inv = c.loop-member.invariant in
+    let told = rw (c.in_err-member.was, inv.set, inv.text, inv.config) at c.in-Some-next.ensures.steps.2 in
+    let passed = rw (c.in_err-member.was, inv.set, inv.text, inv.config) at c.in-Some-next.ensures.steps.3 in
+    let met = error_at_answer c.args.set.now.regexes.items c.args.text.now inv.answer s.members.position s.first s.next c.next.new.self.next _ inv.is_answer inv.at inv.before inv.here told passed in
+    rw (p.1, p.2) (λ other. inr met)
 
 pub loop-member-preserved : goal.loop-member-preserved
 loop-member-preserved c =

@@ -10,7 +10,7 @@ use Rattle.fancy_regex.specs.IterationSearches.{MakesSearchFrom}
 use Rattle.std.proofs.lemmas.Bool.{false≢true}
 use Rattle.std.proofs.lemmas.Grind.{common_steps}
 use Rattle.fancy_search_text.specs.Lines.{piece_lines}
-use Rattle.fancy_regex.proofs.IterationProgress.{iterated_first, iterated_next, iterated_stays}
+use Rattle.fancy_regex.proofs.IterationProgress.{iterated_first, iterated_next, iterated_stays, iterated_fails}
 use Rattle.fancy_regex.proofs.SearchErrorLemmas.{item_error_is, memory_is_error}
 use Rattle.fancy_regex.proofs.TextMatchLemmas.{all_are}
 use Rattle.fancy_search_text.proofs.PieceLemmas.{done_at_end, line_more, none_left, not_done, not_done_before}
@@ -93,6 +93,20 @@ returns-in_err-piece-clause-fails c =
     not_done old.is_done at.input.haystack.now old.gaps.last_end (remaining_matches at.regex.now.meta at.input.haystack.now at.input.config at.state) ended.0 in
     let told = rw (c.in_err-piece.was, c.loop-piece.invariant.regex, c.loop-piece.invariant.text) at steps.4 in
     rw (p.1, p.2) (item_error_is s text at.input.config at.input.config.start at.state c.loop-piece.invariant.config (c.loop-piece.invariant.passes live) _ told)
+
+pub returns-in_err-piece-clause-passes : goal.returns-in_err-piece-clause-passes
+returns-in_err-piece-clause-passes c =
+    let p = err_from_is_err_and c.from_residual.result c.from_residual.ensures.1 in
+    let s = c.args.regex.now.meta in
+    let text = c.args.text.now in
+    let old = c.loop-piece.pieces in
+    let at = old.gaps.match_iter in
+    let steps = c.in-Some.ensures.steps in
+    let ended = rw c.in_err-piece.was at steps.0 in
+    let live : old.is_done ≡ false =
+    not_done old.is_done at.input.haystack.now old.gaps.last_end (remaining_matches at.regex.now.meta at.input.haystack.now at.input.config at.state) ended.0 in
+    let told = rw (c.in_err-piece.was, c.loop-piece.invariant.regex, c.loop-piece.invariant.text) at steps.4 in
+    rw (p.1, p.2) (λ other. iterated_fails s text at.input.config at.state (remaining_matches s text at.input.config at.state) c.loop-piece.invariant.config (c.loop-piece.invariant.progress live) _ told)
 
 pub returns-in_err-write_piece-clause-fails : goal.returns-in_err-write_piece-clause-fails
 returns-in_err-write_piece-clause-fails c =
