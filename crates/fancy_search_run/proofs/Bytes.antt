@@ -1,5 +1,5 @@
 -- Bytes that are written, or read, one part after another.
-use Rattle.std.proofs.Common.{◌≡◌, ℕ, List, ◌++◌, Option, Some, None, take, ap, refl, sym, ◌∙◌, append_assoc, append-nil}
+use Rattle.std.proofs.Common.{◌≡◌, ◌≤◌, ℕ, List, [], ◌∷◌, ◌++◌, length, arith, Option, Some, None, take, ap, refl, sym, ◌∙◌, append_assoc, append-nil}
 use Rattle.std.specs.Prelude.{IfSome}
 use Rattle.std.specs.Io.KnownBytes.{Appends, Consumes, IsAtEnd, Keeps}
 
@@ -18,6 +18,11 @@ given_all (Some x) (Some y) None bytes chunk n p q e h = absurd q
 given_all (Some x) (Some y) (Some z) bytes chunk n p q e h =
     let empty : y ≡ z = q ∙ ap (λ k. take k chunk ++ z) e in
     sym (p ∙ ap (λ v. bytes ++ v) (empty ∙ h) ∙ append-nil bytes)
+
+-- a list of at most no bytes
+pub no_bytes : (xs : List ℕ) → length xs ≤ 0 → xs ≡ []
+no_bytes [] h = refl
+no_bytes (x ∷ xs) h = absurd (omega arith)
 
 -- known bytes that nothing was done to
 pub keeps_same : (bytes : Option (List ℕ)) → Keeps bytes bytes

@@ -1,7 +1,7 @@
 -- How a call ends by what its parts did.
 use Rattle.std.proofs.Common.{◌≡◌, ℕ, true, List, [], Option, Some, None, Result, Ok, Err, refl, subst}
 use Rattle.std.proofs.lemmas.Bool.{false≢true}
-use Rattle.std.specs.Prelude.{IfErr, IfSome}
+use Rattle.std.specs.Prelude.{IfErr, IfOk, IfSome}
 use Rattle.fancy_regex.specs.RegexOptions.{RegexOptions}
 use Rattle.fancy_search_words.specs.Requests.{Request, Command, Refuses, requested}
 use Rattle.fancy_search_words.specs.Requests as commands
@@ -12,7 +12,7 @@ use Rattle.fancy_search_run.specs.Answers.{IsFault, IsSearchFault, IsPrintFault,
 use Rattle.fancy_search_run.specs.FaultConversions.{fault_of_refusal}
 use Rattle.fancy_search_run.specs.Reading.{AfterReading, IsReadFault}
 use Rattle.fancy_search_run.specs.Requests.{regex_options, reads_input}
-use Rattle.fancy_search_run.specs.RunOutcome.{Outcome, IsTextFor, RefusesWords}
+use Rattle.fancy_search_run.specs.RunOutcome.{IsDueFor, Outcome, IsTextFor, RefusesWords}
 use Rattle.fancy_search_run.specs.declared.fault.Fault.{Fault}
 use Rattle.fancy_search_run.specs.declared.fault.Fault.TheVariants as faults
 use Rattle.fancy_search_run.specs.declared.source.LastRead.{LastRead}
@@ -137,6 +137,24 @@ after_failure ended last (faults.Words t) h = absurd h
 after_failure ended last (faults.Help t) h = absurd h
 after_failure ended last faults.NotUtf8 h = absurd h
 after_failure ended last faults.Output h = absurd h
+
+-- so for an answer that writes nothing
+pub silent_of_input : (request : Request) (known : Option (List ℕ)) (bytes : List ℕ) (r : Result Status Fault)
+    → (reads_input request.command ≡ true → IfSome known (λ xs. bytes ≡ xs)) → IfOk r (λ status. IsDueFor request bytes [] status)
+    → IfOk r (λ status. (input : List ℕ) × IfSome known (λ xs. input ≡ xs) × IsDueFor request input [] status)
+silent_of_input request known bytes (Err fault) k h = tt
+silent_of_input request known bytes (Ok status) k h = go request.command k h
+  where
+    go : (command : Command) → (reads_input command ≡ true → IfSome known (λ xs. bytes ≡ xs)) → IsDueFor (record { command = command; options = request.options }) bytes [] status
+        → (input : List ℕ) × IfSome known (λ xs. input ≡ xs) × IsDueFor (record { command = command; options = request.options }) input [] status
+    go (commands.find p) k h = (bytes, k refl, h)
+    go (commands.captures p) k h = (bytes, k refl, h)
+    go (commands.split p) k h = (bytes, k refl, h)
+    go (commands.replace p t) k h = (bytes, k refl, h)
+    go (commands.set ps) k h = (bytes, k refl, h)
+    go (commands.print p) k h =
+        let input = some_input known in
+        (input.0, input.1, ((λ e. absurd (false≢true e)), h.1))
 
 -- an answer, and any fault but one of reading, once the end is told
 pub after_end : (failed ended : Type 0) (r : Result Status Fault) → IfErr r (λ f. f ≡ faults.Input → ⊥) → ended → AfterReading failed ended r

@@ -1,6 +1,6 @@
 //! Writes the whole output.
 
-ghost use Rattle.std.specs.Prelude.{◌≡◌, true, OnOk, OnErr, IfErr};
+ghost use Rattle.std.specs.Prelude.{◌≡◌, [], true, OnOk, OnErr, IfErr};
 ghost use Rattle.std.specs.Io.KnownBytes.{Appends};
 ghost use Rattle.fancy_search_run.specs.RunOutcome.{AppendsPrefix};
 ghost use Rattle.fancy_search_run.specs.declared.fault.Fault.TheVariants.{Output};
@@ -18,6 +18,8 @@ pub fn write_all<W: Write>(sink: &mut Sink<'_, W>, bytes: &[u8]) -> Result<(), F
     ensures failed { OnErr result (sink.new.has_failed ≡ true) }
     ensures unfailed { OnOk result (sink.new.has_failed ≡ sink.old.has_failed) }
     ensures refused { sink.old.has_failed ≡ true → sink.new.writer.now ≡ sink.old.writer.now }
+    ensures noted { sink.old.has_failed ≡ true → sink.new.has_failed ≡ true }
+    ensures silent { sink.old.has_failed ≡ true → OnOk result (bytes.now ≡ []) }
 {
     let mut done = 0;
     while done < bytes.len() {

@@ -3,7 +3,7 @@
 ghost use Rattle.std.specs.Prelude.{◌≡◌, ◌≢◌, ℕ, List, [], true, false, map, None, Some, IfOk, IfErr, IfSome, OnOk};
 ghost use Rattle.std.specs.Io.KnownBytes.{IsAtEnd};
 ghost use Rattle.fancy_search_run.specs.Reading.{AfterReading, IsReadFault};
-ghost use Rattle.fancy_search_run.specs.RunOutcome.{Outcome, RefusesWords};
+ghost use Rattle.fancy_search_run.specs.RunOutcome.{IsDueFor, Outcome, RefusesWords};
 ghost use Rattle.fancy_search_run.specs.Requests.{reads_input};
 ghost use Rattle.fancy_search_run.specs.declared.fault.Fault.TheVariants.{Input, Output};
 ghost use Rattle.fancy_search_run.specs.declared.source.LastRead.TheVariants.{End, Failure};
@@ -70,7 +70,8 @@ pub fn run_from<S: AsStr, R: Read, W: Write>(
     ensures same_reader { source.new.reader.ghost_name ≡ source.old.reader.ghost_name }
     ensures same_writer { sink.new.writer.ghost_name ≡ sink.old.writer.ghost_name }
     ensures words { requested (map S.text words.now) ≡ None →
-        RefusesWords (map S.text words.now) result × (source.new.reader.now ≡ source.old.reader.now) }
+        RefusesWords (map S.text words.now) result
+        × (source.new.reader.now ≡ source.old.reader.now) × (source.new.last ≡ source.old.last) }
     ensures outcome { (request : Request) → requested (map S.text words.now) ≡ Some request →
         (input : List ℕ) × IfSome (R.remaining source.old.reader.now) (λ xs. input ≡ xs)
         × Outcome request (W.contents sink.old.writer.now) (W.contents sink.new.writer.now) input result }
@@ -78,13 +79,18 @@ pub fn run_from<S: AsStr, R: Read, W: Write>(
         → AfterReading (source.new.last ≡ Failure) (IsAtEnd (R.remaining source.new.reader.now)
         × (source.new.last ≡ End)) result }
     ensures unread { (request : Request) → requested (map S.text words.now) ≡ Some request → reads_input request.command ≡ false
-        → source.new.reader.now ≡ source.old.reader.now }
+        → (source.new.reader.now ≡ source.old.reader.now) × (source.new.last ≡ source.old.last) }
     ensures failed { source.old.last ≡ Failure → source.new.reader.now ≡ source.old.reader.now }
     ensures stays { source.old.last ≡ Failure → source.new.last ≡ Failure }
     ensures refused { sink.old.has_failed ≡ true → sink.new.writer.now ≡ sink.old.writer.now }
+    ensures noted { sink.old.has_failed ≡ true → sink.new.has_failed ≡ true }
+    ensures silent { (request : Request) → requested (map S.text words.now) ≡ Some request → sink.old.has_failed ≡ true →
+        IfOk result (λ status. (input : List ℕ) × IfSome (R.remaining source.old.reader.now) (λ xs. input ≡ xs)
+        × IsDueFor request input [] status) }
     ensures output { IfErr result (λ f. f ≡ Output → sink.new.has_failed ≡ true) }
     ensures unfailed { OnOk result (sink.new.has_failed ≡ sink.old.has_failed) }
-    ensures untouched { IfErr result (λ f. f ≢ Output → sink.new.writer.now ≡ sink.old.writer.now) }
+    ensures untouched { IfErr result (λ f. f ≢ Output →
+        (sink.new.writer.now ≡ sink.old.writer.now) × (sink.new.has_failed ≡ sink.old.has_failed)) }
 {
     let arguments = read_words(alloc, words)?;
     let input = input_for(alloc, &arguments.subcommand, source)?;
@@ -104,7 +110,7 @@ fn input_for<R: Read>(
     ensures end { reads_input (command_of subcommand.now) ≡ true →
         OnOk result (IsAtEnd (R.remaining source.new.reader.now) × (source.new.last ≡ End)) }
     ensures unread { reads_input (command_of subcommand.now) ≡ false →
-        (source.new.reader.now ≡ source.old.reader.now) × IfOk result (λ v. v.items ≡ []) }
+        (source.new.reader.now ≡ source.old.reader.now) × (source.new.last ≡ source.old.last) × IfOk result (λ v. v.items ≡ []) }
     ensures failed { source.old.last ≡ Failure → source.new.reader.now ≡ source.old.reader.now }
     ensures stays { source.old.last ≡ Failure → source.new.last ≡ Failure }
     ensures fault { IfErr result (λ f. IsReadFault source.new.last f × (f ≡ Input → reads_input (command_of subcommand.now) ≡ true)) }
@@ -128,9 +134,13 @@ fn respond<W: Write>(
         input.now result }
     ensures input { IfErr result (λ f. f ≢ Input) }
     ensures refused { sink.old.has_failed ≡ true → sink.new.writer.now ≡ sink.old.writer.now }
+    ensures noted { sink.old.has_failed ≡ true → sink.new.has_failed ≡ true }
+    ensures silent { sink.old.has_failed ≡ true →
+        IfOk result (λ status. IsDueFor (request_of_arguments arguments.entry) input.now [] status) }
     ensures output { IfErr result (λ f. f ≡ Output → sink.new.has_failed ≡ true) }
     ensures unfailed { OnOk result (sink.new.has_failed ≡ sink.old.has_failed) }
-    ensures untouched { IfErr result (λ f. f ≢ Output → sink.new.writer.now ≡ sink.old.writer.now) }
+    ensures untouched { IfErr result (λ f. f ≢ Output →
+        (sink.new.writer.now ≡ sink.old.writer.now) × (sink.new.has_failed ≡ sink.old.has_failed)) }
 {
     let Ok(text) = str::from_utf8(input) else {
         return Err(Fault::NotUtf8);

@@ -1,8 +1,8 @@
-use Rattle.std.proofs.Common.{rules, ◌-◌, ◌≤◌, take, drop, length, sym, subst, List, ℕ, ◌∙◌}
+use Rattle.std.proofs.Common.{rules, arith, ◌≡◌, ◌-◌, ◌≤◌, take, drop, length, sym, subst, List, ℕ, ◌∙◌}
 use Rattle.std.proofs.Math.Seq.{take-add}
 use Rattle.std.proofs.lemmas.List.{take-take}
 use Rattle.std.specs.Io.KnownBytes.{Appends}
-use Rattle.fancy_search_run.proofs.Bytes.{Appends-more}
+use Rattle.fancy_search_run.proofs.Bytes.{Appends-more, no_bytes}
 use Rattle.fancy_search_run.proofs.output.write_all.Goals as goal
 
 pub loop-done-preserved : goal.loop-done-preserved
@@ -23,4 +23,11 @@ loop-done-preserved g c =
       search rules,
       search rules,
       λ failed. absurd (c.in-Ok.ensures.refused (inv.3 ∙ failed)).0,
+      λ failed. absurd (c.in-Ok.ensures.refused (inv.3 ∙ failed)).0,
     )
+
+pub returns-clause-silent : goal.returns-clause-silent
+returns-clause-silent g c =
+    λ failed.
+    let none : c.loop-done.done ≡ 0 = c.loop-done.invariant.5 failed in
+    no_bytes c.args.bytes.now (omega (arith, none, c.loop-done-test.false))

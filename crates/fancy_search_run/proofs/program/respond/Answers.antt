@@ -1,4 +1,4 @@
-use Rattle.std.proofs.Common.{◌∙◌, List, ℕ, subst}
+use Rattle.std.proofs.Common.{◌∙◌, List, ℕ, subst, sym}
 use Rattle.std.specs.Cow.{cow_str_bytes}
 use Rattle.std.specs.Io.KnownBytes.{Appends}
 use Rattle.std.proofs.lemmas.Result.{err_from_is_err_and}
@@ -41,3 +41,15 @@ returns-clause-outcome g c =
     let wrote : Appends (C c.args.sink.now.writer.now) (C c.write_all.new.sink.writer.now) output =
     subst (λ (bs : List ℕ). Appends (C c.args.sink.now.writer.now) (C c.write_all.new.sink.writer.now) bs) (c.as_bytes.ensures.value ∙ c.as_str.ensures.value) c.in_ok-write_all.ensures.ok in
     (output, ((λ reads. c.in-Ok.ensures.cases.1), due), wrote)
+
+pub returns-clause-silent : goal.returns-clause-silent
+returns-clause-silent g c =
+    λ failed.
+    let o = regex_options c.args.arguments.options in
+    let command = command_of c.args.arguments.subcommand in
+    let due : IsDue o command c.args.input.now (cow_str_bytes c.in_ok-answer.answer.output) c.in_ok-answer.answer.status =
+    rw c.in-Ok.ensures.cases.0 at c.in_ok-answer.ensures in (
+      (λ reads. c.in-Ok.ensures.cases.1),
+      subst (λ (out : List ℕ). IsDue o command c.args.input.now out c.in_ok-answer.answer.status)
+          (sym (c.as_bytes.ensures.value ∙ c.as_str.ensures.value) ∙ c.in_ok-write_all.ensures.silent failed) due,
+    )

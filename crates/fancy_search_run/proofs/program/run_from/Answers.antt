@@ -1,16 +1,17 @@
-use Rattle.std.proofs.Common.{◌≡◌, ◌∙◌, true, map, refl, sym, subst}
+use Rattle.std.proofs.Common.{◌≡◌, ◌∙◌, ℕ, List, [], true, map, refl, sym, subst}
+use Rattle.std.specs.Prelude.{IfOk, IfSome}
 use Rattle.std.proofs.lemmas.Option.{same_Some}
 use Rattle.std.proofs.lemmas.Result.{err_from_is_err_and}
 use Rattle.fancy_search_words.specs.Requests.{Request, request_of_arguments}
 use Rattle.fancy_search_run.specs.Requests.{reads_input}
-use Rattle.fancy_search_run.specs.RunOutcome.{Outcome}
-use Rattle.fancy_search_run.proofs.Outcomes.{some_input, outcome_of_input, outcome_reading, outcome_words, after_words, after_failure, after_end, refuses_words, some_is_not_none}
+use Rattle.fancy_search_run.specs.RunOutcome.{IsDueFor, Outcome}
+use Rattle.fancy_search_run.proofs.Outcomes.{some_input, outcome_of_input, silent_of_input, outcome_reading, outcome_words, after_words, after_failure, after_end, refuses_words, some_is_not_none}
 use Rattle.fancy_search_run.proofs.program.run_from.Goals as goal
 
 pub returns-in_err-arguments-clause-words : goal.returns-in_err-arguments-clause-words
 returns-in_err-arguments-clause-words g c =
     let p = err_from_is_err_and c.from_residual.result c.from_residual.ensures.1 in
-    λ none. (rw (p.1, p.2) (refuses_words (map g.S.AsStr.text c.args.words.now) _ c.in_err-arguments.ensures.err), refl {a = c.args.source.now.reader.now})
+    λ none. (rw (p.1, p.2) (refuses_words (map g.S.AsStr.text c.args.words.now) _ c.in_err-arguments.ensures.err), refl {a = c.args.source.now.reader.now}, refl {a = c.args.source.now.last})
 
 pub returns-in_err-arguments-clause-outcome : goal.returns-in_err-arguments-clause-outcome
 returns-in_err-arguments-clause-outcome g c =
@@ -57,6 +58,16 @@ returns-clause-outcome g c =
     let found = outcome_of_input (request_of_arguments c.in_ok-arguments.arguments) (C c.args.sink.now.writer.now) (C c.respond.new.sink.writer.now) (g.R.Read.remaining c.args.source.now.reader.now) bytes
     c.respond.result c.in_ok-input.ensures.read ended in
     (found.0, found.1, subst (λ (r : Request). Outcome r (C c.args.sink.now.writer.now) (C c.respond.new.sink.writer.now) found.0 c.respond.result) same found.2)
+
+pub returns-clause-silent : goal.returns-clause-silent
+returns-clause-silent g c =
+    λ request asks failed.
+    let same : request_of_arguments c.in_ok-arguments.arguments ≡ request = same_Some _ _ (sym c.in_ok-arguments.ensures.ok ∙ asks) in
+    let known = g.R.Read.remaining c.args.source.now.reader.now in
+    let bytes = c.in_ok-input.input.items in
+    let due : IfOk c.respond.result (λ status. IsDueFor (request_of_arguments c.in_ok-arguments.arguments) bytes [] status) = rw (← c.deref.ensures.value) (c.respond.ensures.silent failed) in
+    subst (λ (r : Request). IfOk c.respond.result (λ status. (input : List ℕ) × IfSome known (λ xs. input ≡ xs) × IsDueFor r input [] status)) same
+    (silent_of_input (request_of_arguments c.in_ok-arguments.arguments) known bytes c.respond.result c.in_ok-input.ensures.read due)
 
 pub returns-clause-end : goal.returns-clause-end
 returns-clause-end g c =
