@@ -1,5 +1,7 @@
 //! Calls of the program, with readers and writers that fail, and the texts and statuses of faults.
 
+ghost use Rattle.std.specs.Prelude.{◌≡◌, IfOk};
+
 use fancy_regex::{CompileError, Error, ParseError, RuntimeError};
 use fancy_search_run::{Fault, LastRead, Sink, Source, Status, exit_status, run, run_from, tell};
 use std::alloc::{AllocError, Global};
@@ -28,12 +30,12 @@ pub struct ProgramCall(
     pub &'static str,
 );
 
-/// A reader that gives its bytes, and then tells its end or fails.
+/// A reader that gives its bytes at one call, and then tells its end or fails. It counts its calls.
 #[derive(Drop)]
 struct Given {
     left: &'static [u8],
     fails: bool,
-    was_asked: bool,
+    calls: usize,
 }
 
 impl Given {
@@ -47,14 +49,14 @@ impl Given {
         Given {
             left,
             fails,
-            was_asked: false,
+            calls: 0,
         }
     }
 }
 
 impl Read for Given {
     fn read(&mut self, buf: &mut [u8]) -> io::Result<usize> {
-        self.was_asked = true;
+        self.calls = self.calls.saturating_add(1);
         if self.fails && self.left.is_empty() {
             return Err(io::Error::from(ErrorKind::BrokenPipe));
         }
@@ -62,16 +64,18 @@ impl Read for Given {
     }
 }
 
-/// A writer over memory that takes one byte a call, and fails or takes nothing where it has so many.
+/// A writer over memory that takes one byte a call, and fails or takes nothing where it has so many. It counts its calls.
 #[derive(Drop)]
 struct Narrow {
     taken: Vec<u8>,
     room: usize,
     fails: bool,
+    calls: usize,
 }
 
 impl Write for Narrow {
     fn write(&mut self, buf: &[u8]) -> io::Result<usize> {
+        self.calls = self.calls.saturating_add(1);
         if self.taken.len() >= self.room {
             return if self.fails {
                 Err(io::Error::from(ErrorKind::BrokenPipe))
@@ -93,29 +97,55 @@ impl Write for Narrow {
     }
 }
 
-/// A reader that has no byte, and a writer that takes every byte, but for the first call, which fails.
+/// A reader that gives `a` at each of its first four calls, and a writer that takes a byte at each call, but for the second call. That
+/// one fails, or gives or takes nothing.
 #[derive(Drop)]
-struct Flaky {
-    has_failed: bool,
+struct Resuming {
+    calls: usize,
+    fails: bool,
 }
 
-impl Read for Flaky {
-    fn read(&mut self, _buf: &mut [u8]) -> io::Result<usize> {
-        if self.has_failed {
-            return Ok(0);
-        }
-        self.has_failed = true;
-        Err(io::Error::from(ErrorKind::BrokenPipe))
+impl Resuming {
+    /// The reader or writer before its first call.
+    fn new(fails: bool) -> Resuming {
+        Resuming { calls: 0, fails }
     }
 }
 
-impl Write for Flaky {
-    fn write(&mut self, buf: &[u8]) -> io::Result<usize> {
-        if self.has_failed {
-            return Ok(buf.len());
-        }
-        self.has_failed = true;
+/// What the second call of such a reader or writer returns.
+fn second_answer(fails: bool) -> io::Result<usize>
+    ensures { IfOk result (λ n. n ≡ 0) }
+{
+    if fails {
         Err(io::Error::from(ErrorKind::BrokenPipe))
+    } else {
+        Ok(0)
+    }
+}
+
+impl Read for Resuming {
+    fn read(&mut self, buf: &mut [u8]) -> io::Result<usize> {
+        self.calls = self.calls.saturating_add(1);
+        if self.calls == 2 {
+            return second_answer(self.fails);
+        }
+        match buf.first_mut() {
+            Some(byte) if self.calls < 5 => {
+                *byte = b'a';
+                Ok(1)
+            }
+            _ => Ok(0),
+        }
+    }
+}
+
+impl Write for Resuming {
+    fn write(&mut self, buf: &[u8]) -> io::Result<usize> {
+        self.calls = self.calls.saturating_add(1);
+        if self.calls == 2 {
+            return second_answer(self.fails);
+        }
+        Ok(buf.len().min(1))
     }
 
     fn flush(&mut self) -> io::Result<()> {
@@ -153,6 +183,15 @@ fn writer_with_room(alloc: Global, room: usize, fails: bool) -> Narrow {
         taken: Vec::new(alloc),
         room,
         fails,
+        calls: 0,
+    }
+}
+
+/// How often an input is read: once for its bytes, if there are some, and once for its end or for the failure.
+fn reads_of(input: Input) -> usize {
+    match input {
+        Input::Whole(bytes) | Input::Broken(bytes) => { if bytes.is_empty() { 1 } else { 2 } }
+        Input::Unread => 0,
     }
 }
 
@@ -177,7 +216,8 @@ fn ends_rightly(alloc: Global, call: &ProgramCall, room: usize, fails: bool) -> 
     let is_read = source.last_read() == last_read_of(input);
     let is_full = room < written.len();
     let is_noted = sink.has_failed() == is_full;
-    let is_asked = reader.was_asked != matches!(input, Input::Unread);
+    let writes = if is_full { room + 1 } else { written.len() };
+    let is_counted = reader.calls == reads_of(input) && writer.calls == writes;
     let (status, told) = if is_full {
         (2, "cannot write output")
     } else {
@@ -186,7 +226,7 @@ fn ends_rightly(alloc: Global, call: &ProgramCall, room: usize, fails: bool) -> 
     was_new
         && is_read
         && is_noted
-        && is_asked
+        && is_counted
         && is_full_of(&writer, written)
         && exit_status(&ended) == status
         && is_told(alloc, &ended, told)
@@ -319,7 +359,7 @@ fn faults_are_told_as_far_as_there_is_room(rt: HostRuntime) {
 
 #[test]
 fn a_source_that_failed_is_not_read_again(rt: HostRuntime) {
-    let mut reader = Flaky { has_failed: false };
+    let mut reader = Resuming::new(true);
     let mut writer: Vec<u8> = Vec::new(rt.alloc());
     let mut source = Source::new(&mut reader);
     let mut sink = Sink::new(&mut writer);
@@ -327,16 +367,55 @@ fn a_source_that_failed_is_not_read_again(rt: HostRuntime) {
         let ended = run_from(rt.alloc(), &["find", "a"], &mut source, &mut sink);
         assert!(rt; matches!(ended, Err(Fault::Input)) && source.last_read() == LastRead::Failure);
     }
+    assert!(rt; reader.calls == 2 && writer.is_empty());
+}
+
+#[test]
+fn a_source_is_not_read_past_its_end(rt: HostRuntime) {
+    let mut reader = Resuming::new(false);
+    let mut writer: Vec<u8> = Vec::new(rt.alloc());
+    let mut source = Source::new(&mut reader);
+    let mut sink = Sink::new(&mut writer);
+    let ended = run_from(rt.alloc(), &["find", "a"], &mut source, &mut sink);
+    assert!(rt; matches!(ended, Ok(Status::Done)) && source.last_read() == LastRead::End);
+    assert!(rt; reader.calls == 2 && writer.as_slice() == b"0..1\n".as_slice());
+}
+
+/// Whether a sink that failed at its second byte is not written to again, neither by that call nor by a later one.
+fn is_left_alone(alloc: Global, fails: bool) -> bool {
+    let mut reader = b"".as_slice();
+    let mut writer = Resuming::new(fails);
+    let mut source = Source::new(&mut reader);
+    let mut sink = Sink::new(&mut writer);
+    let first = run_from(alloc, &["print", "a"], &mut source, &mut sink);
+    let second = run_from(alloc, &["print", "a"], &mut source, &mut sink);
+    let is_noted = sink.has_failed();
+    is_noted
+        && writer.calls == 2
+        && matches!(first, Err(Fault::Output))
+        && matches!(second, Err(Fault::Output))
 }
 
 #[test]
 fn a_sink_that_failed_is_not_written_again(rt: HostRuntime) {
-    let mut reader = b"".as_slice();
-    let mut writer = Flaky { has_failed: false };
-    let mut source = Source::new(&mut reader);
-    let mut sink = Sink::new(&mut writer);
-    for _ in 0..2 {
-        let ended = run_from(rt.alloc(), &["print", "a"], &mut source, &mut sink);
-        assert!(rt; matches!(ended, Err(Fault::Output)) && sink.has_failed());
-    }
+    assert!(rt; is_left_alone(rt.alloc(), true) && is_left_alone(rt.alloc(), false));
+}
+
+/// Whether `run` ends at the failure of such a reader, and at that of such a writer, and calls neither again.
+fn ends_at_second_call(alloc: Global) -> bool {
+    let mut reader = Resuming::new(true);
+    let mut writer = Resuming::new(true);
+    let mut taken: Vec<u8> = Vec::new(alloc);
+    let unread = run(alloc, &["find", "a"], &mut reader, &mut taken);
+    let unwritten = run(alloc, &["print", "a"], &mut b"".as_slice(), &mut writer);
+    reader.calls == 2
+        && writer.calls == 2
+        && taken.is_empty()
+        && matches!(unread, Err(Fault::Input))
+        && matches!(unwritten, Err(Fault::Output))
+}
+
+#[test]
+fn run_ends_at_the_first_failure(rt: HostRuntime) {
+    assert!(rt; ends_at_second_call(rt.alloc()));
 }
