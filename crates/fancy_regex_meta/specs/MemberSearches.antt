@@ -35,7 +35,8 @@ member_input config continue_at p = record {
   no_end_text = not config.end_text;
 }
 
--- An error of that search: a limit only where its choices exceed it, and only where the kept program passes it.
+-- An error of that search: a limit only where its choices exceed it, and only where it is the first that the kept
+-- program passes.
 abbrev pub IsMemberError : MetaRegex → List ℕ → SearchConfig → Option ℕ → ℕ → Error → Type 0
 IsMemberError s text config continue_at p e =
     IsSearchError (meta_uses_easy s) s.options.backtrack_limit

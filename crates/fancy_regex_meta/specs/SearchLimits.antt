@@ -42,14 +42,14 @@ IsSearchError served limit choices (told.RuntimeError Memory) = ⊥
 IsSearchError served limit choices told.Memory = Unit {0}
 IsSearchError served limit choices _ = ⊥
 
--- A limit is one of the kept program: the machine passes it when it runs that program on this text and input with the options'
+-- A limit is the first that the machine passes when it runs the kept program on this text and input with the options'
 -- limit and the kept seek table. The linear-time matcher has no limit.
 abbrev pub StrategyPassesLimit : Strategy → RegexOptions → List ℕ → RunInput → RuntimeError → Type 0
 StrategyPassesLimit (Easy easy) o text input error = ⊥
 StrategyPassesLimit (Linear linear prog) o text input error = ⊥
 StrategyPassesLimit (Program prog run) o text input error = MachinePassesLimit prog text input (run_options_of o run.seek) error
 
--- an error of a search that reports a limit only where the kept program passes it
+-- an error of a search that reports a limit only where it is the first that the kept program passes
 abbrev pub IsStrategyError : Strategy → RegexOptions → List ℕ → RunInput → Error → Type 0
 IsStrategyError strategy o text input (told.RuntimeError error) = StrategyPassesLimit strategy o text input error
 IsStrategyError strategy o text input _ = Unit {0}
@@ -117,8 +117,8 @@ max_looks s config = weight_of (meta_tree s) * (config.range_end - effective_sta
 abbrev pub run_looks : MetaRegex → RunInput → ℕ
 run_looks s input = weight_of (meta_tree s) * (input.range.end - input.first + 1)
 
--- The error is one that a search with this input may return: a limit only where the choices exceed it, and only where the kept
--- program passes it on this input.
+-- The error is one that a search with this input may return: a limit only where the choices exceed it, and only where it is
+-- the first that the kept program passes on this input.
 abbrev pub IsRunError : MetaRegex → List ℕ → RunInput → Error → Type 0
 IsRunError s text input e =
     IsSearchError (meta_uses_easy s) s.options.backtrack_limit (run_choices s.options text input (meta_tree s)) e
