@@ -63,6 +63,21 @@ pub(crate) fn bound_log(
     ensures one_more { AreMarks (segment_limit (length values.now)) (length log.new.items + 1) (reverse branches.now) }
     ensures less { length log.new.items ≤ length log.old.items }
 {
+    if log.len() >= MANY {
+        bound_top(values, room, log, branches);
+    }
+}
+
+/// The same for a log that is long.
+#[inline(never)]
+fn bound_top(values: &[usize], room: &mut [usize], log: &mut Vec<OldValue>, branches: &[Branch])
+    requires room { MANY ≤ length log.old.items → length values.now ≤ length room.old }
+    requires log { IsLogBelow values.now log.old.items branches.now }
+    ensures memory { memory_of values.now log.new.items branches.now ≡ memory_of values.now log.old.items branches.now }
+    ensures sound { IsSound values.now log.new.items branches.now }
+    ensures one_more { AreMarks (segment_limit (length values.now)) (length log.new.items + 1) (reverse branches.now) }
+    ensures less { length log.new.items ≤ length log.old.items }
+{
     let start = segment_start(branches);
     if log.len() - start >= MANY {
         bound_segment(values, room, log, start);
