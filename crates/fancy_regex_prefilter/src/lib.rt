@@ -20,4 +20,5 @@ pub mod refusals;
 mod repeated_characters;
 pub mod run_context;
 pub mod start;
+pub mod walk_hints;
 mod walks;

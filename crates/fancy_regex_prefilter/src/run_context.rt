@@ -17,6 +17,8 @@ pub struct RunContext<'r> {
     pub plan: &'r Plan,
     /// How the program begins, if that is with a negative look-behind of one character.
     pub look_behind: Option<LeadingLookBehind<'r>>,
+    /// Whether a walk from a start may tell more than the characters around it.
+    pub walks: bool,
     /// The whole text.
     pub text: &'r str,
     /// Where a match may start and end, and what assertions see of the text.
