@@ -69,7 +69,7 @@ pub(crate) fn bound_log(
 }
 
 /// The same for a log that is long.
-#[inline(never)]
+#[inline(always)]
 fn bound_top(values: &[usize], room: &mut [usize], log: &mut Vec<OldValue>, branches: &[Branch])
     requires room { MANY ≤ length log.old.items → length values.now ≤ length room.old }
     requires log { IsLogBelow values.now log.old.items branches.now }
