@@ -1,0 +1,6 @@
+pub mod RecallLemmas
+pub mod StackLemmas
+pub mod TrackLemmas
+pub mod CostLemmas
+pub mod VisitLemmas
+pub mod LoopLemmas

@@ -1,0 +1,25 @@
+use Rattle.std.proofs.Common.{◌≡◌, ℕ, ◌+◌, ◌-◌, ◌*◌, length}
+use Rattle.fancy_regex_class.specs.Looks.{looked_text}
+use Rattle.fancy_regex_states.specs.Attempts.{View}
+use Rattle.fancy_regex_parts.specs.Ways.{Ways}
+use Rattle.fancy_regex_parts.specs.Tables.{due}
+use Rattle.fancy_regex_parts.specs.Recall.{known_count}
+use Rattle.fancy_regex_parts.specs.Frames.{Tracks, pending, task_due, task_mode, top_first}
+use Rattle.fancy_regex_parts.specs.Layers.{HasWays, IsTrueOf, IsAtTask, IsPaid}
+use Rattle.fancy_regex_parts.proofs.question.search.Given as goal
+
+abbrev pub invariant-tasks : goal.invariant-tasks
+invariant-tasks l = record {
+  tracking : (view : View) (ways : Ways) → HasWays l.context (looked_text l.fn.text) view ways → IsTrueOf l.context ways l.fn.memory.recall
+      → Tracks ways l.context.table.now.heads.items l.fn.memory.recall.base l.memory.recall l.task (top_first l.memory.stack.items) (ways.end l.part l.at);
+  place : IsAtTask l.context (looked_text l.fn.text) l.fn.memory.recall.base l.task (top_first l.memory.stack.items);
+  paid : IsPaid l.context l.fn.text l.text l.fn.memory.recall l.memory.recall (due l.context.table.now l.part)
+      (task_due l.context.table.now l.task + pending l.context.table.now (top_first l.memory.stack.items));
+}
+
+abbrev pub decreases-tasks : goal.decreases-tasks
+decreases-tasks l =
+    6 * (task_due l.context.table.now l.task + pending l.context.table.now (top_first l.memory.stack.items)
+    + (l.context.table.now.most * ((length (looked_text l.fn.text) - l.fn.memory.recall.base + 1) * length l.context.table.now.heads.items)
+    - l.context.table.now.most * known_count l.memory.recall))
+    + 2 * length (top_first l.memory.stack.items) + task_mode l.task

@@ -1,0 +1,5 @@
+pub mod Recall
+pub mod Ways
+pub mod Tables
+pub mod Frames
+pub mod Layers

@@ -1,0 +1,50 @@
+-- A table of states with marks, and what a visit of each state costs.
+use Rattle.std.specs.Prelude.{◌≡◌, ℕ, ◌+◌, ◌*◌, ◌<◌, ◌≤◌, List, length, Option, Some, None, slice_index_or}
+use Rattle.fancy_regex_parts.specs.Ways.{part_state, NamesBelow}
+use Rattle.fancy_regex_parts.specs.declared.state.PartState.{PartState}
+use Rattle.fancy_regex_parts.specs.declared.state.PartState.TheVariants.{Split, Ask, Atomic, Match}
+use Rattle.fancy_regex_parts.specs.declared.state.PartState.TheVariants as S
+use Rattle.fancy_regex_parts.specs.declared.table.PartTable.{PartTable}
+
+-- the mark of a state, if it has one
+abbrev pub mark_of : PartTable → ℕ → Option ℕ
+mark_of table q = slice_index_or table.marks.items q None
+
+-- how many looks it takes to try a state, where those at the marked states behind it are not counted
+abbrev pub cost_of : PartTable → ℕ → ℕ
+cost_of table q = slice_index_or table.costs.items q 0
+
+abbrev pub due_of : Option ℕ → ℕ → ℕ
+due_of (Some mark) cost = 0
+due_of None cost = cost
+
+-- the same of a state that another one leads to: a marked one is paid for once, by its mark
+abbrev pub due : PartTable → ℕ → ℕ
+due table q = due_of (mark_of table q) (cost_of table q)
+
+-- what is due for the states that this one leads to
+abbrev pub owed : PartTable → PartState → ℕ
+owed table (S.Read leaf next) = due table next
+owed table (S.Look check next) = due table next
+owed table (Split first second) = due table first + due table second
+owed table (Ask part negated next) = due table part + due table next
+owed table (Atomic part next) = due table part + due table next
+owed table Match = 0
+
+-- the parts' weight: a bound on the looks for each place, over all questions
+abbrev pub table_weight : PartTable → ℕ
+table_weight table = table.most * length table.heads.items
+
+-- what is right of the state q
+pub record IsRightAt (table : PartTable) (q : ℕ) : Type 0 where
+  -- it names states
+  pub closed : NamesBelow (length table.states.items) (part_state table.states.items q)
+  -- its mark is its own, and no marked state costs more than this
+  pub marked : (mark : ℕ) → mark_of table q ≡ Some mark
+      → (mark < length table.heads.items) × (slice_index_or table.heads.items mark 0 ≡ q) × (cost_of table q ≤ table.most)
+  -- its cost is enough for it and those behind it
+  pub paid : owed table (part_state table.states.items q) + 1 ≤ cost_of table q
+
+-- all states are right
+unfoldable pub IsTable : PartTable → Type 0
+IsTable table = (q : ℕ) → q < length table.states.items → IsRightAt table q

@@ -1,0 +1,20 @@
+//! Parts: the bodies of look-arounds and of atomic groups, as states of their own. A part is asked at a byte offset of the text;
+//! the answer is where its first way ends, in the order of preference, or that it has none. A part may ask other parts. What
+//! the questions find out is kept in a `PartMemory`, failures and successes, so that no marked state is tried twice at one place, over all
+//! questions: the number of looks at the text is bounded by a weight of the parts times the length of the text plus one, and by a
+//! small constant for each question. An answer fails for want of memory alone, and then the memory remembers nothing.
+#![tactic(auto)]
+
+mod frame;
+mod memory;
+mod question;
+mod recall;
+mod state;
+mod step;
+mod table;
+
+pub use memory::PartMemory;
+pub use question::ask;
+pub use state::PartState;
+pub use step::PartContext;
+pub use table::PartTable;

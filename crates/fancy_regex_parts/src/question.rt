@@ -1,0 +1,130 @@
+//! Questions to parts.
+
+ghost use Rattle.std.specs.Prelude.{◌≡◌, ◌+◌, ◌-◌, ◌*◌, ◌^◌, ◌<◌, ◌≤◌, ℕ, Option, length, min, vec_len, IfOk, IfSome, OnOk};
+ghost use Rattle.fancy_regex_class.specs.Looks.{looked_text, look_count, SameCounter};
+ghost use Rattle.fancy_regex_states.specs.Attempts.{View};
+ghost use Rattle.fancy_regex_parts.specs.Ways.{Ways};
+ghost use Rattle.fancy_regex_parts.specs.Tables.{IsTable, due, table_weight};
+ghost use Rattle.fancy_regex_parts.specs.Recall.{known_count};
+ghost use Rattle.fancy_regex_parts.specs.Frames.{IsPlace, resume_task, top_first};
+ghost use Rattle.fancy_regex_parts.specs.Layers.{HasWays, IsOfText, IsPaid, IsTrueOf, IsResumed};
+
+use crate::frame::{Frame, Task};
+use crate::memory::PartMemory;
+use crate::recall::Recall;
+use crate::step::{PartContext, visit};
+use fancy_regex_class::Counted;
+use std::alloc::AllocError;
+
+/// What is done next where the answer comes to a frame; an open pair gets its answer.
+#[inline(always)]
+fn resume(frame: Frame, end: Option<usize>, recall: &mut Recall) -> Task
+    requires { IfSome end (λ e. e < 2 ^ 64 - 2) }
+    ensures task { result ≡ resume_task frame end }
+    ensures recall { IsResumed frame end recall.old recall.new }
+{
+    match frame {
+        Frame::Branch { state, at } => match end {
+            None => Task::Visit { state, at },
+            Some(_) => Task::Answer(end),
+        },
+        Frame::Open { cell } => {
+            if let Some(e) = end {
+                recall.store(cell, e);
+            }
+            Task::Answer(end)
+        }
+        Frame::Ask { negated, next, at } => {
+            if end.is_some() != negated {
+                Task::Visit { state: next, at }
+            } else {
+                Task::Answer(None)
+            }
+        }
+        Frame::Atomic { next } => match end {
+            Some(e) => Task::Visit { state: next, at: e },
+            None => Task::Answer(None),
+        },
+    }
+}
+
+/// The answer of `ask`. After an error pairs may be left open.
+fn search(
+    context: &PartContext,
+    text: &mut Counted,
+    memory: &mut PartMemory,
+    part: usize,
+    at: usize,
+) -> Result<Option<usize>, AllocError>
+    requires table { IsTable context.now.table.now }
+    requires part { part < length context.now.table.now.states.items }
+    requires memory { IsOfText context.now (looked_text text.old) memory.old.recall }
+    requires small { length (looked_text text.old) < 2 ^ 63 }
+    requires place { IsPlace (looked_text text.old) memory.old.recall.base at }
+    requires stack { vec_len memory.old.stack ≡ 0 }
+    ensures answer { IfOk result (λ end. (view : View) (ways : Ways) → HasWays context.now (looked_text text.old) view ways
+        → IsTrueOf context.now ways memory.old.recall → (end ≡ ways.end part at) × IsTrueOf context.now ways memory.new.recall) }
+    ensures stack { OnOk result (vec_len memory.new.stack ≡ 0) }
+    ensures paid { IsPaid context.now text.old text.new memory.old.recall memory.new.recall (due context.now.table.now part) 0 }
+{
+    let mut task = Task::Visit { state: part, at };
+    'tasks: loop {
+        let end = match task {
+            Task::Visit { state, at } => {
+                task = visit(
+                    context,
+                    text,
+                    &mut memory.recall,
+                    &mut memory.stack,
+                    state,
+                    at,
+                )?;
+                continue 'tasks;
+            }
+            Task::Answer(end) => end,
+        };
+        let Some(frame) = memory.stack.pop() else {
+            return Ok(end);
+        };
+        task = resume(frame, end, &mut memory.recall);
+    }
+}
+
+/// Where the first way ends of the part that begins at the state `part`, in the text from the byte offset `at` on; `None` if it has no
+/// way. The memory may remember what earlier questions have found out about the same parts in the same text. The error is want of
+/// memory, and then the memory remembers nothing.
+pub fn ask(
+    context: &PartContext,
+    text: &mut Counted,
+    memory: &mut PartMemory,
+    part: usize,
+    at: usize,
+) -> Result<Option<usize>, AllocError>
+    requires table { IsTable context.now.table.now }
+    requires part { part < length context.now.table.now.states.items }
+    requires memory { IsOfText context.now (looked_text text.old) memory.old.recall }
+    requires small { length (looked_text text.old) < 2 ^ 63 }
+    requires place { IsPlace (looked_text text.old) memory.old.recall.base at }
+    requires stack { vec_len memory.old.stack ≡ 0 }
+    ensures answer { IfOk result (λ end. (view : View) (ways : Ways) → HasWays context.now (looked_text text.old) view ways
+        → IsTrueOf context.now ways memory.old.recall → end ≡ ways.end part at) }
+    ensures remembers { (view : View) (ways : Ways) → HasWays context.now (looked_text text.old) view ways
+        → IsTrueOf context.now ways memory.old.recall → IsTrueOf context.now ways memory.new.recall }
+    ensures memory { IsOfText context.now (looked_text text.old) memory.new.recall }
+    ensures base { memory.new.recall.base ≡ memory.old.recall.base }
+    ensures stack { vec_len memory.new.stack ≡ 0 }
+    ensures counted { OnOk result (look_count text.new + context.now.table.now.most * known_count memory.old.recall
+        ≤ look_count text.old + due context.now.table.now part + context.now.table.now.most * known_count memory.new.recall) }
+    ensures at_most { look_count text.new ≤ look_count text.old + due context.now.table.now part
+        + (length (looked_text text.old) - memory.old.recall.base + 1) * table_weight context.now.table.now }
+    ensures text { looked_text text.new ≡ looked_text text.old }
+    ensures same_counter { SameCounter text.old text.new }
+{
+    match search(context, text, memory, part, at) {
+        Ok(end) => Ok(end),
+        Err(error) => {
+            memory.forget();
+            Err(error)
+        }
+    }
+}

@@ -1,0 +1,182 @@
+//! One step of a search in parts.
+
+ghost use Rattle.std.specs.Prelude.{◌≡◌, ◌+◌, ◌^◌, ◌<◌, ◌≤◌, ◌∷◌, Some, length, IfOk, IfSome, OnOk, IsCharBoundary};
+ghost use Rattle.std.specs.Char.{len_utf8};
+ghost use Rattle.regex_hir.specs.Text.{char_at, char_before};
+ghost use Rattle.fancy_regex_class.specs.Looks.{looked_text, look_count};
+ghost use Rattle.fancy_regex_parts.specs.Tables.{IsTable, mark_of, due};
+ghost use Rattle.fancy_regex_parts.specs.Frames.{pending, task_due, step_frames, step_task, read_task, top_first};
+ghost use Rattle.fancy_regex_parts.specs.Layers.{IsOnlyLookedAt, IsOfText, IsAtTask, IsPaid, IsVisit};
+ghost use Rattle.fancy_regex_parts.specs.declared.frame.Task.TheVariants.{Visit};
+
+use crate::frame::{Frame, Task};
+use crate::recall::{Known, Recall};
+use crate::state::PartState;
+use crate::table::PartTable;
+use fancy_regex_class::{CharClassMatcher, Counted};
+use fancy_regex_states::{Leaf, Rules, leaf_matches, test_holds};
+use std::alloc::AllocError;
+
+/// What a search in parts reads and does not change.
+#[derive(Clone, Copy)]
+pub struct PartContext<'p> {
+    /// The states of the parts.
+    pub table: &'p PartTable,
+    /// The matchers of their classes.
+    pub matchers: &'p [CharClassMatcher],
+    /// The flags of the search.
+    pub rules: Rules,
+}
+
+/// Executes a state at the byte offset `at`, which costs one look. The error is want of memory.
+#[inline(always)]
+fn step(
+    context: &PartContext,
+    text: &mut Counted,
+    state: PartState,
+    at: usize,
+    stack: &mut Vec<Frame>,
+) -> Result<Task, AllocError>
+    requires boundary { IsCharBoundary (looked_text text.old) at }
+    requires small { length (looked_text text.old) < 2 ^ 63 }
+    ensures task { IfOk result (λ task. task ≡ step_task context.now.matchers.now context.now.rules state at
+        (char_before (looked_text text.old) at) (char_at (looked_text text.old) at)) }
+    ensures frames { OnOk result (top_first stack.new.items ≡ step_frames state at (top_first stack.old.items)) }
+    ensures next { IfSome (char_at (looked_text text.old) at) (λ c. IsCharBoundary (looked_text text.old) (at + len_utf8 c)) }
+    ensures count { look_count text.new ≤ look_count text.old + 1 }
+    ensures looks { IsOnlyLookedAt text.old text.new }
+{
+    let (before, after) = text.look(at);
+    let task = advance(context, state, at, before, after, stack)?;
+    Ok(task)
+}
+
+/// Executes a state at the byte offset `at`, between the characters `before` and `after`. The error is want of memory.
+#[inline(always)]
+fn advance(
+    context: &PartContext,
+    state: PartState,
+    at: usize,
+    before: Option<char>,
+    after: Option<char>,
+    stack: &mut Vec<Frame>,
+) -> Result<Task, AllocError>
+    requires { IfSome after (λ c. at + len_utf8 c < 2 ^ 64) }
+    ensures task { IfOk result (λ task. task ≡ step_task context.now.matchers.now context.now.rules state at before after) }
+    ensures frames { OnOk result (top_first stack.new.items ≡ step_frames state at (top_first stack.old.items)) }
+{
+    match state {
+        PartState::Read { leaf, next } => Ok(read(context, leaf, next, at, after)),
+        PartState::Look { test, next } => {
+            if test_holds(context.matchers, context.rules, test, before, after) {
+                Ok(Task::Visit { state: next, at })
+            } else {
+                Ok(Task::Answer(None))
+            }
+        }
+        PartState::Split { first, second } => {
+            push(stack, Frame::Branch { state: second, at })?;
+            Ok(Task::Visit { state: first, at })
+        }
+        PartState::Ask {
+            part,
+            negated,
+            next,
+        } => {
+            push(stack, Frame::Ask { negated, next, at })?;
+            Ok(Task::Visit { state: part, at })
+        }
+        PartState::Atomic { part, next } => {
+            push(stack, Frame::Atomic { next })?;
+            Ok(Task::Visit { state: part, at })
+        }
+        PartState::Match => Ok(Task::Answer(Some(at))),
+    }
+}
+
+/// Pushes a frame. The error is want of memory.
+#[inline(always)]
+fn push(stack: &mut Vec<Frame>, frame: Frame) -> Result<(), AllocError>
+    ensures { OnOk result (top_first stack.new.items ≡ frame ∷ top_first stack.old.items) }
+{
+    stack.push(frame)?;
+    Ok(())
+}
+
+/// Consumes the character at `at` if the leaf matches it.
+#[inline(always)]
+fn read(context: &PartContext, leaf: Leaf, next: usize, at: usize, after: Option<char>) -> Task
+    requires { IfSome after (λ c. at + len_utf8 c < 2 ^ 64) }
+    ensures { result ≡ read_task context.now.matchers.now context.now.rules leaf next at after }
+{
+    match after {
+        Some(c) if leaf_matches(context.matchers, context.rules.unicode, leaf, c) => Task::Visit {
+            state: next,
+            at: at + c.len_utf8(),
+        },
+        _ => Task::Answer(None),
+    }
+}
+
+/// Tries the state `q` at the byte offset `at`, or tells what is known of the pair. The error is want of memory.
+#[inline(always)]
+pub fn visit(
+    context: &PartContext,
+    text: &mut Counted,
+    recall: &mut Recall,
+    stack: &mut Vec<Frame>,
+    q: usize,
+    at: usize,
+) -> Result<Task, AllocError>
+    requires table { IsTable context.now.table.now }
+    requires memory { IsOfText context.now (looked_text text.old) recall.old }
+    requires small { length (looked_text text.old) < 2 ^ 63 }
+    requires place { IsAtTask context.now (looked_text text.old) recall.old.base (Visit q at) (top_first stack.old.items) }
+    ensures visit { IfOk result (IsVisit context.now (looked_text text.old) recall.old recall.new (top_first stack.old.items) (top_first stack.new.items) q at) }
+    ensures paid { IfOk result (λ task. IsPaid context.now text.old text.new recall.old recall.new
+        (due context.now.table.now q + pending context.now.table.now (top_first stack.old.items))
+        (task_due context.now.table.now task + pending context.now.table.now (top_first stack.new.items))) }
+    ensures looked { IsPaid context.now text.old text.new recall.old recall.new (due context.now.table.now q) 0 }
+{
+    match context.table.mark(q) {
+        Some(mark) => visit_marked(context, text, recall, stack, mark, q, at),
+        None => {
+            let task = step(context, text, context.table.states[q], at, stack)?;
+            Ok(task)
+        }
+    }
+}
+
+/// Tries a state with this mark, or tells what is known of the pair, as `visit`.
+#[inline(always)]
+fn visit_marked(
+    context: &PartContext,
+    text: &mut Counted,
+    recall: &mut Recall,
+    stack: &mut Vec<Frame>,
+    mark: usize,
+    q: usize,
+    at: usize,
+) -> Result<Task, AllocError>
+    requires table { IsTable context.now.table.now }
+    requires memory { IsOfText context.now (looked_text text.old) recall.old }
+    requires small { length (looked_text text.old) < 2 ^ 63 }
+    requires mark { mark_of context.now.table.now q ≡ Some mark }
+    requires place { IsAtTask context.now (looked_text text.old) recall.old.base (Visit q at) (top_first stack.old.items) }
+    ensures visit { IfOk result (IsVisit context.now (looked_text text.old) recall.old recall.new (top_first stack.old.items) (top_first stack.new.items) q at) }
+    ensures paid { IfOk result (λ task. IsPaid context.now text.old text.new recall.old recall.new
+        (due context.now.table.now q + pending context.now.table.now (top_first stack.old.items))
+        (task_due context.now.table.now task + pending context.now.table.now (top_first stack.new.items))) }
+    ensures looked { IsPaid context.now text.old text.new recall.old recall.new (due context.now.table.now q) 0 }
+{
+    let known = recall.open(mark, at)?;
+    match known {
+        Known::New(cell) => {
+            push(stack, Frame::Open { cell })?;
+            let task = step(context, text, context.table.states[q], at, stack)?;
+            Ok(task)
+        }
+        Known::Fails => Ok(Task::Answer(None)),
+        Known::Ends(end) => Ok(Task::Answer(Some(end))),
+    }
+}

@@ -1,0 +1,237 @@
+//! The states of parts, which of them are marked, and what it costs to try them.
+
+ghost use Rattle.std.specs.Prelude.{◌≡◌, ◌+◌, ◌-◌, ◌*◌, ◌^◌, ◌<◌, ◌≤◌, ℕ, true, Some, length, min, slice_index_or, IfOk, IfSome};
+ghost use Rattle.fancy_regex_parts.specs.Ways.{NamesBelow};
+
+use crate::state::PartState;
+use std::alloc::{AllocError, Global};
+
+/// States of parts with their marks. A state is marked where two states lead to it, or where it leads to a later one, as the head of a
+/// loop does. What is found out of a marked state at a place is kept; the states between the marked ones are trees.
+#[derive(Drop)]
+pub struct PartTable {
+    /// The states of all parts. Those of a part that is asked by another one come before the other's.
+    pub(crate) states: Vec<PartState>,
+    /// For each state its mark, if it has one.
+    pub(crate) marks: Vec<Option<usize>>,
+    /// For each mark the state that has it.
+    pub(crate) heads: Vec<usize>,
+    /// For each state how many looks it takes to try it, where those at the marked states behind it are not counted.
+    pub(crate) costs: Vec<usize>,
+    /// No marked state costs more.
+    pub(crate) most: usize,
+}
+
+impl PartTable {
+    ghost use Rattle.fancy_regex_parts.specs.Ways.{part_state};
+    ghost use Rattle.fancy_regex_parts.specs.Tables.{IsTable, IsRightAt, mark_of, cost_of, due as due_is, owed as owed_is, table_weight};
+
+    /// The table of these states. A state leads to earlier states, but for the heads of loops; `None` where a state leads to one that
+    /// is not there, or where states that are not marked lead in a circle. The error is want of memory.
+    pub fn new(alloc: Global, states: Vec<PartState>) -> Result<Option<PartTable>, AllocError>
+        ensures { IfOk result (λ made. IfSome made (λ table. IsTable table × (table.states.items ≡ states.items))) }
+    {
+        let marked = marked_states(alloc, &states)?;
+        let (marks, heads) = numbered(alloc, &marked)?;
+        let mut costs = Vec::new(alloc);
+        costs.resize(states.len(), 0)?;
+        let mut table = PartTable {
+            states,
+            marks,
+            heads,
+            costs,
+            most: 0,
+        };
+        table.set_costs(false);
+        table.set_costs(true);
+        if table.is_right() {
+            Ok(Some(table))
+        } else {
+            Ok(None)
+        }
+    }
+
+    /// The parts' weight: over all questions of one memory, a search in them looks at each place so often at most, but for a small
+    /// number of looks for each question.
+    pub fn weight(&self) -> usize
+        ensures { result ≡ min (table_weight self.now) (2 ^ 64 - 1) }
+    {
+        self.most.saturating_mul(self.heads.len())
+    }
+
+    /// The mark of this state.
+    #[inline(always)]
+    pub(crate) fn mark(&self, state: usize) -> Option<usize>
+        ensures { result ≡ mark_of self.now state }
+    {
+        match self.marks.get(state) {
+            Some(mark) => *mark,
+            None => None,
+        }
+    }
+
+    /// What it costs to try this state.
+    fn cost(&self, state: usize) -> usize
+        ensures { result ≡ cost_of self.now state }
+    {
+        match self.costs.get(state) {
+            Some(cost) => *cost,
+            None => 0,
+        }
+    }
+
+    /// What is due for a state that another one leads to.
+    fn due(&self, state: usize) -> usize
+        ensures { result ≡ due_is self.now state }
+    {
+        match self.mark(state) {
+            Some(_) => 0,
+            None => self.cost(state),
+        }
+    }
+
+    /// What is due for the states that this one leads to.
+    fn owed(&self, state: PartState) -> usize
+        ensures { result ≡ min (owed_is self.now state) (2 ^ 64 - 1) }
+    {
+        match state {
+            PartState::Read { next, .. } | PartState::Look { next, .. } => self.due(next),
+            PartState::Split { first, second } => {
+                self.due(first).saturating_add(self.due(second))
+            }
+            PartState::Ask { part, next, .. } | PartState::Atomic { part, next } => {
+                self.due(part).saturating_add(self.due(next))
+            }
+            PartState::Match => 0,
+        }
+    }
+
+    /// Sets the costs of the states that are marked, or of those that are not.
+    fn set_costs(&mut self, marked: bool)
+        ensures { self.new.states ≡ self.old.states }
+    {
+        for q in 0..self.states.len() {
+            if self.mark(q).is_some() == marked && q < self.costs.len() {
+                let cost = self.owed(self.states[q]).saturating_add(1);
+                self.costs[q] = cost;
+                if marked && cost > self.most {
+                    self.most = cost;
+                }
+            }
+        }
+    }
+
+    /// Whether the state of this number is right.
+    fn is_right_at(&self, q: usize) -> bool
+        requires { q < length self.now.states.items }
+        ensures { result ≡ true → IsRightAt self.now q }
+    {
+        let state = self.states[q];
+        let cost = self.cost(q);
+        if !names_below(state, self.states.len()) {
+            return false;
+        }
+        if !self.has_mark(q, cost) {
+            return false;
+        }
+        self.owed(state) < cost
+    }
+
+    /// Whether the mark of this state, if it has one, is its own, and its cost is not too high.
+    fn has_mark(&self, q: usize, cost: usize) -> bool
+        requires { cost ≡ cost_of self.now q }
+        ensures { result ≡ true → (mark : ℕ) → mark_of self.now q ≡ Some mark
+            → (mark < length self.now.heads.items) × (slice_index_or self.now.heads.items mark 0 ≡ q) × (cost_of self.now q ≤ self.now.most) }
+    {
+        match self.mark(q) {
+            None => true,
+            Some(mark) => mark < self.heads.len() && self.heads[mark] == q && cost <= self.most,
+        }
+    }
+
+    /// Whether all states are right.
+    fn is_right(&self) -> bool
+        ensures { result ≡ true → IsTable self.now }
+    {
+        for q in 0..self.states.len() {
+            if !self.is_right_at(q) {
+                return false;
+            }
+        }
+        true
+    }
+}
+
+/// Whether each state that this one names is below `count`.
+fn names_below(state: PartState, count: usize) -> bool
+    ensures { result ≡ true → NamesBelow count state }
+{
+    match state {
+        PartState::Read { next, .. } | PartState::Look { next, .. } => next < count,
+        PartState::Split { first, second } => first < count && second < count,
+        PartState::Ask { part, next, .. } | PartState::Atomic { part, next } => {
+            part < count && next < count
+        }
+        PartState::Match => true,
+    }
+}
+
+/// The states that this one leads to.
+fn led(state: PartState) -> (Option<usize>, Option<usize>) {
+    match state {
+        PartState::Read { next, .. } | PartState::Look { next, .. } => (Some(next), None),
+        PartState::Split { first, second } => (Some(first), Some(second)),
+        PartState::Ask { part, next, .. } | PartState::Atomic { part, next } => {
+            (Some(part), Some(next))
+        }
+        PartState::Match => (None, None),
+    }
+}
+
+/// For each state whether it is to be marked. The error is want of memory.
+fn marked_states(alloc: Global, states: &[PartState]) -> Result<Vec<bool>, AllocError> {
+    let mut marked = Vec::new(alloc);
+    marked.resize(states.len(), false)?;
+    let mut entered = Vec::new(alloc);
+    entered.resize(states.len(), false)?;
+    for q in 0..states.len() {
+        let (first, second) = led(states[q]);
+        note_edge(&mut marked, &mut entered, q, first);
+        note_edge(&mut marked, &mut entered, q, second);
+    }
+    Ok(marked)
+}
+
+/// Notes that the state `from` leads to this one: a state that leads to a later one is marked, and one that was led to before.
+fn note_edge(marked: &mut [bool], entered: &mut [bool], from: usize, to: Option<usize>) {
+    let Some(to) = to else {
+        return;
+    };
+    if from < marked.len() && from <= to {
+        marked[from] = true;
+    }
+    if to < marked.len() && to < entered.len() {
+        if entered[to] {
+            marked[to] = true;
+        }
+        entered[to] = true;
+    }
+}
+
+/// The marks of states, and the state of each mark, where these are to be marked. The error is want of memory.
+fn numbered(
+    alloc: Global,
+    marked: &[bool],
+) -> Result<(Vec<Option<usize>>, Vec<usize>), AllocError> {
+    let mut marks = Vec::new(alloc);
+    let mut heads: Vec<usize> = Vec::new(alloc);
+    for q in 0..marked.len() {
+        if marked[q] {
+            marks.push(Some(heads.len()))?;
+            heads.push(q)?;
+        } else {
+            marks.push(None)?;
+        }
+    }
+    Ok((marks, heads))
+}
