@@ -51,9 +51,11 @@ pub record IsVisit (context : PartContext) (text : List ℕ) (recall new_recall 
       → Tracks ways context.table.now.heads.items recall.base recall (Visit q i) frames goal
       → Tracks ways context.table.now.heads.items recall.base new_recall task new_frames goal
   pub within : IsAtTask context text recall.base task new_frames
+  -- a measure of what is left to be done falls
   pub progress : 6 * (task_due context.table.now task + pending context.table.now new_frames + context.table.now.most * known_count recall)
       + 2 * length new_frames + task_mode task
-      < 6 * (due context.table.now q + pending context.table.now frames + context.table.now.most * known_count new_recall) + 2 * length frames + 1
+      < 6 * (due context.table.now q + pending context.table.now frames + context.table.now.most * known_count new_recall)
+      + 2 * length frames + 1
 
 -- what is known of the parts of these states is true
 abbrev pub IsTrueOf : PartContext → Ways → Recall → Type 0

@@ -132,7 +132,8 @@ pub fn visit(
     requires memory { IsOfText context.now (looked_text text.old) recall.old }
     requires small { length (looked_text text.old) < 2 ^ 63 }
     requires place { IsAtTask context.now (looked_text text.old) recall.old.base (Visit q at) (top_first stack.old.items) }
-    ensures visit { IfOk result (IsVisit context.now (looked_text text.old) recall.old recall.new (top_first stack.old.items) (top_first stack.new.items) q at) }
+    ensures visit { IfOk result (IsVisit context.now (looked_text text.old) recall.old recall.new
+        (top_first stack.old.items) (top_first stack.new.items) q at) }
     ensures paid { IfOk result (λ task. IsPaid context.now text.old text.new recall.old recall.new
         (due context.now.table.now q + pending context.now.table.now (top_first stack.old.items))
         (task_due context.now.table.now task + pending context.now.table.now (top_first stack.new.items))) }
@@ -163,7 +164,8 @@ fn visit_marked(
     requires small { length (looked_text text.old) < 2 ^ 63 }
     requires mark { mark_of context.now.table.now q ≡ Some mark }
     requires place { IsAtTask context.now (looked_text text.old) recall.old.base (Visit q at) (top_first stack.old.items) }
-    ensures visit { IfOk result (IsVisit context.now (looked_text text.old) recall.old recall.new (top_first stack.old.items) (top_first stack.new.items) q at) }
+    ensures visit { IfOk result (IsVisit context.now (looked_text text.old) recall.old recall.new
+        (top_first stack.old.items) (top_first stack.new.items) q at) }
     ensures paid { IfOk result (λ task. IsPaid context.now text.old text.new recall.old recall.new
         (due context.now.table.now q + pending context.now.table.now (top_first stack.old.items))
         (task_due context.now.table.now task + pending context.now.table.now (top_first stack.new.items))) }

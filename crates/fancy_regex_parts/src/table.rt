@@ -141,7 +141,8 @@ impl PartTable {
     fn has_mark(&self, q: usize, cost: usize) -> bool
         requires { cost ≡ cost_of self.now q }
         ensures { result ≡ true → (mark : ℕ) → mark_of self.now q ≡ Some mark
-            → (mark < length self.now.heads.items) × (slice_index_or self.now.heads.items mark 0 ≡ q) × (cost_of self.now q ≤ self.now.most) }
+            → (mark < length self.now.heads.items) × (slice_index_or self.now.heads.items mark 0 ≡ q)
+            × (cost_of self.now q ≤ self.now.most) }
     {
         match self.mark(q) {
             None => true,
