@@ -14,7 +14,7 @@ mod step;
 mod table;
 
 pub use memory::PartMemory;
-pub use question::ask;
+pub use question::{ask, ask_each};
 pub use state::PartState;
 pub use step::PartContext;
 pub use table::PartTable;

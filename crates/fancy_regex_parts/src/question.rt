@@ -1,20 +1,20 @@
 //! Questions to parts.
 
-ghost use Rattle.std.specs.Prelude.{◌≡◌, ◌+◌, ◌-◌, ◌*◌, ◌^◌, ◌<◌, ◌≤◌, ℕ, Option, length, min, vec_len, IfOk, IfSome, OnOk};
-ghost use Rattle.fancy_regex_class.specs.Looks.{looked_text, look_count, SameCounter};
+ghost use Rattle.std.specs.Prelude.{◌≡◌, ◌+◌, ◌-◌, ◌*◌, ◌^◌, ◌<◌, ◌≤◌, ℕ, None, length, vec_len, slice_index, slice_index_or, IfOk, IfSome, OnOk};
+ghost use Rattle.fancy_regex_class.specs.Looks.{looked_text, look_count};
 ghost use Rattle.fancy_regex_states.specs.Attempts.{View};
 ghost use Rattle.fancy_regex_parts.specs.Ways.{Ways};
 ghost use Rattle.fancy_regex_parts.specs.Tables.{IsTable, due, table_weight};
 ghost use Rattle.fancy_regex_parts.specs.Recall.{known_count};
 ghost use Rattle.fancy_regex_parts.specs.Frames.{IsPlace, resume_task, top_first};
-ghost use Rattle.fancy_regex_parts.specs.Layers.{HasWays, IsOfText, IsPaid, IsTrueOf, IsResumed};
+ghost use Rattle.fancy_regex_parts.specs.Layers.{HasWays, IsOnlyLookedAt, IsOfText, IsPaid, IsTrueOf, IsResumed};
 
 use crate::frame::{Frame, Task};
 use crate::memory::PartMemory;
 use crate::recall::Recall;
 use crate::step::{PartContext, visit};
 use fancy_regex_class::Counted;
-use std::alloc::AllocError;
+use std::alloc::{AllocError, Global};
 
 /// What is done next where the answer comes to a frame; an open pair gets its answer.
 #[inline(always)]
@@ -117,8 +117,7 @@ pub fn ask(
         ≤ look_count text.old + due context.now.table.now part + context.now.table.now.most * known_count memory.new.recall) }
     ensures at_most { look_count text.new ≤ look_count text.old + due context.now.table.now part
         + (length (looked_text text.old) - memory.old.recall.base + 1) * table_weight context.now.table.now }
-    ensures text { looked_text text.new ≡ looked_text text.old }
-    ensures same_counter { SameCounter text.old text.new }
+    ensures looks { IsOnlyLookedAt text.old text.new }
 {
     match search(context, text, memory, part, at) {
         Ok(end) => Ok(end),
@@ -127,4 +126,36 @@ pub fn ask(
             Err(error)
         }
     }
+}
+
+/// The answers of `ask` for this part at each of these byte offsets, in turn. All of them together look at each place of the text at
+/// most as often as the parts weigh, and what is due for the part's first state once more for each answer. The error is want of
+/// memory, and then the memory remembers nothing.
+pub fn ask_each(
+    alloc: Global,
+    context: &PartContext,
+    text: &mut Counted,
+    memory: &mut PartMemory,
+    part: usize,
+    places: &[usize],
+) -> Result<Vec<Option<usize>>, AllocError>
+    requires table { IsTable context.now.table.now }
+    requires part { part < length context.now.table.now.states.items }
+    requires memory { IsOfText context.now (looked_text text.old) memory.old.recall }
+    requires small { length (looked_text text.old) < 2 ^ 63 }
+    requires places { (k : ℕ) → k < length places.now → IsPlace (looked_text text.old) memory.old.recall.base (slice_index places.now k) }
+    requires stack { vec_len memory.old.stack ≡ 0 }
+    ensures len { IfOk result (λ answers. length answers.items ≡ length places.now) }
+    ensures answers { IfOk result (λ answers. (view : View) (ways : Ways) → HasWays context.now (looked_text text.old) view ways
+        → IsTrueOf context.now ways memory.old.recall
+        → (k : ℕ) → k < length places.now → slice_index_or answers.items k None ≡ ways.end part (slice_index places.now k)) }
+    ensures at_most { OnOk result (look_count text.new ≤ look_count text.old + length places.now * due context.now.table.now part
+        + (length (looked_text text.old) - memory.old.recall.base + 1) * table_weight context.now.table.now) }
+{
+    let mut answers = Vec::new(alloc);
+    for k in 0..places.len() {
+        let end = ask(context, text, memory, part, places[k])?;
+        answers.push(end)?;
+    }
+    Ok(answers)
 }
