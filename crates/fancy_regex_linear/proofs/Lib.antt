@@ -26,3 +26,5 @@ pub mod ServedLemmas
 pub mod LayerLemmas
 pub mod SettleLemmas
 pub mod ToldLemmas
+pub mod AloneLemmas
+pub mod SpanLemmas

@@ -18,3 +18,4 @@ pub mod Layers
 pub mod Settled
 pub mod EasyTables
 pub mod Tellings
+pub mod Alone

@@ -117,7 +117,7 @@ fn load_match(
 
 /// Settles the starts up to `read` and that one, where the table has read the text up to there and no match starts before `from`, by
 /// attempts. The error is want of memory.
-fn by_attempts(
+pub fn by_attempts(
     context: &SearchContext,
     text: &mut Counted,
     place: Start,

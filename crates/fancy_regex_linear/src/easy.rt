@@ -11,8 +11,9 @@ ghost use Rattle.fancy_regex_table.specs.Tables.{IsTable};
 use crate::build::{Translator, is_supported};
 use crate::by_table::TableSearch;
 use crate::emit::emit;
+use crate::first::{by_table_first, with_memory};
 use crate::memory::SearchMemory;
-use crate::search::{SearchContext, earliest_match};
+use crate::search::SearchContext;
 use crate::starts::refused_ascii;
 use crate::state::add;
 use crate::told::{Told, told_by_table};
@@ -59,7 +60,7 @@ pub struct Easy {
 
 impl Easy {
     ghost use Rattle.fancy_regex_linear.specs.EasyPatterns.{IsEasyOf, IsMatchSlots, IsMatchSpan, LooksAtMost, LooksAtLeast};
-    ghost use Rattle.fancy_regex_linear.specs.EasyTables.{IsTableFor};
+    ghost use Rattle.fancy_regex_linear.specs.EasyTables.{IsContextOf, IsTableFor};
     ghost use Rattle.fancy_regex_linear.specs.Tellings.{IsMatchFlag, IsToldFor, GoesOnIn};
     ghost use Rattle.fancy_regex_meaning.specs.Groups.{Pattern};
     ghost use Rattle.fancy_regex_linear.specs.Plain.{IsPlain};
@@ -340,37 +341,102 @@ impl Easy {
         ensures at_least { IfOk result (λ _. LooksAtLeast self.now text.now input.now steps.old steps.new) }
         ensures counts { steps.old ≤ steps.new }
     {
-        // Read so that the proof knows that the counter is a `u64`, which no look lowers.
-        let _before = steps.count();
-        let stop = input.range.end;
-        if input.first > stop {
+        if input.first > input.range.end {
             return Ok(None);
         }
-        memory.restart(self.states.len(), input.first, self.groups)?;
-        let context = SearchContext {
-            states: &self.states,
-            matchers: &self.matchers,
-            rules: self.rules(input),
-            entry: self.entry,
-            first: &self.first,
-            stop,
-            refused: &self.refused,
-        };
+        if span_only && !input.anchored {
+            if let Some(it) = self.table_search(text, input) {
+                let span = self.span_by_table(text, input, it, steps, memory)?;
+                return Ok(span);
+            }
+        }
+        let span = self.span_with_memory(text, input, steps, memory, span_only)?;
+        Ok(span)
+    }
+
+    /// Searches for the span alone, by the table as far as that tells. The error is want of memory.
+    #[inline(always)]
+    fn span_by_table(
+        &self,
+        text: &str,
+        input: &RunInput,
+        it: TableSearch,
+        steps: &mut Steps,
+        memory: &mut SearchMemory,
+    ) -> Result<Option<(usize, usize)>, AllocError>
+        requires first { IsCharBoundary text.now input.now.first }
+        requires range { (input.now.first ≤ input.now.range.end) × (input.now.range.end ≤ length text.now) }
+        requires many { input.now.anchored ≡ false }
+        requires table { IsTableFor self.now text.now input.now it }
+        ensures answer { IfOk result (IsMatchSpan self.now text.now input.now) }
+        ensures at_most { LooksAtMost self.now input.now steps.old steps.new }
+        ensures at_least { IfOk result (λ _. LooksAtLeast self.now text.now input.now steps.old steps.new) }
+        ensures counts { steps.old ≤ steps.new }
+    {
+        // Read so that the proof knows that the counter is a `u64`, which no look lowers.
+        let _before = steps.count();
+        let context = self.context(input);
         let mut counted = Counted::new(text, steps);
-        let span = earliest_match(
+        let span = by_table_first(&context, &mut counted, input.first, it, self.groups, memory)?;
+        Ok(span)
+    }
+
+    /// Searches the text as `span_in` does, with memory. The error is want of memory.
+    // Not inlined: few searches for a span come to it.
+    #[inline(never)]
+    fn span_with_memory(
+        &self,
+        text: &str,
+        input: &RunInput,
+        steps: &mut Steps,
+        memory: &mut SearchMemory,
+        span_only: bool,
+    ) -> Result<Option<(usize, usize)>, AllocError>
+        requires first { IsCharBoundary text.now input.now.first }
+        requires range { (input.now.first ≤ input.now.range.end) × (input.now.range.end ≤ length text.now) }
+        ensures answer { IfOk result (IsMatchSpan self.now text.now input.now) }
+        ensures slots { IfOk result (λ found. span_only ≡ false → IsMatchSlots self.now text.now input.now
+            (option_map (found_slots self.now.whole) (found_of_span found memory.new.backtrack.slots.items))) }
+        ensures at_most { LooksAtMost self.now input.now steps.old steps.new }
+        ensures at_least { IfOk result (λ _. LooksAtLeast self.now text.now input.now steps.old steps.new) }
+        ensures counts { steps.old ≤ steps.new }
+    {
+        // Read so that the proof knows that the counter is a `u64`, which no look lowers.
+        let _before = steps.count();
+        let context = self.context(input);
+        let mut counted = Counted::new(text, steps);
+        let span = with_memory(
             &context,
             &mut counted,
             input.first,
             input.anchored,
             self.table_search(text, input),
+            self.groups,
             memory,
             span_only,
         )?;
         Ok(span)
     }
 
+    /// What a search of this pattern reads and does not change.
+    #[inline(always)]
+    fn context<'p>(&'p self, input: &RunInput) -> SearchContext<'p>
+        ensures { IsContextOf self.now input.now result }
+    {
+        SearchContext {
+            states: &self.states,
+            matchers: &self.matchers,
+            rules: self.rules(input),
+            entry: self.entry,
+            first: &self.first,
+            stop: input.range.end,
+            refused: &self.refused,
+        }
+    }
+
     /// The table of the pattern and this text, if the search can be done by it: it wants the first match and tries all starts up to the
     /// end of the text, and no end of it is hidden.
+    #[inline(always)]
     fn table_search<'t>(&'t self, text: &'t str, input: &RunInput) -> Option<TableSearch<'t>>
         requires { input.now.range.end ≤ length text.now }
         ensures { IfSome result (IsTableFor self.now text.now input.now) }

@@ -7,12 +7,14 @@
 //! kept in a `SearchMemory`, which later searches use again.
 #![tactic(auto)]
 
+mod alone;
 mod backtrack;
 mod build;
 mod by_table;
 mod easy;
 mod emit;
 mod emit_both;
+mod first;
 mod frame;
 mod memory;
 mod node;

@@ -47,7 +47,7 @@ pub fn settle(
 }
 
 /// Settles this start by an attempt. The error is want of memory.
-fn by_attempt(
+pub fn by_attempt(
     context: &SearchContext,
     text: &mut Counted,
     place: Start,

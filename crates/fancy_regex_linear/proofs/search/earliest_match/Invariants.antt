@@ -1,4 +1,4 @@
-use Rattle.std.proofs.Common.{◌≡◌, ℕ, ◌+◌, ◌-◌, ◌*◌, ◌^◌, ◌≤◌, length, min, unwrap_or, IfSome, IsCharBoundary}
+use Rattle.std.proofs.Common.{◌≡◌, ℕ, ◌+◌, ◌-◌, ◌^◌, ◌≤◌, length, min, unwrap_or, IfSome, IsCharBoundary}
 use Rattle.fancy_regex_class.specs.Looks.{looked_text, look_count}
 use Rattle.fancy_regex_states.specs.Attempts.{View, Continuation}
 use Rattle.fancy_regex_linear.specs.Find.{earliest, attempted, places, places_from}
@@ -11,6 +11,7 @@ use Rattle.fancy_regex_linear.proofs.search.earliest_match.Given as goal
 abbrev pub invariant-starts : goal.invariant-starts
 invariant-starts l = record {
   found : (view : View) (go : ℕ → Continuation) → Explains l.context (looked_text l.fn.text) view go
+      → AllFail view.longest go (Has l.fn.memory.visited)
       → AllFail view.longest go (Has l.memory.visited) × (l.memory.backtrack.slots.items ≡ l.fn.memory.backtrack.slots.items)
       × (earliest (spot_from go l.context.entry l.fn.memory.backtrack.slots.items) (places (looked_text l.fn.text) l.anchored l.start l.context.stop)
       ≡ earliest (spot_from go l.context.entry l.fn.memory.backtrack.slots.items) (places_from (looked_text l.fn.text) l.anchored l.from l.context.stop))
@@ -18,8 +19,8 @@ invariant-starts l = record {
       ≤ min (look_count l.text + attempted (spot_from go l.context.entry l.fn.memory.backtrack.slots.items) (places_from (looked_text l.fn.text) l.anchored l.from l.context.stop)) (2 ^ 64 - 1));
   from : IfSome l.from (λ i. (l.start ≤ i) × (i ≤ l.context.stop) × IsCharBoundary (looked_text l.fn.text) i);
   between : IsBetweenAttempts l.context l.memory;
-  base : (l.start ≤ l.memory.visited.base) × (l.memory.visited.base ≤ l.context.stop) × IfSome l.from (λ i. l.memory.visited.base ≤ i);
-  at_most : look_count l.text + l.start * length l.context.states.now ≤ look_count l.fn.text + visited_bound l.memory.visited + (unwrap_or l.from (l.context.stop + 1) - l.start);
+  base : (l.memory.visited.base ≤ l.context.stop) × IfSome l.from (λ i. l.memory.visited.base ≤ i);
+  at_most : look_count l.text + visited_bound l.fn.memory.visited ≤ look_count l.fn.text + visited_bound l.memory.visited + (unwrap_or l.from (l.context.stop + 1) - l.start);
   looks : IsOnlyLookedAt l.fn.text l.text;
 }
 

@@ -1,0 +1,130 @@
+//! A search for the span alone, by the table of a pattern as far as the table tells, which needs no memory up to there.
+
+ghost use Rattle.std.specs.Prelude.{◌≡◌, ◌<◌, ◌≤◌, length, IfSome, IsCharBoundary, IsUtf8};
+ghost use Rattle.std.specs.Char.{len_utf8};
+ghost use Rattle.regex_hir.specs.Text.{char_at};
+ghost use Rattle.fancy_regex_class.specs.Looks.{looked_text};
+ghost use Rattle.fancy_regex_table.specs.Tables.{AreBoundaries};
+ghost use Rattle.fancy_regex_linear.specs.Alone.{AllFailBetween, AloneSays, IsLeft, IsPassedTo};
+ghost use Rattle.fancy_regex_linear.specs.Layers.{IsSearchContext};
+ghost use Rattle.fancy_regex_linear.specs.Settled.{IsTableSearch};
+
+use crate::by_table::{TableSearch, char_before};
+use crate::search::SearchContext;
+use crate::starts::{Start, pass_pairs, refuses_all, second_chars, start_after};
+use fancy_regex_class::{Counted, skip_ascii};
+use fancy_regex_table::Passed;
+
+/// What a search by the table alone finds.
+#[derive(Clone, Copy)]
+pub enum Alone {
+    /// The first match.
+    Found {
+        start: usize,
+        end: usize,
+    },
+    /// No match.
+    NoMatch,
+    /// No match starts before `from`. The start `place` was looked at, and where `read` is behind it, the characters up to there
+    /// were read.
+    Left {
+        place: Start,
+        from: usize,
+        read: usize,
+    },
+}
+
+/// The first start from `at` on at which the characters there do not show that no match begins, and the character there; `None` where
+/// they show it for all. Each character up to that one costs a look, and another one where the character after it is tested.
+#[inline(always)]
+fn pass_over(
+    context: &SearchContext,
+    text: &mut Counted,
+    at: usize,
+) -> Option<(usize, Option<char>)>
+    requires context { IsSearchContext context.now }
+    requires range { (at ≤ context.now.stop) × (context.now.stop ≤ length (looked_text text.old)) }
+    requires text { IsUtf8 (looked_text text.old) }
+    requires boundary { IsCharBoundary (looked_text text.old) at }
+    ensures { IsPassedTo context.now text.old text.new at result }
+{
+    if at == 0 {
+        return Some((at, text.look(at).1));
+    }
+    if refuses_all(context) {
+        let _ = text.look(at);
+        text.count_places(at, context.stop);
+        return None;
+    }
+    let Some(second) = second_chars(context) else {
+        return Some(skip_ascii(text, at, context.stop, context.refused));
+    };
+    Some(pass_pairs(context, text, at, second))
+}
+
+/// That the starts from this one on are left, where none before `from` matches and the characters up to `read` were read.
+fn left(context: &SearchContext, place: (usize, Option<char>), from: usize, read: usize) -> Alone
+    requires range { place.0 ≤ context.now.stop }
+    ensures { IsLeft context.now place from read result }
+{
+    let (at, after) = place;
+    let next = start_after(at, after, false, context.stop);
+    let place = Start { at, after, next };
+    Alone::Left { place, from, read }
+}
+
+/// Goes through the text by the table from `from` on: to the first match, to the end, or to a start of which the table does not tell
+/// whether it matches. Each character that is passed over or read costs a look.
+#[inline(always)]
+pub fn by_table_alone(
+    context: &SearchContext,
+    text: &mut Counted,
+    it: TableSearch,
+    from: usize,
+) -> Alone
+    requires context { IsSearchContext context.now }
+    requires table { IsTableSearch context.now (looked_text text.old) it }
+    requires range { (from ≤ context.now.stop) × (context.now.stop ≤ length (looked_text text.old)) }
+    requires text { IsUtf8 (looked_text text.old) }
+    requires boundary { IsCharBoundary (looked_text text.old) from }
+    ensures { AloneSays context.now text.old text.new from result }
+{
+    let mut at = from;
+    'starts: loop {
+        let Some((start, after)) = pass_over(context, text, at) else {
+            return Alone::NoMatch;
+        };
+        if !is_ascii(after) {
+            return left(context, (start, after), start, start);
+        }
+        let before = char_before(it.text, start);
+        match it.table.pass(context.matchers, it.text, start, before, context.stop, true) {
+            Passed::Match {
+                start: first,
+                end,
+                read,
+            } => {
+                text.count_places(start, read);
+                return Alone::Found { start: first, end };
+            }
+            Passed::Ended => {
+                text.count_places(start, context.stop);
+                return Alone::NoMatch;
+            }
+            Passed::Idle { at: next } => {
+                text.count_places(start + 1, next);
+                at = next;
+            }
+            Passed::Unknown { from, read } => return left(context, (start, after), from, read),
+        }
+    }
+}
+
+/// Whether an ASCII character stands here.
+#[inline(always)]
+fn is_ascii(c: Option<char>) -> bool {
+    match c {
+        Some(c) => (c as u32) < 128,
+        None => false,
+    }
+}

@@ -1,0 +1,156 @@
+//! The first match of a search: by the table alone as far as that tells, and then with memory.
+
+ghost use Rattle.std.specs.Prelude.{◌≡◌, ◌+◌, ◌-◌, ◌*◌, ◌^◌, ◌≤◌, ℕ, false, true, length, min, IfOk, IfSome, IsCharBoundary, IsUtf8};
+ghost use Rattle.fancy_regex_class.specs.Looks.{looked_text, look_count, SameCounter};
+ghost use Rattle.fancy_regex_states.specs.Attempts.{View, Continuation};
+ghost use Rattle.fancy_regex_linear.specs.Alone.{IsLeftAt, unset_slots};
+ghost use Rattle.fancy_regex_linear.specs.Find.{earliest, attempted, places};
+ghost use Rattle.fancy_regex_linear.specs.Layers.{IsSearchContext};
+ghost use Rattle.fancy_regex_linear.specs.Search.{Explains};
+ghost use Rattle.fancy_regex_linear.specs.Settled.{IsAnswer, IsAtStart, IsSettledAfter, IsSettling, IsTableSearch};
+ghost use Rattle.fancy_regex_linear.specs.Starts.{spot_from};
+
+use crate::alone::{Alone, by_table_alone};
+use crate::by_table::{TableSearch, by_attempts};
+use crate::memory::SearchMemory;
+use crate::search::{SearchContext, earliest_match};
+use crate::settle::{Settled, by_attempt};
+use crate::starts::Start;
+use fancy_regex_class::Counted;
+use std::alloc::AllocError;
+
+/// The start and the end of the first match from `start` on, as byte offsets, of a pattern with so many groups: by the table alone as
+/// far as that tells, and from there on with memory. The error is want of memory.
+#[inline(always)]
+pub fn by_table_first(
+    context: &SearchContext,
+    text: &mut Counted,
+    start: usize,
+    it: TableSearch,
+    groups: usize,
+    memory: &mut SearchMemory,
+) -> Result<Option<(usize, usize)>, AllocError>
+    requires context { IsSearchContext context.now }
+    requires range { (start ≤ context.now.stop) × (context.now.stop ≤ length (looked_text text.old)) }
+    requires text { IsUtf8 (looked_text text.old) }
+    requires start { IsCharBoundary (looked_text text.old) start }
+    requires table { IsTableSearch context.now (looked_text text.old) it }
+    ensures answer { IfOk result (λ span. (view : View) (go : ℕ → Continuation) → Explains context.now (looked_text text.old) view go
+        → IsAnswer true span memory.new.backtrack.slots.items
+        (earliest (spot_from go context.now.entry (unset_slots groups)) (places (looked_text text.old) false start context.now.stop))) }
+    ensures at_most { look_count text.new
+        ≤ look_count text.old + (context.now.stop - start + 1) * length context.now.states.now + (context.now.stop - start + 1) }
+    ensures at_least { IfOk result (λ _. (view : View) (go : ℕ → Continuation) → Explains context.now (looked_text text.old) view go
+        → min (look_count text.old + attempted (spot_from go context.now.entry (unset_slots groups))
+        (places (looked_text text.old) false start context.now.stop)) (2 ^ 64 - 1) ≤ look_count text.new) }
+    ensures more { min (look_count text.old) (2 ^ 64 - 1) ≤ look_count text.new }
+    ensures same_counter { SameCounter text.old text.new }
+{
+    match by_table_alone(context, text, it, start) {
+        Alone::Found { start, end } => Ok(Some((start, end))),
+        Alone::NoMatch => Ok(None),
+        Alone::Left { place, from, read } => {
+            // A context of its own, so that the values of the other one stay in registers.
+            let own = *context;
+            let span = from_left(&own, text, it, place, from, read, groups, memory)?;
+            Ok(span)
+        }
+    }
+}
+
+/// The start and the end of the first match from `start` on, as byte offsets, of a pattern with so many groups, with its slots in the
+/// memory, unless the span alone is wanted. The error is want of memory.
+pub fn with_memory(
+    context: &SearchContext,
+    text: &mut Counted,
+    start: usize,
+    anchored: bool,
+    table: Option<TableSearch>,
+    groups: usize,
+    memory: &mut SearchMemory,
+    span_only: bool,
+) -> Result<Option<(usize, usize)>, AllocError>
+    requires context { IsSearchContext context.now }
+    requires range { (start ≤ context.now.stop) × (context.now.stop ≤ length (looked_text text.old)) }
+    requires text { IsUtf8 (looked_text text.old) }
+    requires start { IsCharBoundary (looked_text text.old) start }
+    requires table { IfSome table (IsTableSearch context.now (looked_text text.old)) }
+    ensures answer { IfOk result (λ span. (view : View) (go : ℕ → Continuation) → Explains context.now (looked_text text.old) view go
+        → IsAnswer span_only span memory.new.backtrack.slots.items
+        (earliest (spot_from go context.now.entry (unset_slots groups)) (places (looked_text text.old) anchored start context.now.stop))) }
+    ensures at_most { look_count text.new
+        ≤ look_count text.old + (context.now.stop - start + 1) * length context.now.states.now + (context.now.stop - start + 1) }
+    ensures at_least { IfOk result (λ _. (view : View) (go : ℕ → Continuation) → Explains context.now (looked_text text.old) view go
+        → min (look_count text.old + attempted (spot_from go context.now.entry (unset_slots groups))
+        (places (looked_text text.old) anchored start context.now.stop)) (2 ^ 64 - 1) ≤ look_count text.new) }
+    ensures more { min (look_count text.old) (2 ^ 64 - 1) ≤ look_count text.new }
+    ensures same_counter { SameCounter text.old text.new }
+{
+    memory.restart(context.states.len(), start, groups)?;
+    let span = earliest_match(context, text, start, anchored, table, memory, span_only)?;
+    Ok(span)
+}
+
+/// The start and the end of the first match from the start `place` on, where none starts before `from` and the table has read the text
+/// up to `read`. The error is want of memory.
+#[inline(never)]
+fn from_left(
+    context: &SearchContext,
+    text: &mut Counted,
+    it: TableSearch,
+    place: Start,
+    from: usize,
+    read: usize,
+    groups: usize,
+    memory: &mut SearchMemory,
+) -> Result<Option<(usize, usize)>, AllocError>
+    requires context { IsSearchContext context.now }
+    requires range { context.now.stop ≤ length (looked_text text.old) }
+    requires text { IsUtf8 (looked_text text.old) }
+    requires left { IsLeftAt context.now (looked_text text.old) place from read }
+    requires table { IsTableSearch context.now (looked_text text.old) it }
+    ensures answer { IfOk result (λ span. (view : View) (go : ℕ → Continuation) → Explains context.now (looked_text text.old) view go
+        → IsAnswer true span memory.new.backtrack.slots.items
+        (earliest (spot_from go context.now.entry (unset_slots groups)) (places (looked_text text.old) false place.at context.now.stop))) }
+    ensures at_most { look_count text.new
+        ≤ look_count text.old + (context.now.stop - place.at + 1) * length context.now.states.now + (context.now.stop - place.at) }
+    ensures at_least { IfOk result (λ _. (view : View) (go : ℕ → Continuation) → Explains context.now (looked_text text.old) view go
+        → min (look_count text.old + (attempted (spot_from go context.now.entry (unset_slots groups))
+        (places (looked_text text.old) false place.at context.now.stop) - 1)) (2 ^ 64 - 1) ≤ look_count text.new) }
+    ensures more { min (look_count text.old) (2 ^ 64 - 1) ≤ look_count text.new }
+    ensures same_counter { SameCounter text.old text.new }
+{
+    memory.restart(context.states.len(), place.at, groups)?;
+    match settle_left(context, text, place, from, read, memory)? {
+        Settled::Found { start, end } => Ok(Some((start, end))),
+        Settled::On { next: None } => Ok(None),
+        Settled::On { next: Some(next) } => {
+            let span = earliest_match(context, text, next, false, Some(it), memory, true)?;
+            Ok(span)
+        }
+    }
+}
+
+/// Settles the starts from `place` on of which the table did not tell, by attempts. The error is want of memory.
+fn settle_left(
+    context: &SearchContext,
+    text: &mut Counted,
+    place: Start,
+    from: usize,
+    read: usize,
+    memory: &mut SearchMemory,
+) -> Result<Settled, AllocError>
+    requires context { IsSearchContext context.now }
+    requires start { IsAtStart context.now (looked_text text.old) false place memory.old }
+    requires left { IsLeftAt context.now (looked_text text.old) place from read }
+    ensures settled { IfOk result (IsSettledAfter context.now (looked_text text.old) (look_count text.old) (look_count text.new)
+        true place from memory.old memory.new) }
+    ensures settling { IsSettling context.now text.old text.new place memory.old memory.new }
+{
+    if read == place.at {
+        let settled = by_attempt(context, text, place, false, memory)?;
+        return Ok(settled);
+    }
+    let settled = by_attempts(context, text, place, from, read, memory)?;
+    Ok(settled)
+}
