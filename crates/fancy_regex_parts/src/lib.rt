@@ -1,8 +1,8 @@
 //! Parts: the bodies of look-arounds and of atomic groups, as states of their own. A part is asked at a byte offset of the text;
 //! the answer is where its first way ends, in the order of preference, or that it has none. A part may ask other parts. What
 //! the questions find out is kept in a `PartMemory`, failures and successes, so that no marked state is tried twice at one place, over all
-//! questions: the number of looks at the text is bounded by a weight of the parts times the length of the text plus one, and by a
-//! small constant for each question. An answer fails for want of memory alone, and then the memory remembers nothing.
+//! questions: the number of looks at the text is bounded by a weight of the parts times the length of the text plus one, and by what
+//! is due for its first state for each question. An answer fails for want of memory alone.
 #![tactic(auto)]
 
 mod frame;

@@ -92,7 +92,7 @@ fn search(
 
 /// Where the first way ends of the part that begins at the state `part`, in the text from the byte offset `at` on; `None` if it has no
 /// way. The memory may remember what earlier questions have found out about the same parts in the same text. The error is want of
-/// memory, and then the memory remembers nothing.
+/// memory, and what the memory remembers then is still true.
 pub fn ask(
     context: &PartContext,
     text: &mut Counted,
@@ -130,7 +130,7 @@ pub fn ask(
 
 /// The answers of `ask` for this part at each of these byte offsets, in turn. All of them together look at each place of the text at
 /// most as often as the parts weigh, and what is due for the part's first state once more for each answer. The error is want of
-/// memory, and then the memory remembers nothing.
+/// memory.
 pub fn ask_each(
     alloc: Global,
     context: &PartContext,
