@@ -1,10 +1,10 @@
 -- What a search over the states of a plain pattern finds is the match of its tree.
-use Rattle.std.proofs.Common.{ap₂, ◌≡◌, ℕ, zero, suc, ◌+◌, ◌*◌, ◌<◌, ◌≤◌, ◌==◌, Bool, true, false, cond, not, ◌&&◌, List, [], ◌∷◌, length, map, replicate, Option, Some, None, if◌then◌else◌, nat_le, nat_lt, set, refl, sym, ap, ◌∙◌, subst, inr, ⊎_elim, arith, lt-ltb, le-ltb, slice_get}
+use Rattle.std.proofs.Common.{ap₂, ◌≡◌, ℕ, zero, suc, ◌+◌, ◌*◌, ◌<◌, ◌≤◌, ◌==◌, Bool, true, false, cond, not, ◌&&◌, List, [], ◌∷◌, length, map, replicate, Option, Some, None, if◌then◌else◌, nat_le, nat_lt, set, refl, sym, ap, ◌∙◌, subst, inr, ⊎_elim, arith, lt-ltb, le-ltb, true≢false, slice_get}
 use Rattle.std.specs.Prelude.{option_map}
 use Rattle.std.specs.List.{filter}
 use Rattle.std.proofs.lemmas.Bool.{cond-true, cond-false}
 use native.Mathlib.Bridge.{le_prop}
-use mathlib.Core.HLevel.{Π_prop, ×_prop, Unit-prop}
+use mathlib.Core.HLevel.{Π_prop, ×_prop, ×₃_prop, Unit-prop}
 use mathlib.Core.Logic.{∥∥₁_elim}
 use Rattle.std.proofs.Math.Nat.{mul-le-mul_left}
 use Rattle.fancy_regex_meaning.specs.Groups.{Pattern}
@@ -20,7 +20,7 @@ use Rattle.fancy_regex_states.specs.Attempts.{View, Continuation, accept, NamesB
 use Rattle.fancy_regex_linear.specs.Meaning.{Spot, ending_by}
 use Rattle.fancy_regex_linear.specs.Meaning as plain
 use Rattle.fancy_regex_linear.specs.Attempt.{attempt, better_spot, apply, trace_end}
-use Rattle.fancy_regex_linear.specs.Program.{emitted, AgreeBut}
+use Rattle.fancy_regex_linear.specs.Program.{emitted, AgreeBut, MayAskIn}
 use Rattle.fancy_regex_linear.specs.Search.{Closed}
 use Rattle.fancy_regex_linear.specs.EasyPatterns.{span_of_match}
 use Rattle.fancy_regex_linear.specs.Find.{found_of_span, span_of_found, FoundMatch, earliest, attempted, places}
@@ -30,14 +30,14 @@ use Rattle.fancy_regex_linear.specs.SettingView.{view_of}
 use Rattle.fancy_regex_linear.specs.Easy.{AreStatesOf, IsMade, found_slots}
 use Rattle.fancy_regex_class.specs.declared.input.RunInput.{RunInput}
 use Rattle.fancy_regex_states.specs.declared.state.State.{State}
-use Rattle.fancy_regex_states.specs.declared.state.State.TheVariants.{Split, Enter, Leave}
+use Rattle.fancy_regex_states.specs.declared.state.State.TheVariants.{Split, Enter, Leave, Ask, Atomic}
 use Rattle.fancy_regex_states.specs.declared.state.State.TheVariants as S
-use Rattle.fancy_regex_linear.proofs.TreeLemmas.{emit_means}
+use Rattle.fancy_regex_linear.proofs.TreeLemmas.{emit_means, may_all}
 use Rattle.fancy_regex_linear.proofs.WeightLemmas.{emitted_weighs}
 use Rattle.fancy_regex_linear.proofs.WaysLemmas.{best_from, onward, attempt_lists}
 use Rattle.fancy_regex_linear.proofs.BoundLemmas.{ways_ending_by}
 use Rattle.fancy_regex_linear.proofs.DfsLemmas.{first_is_best}
-use Rattle.fancy_regex_linear.proofs.PlainLemmas.{light}
+use Rattle.fancy_regex_linear.proofs.PlainLemmas.{light, plain_may}
 use Rattle.fancy_regex_linear.proofs.MeaningLemmas.{spot_of, tree_same}
 use Rattle.fancy_regex_linear.proofs.SameStartLemmas.{keeps_start}
 
@@ -47,6 +47,8 @@ NamesBelow-prop n (S.Look check next) = le_prop
 NamesBelow-prop n (Split first second) = ×_prop le_prop le_prop
 NamesBelow-prop n (Enter g next) = le_prop
 NamesBelow-prop n (Leave g next) = le_prop
+NamesBelow-prop n (Ask part negated next) = ×_prop le_prop le_prop
+NamesBelow-prop n (Atomic part same moved) = ×₃_prop le_prop le_prop le_prop
 NamesBelow-prop n S.Match = Unit-prop
 
 -- what the states of a pattern do
@@ -57,11 +59,11 @@ pub record Does (view : View) (stop : ℕ) (states : List State) (entry : ℕ) (
   pub means : (i : ℕ) → i ≤ stop → go entry i ≡ attempt view stop pattern accept i
 
 pub program_does : (view : View) (stop : ℕ) (states : List State) (entry : ℕ) (pattern : Re) → AreStatesOf states entry pattern
-    → Does view stop states entry pattern
-program_does view stop states entry pattern e =
+    → MayAskIn view.has_parts pattern → Does view stop states entry pattern
+program_does view stop states entry pattern e may =
     let start : AgreeBut view stop (λ _. ⊥) (S.Match ∷ []) (λ _. accept) =
-    λ q h. inr (let zero_is : q ≡ 0 = omega arith in rw zero_is (record { names = tt; does = λ i p. refl })) in
-    let d = emit_means view stop pattern e.1 (S.Match ∷ []) (λ _. accept) 0 start (omega arith) in
+    λ q h. inr (let zero_is : q ≡ 0 = omega arith in rw zero_is (record { names = tt; asks = tt; does = λ i p. refl })) in
+    let d = emit_means view stop pattern e.1 may (S.Match ∷ []) (λ _. accept) 0 start (omega arith) in
     let made : Does view stop (emitted pattern (S.Match ∷ []) 0).0 (emitted pattern (S.Match ∷ []) 0).1 pattern = record {
       go = d.next_go;
       agree = λ q h. ⊎_elim (λ o. absurd o) (λ a. a) (d.agree q h);
@@ -71,15 +73,15 @@ program_does view stop states entry pattern e =
     subst (λ (m : List State × ℕ). Does view stop m.0 m.1 pattern) e.0 made
 
 blind : View
-blind = record { has = λ leaf i. false; next = λ i. i; holds = λ test i. false; longest = false }
+blind = record { has = λ leaf i. false; next = λ i. i; holds = λ test i. false; longest = false; has_parts = true }
 
 pub closed : (states : List State) (entry : ℕ) → IsMade states entry → Closed states
 closed states entry made =
     ∥∥₁_elim made (Π_prop λ q. Π_prop λ _. NamesBelow-prop _ _)
-    (λ t. let d = program_does blind 0 states entry t.0 t.1 in λ q h. (d.agree q h).names)
+    (λ t. let d = program_does blind 0 states entry t.0 t.1 (may_all t.0) in λ q h. (d.agree q h).names)
 
 pub entry_in : (states : List State) (entry : ℕ) → IsMade states entry → entry < length states
-entry_in states entry made = ∥∥₁_elim made le_prop (λ t. (program_does blind 0 states entry t.0 t.1).entry_in)
+entry_in states entry made = ∥∥₁_elim made le_prop (λ t. (program_does blind 0 states entry t.0 t.1 (may_all t.0)).entry_in)
 
 either_way : (b : Bool) (w v : MatchState) → Some (spot_of (if b then v else w)) ≡ (if b then Some (spot_of v) else Some (spot_of w))
 either_way true w v = refl
@@ -181,6 +183,9 @@ module _ (unicode longest : Bool) (text : List ℕ) (input : RunInput) (states :
   abbrev stop : ℕ
   stop = input.range.end
 
+  may : MayAskIn view.has_parts re
+  may = plain_may unicode pattern.groups pattern.first_group 0 pattern.tree is_plain
+
   abbrev whole : Bool
   whole = not (pattern.first_group == 0)
 
@@ -209,8 +214,8 @@ module _ (unicode longest : Bool) (text : List ℕ) (input : RunInput) (states :
     wanted : (p : ℕ) → p ≤ stop → option_map spot_of (chosen longest (filter (is_admitted find) (ways_at s pattern find p))) ≡ from_place p
     wanted p h =
         chosen_same longest _
-        ∙ ap (best_from longest (onward accept)) (admitted_same longest input _ ∙ ap (ending_by stop) (all_ways p (omega arith)) ∙ ways_ending_by (length text) stop fits view re (record { at = p; slots = unset }) h)
-        ∙ sym (attempt_lists view stop re accept (record { at = p; slots = unset }))
+        ∙ ap (best_from longest (onward accept)) (admitted_same longest input _ ∙ ap (ending_by stop) (all_ways p (omega arith)) ∙ ways_ending_by (length text) stop fits view re may (record { at = p; slots = unset }) h)
+        ∙ sym (attempt_lists view stop (λ asks. absurd (true≢false (sym asks))) re may accept (record { at = p; slots = unset }))
         ∙ ap (λ r. trace_end unset r.answer) (sym (d.means p h))
 
     start_same : (p : ℕ) → Each (λ v. v.match_start ≡ p) (filter (is_admitted find) (ways_at s pattern find p))

@@ -1,9 +1,10 @@
 -- Where ways end: the equation of a loop, and what a range admits.
-use Rattle.std.proofs.Common.{◌≡◌, ℕ, zero, suc, ◌*◌, ◌-◌, ◌<◌, ◌≤◌, Bool, true, false, ◌&&◌, List, [], ◌∷◌, ◌++◌, map, if◌then◌else◌, nat_lt, nat_le, set, refl, sym, ap, ap₂, ◌∙◌, ⊎_elim, arith, lt-ltb, le-ltb, le-leb, leb-true, ltb-true}
+use Rattle.std.proofs.Common.{◌≡◌, true≢false, ℕ, zero, suc, ◌*◌, ◌-◌, ◌<◌, ◌≤◌, Bool, true, false, ◌&&◌, List, [], ◌∷◌, ◌++◌, map, if◌then◌else◌, nat_lt, nat_le, set, refl, sym, ap, ap₂, ◌∙◌, ⊎_elim, arith, lt-ltb, le-ltb, le-leb, leb-true, ltb-true}
 use Rattle.std.proofs.lemmas.Bool.{cases_lt, lt-leb, and_parts}
 use Rattle.fancy_regex_states.specs.Attempts.{View, reads}
-use Rattle.fancy_regex_linear.specs.Meaning.{Spot, each, in_order, after_iteration, loop_ways, times_ways, upto_ways, tail_ways, is_unbounded, ways, ending_by}
-use Rattle.fancy_regex_linear.specs.Re.{Re, nothing, read, test, cat, alt, group, repeat}
+use Rattle.fancy_regex_linear.specs.Meaning.{Spot, each, in_order, after_iteration, loop_ways, times_ways, upto_ways, tail_ways, is_unbounded, asked_ways, first_way, ways, ending_by}
+use Rattle.fancy_regex_linear.specs.Program.{MayAskIn}
+use Rattle.fancy_regex_linear.specs.Re.{Re, nothing, read, test, cat, alt, group, repeat, ask, atomic}
 use Rattle.fancy_regex_states.specs.declared.atom.Leaf.{Leaf}
 
 abbrev pub AllOf : (Spot → Type 0) → List Spot → Type 0
@@ -102,6 +103,16 @@ module _ (view : View) (stop : ℕ) where
   look_ends true s p = ((omega arith, p), tt)
   look_ends false s p = tt
 
+  ask_ends : (negated : Bool) (s : Spot) (ws : List Spot) → s.at ≤ stop → AllOf (Between s.at stop) (asked_ways negated s ws)
+  ask_ends false s [] p = tt
+  ask_ends false s (w ∷ ws) p = ((omega arith, p), tt)
+  ask_ends true s [] p = ((omega arith, p), tt)
+  ask_ends true s (w ∷ ws) p = tt
+
+  first_ends : (P : Spot → Type 0) (ws : List Spot) → AllOf P ws → AllOf P (first_way ws)
+  first_ends P [] h = tt
+  first_ends P (w ∷ ws) h = (h.0, tt)
+
   pub ways_end : (t : Re) → Ends stop (ways view stop t)
   unfolding ways
   ways_end nothing s p = ((omega arith, p), tt)
@@ -114,6 +125,8 @@ module _ (view : View) (stop : ℕ) where
   ways_end (repeat lo hi g strict a) s p =
       times_ends stop (ways view stop a) (tail_ways (is_unbounded hi) stop g (ways view stop a) (hi - lo)) (ways_end a)
       (tail_ends (is_unbounded hi) stop g (ways view stop a) (ways_end a) (hi - lo)) lo s p
+  ways_end (ask negated a) s p = ask_ends negated s (ways view stop a s) p
+  ways_end (atomic a) s p = first_ends (Between s.at stop) (ways view stop a s) (ways_end a s p)
 
 -- more room than there is text adds no ways
 iteration_same : (stop : ℕ) (g : Bool) (list again more : Spot → List Spot) (s : Spot) → s.at ≤ stop → Ends stop list
@@ -299,18 +312,21 @@ module _ (len stop : ℕ) (fits : stop ≤ len) where
         (if_kept stop (view.has leaf s.at && (nat_lt s.at (view.next s.at) && true)) next inside))
         (cases_lt stop (view.next s.at))
 
-    -- the ways of a range are the ways over the whole text that end in it
-    pub ways_ending_by : (t : Re) → Keeps (ways view len t) (ways view stop t)
+    -- The ways of a range are the ways over the whole text that end in it. (A part may end past the range.)
+    pub ways_ending_by : (t : Re) → MayAskIn false t → Keeps (ways view len t) (ways view stop t)
     unfolding ways
-    ways_ending_by nothing s p = ending_by_one stop s p
-    ways_ending_by (read leaf) s p = read_keeps leaf s p
-    ways_ending_by (test check) s p = if_kept stop (view.holds check s.at) s p
-    ways_ending_by (cat a b) s p =
-        seq_keeps (ways view len a) (ways view len b) (ways view stop a) (ways view stop b) (ways_end view len a) (ways_end view len b) (ways_ending_by a) (ways_ending_by b) s p
-    ways_ending_by (alt a b) s p = ending_by_append stop _ _ ∙ ap₂ ◌++◌ (ways_ending_by a s p) (ways_ending_by b s p)
-    ways_ending_by (group k a) s p =
-        ending_by_map stop _ (λ w. refl) _ ∙ ap (map _) (ways_ending_by a (record { at = s.at; slots = set s.slots (2 * k) s.at }) p)
-    ways_ending_by (repeat lo hi g strict a) s p =
+    ways_ending_by nothing may s p = ending_by_one stop s p
+    ways_ending_by (read leaf) may s p = read_keeps leaf s p
+    ways_ending_by (test check) may s p = if_kept stop (view.holds check s.at) s p
+    ways_ending_by (cat a b) may s p =
+        seq_keeps (ways view len a) (ways view len b) (ways view stop a) (ways view stop b) (ways_end view len a) (ways_end view len b)
+        (ways_ending_by a may.0) (ways_ending_by b may.1) s p
+    ways_ending_by (alt a b) may s p = ending_by_append stop _ _ ∙ ap₂ ◌++◌ (ways_ending_by a may.0 s p) (ways_ending_by b may.1 s p)
+    ways_ending_by (group k a) may s p =
+        ending_by_map stop _ (λ w. refl) _ ∙ ap (map _) (ways_ending_by a may (record { at = s.at; slots = set s.slots (2 * k) s.at }) p)
+    ways_ending_by (repeat lo hi g strict a) may s p =
         times_keeps (ways view len a) (tail_ways (is_unbounded hi) len g (ways view len a) (hi - lo)) (ways view stop a) (tail_ways (is_unbounded hi) stop g (ways view stop a) (hi - lo))
-        (ways_end view len a) (tail_ends (is_unbounded hi) len g (ways view len a) (ways_end view len a) (hi - lo)) (ways_ending_by a)
-        (tail_keeps (is_unbounded hi) g (ways view len a) (ways view stop a) (ways_end view len a) (ways_ending_by a) (hi - lo)) lo s p
+        (ways_end view len a) (tail_ends (is_unbounded hi) len g (ways view len a) (ways_end view len a) (hi - lo)) (ways_ending_by a may)
+        (tail_keeps (is_unbounded hi) g (ways view len a) (ways view stop a) (ways_end view len a) (ways_ending_by a may) (hi - lo)) lo s p
+    ways_ending_by (ask negated a) may s p = absurd (true≢false (sym may.0))
+    ways_ending_by (atomic a) may s p = absurd (true≢false (sym may.0))

@@ -1,40 +1,61 @@
 -- The translation of a list of trees, one by one.
-use Rattle.std.proofs.Common.{◌≡◌, ◌≢◌, ◌==◌, not, zero, suc, ℕ, ◌+◌, ◌<◌, ◌≤◌, ◌||◌, ◌&&◌, Bool, false, true≢false, List, [], ◌∷◌, ◌++◌, length, map, take, get_or, refl, sym, ap, ap₂, ◌∙◌, arith, length-append, ne_eqb, Result, Ok, Err, IfOk}
+use Rattle.std.proofs.Common.{◌≡◌, ◌≢◌, ◌==◌, not, zero, suc, ℕ, ◌+◌, ◌<◌, ◌≤◌, ◌||◌, ◌&&◌, Bool, false, true≢false, List, [], ◌∷◌, ◌++◌, length, map, take, get_or, refl, sym, ap, ap₂, ◌∙◌, arith, length-append, ne_eqb, Option, Some, None, IfSome, Result, Ok, Err, IfOk}
 use Rattle.std.proofs.lemmas.List.{take_more, take_all, map-append, append_assoc, append-nil}
 use Rattle.std.specs.List.{Contains}
 use Rattle.std.proofs.lemmas.List.Elements.{All-nil, All-cons, All-append, Contains-append_left, Contains-append_right}
 use Rattle.std.proofs.Math.Bool.{or_assoc, and_assoc, and-true}
 use Rattle.regex_class.proofs.RangesLemmas.{or-false}
-use Rattle.fancy_regex_tree.specs.Tree.{Tree, Text, no_trees, more_trees, trees, tree_of}
+use Rattle.fancy_regex_tree.specs.Tree.{Tree, Text, look_around, no_trees, more_trees, trees, tree_of}
+use Rattle.fancy_regex_tree.specs.declared.expr.LookAround.{LookAround}
 use Rattle.fancy_regex_tree.specs.declared.expr.Expr.{Expr}
 use Rattle.fancy_regex_meaning.specs.Groups.{group_count, row_group_count}
 use Rattle.fancy_regex_class.specs.declared.class.CharClassMatcher.{CharClassMatcher}
 use Rattle.fancy_regex_class.specs.Matchers.{IsMatcherOf}
 use Rattle.fancy_regex_info.specs.declared.error.CompileError.{CompileError}
 use Rattle.fancy_regex_info.specs.declared.error.CompileError.TheVariants.{InnerError, Memory}
+use Rattle.fancy_regex_linear.specs.Re as re
 use Rattle.fancy_regex_linear.specs.Re.{Re, cats, alts, cat, alt, shape, shapes}
 use Rattle.fancy_regex_linear.specs.declared.node.Node.{Node}
 use Rattle.fancy_regex_linear.specs.Program.{IsSound, never_empty}
-use Rattle.fancy_regex_linear.specs.Plain.{IsPlain, ArePlain, classes, row_classes, re_of, row_of, branches_of}
+use Rattle.fancy_regex_linear.specs.Plain.{IsPlain, ArePlain, IsRegular, AreRegular, asking, looked, look_test, char_leaf, classes, row_classes, re_of, row_of, branches_of}
 use Rattle.fancy_regex_linear.specs.Easy.{HaveMatchers}
+use Rattle.fancy_regex_states.specs.declared.atom.Leaf.{Leaf}
 use Rattle.fancy_regex_linear.specs.Refusals.{IsRead, IsClassCause}
 use Rattle.fancy_regex_linear.specs.Translation.{all_trees, Extends, row_list, all_move, AreSound, BuildsRow}
 use Rattle.fancy_regex_linear.specs.declared.build.Translator.{Translator}
+use Rattle.fancy_regex_linear.proofs.PlainLemmas.{asking_same, has_leaf}
 
 -- what follows of what was answered
 pub if_ok : {X E : Type 0} {P Q : X → Type 0} (r : Result X E) → ((x : X) → P x → Q x) → IfOk r P → IfOk r Q
 if_ok (Ok x) f h = f x h
 if_ok (Err e) f h = tt
 
--- a row with one more tree is plain if both are
-pub plain_more : (ts : List Tree) (t : Tree) → ArePlain (trees (ts ++ t ∷ [])) → ArePlain (trees ts) × IsPlain t
-plain_more [] t p = (tt, p.0)
-plain_more (u ∷ ts) t p = let rest = plain_more ts t p.1 in ((p.0, rest.0), rest.1)
+-- where a row with one more tree becomes a pattern with parts, so do both
+regular_more : (ts : List Tree) (t : Tree) → AreRegular (trees (ts ++ t ∷ [])) → AreRegular (trees ts) × IsRegular t
+regular_more [] t p = (tt, p.0)
+regular_more (u ∷ ts) t p = let rest = regular_more ts t p.1 in ((p.0, rest.0), rest.1)
 
--- and so it is plain
-pub plain_added : (ts : List Tree) (t : Tree) → ArePlain (trees ts) → IsPlain t → ArePlain (trees (ts ++ t ∷ []))
+regular_added : (ts : List Tree) (t : Tree) → AreRegular (trees ts) → IsRegular t → AreRegular (trees (ts ++ t ∷ []))
+regular_added [] t ps p = (p, tt)
+regular_added (u ∷ ts) t ps p = (ps.0, regular_added ts t ps.1 p)
+
+-- a row with one more tree is plain if both are
+plain_added : (ts : List Tree) (t : Tree) → ArePlain (trees ts) → IsPlain t → ArePlain (trees (ts ++ t ∷ []))
 plain_added [] t ps p = (p, tt)
 plain_added (u ∷ ts) t ps p = (ps.0, plain_added ts t ps.1 p)
+
+-- a look-around for one character is the test of it
+pub look_is : (unicode : Bool) (k : ℕ) (t : Tree) (how : LookAround) (leaf : Option Leaf) (made body : Re) → IsOneChar t → leaf ≡ char_leaf unicode k t
+    → IfSome leaf (λ l. made ≡ re.test (look_test how l)) → made ≡ looked how (char_leaf unicode k t) body
+look_is unicode k t how None made body one is h = absurd (has_leaf unicode k t one (sym is))
+look_is unicode k t how (Some leaf) made body one is h = h ∙ ap (λ o. looked how o body) is
+
+-- one over another tree asks it
+pub asking_is : (unicode : Bool) (groups : List Tree) (n k : ℕ) (t : Tree) (how : LookAround) (made body : Re) → char_leaf unicode k t ≡ None
+    → made ≡ asking how body → (IsRegular t → body ≡ re_of unicode groups n k t) → IsRegular (look_around t how)
+    → made ≡ looked how (char_leaf unicode k t) (re_of unicode groups n k t)
+asking_is unicode groups n k t how made body none is same regular =
+    is ∙ asking_same t how body (re_of unicode groups n k t) regular same ∙ ap (λ o. looked how o (re_of unicode groups n k t)) (sym none)
 
 -- one more tree of a row
 pub trees_more : (es : List Expr) (i : ℕ) (x : Expr) → i < length es → x ≡ get_or es i x
@@ -76,6 +97,14 @@ plain_step es i e h is done one = rw (trees_more es i e h is) (plain_added (map 
 pub plain_whole : (es : List Expr) (i : ℕ) → length es ≤ i → ArePlain (trees (map tree_of (take i es))) → ArePlain (all_trees es)
 plain_whole es i h done = rw (take_all i es h) at done
 
+-- the same of trees that become patterns with parts
+pub regular_step : (es : List Expr) (i : ℕ) (e : Expr) → i < length es → e ≡ get_or es i e → AreRegular (trees (map tree_of (take i es)))
+    → IsRegular (tree_of e) → AreRegular (trees (map tree_of (take (i + 1) es)))
+regular_step es i e h is done one = rw (trees_more es i e h is) (regular_added (map tree_of (take i es)) (tree_of e) done one)
+
+pub regular_whole : (es : List Expr) (i : ℕ) → length es ≤ i → AreRegular (trees (map tree_of (take i es))) → AreRegular (all_trees es)
+regular_whole es i h done = rw (take_all i es h) at done
+
 pub some_trees : (es : List Expr) → (length es == 0) ≡ false → all_trees es ≢ no_trees
 some_trees [] h e = absurd (true≢false h)
 some_trees (x ∷ xs) h e = cc
@@ -88,17 +117,17 @@ groups_more (u ∷ ts) t = omega (arith, groups_more ts t)
 
 -- the groups of a row are counted tree by tree
 pub count_step : (es : List Expr) (i : ℕ) (e : Expr) (sum n : ℕ) → i < length es → e ≡ get_or es i e
-    → (ArePlain (trees (map tree_of (take i es))) → sum ≡ row_group_count (trees (map tree_of (take i es))))
-    → (IsPlain (tree_of e) → n ≡ group_count (tree_of e))
-    → ArePlain (trees (map tree_of (take (i + 1) es))) → sum + n ≡ row_group_count (trees (map tree_of (take (i + 1) es)))
+    → (AreRegular (trees (map tree_of (take i es))) → sum ≡ row_group_count (trees (map tree_of (take i es))))
+    → (IsRegular (tree_of e) → n ≡ group_count (tree_of e))
+    → AreRegular (trees (map tree_of (take (i + 1) es))) → sum + n ≡ row_group_count (trees (map tree_of (take (i + 1) es)))
 count_step es i e sum n h is done one =
     rw (trees_more es i e h is)
-    (λ (plain : ArePlain (trees (map tree_of (take i es) ++ tree_of e ∷ []))).
-    let both = plain_more (map tree_of (take i es)) (tree_of e) plain in
+    (λ (regular : AreRegular (trees (map tree_of (take i es) ++ tree_of e ∷ []))).
+    let both = regular_more (map tree_of (take i es)) (tree_of e) regular in
     omega (arith, done both.0, one both.1, groups_more (map tree_of (take i es)) (tree_of e)))
 
-pub count_whole : (es : List Expr) (i sum : ℕ) → length es ≤ i → (ArePlain (trees (map tree_of (take i es))) → sum ≡ row_group_count (trees (map tree_of (take i es))))
-    → ArePlain (all_trees es) → sum ≡ row_group_count (all_trees es)
+pub count_whole : (es : List Expr) (i sum : ℕ) → length es ≤ i → (AreRegular (trees (map tree_of (take i es))) → sum ≡ row_group_count (trees (map tree_of (take i es))))
+    → AreRegular (all_trees es) → sum ≡ row_group_count (all_trees es)
 count_whole es i sum h done = rw (take_all i es h) at done
 
 pub classes_more : (ts : List Tree) (t : Tree) → row_classes (trees (ts ++ t ∷ [])) ≡ row_classes (trees ts) ++ classes t
@@ -203,15 +232,15 @@ row_none translator = record {
   unicode = refl;
   matchers = record { count = omega arith; serve = λ ds s. rw (append-nil ds) s; read = All-nil (IsRead translator.unicode) };
   sound = tt;
-  groups = λ plain. omega arith;
-  patterns = λ plain groups. refl;
+  groups = λ regular. omega arith;
+  patterns = λ regular groups. refl;
 }
 
 -- one more was
 pub row_step : (before mid after : Translator) (ts : List Tree) (xs : List Re) (t : Tree) (x : Re) → BuildsRow before mid ts xs
-    → after.unicode ≡ mid.unicode → (IsPlain t → after.next_group ≡ mid.next_group + group_count t)
+    → after.unicode ≡ mid.unicode → (IsRegular t → after.next_group ≡ mid.next_group + group_count t)
     → Extends mid.unicode mid.matchers.items after.matchers.items (classes t) → IsSound x
-    → (IsPlain t → (groups : List Tree) → x ≡ re_of mid.unicode groups mid.next_group (length mid.matchers.items) t)
+    → (IsRegular t → (groups : List Tree) → x ≡ re_of mid.unicode groups mid.next_group (length mid.matchers.items) t)
     → BuildsRow before after (ts ++ t ∷ []) (xs ++ x ∷ [])
 row_step before mid after ts xs t x done unicode groups matchers sound pattern =
     let more : Extends before.unicode mid.matchers.items after.matchers.items (classes t) = rw done.unicode at matchers in
@@ -219,9 +248,9 @@ row_step before mid after ts xs t x done unicode groups matchers sound pattern =
       unicode = unicode ∙ done.unicode;
       matchers = rw (classes_more ts t) (extends_both before.unicode _ _ _ (row_classes (trees ts)) (classes t) done.matchers more);
       sound = sound_more xs x done.sound sound;
-      groups = λ plain. let both = plain_more ts t plain in omega (arith, groups both.1, done.groups both.0, groups_more ts t);
-      patterns = λ plain gs.
-          let both = plain_more ts t plain in
+      groups = λ regular. let both = regular_more ts t regular in omega (arith, groups both.1, done.groups both.0, groups_more ts t);
+      patterns = λ regular gs.
+          let both = regular_more ts t regular in
           ap₂ (λ (ys : List Re) (y : Re). ys ++ y ∷ []) (done.patterns both.0 gs)
           (pattern both.1 gs
           ∙ ap (λ b. re_of b gs mid.next_group (length mid.matchers.items) t) done.unicode
@@ -232,9 +261,9 @@ row_step before mid after ts xs t x done unicode groups matchers sound pattern =
 -- the same of the nodes of expressions
 pub nodes_step : (before mid after : Translator) (es : List Expr) (i : ℕ) (e : Expr) (nodes now : List Node) (node : Node) → i < length es
     → e ≡ get_or es i e → now ≡ nodes ++ node ∷ [] → BuildsRow before mid (map tree_of (take i es)) (shapes nodes)
-    → after.unicode ≡ mid.unicode → (IsPlain (tree_of e) → after.next_group ≡ mid.next_group + group_count (tree_of e))
+    → after.unicode ≡ mid.unicode → (IsRegular (tree_of e) → after.next_group ≡ mid.next_group + group_count (tree_of e))
     → Extends mid.unicode mid.matchers.items after.matchers.items (classes (tree_of e)) → IsSound (shape node)
-    → (IsPlain (tree_of e) → (groups : List Tree) → shape node ≡ re_of mid.unicode groups mid.next_group (length mid.matchers.items) (tree_of e))
+    → (IsRegular (tree_of e) → (groups : List Tree) → shape node ≡ re_of mid.unicode groups mid.next_group (length mid.matchers.items) (tree_of e))
     → BuildsRow before after (map tree_of (take (i + 1) es)) (shapes now)
 nodes_step before mid after es i e nodes now node h is added done unicode groups matchers sound pattern =
     rw (trees_more es i e h is, added, map-append shape nodes (node ∷ []))

@@ -1,9 +1,9 @@
 -- A write to the slot of a group that a pattern lacks may come before its ways or after them.
 use Rattle.std.proofs.Common.{◌≡◌, ℕ, zero, suc, ◌+◌, ◌*◌, ◌-◌, Bool, true, false, List, [], ◌∷◌, ◌++◌, map, if◌then◌else◌, nat_lt, set, refl, sym, ap, ap₂, ◌∙◌, arith}
 use Rattle.std.proofs.lemmas.List.{set_comm}
-use Rattle.fancy_regex_linear.specs.Re.{Re, nothing, read, test, cat, alt, group, repeat}
+use Rattle.fancy_regex_linear.specs.Re.{Re, nothing, read, test, cat, alt, group, repeat, ask, atomic}
 use Rattle.fancy_regex_states.specs.Attempts.{View, reads}
-use Rattle.fancy_regex_linear.specs.Meaning.{Spot, each, in_order, after_iteration, loop_ways, times_ways, upto_ways, tail_ways, is_unbounded, ways}
+use Rattle.fancy_regex_linear.specs.Meaning.{Spot, each, in_order, after_iteration, loop_ways, times_ways, upto_ways, tail_ways, is_unbounded, asked_ways, first_way, ways}
 
 -- the group k is not in the pattern
 abbrev pub Lacks : ℕ → Re → Type 0
@@ -14,6 +14,8 @@ Lacks k (cat a b) = Lacks k a × Lacks k b
 Lacks k (alt a b) = Lacks k a × Lacks k b
 Lacks k (group g a) = (k ≡ g → ⊥) × Lacks k a
 Lacks k (repeat lo hi greedy strict a) = Lacks k a
+Lacks k (ask negated a) = Lacks k a
+Lacks k (atomic a) = Lacks k a
 
 each_same : (f g : Spot → List Spot) (ws : List Spot) → ((w : Spot) → f w ≡ g w) → each f ws ≡ each g ws
 each_same f g [] h = refl
@@ -100,6 +102,16 @@ module _ (j v : ℕ) where
   tail_carries true stop g list h n s = loop_carries g list h (stop - s.at) s
   tail_carries false stop g list h n s = upto_carries g list h n s
 
+  asked_carries : (negated : Bool) (s : Spot) (ws : List Spot) → asked_ways negated (put s) (map put ws) ≡ map put (asked_ways negated s ws)
+  asked_carries false s [] = refl
+  asked_carries false s (w ∷ ws) = refl
+  asked_carries true s [] = refl
+  asked_carries true s (w ∷ ws) = refl
+
+  first_carries : (ws : List Spot) → first_way (map put ws) ≡ map put (first_way ws)
+  first_carries [] = refl
+  first_carries (w ∷ ws) = refl
+
 -- a write to the slot of a group that the pattern lacks may come before or after
 pub ways_carry : (view : View) (stop k v : ℕ) (t : Re) → Lacks k t → Carries (2 * k) v (ways view stop t)
 unfolding ways
@@ -122,3 +134,6 @@ ways_carry view stop k v (group g a) l s =
 ways_carry view stop k v (repeat lo hi g strict a) l s =
     times_carries (2 * k) v (ways view stop a) (tail_ways (is_unbounded hi) stop g (ways view stop a) (hi - lo)) (ways_carry view stop k v a l)
     (tail_carries (2 * k) v (is_unbounded hi) stop g (ways view stop a) (ways_carry view stop k v a l) (hi - lo)) lo s
+ways_carry view stop k v (ask negated a) l s =
+    ap (asked_ways negated (put (2 * k) v s)) (ways_carry view stop k v a l s) ∙ asked_carries (2 * k) v negated s (ways view stop a s)
+ways_carry view stop k v (atomic a) l s = ap first_way (ways_carry view stop k v a l s) ∙ first_carries (2 * k) v (ways view stop a s)

@@ -1,12 +1,12 @@
 -- The states of a tree do what trying it does.
 use Rattle.std.proofs.Common.{◌≡◌, ℕ, zero, suc, ◌+◌, ◌*◌, ◌<◌, ◌≤◌, ◌⊎◌, Bool, true, false, cond, List, [], ◌∷◌, length, nat_eq, refl, sym, ap, ap₂, ◌∙◌, inl, inr, ⊎_elim, arith, eq-eqb, ne_eqb, length-append}
 use Rattle.std.proofs.lemmas.Bool.{cases_lt}
-use Rattle.fancy_regex_states.specs.Attempts.{View, reads, Continuation, guard, either, save, NamesBelow, visit, Agrees}
+use Rattle.fancy_regex_states.specs.Attempts.{View, reads, Continuation, guard, either, save, asked, passed, pick, NamesBelow, MayAsk, visit, Agrees}
 use Rattle.fancy_regex_linear.specs.Attempt.{prefer}
 use Rattle.fancy_regex_states.specs.First.{state_at}
 use Rattle.fancy_regex_linear.specs.Program.{loop_head, push, AgreeBut}
 use Rattle.fancy_regex_states.specs.declared.state.State.{State}
-use Rattle.fancy_regex_states.specs.declared.state.State.TheVariants.{Split, Enter, Leave, Match}
+use Rattle.fancy_regex_states.specs.declared.state.State.TheVariants.{Split, Enter, Leave, Ask, Atomic, Match}
 use Rattle.fancy_regex_states.specs.declared.state.State.TheVariants as S
 
 -- the same, but for one place
@@ -24,12 +24,14 @@ override_other go n g q h = rw (ne_eqb q n (omega arith))
 pub length-push : (states : List State) (s : State) → length (push states s) ≡ length states + 1
 length-push states s = length-append states (s ∷ [])
 
-names_more : (n m : ℕ) (s : State) → n ≤ m → NamesBelow n s → NamesBelow m s
+pub names_more : (n m : ℕ) (s : State) → n ≤ m → NamesBelow n s → NamesBelow m s
 names_more n m (S.Read leaf next) h x = omega arith
 names_more n m (S.Look check next) h x = omega arith
 names_more n m (Split first second) h x = (omega arith, omega arith)
 names_more n m (Enter g next) h x = omega arith
 names_more n m (Leave g next) h x = omega arith
+names_more n m (Ask part negated next) h x = (omega arith, omega arith)
+names_more n m (Atomic part same moved) h x = (omega arith, omega arith, omega arith)
 names_more n m Match h x = tt
 
 at_pushed : (states : List State) (s : State) → state_at (push states s) (length states) ≡ s
@@ -49,6 +51,9 @@ module _ (view : View) (stop : ℕ) where
   visit_same go go2 n (Split first second) x h i = ap₂ (λ f g. either view.longest (f i) (g i)) (h first x.0) (h second x.1)
   visit_same go go2 n (Enter g next) x h i = ap (λ f. save (2 * g) i (f i)) (h next x)
   visit_same go go2 n (Leave g next) x h i = ap (λ f. save (2 * g + 1) i (f i)) (h next x)
+  visit_same go go2 n (Ask part negated next) x h i = ap₂ (λ f g. asked negated (f i) (g i)) (h part x.0) (h next x.1)
+  visit_same go go2 n (Atomic part same moved) x h i =
+      ap (λ f. passed (f i) (pick i (go2 same) (go2 moved))) (h part x.0) ∙ ap₂ (λ f g. passed (go part i) (pick i f g)) (h same x.1) (h moved x.2)
   visit_same go go2 n Match x h i = refl
 
   pub visit_loop_head : (go : ℕ → Continuation) (g : Bool) (iteration exit i : ℕ)
@@ -60,6 +65,7 @@ module _ (view : View) (stop : ℕ) where
       → Agrees view stop go n q s → Agrees view stop go2 m q s
   agrees_more go go2 n m q s h le same a = record {
     names = names_more n m s le a.names;
+    asks = a.asks;
     does = λ i p. ap (λ f. f i) (same q h) ∙ a.does i p ∙ sym (visit_same go go2 n s a.names same i);
   }
 
@@ -72,7 +78,7 @@ module _ (view : View) (stop : ℕ) where
 
   -- a state is pushed that agrees, or whose number is open
   pub push_done : (Open : ℕ → Type 0) (states : List State) (go : ℕ → Continuation) (s : State) (g : Continuation) → AgreeBut view stop Open states go
-      → Open (length states) ⊎ (NamesBelow (length states) s × ((i : ℕ) → i ≤ stop → g i ≡ visit view stop go s i))
+      → Open (length states) ⊎ (NamesBelow (length states) s × MayAsk view.has_parts s × ((i : ℕ) → i ≤ stop → g i ≡ visit view stop go s i))
       → Pushed Open states go s g
   push_done Open states go s g before new =
       let n : ℕ = length states in
@@ -96,7 +102,8 @@ module _ (view : View) (stop : ℕ) where
             (⊎_elim (λ o. inl o)
             (λ a. inr (rw (at_pushed states s) (record {
               names = names_more n _ s (omega arith) a.0;
-              does = λ i p. ap (λ f. f i) here ∙ a.1 i p ∙ sym (visit_same go go2 n s a.0 unchanged i);
+              asks = a.1;
+              does = λ i p. ap (λ f. f i) here ∙ a.2 i p ∙ sym (visit_same go go2 n s a.0 unchanged i);
             })))
             new))
             (cases_lt q n);

@@ -17,6 +17,9 @@ pub mod PlainLemmas
 pub mod LookLemmas
 pub mod MeaningLemmas
 pub mod SameStartLemmas
+pub mod EndLemmas
+pub mod RegularLemmas
+pub mod RegularAnswerLemmas
 pub mod CharTestLemmas
 pub mod AnswerLemmas
 pub mod ShapeLemmas

@@ -22,7 +22,7 @@ use Rattle.fancy_regex_linear.specs.Re as re
 use Rattle.fancy_regex_states.specs.Attempts.{View, reads}
 use Rattle.fancy_regex_linear.specs.Meaning.{Spot, each, in_order, after_iteration, loop_ways, times_ways, upto_ways, tail_ways, is_unbounded}
 use Rattle.fancy_regex_linear.specs.Meaning as plain
-use Rattle.fancy_regex_linear.specs.Plain.{IsPlain, ArePlain, IsOneChar, IsServed, test_of, served, looked, look_test, char_leaf, char_classes, has_no_iteration, unless, classes, row_classes, re_of, row_of, branches_of}
+use Rattle.fancy_regex_linear.specs.Plain.{IsPlain, ArePlain, IsOneChar, IsServed, test_of, served, looked, look_test, char_leaf, has_no_iteration, unless, classes, row_classes, re_of, row_of, branches_of}
 use Rattle.fancy_regex_class.specs.RunInputs.{group_slots}
 use Rattle.fancy_regex_linear.specs.SettingView.{view_of, leaf_matches, test_holds}
 use Rattle.fancy_regex_states.specs.declared.atom.Leaf.{Leaf}
@@ -69,7 +69,7 @@ upto_same len (suc n) g f lf ef a w p =
     ∙ ap (λ ws. in_order g ws (spot_of w ∷ [])) (seq_same len f (up_to n g f) lf (upto_ways g lf n) ef a (upto_same len n g f lf ef a) w p)
 
 -- a iteration, and what follows it
-iteration_same : (w v : MatchState) (again : List MatchState) (next : Spot → List Spot) → w.position ≤ v.position → (w.position < v.position → map spot_of again ≡ next (spot_of v))
+pub iteration_same : (w v : MatchState) (again : List MatchState) (next : Spot → List Spot) → w.position ≤ v.position → (w.position < v.position → map spot_of again ≡ next (spot_of v))
     → map spot_of (if v.position == w.position then v ∷ [] else again) ≡ after_iteration next (spot_of w) (spot_of v)
 unfolding after_iteration
 iteration_same w v again next le same =
@@ -107,7 +107,7 @@ repeat_same s lo hi g false f lf e ef a w p =
     (λ v q. upto_same (length s.text) (hi - lo) g f lf ef a v q) w p
 
 -- a repeat that may be left out
-no_iterations : (lo hi : ℕ) → has_no_iteration lo hi ≡ true → (lo ≡ 0) × (hi ≡ 0)
+pub no_iterations : (lo hi : ℕ) → has_no_iteration lo hi ≡ true → (lo ≡ 0) × (hi ≡ 0)
 no_iterations lo hi e = let both = and_parts _ _ e in (eqb-true lo 0 both.0, eqb-true hi 0 both.1)
 
 out_by : (s : Setting) (lo hi : ℕ) (g : Bool) (f : Moves) (view : View) (a : Re) (b : Bool) → (b ≡ true → (lo ≡ 0) × (hi ≡ 0))
@@ -118,7 +118,7 @@ out_by s lo hi g f view a true zeros h w p = rw ((zeros refl).0, (zeros refl).1)
 out_by s lo hi g f view a false zeros h w p = h refl w p
 
 -- places of a pair that is written
-flat_set : (ps : Pairs) (k a b : ℕ) → group_slots (set ps k (Some (a, b))) ≡ set (set (group_slots ps) (2 * k) a) (2 * k + 1) b
+pub flat_set : (ps : Pairs) (k a b : ℕ) → group_slots (set ps k (Some (a, b))) ≡ set (set (group_slots ps) (2 * k) a) (2 * k + 1) b
 flat_set [] k a b = refl
 flat_set (None ∷ ps) zero a b = refl
 flat_set (Some q ∷ ps) zero a b = refl
@@ -131,7 +131,7 @@ flat_set (Some q ∷ ps) (suc k) a b =
     let three : 2 * suc k + 1 ≡ suc (suc (2 * k + 1)) = omega arith in
     rw (three, two) (ap (λ xs. q.0 ∷ q.1 ∷ xs) (flat_set ps k a b))
 
-map_map : (f : MatchState → MatchState) (g : Spot → Spot) (vs : List MatchState) → ((v : MatchState) → spot_of (f v) ≡ g (spot_of v)) → map spot_of (map f vs) ≡ map g (map spot_of vs)
+pub map_map : (f : MatchState → MatchState) (g : Spot → Spot) (vs : List MatchState) → ((v : MatchState) → spot_of (f v) ≡ g (spot_of v)) → map spot_of (map f vs) ≡ map g (map spot_of vs)
 map_map f g [] h = refl
 map_map f g (v ∷ vs) h = ap₂ ◌∷◌ (h v) (map_map f g vs h)
 
@@ -157,7 +157,7 @@ taken_same false w = refl
 
 -- one character
 module _ (s : Setting) (cs : List (Text × Bool)) (far : Bool) where
-  char_same : (leaf : Leaf) (w : MatchState) (o : Option ℕ) → char_at s.text w.position ≡ o → (is_taken : ℕ → Bool) → ((c : ℕ) → o ≡ Some c → is_taken c ≡ leaf_matches s cs leaf c)
+  pub char_same : (leaf : Leaf) (w : MatchState) (o : Option ℕ) → char_at s.text w.position ≡ o → (is_taken : ℕ → Bool) → ((c : ℕ) → o ≡ Some c → is_taken c ≡ leaf_matches s cs leaf c)
       → map spot_of (ways.for_some (λ c. if is_taken c then with_position w (w.position + len_utf8 c) ∷ [] else []) o)
       ≡ (if reads (view_of s cs far) (length s.text) leaf w.position then record { at = (view_of s cs far).next w.position; slots = group_slots w.pairs } ∷ [] else [])
   unfolding reads
@@ -169,12 +169,12 @@ module _ (s : Setting) (cs : List (Text × Bool)) (far : Bool) where
       rw (e, same c refl, lt-ltb w.position (w.position + len_utf8 c) lower, le-leb (w.position + len_utf8 c) (length s.text) fits)
       (taken_same (leaf_matches s cs leaf c) (with_position w (w.position + len_utf8 c)))
 
-get_left : {A : Type 0} (xs ys : List A) (j : ℕ) → j < length xs → slice_get (xs ++ ys) j ≡ slice_get xs j
+pub get_left : {A : Type 0} (xs ys : List A) (j : ℕ) → j < length xs → slice_get (xs ++ ys) j ≡ slice_get xs j
 get_left [] ys j h = absurd (omega arith)
 get_left (x ∷ xs) ys zero h = refl
 get_left (x ∷ xs) ys (suc j) h = get_left xs ys j (omega arith)
 
-get_right : {A : Type 0} (xs ys : List A) (j : ℕ) → slice_get (xs ++ ys) (length xs + j) ≡ slice_get ys j
+pub get_right : {A : Type 0} (xs ys : List A) (j : ℕ) → slice_get (xs ++ ys) (length xs + j) ≡ slice_get ys j
 get_right [] ys j = let e : 0 + j ≡ j = omega arith in ap (slice_get ys) e
 get_right (x ∷ xs) ys j =
     let e : length (x ∷ xs) + j ≡ suc (length xs + j) = omega arith in
@@ -214,19 +214,19 @@ module _ (s : Setting) (groups : List Tree) (unicode : Bool) (call : ℕ → Mov
   abbrev pub StandAt : ℕ → List (Text × Bool) → Type 0
   StandAt k xs = (j : ℕ) → j < length xs → slice_get cs (k + j) ≡ slice_get xs j
 
-  stand_left : (k : ℕ) (xs ys : List (Text × Bool)) → StandAt k (xs ++ ys) → StandAt k xs
+  pub stand_left : (k : ℕ) (xs ys : List (Text × Bool)) → StandAt k (xs ++ ys) → StandAt k xs
   stand_left k xs ys h j lt = h j (omega (arith, length-append xs ys)) ∙ get_left xs ys j lt
 
-  stand_right : (k : ℕ) (xs ys : List (Text × Bool)) → StandAt k (xs ++ ys) → StandAt (k + length xs) ys
+  pub stand_right : (k : ℕ) (xs ys : List (Text × Bool)) → StandAt k (xs ++ ys) → StandAt (k + length xs) ys
   stand_right k xs ys h j lt =
       let e : k + length xs + j ≡ k + (length xs + j) = omega arith in
       ap (slice_get cs) e ∙ h (length xs + j) (omega (arith, length-append xs ys)) ∙ get_right xs ys j
 
   -- the classes of a repeat that is not left out are its body's
-  all_stand : (k lo hi : ℕ) (t : Tree) → has_no_iteration lo hi ≡ false → StandAt k (if has_no_iteration lo hi then [] else classes t) → StandAt k (classes t)
+  pub all_stand : (k lo hi : ℕ) (t : Tree) → has_no_iteration lo hi ≡ false → StandAt k (if has_no_iteration lo hi then [] else classes t) → StandAt k (classes t)
   all_stand k lo hi t made h = subst (λ b. StandAt k (if b then [] else classes t)) made h
 
-  assertion_same : (a : Assertion) → IsServed (test_of a) → Same len (λ w. match_empty_if (holds s a w.position) w) (plain.ways view len (served (test_of a)))
+  pub assertion_same : (a : Assertion) → IsServed (test_of a) → Same len (λ w. match_empty_if (holds s a w.position) w) (plain.ways view len (served (test_of a)))
   unfolding plain.ways
   assertion_same A.StartText p w q = stay_same _ w
   assertion_same A.EndText p w q = stay_same _ w
@@ -241,12 +241,12 @@ module _ (s : Setting) (groups : List Tree) (unicode : Bool) (call : ℕ → Mov
   assertion_same (A.EndTextIgnoreTrailingNewlines crlf) p w q = absurd p
   assertion_same (A.StartLineOniguruma crlf) p w q = absurd p
 
-  literal_same : (d : ℕ) (casei : Bool) → Same len (character s (ways.is_literal s d casei)) (plain.ways view len (read (if casei then Folded (folded unicode d) else Char d)))
+  pub literal_same : (d : ℕ) (casei : Bool) → Same len (character s (ways.is_literal s d casei)) (plain.ways view len (read (if casei then Folded (folded unicode d) else Char d)))
   unfolding plain.ways
   literal_same d true w q = char_same s cs far (Folded (folded unicode d)) w (char_at s.text w.position) refl _ (λ c e. ap (λ x. s.fold c == x) (same_fold d))
   literal_same d false w q = char_same s cs far (Char d) w (char_at s.text w.position) refl _ (λ c e. refl)
 
-  class_same : (k : ℕ) (class : Text) (casei : Bool) → StandAt k ((class, casei) ∷ []) → Same len (character s (s.has_member class casei)) (plain.ways view len (read (Class k)))
+  pub class_same : (k : ℕ) (class : Text) (casei : Bool) → StandAt k ((class, casei) ∷ []) → Same len (character s (s.has_member class casei)) (plain.ways view len (read (Class k)))
   unfolding plain.ways
   class_same k class casei h w q =
       let here : slice_get cs k ≡ Some (class, casei) = (let e : k ≡ k + 0 = omega arith in ap (slice_get cs) e) ∙ h 0 (omega arith) in
@@ -268,20 +268,20 @@ module _ (s : Setting) (groups : List Tree) (unicode : Bool) (call : ℕ → Mov
       ∙ stay_same (test_holds s cs (look_test how leaf) w.position) w
 
   -- a look-around for one character
-  look_same : (n k : ℕ) (t : Tree) (how : LookAround) → IsOneChar t → StandAt k (char_classes t)
-      → Same len (ways.look how (meaning s groups call n t)) (plain.ways view len (looked how (char_leaf unicode k t)))
-  unfolding meaning
-  look_same n k (any newline crlf) how p h = one_look (ways.is_any s newline crlf) (Any newline crlf) (λ c. refl) (any newline crlf) (least_one groups (any newline crlf) tt) how
-  look_same n k (literal val true) how p h =
+  pub look_same : (n k : ℕ) (t : Tree) (how : LookAround) → IsOneChar t → StandAt k (classes t) → (body : Re)
+      → Same len (ways.look how (meaning s groups call n t)) (plain.ways view len (looked how (char_leaf unicode k t) body))
+  unfolding meaning classes
+  look_same n k (any newline crlf) how p h body = one_look (ways.is_any s newline crlf) (Any newline crlf) (λ c. refl) (any newline crlf) (least_one groups (any newline crlf) tt) how
+  look_same n k (literal val true) how p h body =
       one_look (ways.is_literal s (slice_index val 0) true) (Folded (folded unicode (slice_index val 0))) (λ c. ap (λ x. s.fold c == x) (same_fold (slice_index val 0)))
       (literal val true) (least_one groups (literal val true) tt) how
-  look_same n k (literal val false) how p h =
+  look_same n k (literal val false) how p h body =
       one_look (ways.is_literal s (slice_index val 0) false) (Char (slice_index val 0)) (λ c. refl) (literal val false) (least_one groups (literal val false) tt) how
-  look_same n k (delegate class casei) how p h =
+  look_same n k (delegate class casei) how p h body =
       let here : slice_get cs k ≡ Some (class, casei) = (let e : k ≡ k + 0 = omega arith in ap (slice_get cs) e) ∙ h 0 (omega arith) in
       one_look (s.has_member class casei) (Class k) (λ c. sym (ap (λ o. is_some_and o (λ p. s.has_member p.0 p.1 c)) here))
       (delegate class casei) (least_one groups (delegate class casei) tt) how
-  look_same n k _ how p h = absurd p
+  look_same n k _ how p h body = absurd p
 
   mutual
     unfolding meaning re_of classes plain.ways
@@ -298,7 +298,7 @@ module _ (s : Setting) (groups : List Tree) (unicode : Bool) (call : ℕ → Mov
     tree_same n k (group t) p h w q =
         group_same view len n (meaning s groups call (n + 1) t).from (re_of unicode groups (n + 1) k t) (lacks unicode groups n (n + 1) k t (omega arith))
         (tree_same (n + 1) k t p h) w q
-    tree_same n k (look_around t how) p h w q = look_same n k t how p h w q
+    tree_same n k (look_around t how) p h w q = look_same n k t how p h (re_of unicode groups n k t) w q
     tree_same n k (repeat t lo hi greedy) p h w q =
         out_by s lo hi greedy (meaning s groups call n t).from view _ (has_no_iteration lo hi) (no_iterations lo hi)
         (λ made. repeat_same s lo hi greedy (is_unbounded hi) (meaning s groups call n t).from (plain.ways view len (re_of unicode groups n k t)) refl

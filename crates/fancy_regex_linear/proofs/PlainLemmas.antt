@@ -1,19 +1,24 @@
--- What the pattern of a plain tree is: sound, no heavier than the tree, and numbered from its first group on.
+-- What the pattern of a tree is: sound, numbered from its first group on and, of a plain tree, no heavier than it.
 use Rattle.std.proofs.Common.{◌≡◌, ◌≢◌, ℕ, zero, suc, ◌+◌, ◌*◌, ◌-◌, ◌<◌, ◌≤◌, ◌==◌, min, max, Bool, true, false, cond, not, ◌&&◌, ◌||◌, List, length, Option, Some, None, nat_lt, refl, sym, ap, ap₂, ◌∙◌, arith, eq-eqb, ne_eqb, lt-ltb, true≢false}
 use Rattle.std.proofs.Math.Nat.{mul-le-mul_left}
-use Rattle.fancy_regex_tree.specs.Tree.{Tree, Trees, empty, any, assertion, literal, concat, alt, group, look_around, repeat, delegate, no_trees, more_trees}
+use Rattle.fancy_regex_tree.specs.Tree.{Tree, Trees, empty, any, assertion, literal, concat, alt, group, look_around, repeat, delegate, atomic_group, no_trees, more_trees}
 use Rattle.fancy_regex_tree.specs.declared.expr.LookAround.{LookAround}
+use Rattle.fancy_regex_tree.specs.declared.expr.LookAround.TheVariants as L
 use Rattle.fancy_regex_meaning.specs.Groups.{group_count}
 use Rattle.fancy_regex_meaning.specs.Sizes.{Size, size_with, concat_size, alternation_size, size, size_through, may_be_empty, unbounded, bound_of, weights, branch_gaps}
 use Rattle.fancy_regex_meaning.specs.Sizes as sizes
 use Rattle.fancy_regex_linear.specs.Re.{Re, nothing, read, test, cat}
 use Rattle.fancy_regex_linear.specs.Re as re
 use Rattle.fancy_regex_linear.specs.Meaning.{is_unbounded}
-use Rattle.fancy_regex_linear.specs.Program.{never_empty, IsSound, weight, repeat_weight}
-use Rattle.fancy_regex_linear.specs.Plain.{IsPlain, ArePlain, IsOneChar, test_of, served, looked, char_leaf, has_no_iteration, unless, classes, re_of, row_of, branches_of}
+use Rattle.fancy_regex_linear.specs.Program.{never_empty, IsSound, MayAskIn, weight, repeat_weight}
+use Rattle.fancy_regex_linear.specs.Plain.{IsPlain, ArePlain, IsRegular, AreRegular, IsOneChar, test_of, served, asking, looked, char_leaf, char_classes, has_no_iteration, unless, classes, re_of, row_of, branches_of}
 use Rattle.fancy_regex_states.specs.declared.atom.Leaf.{Leaf}
 use Rattle.fancy_regex_states.specs.declared.atom.Test.{Test}
 use Rattle.fancy_regex_linear.proofs.CarryLemmas.{Lacks}
+
+may_served : (o : Option Test) → MayAskIn false (served o)
+may_served None = tt
+may_served (Some t) = tt
 
 lacks_served : (m : ℕ) (o : Option Test) → Lacks m (served o)
 lacks_served m None = tt
@@ -32,23 +37,112 @@ never_served : (o : Option Test) → never_empty (served o) ≡ false
 never_served None = refl
 never_served (Some t) = refl
 
--- a look-around for one character
-lacks_looked : (m : ℕ) (how : LookAround) (o : Option Leaf) → Lacks m (looked how o)
-lacks_looked m how None = tt
-lacks_looked m how (Some leaf) = tt
+-- a look-around
+lacks_asking : (m : ℕ) (how : LookAround) (body : Re) → Lacks m body → Lacks m (asking how body)
+lacks_asking m L.LookAhead body h = h
+lacks_asking m L.LookAheadNeg body h = h
+lacks_asking m L.LookBehind body h = tt
+lacks_asking m L.LookBehindNeg body h = tt
 
-sound_looked : (how : LookAround) (o : Option Leaf) → IsSound (looked how o)
-sound_looked how None = tt
-sound_looked how (Some leaf) = tt
+lacks_looked : (m : ℕ) (how : LookAround) (o : Option Leaf) (body : Re) → Lacks m body → Lacks m (looked how o body)
+lacks_looked m how None body h = lacks_asking m how body h
+lacks_looked m how (Some leaf) body h = tt
 
-weight_looked : (how : LookAround) (o : Option Leaf) → weight (looked how o) ≤ 1
-unfolding weight
-weight_looked how None = omega arith
-weight_looked how (Some leaf) = omega arith
+pub sound_asking : (how : LookAround) (body : Re) → IsSound body → IsSound (asking how body)
+sound_asking L.LookAhead body h = h
+sound_asking L.LookAheadNeg body h = h
+sound_asking L.LookBehind body h = tt
+sound_asking L.LookBehindNeg body h = tt
 
-never_looked : (how : LookAround) (o : Option Leaf) → never_empty (looked how o) ≡ false
-never_looked how None = refl
-never_looked how (Some leaf) = refl
+sound_looked : (how : LookAround) (o : Option Leaf) (body : Re) → IsSound body → IsSound (looked how o body)
+sound_looked how None body h = sound_asking how body h
+sound_looked how (Some leaf) body h = tt
+
+pub never_asking : (how : LookAround) (body : Re) → never_empty (asking how body) ≡ false
+never_asking L.LookAhead body = refl
+never_asking L.LookAheadNeg body = refl
+never_asking L.LookBehind body = refl
+never_asking L.LookBehindNeg body = refl
+
+never_looked : (how : LookAround) (o : Option Leaf) (body : Re) → never_empty (looked how o body) ≡ false
+never_looked how None body = never_asking how body
+never_looked how (Some leaf) body = refl
+
+-- a tree of one character becomes a pattern with parts, as does the body of a look-around that does
+one_char_regular : (t : Tree) → IsOneChar t → IsRegular t
+one_char_regular (any newline crlf) p = tt
+one_char_regular (literal val casei) p = tt
+one_char_regular (delegate class casei) p = tt
+one_char_regular _ p = absurd p
+
+pub body_regular : (t : Tree) (how : LookAround) → IsRegular (look_around t how) → IsRegular t
+body_regular t L.LookAhead p = p
+body_regular t L.LookAheadNeg p = p
+body_regular t L.LookBehind p = one_char_regular t p
+body_regular t L.LookBehindNeg p = one_char_regular t p
+
+-- so does a look-around for one character
+one_char_look : (t : Tree) (how : LookAround) → IsOneChar t → IsRegular (look_around t how)
+one_char_look t L.LookAhead p = one_char_regular t p
+one_char_look t L.LookAheadNeg p = one_char_regular t p
+one_char_look t L.LookBehind p = p
+one_char_look t L.LookBehindNeg p = p
+
+-- what a look-around asks is the same where its body is
+pub asking_same : (t : Tree) (how : LookAround) (a b : Re) → IsRegular (look_around t how) → (IsRegular t → a ≡ b) → asking how a ≡ asking how b
+asking_same t L.LookAhead a b p h = ap (re.ask false) (h p)
+asking_same t L.LookAheadNeg a b p h = ap (re.ask true) (h p)
+asking_same t L.LookBehind a b p h = refl
+asking_same t L.LookBehindNeg a b p h = refl
+
+-- a tree of one character has a test
+pub has_leaf : (unicode : Bool) (k : ℕ) (t : Tree) → IsOneChar t → char_leaf unicode k t ≡ None → ⊥
+has_leaf unicode k (any newline crlf) p e = cc
+has_leaf unicode k (literal val casei) p e = cc
+has_leaf unicode k (delegate class casei) p e = cc
+has_leaf unicode k _ p e = absurd p
+
+-- a tree of one character has the class that it reads
+pub one_char_classes : (t : Tree) → IsOneChar t → classes t ≡ char_classes t
+unfolding classes
+one_char_classes (any newline crlf) p = refl
+one_char_classes (literal val casei) p = refl
+one_char_classes (delegate class casei) p = refl
+one_char_classes _ p = absurd p
+
+-- a plain tree becomes a pattern with parts
+mutual
+  pub plain_regular : (t : Tree) → IsPlain t → IsRegular t
+  plain_regular empty p = tt
+  plain_regular (any newline crlf) p = tt
+  plain_regular (literal val casei) p = tt
+  plain_regular (delegate class casei) p = tt
+  plain_regular (assertion a) p = p
+  plain_regular (concat ts) p = all_regular ts p
+  plain_regular (alt ts) p = (p.0, all_regular ts p.1)
+  plain_regular (group t) p = plain_regular t p
+  plain_regular (look_around t how) p = one_char_look t how p
+  plain_regular (repeat t lo hi greedy) p = plain_regular t p
+  plain_regular _ p = absurd p
+
+  all_regular : (ts : Trees) → ArePlain ts → AreRegular ts
+  all_regular no_trees p = tt
+  all_regular (more_trees t ts) p = (plain_regular t p.0, all_regular ts p.1)
+
+-- a look-around for one character is a test
+module _ (unicode : Bool) (k : ℕ) (how : LookAround) (body : Re) where
+  look_light : (t : Tree) → IsOneChar t → weight (looked how (char_leaf unicode k t) body) ≤ 1
+  unfolding weight
+  look_light (any newline crlf) p = omega arith
+  look_light (literal val casei) p = omega arith
+  look_light (delegate class casei) p = omega arith
+  look_light _ p = absurd p
+
+  look_may : (t : Tree) → IsOneChar t → MayAskIn false (looked how (char_leaf unicode k t) body)
+  look_may (any newline crlf) p = tt
+  look_may (literal val casei) p = tt
+  look_may (delegate class casei) p = tt
+  look_may _ p = absurd p
 
 -- a tree of one character has no group
 pub one_char_groups : (t : Tree) → IsOneChar t → group_count t ≡ 0
@@ -62,6 +156,10 @@ one_char_groups _ p = absurd p
 out_lacks : (m : ℕ) (b : Bool) (x : Re) → Lacks m x → Lacks m (unless b x)
 out_lacks m true x h = tt
 out_lacks m false x h = h
+
+out_may : (b : Bool) (x : Re) → MayAskIn false x → MayAskIn false (unless b x)
+out_may true x h = tt
+out_may false x h = h
 
 out_sound : (b : Bool) (x : Re) → IsSound x → IsSound (unless b x)
 out_sound true x h = tt
@@ -91,7 +189,8 @@ module _ (unicode : Bool) (groups : List Tree) where
     lacks m n k (assertion a) h = lacks_served m (test_of a)
     lacks m n k (concat ts) h = row_lacks m n k ts h
     lacks m n k (alt ts) h = branches_lack m n k ts h
-    lacks m n k (look_around t how) h = lacks_looked m how (char_leaf unicode k t)
+    lacks m n k (look_around t how) h = lacks_looked m how (char_leaf unicode k t) (re_of unicode groups n k t) (lacks m n k t h)
+    lacks m n k (atomic_group t) h = lacks m n k t h
     lacks m n k (group t) h = (λ e. omega arith, lacks m (n + 1) k t (omega arith))
     lacks m n k (repeat t lo hi greedy) h = out_lacks m (has_no_iteration lo hi) _ (lacks m n k t h)
     lacks m n k _ h = tt
@@ -140,8 +239,8 @@ module _ (unicode : Bool) (groups : List Tree) (call : ℕ → Size) where
   mutual
     unfolding re_of size_with
 
-    -- a plain tree may be empty exactly where its pattern may
-    empties : (n k : ℕ) (t : Tree) → IsPlain t → ((size_with call t).least == 0) ≡ not (never_empty (re_of unicode groups n k t))
+    -- a tree may be empty exactly where its pattern may
+    empties : (n k : ℕ) (t : Tree) → IsRegular t → ((size_with call t).least == 0) ≡ not (never_empty (re_of unicode groups n k t))
     empties n k empty p = refl
     empties n k (any newline crlf) p = refl
     empties n k (literal val casei) p = refl
@@ -150,17 +249,18 @@ module _ (unicode : Bool) (groups : List Tree) (call : ℕ → Size) where
     empties n k (concat ts) p = row_empties n k ts p
     empties n k (alt ts) p = branch_empties n k ts p.0 p.1
     empties n k (group t) p = empties (n + 1) k t p
-    empties n k (look_around t how) p = sym (ap not (never_looked how (char_leaf unicode k t)))
+    empties n k (look_around t how) p = sym (ap not (never_looked how (char_leaf unicode k t) (re_of unicode groups n k t)))
+    empties n k (atomic_group t) p = empties n k t p
     empties n k (repeat t lo hi greedy) p =
         product_zero lo (size_with call t).least ∙ ap₂ ◌||◌ (zero_test lo) (empties n k t p) ∙ not_and (nat_lt 0 lo) _ ∙ sym (ap not (out_moves lo hi greedy _ _))
     empties n k _ p = absurd p
 
-    row_empties : (n k : ℕ) (ts : Trees) → ArePlain ts → ((concat_size call ts).least == 0) ≡ not (never_empty (row_of unicode groups n k ts))
+    row_empties : (n k : ℕ) (ts : Trees) → AreRegular ts → ((concat_size call ts).least == 0) ≡ not (never_empty (row_of unicode groups n k ts))
     row_empties n k no_trees p = refl
     row_empties n k (more_trees t ts) p =
         sum_zero (size_with call t).least (concat_size call ts).least ∙ ap₂ ◌&&◌ (empties n k t p.0) (row_empties _ _ ts p.1) ∙ not_or _ _
 
-    branch_empties : (n k : ℕ) (ts : Trees) → (ts ≢ no_trees) → ArePlain ts → ((alternation_size call ts).least == 0) ≡ not (never_empty (branches_of unicode groups n k ts))
+    branch_empties : (n k : ℕ) (ts : Trees) → (ts ≢ no_trees) → AreRegular ts → ((alternation_size call ts).least == 0) ≡ not (never_empty (branches_of unicode groups n k ts))
     branch_empties n k no_trees some p = absurd (some refl)
     branch_empties n k (more_trees t no_trees) some p = empties n k t p.0
     branch_empties n k (more_trees t (more_trees u us)) some p =
@@ -177,45 +277,75 @@ not_not false true e h = refl
 not_not false false e h = absurd (true≢false (sym e))
 
 module _ (unicode : Bool) (groups : List Tree) where
-  empties_through : (m n k : ℕ) (t : Tree) → IsPlain t → ((size_through groups m t).least == 0) ≡ not (never_empty (re_of unicode groups n k t))
+  empties_through : (m n k : ℕ) (t : Tree) → IsRegular t → ((size_through groups m t).least == 0) ≡ not (never_empty (re_of unicode groups n k t))
   unfolding size_through
   empties_through zero n k t p = empties unicode groups _ n k t p
   empties_through (suc m) n k t p = empties unicode groups _ n k t p
 
   -- the body of a repeat that may not be empty never is
-  never : (n k : ℕ) (t : Tree) → IsPlain t → not (may_be_empty groups t) ≡ true → never_empty (re_of unicode groups n k t) ≡ true
+  never : (n k : ℕ) (t : Tree) → IsRegular t → not (may_be_empty groups t) ≡ true → never_empty (re_of unicode groups n k t) ≡ true
   unfolding size
   never n k t p h = not_not _ _ (empties_through (length groups) n k t p) h
 
   -- and one that may not be is never empty
-  pub flag_is : (n k : ℕ) (t : Tree) → IsPlain t → not (may_be_empty groups t) ≡ never_empty (re_of unicode groups n k t)
+  pub flag_is : (n k : ℕ) (t : Tree) → IsRegular t → not (may_be_empty groups t) ≡ never_empty (re_of unicode groups n k t)
   unfolding size
   flag_is n k t p = ap not (empties_through (length groups) n k t p) ∙ not_twice _
 
   mutual
     unfolding re_of
 
-    pub sound : (n k : ℕ) (t : Tree) → IsPlain t → IsSound (re_of unicode groups n k t)
-    sound n k empty p = tt
-    sound n k (any newline crlf) p = tt
-    sound n k (literal val casei) p = tt
-    sound n k (delegate class casei) p = tt
-    sound n k (assertion a) p = sound_served (test_of a)
-    sound n k (concat ts) p = row_sound n k ts p
-    sound n k (alt ts) p = branches_sound n k ts p.1
-    sound n k (group t) p = sound (n + 1) k t p
-    sound n k (look_around t how) p = sound_looked how (char_leaf unicode k t)
-    sound n k (repeat t lo hi greedy) p = out_sound (has_no_iteration lo hi) _ (never n k t p, sound n k t p)
-    sound n k _ p = absurd p
+    pub regular_sound : (n k : ℕ) (t : Tree) → IsRegular t → IsSound (re_of unicode groups n k t)
+    regular_sound n k empty p = tt
+    regular_sound n k (any newline crlf) p = tt
+    regular_sound n k (literal val casei) p = tt
+    regular_sound n k (delegate class casei) p = tt
+    regular_sound n k (assertion a) p = sound_served (test_of a)
+    regular_sound n k (concat ts) p = row_sound n k ts p
+    regular_sound n k (alt ts) p = branches_sound n k ts p.1
+    regular_sound n k (group t) p = regular_sound (n + 1) k t p
+    regular_sound n k (look_around t how) p = sound_looked how (char_leaf unicode k t) (re_of unicode groups n k t) (regular_sound n k t (body_regular t how p))
+    regular_sound n k (atomic_group t) p = regular_sound n k t p
+    regular_sound n k (repeat t lo hi greedy) p = out_sound (has_no_iteration lo hi) _ (never n k t p, regular_sound n k t p)
+    regular_sound n k _ p = absurd p
 
-    row_sound : (n k : ℕ) (ts : Trees) → ArePlain ts → IsSound (row_of unicode groups n k ts)
+    row_sound : (n k : ℕ) (ts : Trees) → AreRegular ts → IsSound (row_of unicode groups n k ts)
     row_sound n k no_trees p = tt
-    row_sound n k (more_trees t ts) p = (sound n k t p.0, row_sound _ _ ts p.1)
+    row_sound n k (more_trees t ts) p = (regular_sound n k t p.0, row_sound _ _ ts p.1)
 
-    branches_sound : (n k : ℕ) (ts : Trees) → ArePlain ts → IsSound (branches_of unicode groups n k ts)
+    branches_sound : (n k : ℕ) (ts : Trees) → AreRegular ts → IsSound (branches_of unicode groups n k ts)
     branches_sound n k no_trees p = tt
-    branches_sound n k (more_trees t no_trees) p = sound n k t p.0
-    branches_sound n k (more_trees t (more_trees u us)) p = (sound n k t p.0, branches_sound _ _ (more_trees u us) p.1)
+    branches_sound n k (more_trees t no_trees) p = regular_sound n k t p.0
+    branches_sound n k (more_trees t (more_trees u us)) p = (regular_sound n k t p.0, branches_sound _ _ (more_trees u us) p.1)
+
+  pub sound : (n k : ℕ) (t : Tree) → IsPlain t → IsSound (re_of unicode groups n k t)
+  sound n k t p = regular_sound n k t (plain_regular t p)
+
+  mutual
+    unfolding re_of
+
+    -- the pattern of a plain tree asks no parts
+    pub plain_may : (n k : ℕ) (t : Tree) → IsPlain t → MayAskIn false (re_of unicode groups n k t)
+    plain_may n k empty p = tt
+    plain_may n k (any newline crlf) p = tt
+    plain_may n k (literal val casei) p = tt
+    plain_may n k (delegate class casei) p = tt
+    plain_may n k (assertion a) p = may_served (test_of a)
+    plain_may n k (concat ts) p = row_may n k ts p
+    plain_may n k (alt ts) p = branches_may n k ts p.1
+    plain_may n k (group t) p = plain_may (n + 1) k t p
+    plain_may n k (look_around t how) p = look_may unicode k how (re_of unicode groups n k t) t p
+    plain_may n k (repeat t lo hi greedy) p = out_may (has_no_iteration lo hi) _ (plain_may n k t p)
+    plain_may n k _ p = absurd p
+
+    row_may : (n k : ℕ) (ts : Trees) → ArePlain ts → MayAskIn false (row_of unicode groups n k ts)
+    row_may n k no_trees p = tt
+    row_may n k (more_trees t ts) p = (plain_may n k t p.0, row_may _ _ ts p.1)
+
+    branches_may : (n k : ℕ) (ts : Trees) → ArePlain ts → MayAskIn false (branches_of unicode groups n k ts)
+    branches_may n k no_trees p = tt
+    branches_may n k (more_trees t no_trees) p = plain_may n k t p.0
+    branches_may n k (more_trees t (more_trees u us)) p = (plain_may n k t p.0, branches_may _ _ (more_trees u us) p.1)
 
   -- a repeat of what is lighter is lighter
   lighter : (u b : Bool) (lo hi v w : ℕ) → v ≤ w
@@ -239,7 +369,7 @@ module _ (unicode : Bool) (groups : List Tree) where
     light n k (concat ts) p = omega (arith, row_light n k ts p)
     light n k (alt ts) p = branches_light n k ts p.0 p.1
     light n k (group t) p = omega (arith, light (n + 1) k t p)
-    light n k (look_around t how) p = omega (arith, weight_looked how (char_leaf unicode k t))
+    light n k (look_around t how) p = omega (arith, look_light unicode k how (re_of unicode groups n k t) t p)
     light n k (repeat t lo hi greedy) p =
         out_light (has_no_iteration lo hi) _ _ (lighter (is_unbounded hi) (may_be_empty groups t) lo hi _ _ (light n k t p))
     light n k _ p = absurd p

@@ -15,9 +15,9 @@ use Rattle.fancy_regex_states.specs.declared.atom.Test.TheVariants.{StartText}
 use Rattle.fancy_regex_states.specs.declared.first.FirstChars.{FirstChars}
 use Rattle.fancy_regex_states.specs.declared.rules.Rules.{Rules}
 use Rattle.fancy_regex_states.specs.declared.state.State.{State}
-use Rattle.fancy_regex_states.specs.declared.state.State.TheVariants.{Split, Enter, Leave, Match}
+use Rattle.fancy_regex_states.specs.declared.state.State.TheVariants.{Split, Enter, Leave, Ask, Atomic, Match}
 use Rattle.fancy_regex_states.specs.declared.state.State.TheVariants as S
-use Rattle.fancy_regex_states.specs.Attempts.{View, reads, Continuation, Trace, write, score, better_trace, Shows, NamesBelow, visit, AllAgree}
+use Rattle.fancy_regex_states.specs.Attempts.{View, reads, Continuation, Trace, write, score, better_trace, asked_answer, passed_answer, passed_depth, pick, Shows, NamesBelow, visit, AllAgree}
 use Rattle.fancy_regex_linear.specs.Search.{Explains, RefusesAscii}
 use Rattle.fancy_regex_class.proofs.AdjacentCharLemmas.{boundary_past_ascii}
 use Rattle.fancy_regex_linear.specs.Starts.{HasRefusedPair}
@@ -32,6 +32,8 @@ CannotRead-prop unicode matchers after (S.Look check next) = Unit-prop
 CannotRead-prop unicode matchers after (Split first second) = Unit-prop
 CannotRead-prop unicode matchers after (Enter g next) = Unit-prop
 CannotRead-prop unicode matchers after (Leave g next) = Unit-prop
+CannotRead-prop unicode matchers after (Ask part negated next) = Unit-prop
+CannotRead-prop unicode matchers after (Atomic part same moved) = Unit-prop
 CannotRead-prop unicode matchers after Match = ⊥_prop
 
 -- what the states' table says of a character holds
@@ -47,6 +49,13 @@ true_or_false false = inr refl
 
 none_saved : (slot i : ℕ) (a : Option Trace) → a ≡ None → write slot i a ≡ None
 none_saved slot i a e = ap (write slot i) e
+
+-- where what follows fails, so does what asks a part before it
+none_asked : (negated : Bool) (part : Option Trace) → asked_answer negated part None ≡ None
+none_asked false None = refl
+none_asked false (Some t) = refl
+none_asked true None = refl
+none_asked true (Some t) = refl
 
 none_better : (longest : Bool) (a b : Option Trace) → a ≡ None → b ≡ None → better_trace longest a b ≡ None
 none_better longest a b e f = ap₂ (better_trace longest) e f
@@ -92,6 +101,14 @@ module _ (view : View) (stop : ℕ) (states : List State) (go : ℕ → Continua
       let deep : (go q at).depth ≡ (go next at).depth + 1 = ap (λ r. r.depth) e in
       let found : (go q at).answer ≡ write (2 * g + 1) at (go next at).answer = ap (λ r. r.answer) e in
       found ∙ none_saved (2 * g + 1) at (go next at).answer (later next refl names (omega arith))
+  one_fails n q (Ask part negated next) names e d fails later =
+      let deep : (go q at).depth ≡ (go part at).depth + (go next at).depth + 1 = ap (λ r. r.depth) e in
+      let found : (go q at).answer ≡ asked_answer negated (go part at).answer (go next at).answer = ap (λ r. r.answer) e in
+      found ∙ ap (asked_answer negated (go part at).answer) (later next refl names.1 (omega arith)) ∙ none_asked negated (go part at).answer
+  one_fails n q (Atomic part same moved) names e d fails later =
+      let deep : (go q at).depth ≡ (go part at).depth + passed_depth (go part at).answer (pick at (go same) (go moved)) + 1 = ap (λ r. r.depth) e in
+      let found : (go q at).answer ≡ passed_answer (go part at).answer (pick at (go same) (go moved)) = ap (λ r. r.answer) e in
+      found ∙ ap (λ a. passed_answer a (pick at (go same) (go moved))) (later part refl names.0 (omega arith))
   one_fails n q Match names e d fails later = absurd fails
 
   reached_fails : AllAgree view stop states go → at ≤ stop → ((q : ℕ) → q < length states → Reaches states entry q → ReadFails q (state_at states q))
@@ -115,6 +132,8 @@ module _ (view : View) (stop : ℕ) (states : List State) (go : ℕ → Continua
   refused_reader q (Split first second) e cannot = tt
   refused_reader q (Enter g next) e cannot = tt
   refused_reader q (Leave g next) e cannot = tt
+  refused_reader q (Ask part negated next) e cannot = tt
+  refused_reader q (Atomic part same moved) e cannot = tt
   refused_reader q Match e cannot = cannot
 
   -- no match begins at a place that is refused
@@ -140,6 +159,8 @@ followed_reader view stop states go matchers rules entry at before after not_fir
 followed_reader view stop states go matchers rules entry at before after not_first shows two second last further agree inside q (Split one other) names e cannot = tt
 followed_reader view stop states go matchers rules entry at before after not_first shows two second last further agree inside q (Enter g next) names e cannot = tt
 followed_reader view stop states go matchers rules entry at before after not_first shows two second last further agree inside q (Leave g next) names e cannot = tt
+followed_reader view stop states go matchers rules entry at before after not_first shows two second last further agree inside q (Ask part negated next) names e cannot = tt
+followed_reader view stop states go matchers rules entry at before after not_first shows two second last further agree inside q (Atomic part same moved) names e cannot = tt
 followed_reader view stop states go matchers rules entry at before after not_first shows two second last further agree inside q Match names e cannot = cannot
 
 CannotBegin-prop : (unicode : Bool) (matchers : List CharClassMatcher) (states : List State) (entry : ℕ) (after : Option ℕ) → IsProp (CannotBegin unicode matchers states entry after)
@@ -151,6 +172,8 @@ CannotGoOn-prop unicode matchers states after (S.Look check next) = Unit-prop
 CannotGoOn-prop unicode matchers states after (Split first second) = Unit-prop
 CannotGoOn-prop unicode matchers states after (Enter g next) = Unit-prop
 CannotGoOn-prop unicode matchers states after (Leave g next) = Unit-prop
+CannotGoOn-prop unicode matchers states after (Ask part negated next) = Unit-prop
+CannotGoOn-prop unicode matchers states after (Atomic part same moved) = Unit-prop
 CannotGoOn-prop unicode matchers states after Match = ⊥_prop
 
 -- what the states' table says of a second character holds

@@ -1,8 +1,8 @@
 -- The states of a repeat do what trying it does, whatever is repeated.
 use Rattle.std.proofs.Common.{◌≡◌, ℕ, zero, suc, ◌-◌, ◌<◌, ◌≤◌, ◌⊎◌, Bool, true, false, List, length, refl, sym, ap, ◌∙◌, inl, inr, ⊎_elim, arith, length-set, set, get_or-set_same, get_or-set_other}
 use Rattle.std.proofs.lemmas.Bool.{cases_lt, cases_eq}
-use Rattle.fancy_regex_states.specs.Attempts.{View, Continuation, NamesBelow, visit}
-use Rattle.fancy_regex_linear.specs.Attempt.{prefer, pick, times_try, upto_try, star_try, tail_try}
+use Rattle.fancy_regex_states.specs.Attempts.{View, Continuation, pick, NamesBelow, MayAsk, visit}
+use Rattle.fancy_regex_linear.specs.Attempt.{prefer, times_try, upto_try, star_try, tail_try}
 use Rattle.fancy_regex_states.specs.First.{state_at}
 use Rattle.fancy_regex_linear.specs.Program.{loop_head, push, Emitter, BothEmitter, emitted_times, emitted_both_times, emitted_upto, emitted_both_upto, emitted_star, emitted_both_star, emitted_plus, emitted_both_plus, emitted_many, emitted_both_many, emitted_repeat, emitted_both_repeat, AgreeBut}
 use Rattle.fancy_regex_states.specs.declared.state.State.{State}
@@ -16,6 +16,10 @@ at_set_other states k q s h = get_or-set_other states k q s Match h
 pub head_names : (greedy : Bool) (n iteration exit : ℕ) → iteration < n → exit < n → NamesBelow n (loop_head greedy iteration exit)
 head_names true n iteration exit a b = (a, b)
 head_names false n iteration exit a b = (b, a)
+
+pub head_asks : (has_parts greedy : Bool) (iteration exit : ℕ) → MayAsk has_parts (loop_head greedy iteration exit)
+head_asks has_parts true iteration exit = tt
+head_asks has_parts false iteration exit = tt
 
 module _ (view : View) (stop : ℕ) where
   -- what is emitted tries T
@@ -128,6 +132,7 @@ module _ (view : View) (stop : ℕ) where
       let p = push_done view stop Open body.0 e.next_go state (upto_try view.longest greedy T (suc n) (go next)) e.agree
       (inr (
         head_names greedy (length body.0) body.1 next e.entry (omega (arith, d.longer, e.longer)),
+        head_asks view.has_parts greedy body.1 next,
         λ i h.
             prefer_cong view.longest greedy _ _ _ _
             (ok _ _ i h (λ j _ c. sym (d.means j c)) ∙ sym (e.means i h))
@@ -167,6 +172,7 @@ module _ (view : View) (stop : ℕ) where
       let p = push_done view stop Open body.0 e.next_go one (λ i. upto_try view.longest greedy T (suc n) (pick i (go same) (go moved)) i) e.agree
       (inr (
         head_names greedy (length body.0) body.1 same e.same_in (omega (arith, d.longer, e.longer)),
+        head_asks view.has_parts greedy body.1 same,
         λ i h.
             prefer_cong view.longest greedy _ _ _ _
             (ok _ _ i h (λ j c k. sym (picks_rest U (upto_agree view stop greedy T ok n) i j (go same) (go moved) _ _ c k (d.same_means j k) (d.moved_means j k)))
@@ -178,6 +184,7 @@ module _ (view : View) (stop : ℕ) where
       let q = push_done view stop Open (push body.0 one) p.next_go two (upto_try view.longest greedy T (suc n) (go moved)) p.agree
       (inr (
         head_names greedy (length (push body.0 one)) body.2 moved (omega (arith, e.moved_in)) (omega (arith, d.longer, e.longer)),
+        head_asks view.has_parts greedy body.2 moved,
         λ i h.
             prefer_cong view.longest greedy _ _ _ _
             (ok _ _ i h (λ j _ c. sym (d.moved_means j c)) ∙ sym (e.moved_means i h) ∙ ap (λ f. f i) (sym (p.unchanged body.2 e.moved_in)))
@@ -198,12 +205,12 @@ module _ (view : View) (stop : ℕ) where
 
   -- the head of a loop is filled in
   filled : (Open : ℕ → Type 0) (made : List State) (go : ℕ → Continuation) (head : ℕ) (state : State) → AgreeBut view stop (λ q. Open q ⊎ (q ≡ head)) made go
-      → head < length made → NamesBelow (length made) state → ((i : ℕ) → i ≤ stop → go head i ≡ visit view stop go state i)
+      → head < length made → NamesBelow (length made) state → MayAsk view.has_parts state → ((i : ℕ) → i ≤ stop → go head i ≡ visit view stop go state i)
       → AgreeBut view stop Open (set made head state) go
-  filled Open made go head state before inside names does q h =
+  filled Open made go head state before inside names asks does q h =
       let size = length-set made head state in
       ⊎_elim
-      (λ (at : q ≡ head). rw at (inr (rw (get_or-set_same made head state Match inside, size) (record { names = names; does = does }))))
+      (λ (at : q ≡ head). rw at (inr (rw (get_or-set_same made head state Match inside, size) (record { names = names; asks = asks; does = does }))))
       (λ (other : q ≡ head → ⊥).
       rw (at_set_other made head q state other, size)
       (⊎_elim (λ o. ⊎_elim (λ x. inl x) (λ x. absurd (other x)) o) (λ x. inr x) (before q (rw size at h))))
@@ -235,6 +242,7 @@ module _ (view : View) (stop : ℕ) where
         agree =
             filled Open made.0 body.next_go head state body.agree (omega (arith, body.longer))
             (head_names greedy (length made.0) made.1 next body.same_in (omega (arith, body.longer)))
+            (head_asks view.has_parts greedy made.1 next)
             (λ i b.
             ap (λ f. f i) at_head ∙ star_unfold view stop greedy T ok (go next) i b
             ∙ prefer_cong view.longest greedy _ _ _ _
@@ -270,6 +278,7 @@ module _ (view : View) (stop : ℕ) where
       let p = push_done view stop Open first.0 e.next_go state (λ i. star_try view.longest stop greedy T (pick i ks km) i) e.agree
       (inr (
         head_names greedy (length first.0) first.1 same e.same_in (omega (arith, d.longer, e.longer)),
+        head_asks view.has_parts greedy first.1 same,
         λ i h.
             fresh_star greedy T ok ks km i h
             ∙ prefer_cong view.longest greedy _ _ _ _
@@ -314,6 +323,7 @@ module _ (view : View) (stop : ℕ) where
         agree =
             filled Open made.0 body.next_go head state body.agree (omega (arith, body.longer))
             (head_names greedy (length made.0) made.1 next body.entry (omega (arith, body.longer)))
+            (head_asks view.has_parts greedy made.1 next)
             (λ i b.
             ap (λ f. f i) at_head ∙ plus_unfold view stop greedy T ok moves (go next) i b
             ∙ prefer_cong view.longest greedy _ _ _ _ (sym (iteration i b)) (ap (λ f. f i) (sym at_next))
@@ -388,6 +398,7 @@ module _ (view : View) (stop : ℕ) where
         agree =
             filled Open made.0 body.next_go head state body.agree (omega (arith, body.longer))
             (head_names greedy (length made.0) made.2 moved body.moved_in (omega (arith, body.longer)))
+            (head_asks view.has_parts greedy made.2 moved)
             (λ i b.
             ap (λ f. f i) at_head ∙ plus_unfold view stop greedy T ok moves (go moved) i b
             ∙ prefer_cong view.longest greedy _ _ _ _ (sym (iteration i b)) (ap (λ f. f i) (sym at_moved))
@@ -412,6 +423,7 @@ module _ (view : View) (stop : ℕ) where
       let p = push_done view stop Open loop.0 d.next_go state (λ i. star_try view.longest stop greedy T (pick i ks km) i) d.agree
       (inr (
         head_names greedy (length loop.0) loop.2 same d.same_in (omega (arith, d.longer)),
+        head_asks view.has_parts greedy loop.2 same,
         λ i h.
             fresh_star greedy T ok ks km i h
             ∙ prefer_cong view.longest greedy _ _ _ _ (sym (d.same_means i h)) (ap (λ f. f i) (sym (d.unchanged same a_in)))

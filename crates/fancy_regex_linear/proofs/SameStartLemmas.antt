@@ -1,18 +1,19 @@
--- The ways of a plain tree keep the start that the match will be said to have.
+-- The ways of a regular tree keep the start that the match will be said to have.
 use Rattle.std.proofs.Common.{◌≡◌, ℕ, zero, suc, ◌+◌, ◌-◌, ◌==◌, Bool, true, false, List, [], ◌∷◌, length, Option, Some, None, if◌then◌else◌, refl, ◌∙◌}
 use Rattle.std.specs.List.{flat_map}
 use Rattle.std.specs.Char.{len_utf8}
 use Rattle.regex_hir.specs.Text.{char_at}
-use Rattle.fancy_regex_tree.specs.Tree.{Tree, Trees, empty, any, assertion, literal, concat, alt, group, look_around, repeat, delegate, no_trees, more_trees}
+use Rattle.fancy_regex_tree.specs.Tree.{Tree, Trees, empty, any, assertion, literal, concat, alt, group, look_around, repeat, delegate, atomic_group, no_trees, more_trees}
 use Rattle.fancy_regex_tree.specs.declared.expr.LookAround.{LookAround}
 use Rattle.fancy_regex_tree.specs.declared.expr.LookAround.TheVariants.{LookAhead, LookAheadNeg, LookBehind, LookBehindNeg}
 use Rattle.fancy_regex_meaning.specs.Groups.{group_count}
 use Rattle.fancy_regex_meaning.specs.Sizes.{bound_of}
-use Rattle.fancy_regex_meaning.specs.Ways.{MatchState, Moves, Setting, Meaning, meaning, meanings, all_of, any_of, prefer, due, up_to, loop, character, with_position, for_some, match_empty_if, is_none_of, keep_only_pairs, look, holds}
+use Rattle.fancy_regex_meaning.specs.Ways.{MatchState, Moves, Setting, Meaning, meaning, meanings, all_of, any_of, prefer, due, up_to, loop, character, with_position, for_some, match_empty_if, is_none_of, keep_only_pairs, first_only, look, holds}
 use Rattle.fancy_regex_meaning.specs.Ways as ways
 use Rattle.fancy_regex_meaning.specs.WayLaws.{Each}
 use Rattle.fancy_regex_meaning.proofs.EachLemmas.{Each-weaker, Each-append, Each-map, Each-flat_map}
-use Rattle.fancy_regex_linear.specs.Plain.{IsPlain, ArePlain}
+use Rattle.fancy_regex_linear.specs.Plain.{IsPlain, IsRegular, AreRegular}
+use Rattle.fancy_regex_linear.proofs.PlainLemmas.{plain_regular}
 
 abbrev HaveStartOf : MatchState → List MatchState → Type 0
 HaveStartOf w vs = Each (λ v. v.match_start ≡ w.match_start) vs
@@ -71,30 +72,41 @@ look_keeps LookAheadNeg m w = if_keeps (is_none_of (m.from w)) w w refl
 look_keeps LookBehind m w = pairs_keep w (m.behind w)
 look_keeps LookBehindNeg m w = if_keeps (is_none_of (m.behind w)) w w refl
 
+first_keeps : (w : MatchState) (vs : List MatchState) → HaveStartOf w vs → HaveStartOf w (first_only vs)
+first_keeps w [] h = tt
+first_keeps w (v ∷ vs) h = (h.0, tt)
+
 module _ (s : Setting) (groups : List Tree) (call : ℕ → Moves) where
   mutual
     unfolding meaning
 
-    pub keeps_start : (n : ℕ) (t : Tree) → IsPlain t → KeepsStart (meaning s groups call n t).from
-    keeps_start n empty p w = (refl, tt)
-    keeps_start n (any newline crlf) p w = char_keeps _ w (char_at s.text w.position)
-    keeps_start n (literal val casei) p w = char_keeps _ w (char_at s.text w.position)
-    keeps_start n (delegate class casei) p w = char_keeps _ w (char_at s.text w.position)
-    keeps_start n (assertion a) p w = if_keeps (holds s a w.position) w w refl
-    keeps_start n (look_around t how) p w = look_keeps how (meaning s groups call n t) w
-    keeps_start n (concat ts) p w = row_keeps n ts p w
-    keeps_start n (alt ts) p w = branches_keeps n ts p.1 w
-    keeps_start n (group t) p w =
-        Each-map (λ v. v.match_start ≡ w.match_start) (λ v. v.match_start ≡ w.match_start) (λ v. ways.set_pair n (w.position, v.position) v) (λ v e. e) ((meaning s groups call (n + 1) t).from w) (keeps_start (n + 1) t p w)
-    keeps_start n (repeat t lo hi greedy) p w = repeat_keeps s lo (bound_of hi) greedy (meaning s groups call n t).from (keeps_start n t p) w
-    keeps_start n _ p w = absurd p
+    pub regular_keeps_start : (n : ℕ) (t : Tree) → IsRegular t → KeepsStart (meaning s groups call n t).from
+    regular_keeps_start n empty p w = (refl, tt)
+    regular_keeps_start n (any newline crlf) p w = char_keeps _ w (char_at s.text w.position)
+    regular_keeps_start n (literal val casei) p w = char_keeps _ w (char_at s.text w.position)
+    regular_keeps_start n (delegate class casei) p w = char_keeps _ w (char_at s.text w.position)
+    regular_keeps_start n (assertion a) p w = if_keeps (holds s a w.position) w w refl
+    regular_keeps_start n (look_around t LookAhead) p w = look_keeps LookAhead (meaning s groups call n t) w
+    regular_keeps_start n (look_around t LookAheadNeg) p w = look_keeps LookAheadNeg (meaning s groups call n t) w
+    regular_keeps_start n (look_around t LookBehind) p w = look_keeps LookBehind (meaning s groups call n t) w
+    regular_keeps_start n (look_around t LookBehindNeg) p w = look_keeps LookBehindNeg (meaning s groups call n t) w
+    regular_keeps_start n (atomic_group t) p w = first_keeps w ((meaning s groups call n t).from w) (regular_keeps_start n t p w)
+    regular_keeps_start n (concat ts) p w = row_keeps n ts p w
+    regular_keeps_start n (alt ts) p w = branches_keeps n ts p.1 w
+    regular_keeps_start n (group t) p w =
+        Each-map (λ v. v.match_start ≡ w.match_start) (λ v. v.match_start ≡ w.match_start) (λ v. ways.set_pair n (w.position, v.position) v) (λ v e. e) ((meaning s groups call (n + 1) t).from w) (regular_keeps_start (n + 1) t p w)
+    regular_keeps_start n (repeat t lo hi greedy) p w = repeat_keeps s lo (bound_of hi) greedy (meaning s groups call n t).from (regular_keeps_start n t p) w
+    regular_keeps_start n _ p w = absurd p
 
-    row_keeps : (n : ℕ) (ts : Trees) → ArePlain ts → KeepsStart (all_of (meanings s groups call n ts))
+    row_keeps : (n : ℕ) (ts : Trees) → AreRegular ts → KeepsStart (all_of (meanings s groups call n ts))
     row_keeps n no_trees p w = (refl, tt)
     row_keeps n (more_trees t ts) p w =
-        follow w (all_of (meanings s groups call (n + group_count t) ts)) ((meaning s groups call n t).from w) (row_keeps (n + group_count t) ts p.1) (keeps_start n t p.0 w)
+        follow w (all_of (meanings s groups call (n + group_count t) ts)) ((meaning s groups call n t).from w) (row_keeps (n + group_count t) ts p.1) (regular_keeps_start n t p.0 w)
 
-    branches_keeps : (n : ℕ) (ts : Trees) → ArePlain ts → KeepsStart (any_of (meanings s groups call n ts)).from
+    branches_keeps : (n : ℕ) (ts : Trees) → AreRegular ts → KeepsStart (any_of (meanings s groups call n ts)).from
     branches_keeps n no_trees p w = tt
     branches_keeps n (more_trees t ts) p w =
-        Each-append (λ v. v.match_start ≡ w.match_start) ((meaning s groups call n t).from w) ((any_of (meanings s groups call (n + group_count t) ts)).from w) (keeps_start n t p.0 w) (branches_keeps (n + group_count t) ts p.1 w)
+        Each-append (λ v. v.match_start ≡ w.match_start) ((meaning s groups call n t).from w) ((any_of (meanings s groups call (n + group_count t) ts)).from w) (regular_keeps_start n t p.0 w) (branches_keeps (n + group_count t) ts p.1 w)
+
+  pub keeps_start : (n : ℕ) (t : Tree) → IsPlain t → KeepsStart (meaning s groups call n t).from
+  keeps_start n t p = regular_keeps_start n t (plain_regular t p)

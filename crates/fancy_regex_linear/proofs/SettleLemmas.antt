@@ -6,6 +6,7 @@ use Rattle.std.proofs.Math.Bool.{Bool-set}
 use Rattle.std.proofs.Math.Nat.{ℕ_set}
 use mathlib.Core.Logic.{∥∥₁_elim}
 use Rattle.std.proofs.lemmas.Bool.{cases_lt, cond-true, cond-false}
+use Rattle.std.proofs.lemmas.Str.{IsCharBoundary-end}
 use Rattle.regex_hir.specs.Text.{is_boundary}
 use Rattle.fancy_regex_meaning.specs.Positions.{numbers_from}
 use Rattle.fancy_regex_meaning.proofs.BoundaryLemmas.{IsCharBoundary-of_test}
@@ -203,7 +204,11 @@ module _ (context : SearchContext) (text : List ℕ) (it : TableSearch) (by : Is
 
   pub is_search : (from : ℕ) → IsUtf8 text → context.stop ≤ length text → IsSearchOf (parts_of context) context.rules (search_of from)
   is_search from utf8 inside = record {
-    meaning = record { first = explains.longest ∙ by.first; agree = explains.agree };
+    meaning = record {
+      first = explains.longest ∙ by.first;
+      no_parts = (explains.shows (length text) (IsCharBoundary-end text)).no_parts;
+      agree = explains.agree;
+    };
     shows = explains.shows;
     unicode = refl;
     start_shown = by.start_shown;

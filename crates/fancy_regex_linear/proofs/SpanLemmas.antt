@@ -22,7 +22,7 @@ use Rattle.fancy_regex_linear.specs.Starts.{spot_from}
 use Rattle.fancy_regex_linear.specs.declared.by_table.TableSearch.{TableSearch}
 use Rattle.fancy_regex_linear.specs.declared.easy.Easy.{Easy}
 use Rattle.fancy_regex_linear.specs.declared.search.SearchContext.{SearchContext}
-use Rattle.fancy_regex_linear.proofs.PlainLemmas.{sound}
+use Rattle.fancy_regex_linear.proofs.PlainLemmas.{sound, plain_may}
 use Rattle.fancy_regex_linear.proofs.CharTestLemmas.{shows_all}
 use Rattle.fancy_regex_linear.proofs.AnswerLemmas.{program_does, closed, entry_in, slots_are_match, span_is_match, span_back, tried_is_same, states_weigh, steps_bound}
 
@@ -77,7 +77,8 @@ module _ (easy : Easy) (text : List ℕ) (input : RunInput) (context : SearchCon
         let re = re_of easy.unicode pattern.groups pattern.first_group 0 pattern.tree in
         let view = view_of (setting_for easy.unicode text input) (classes pattern.tree) easy.longest in
         let d = program_does view input.range.end easy.states.items easy.entry re
-        (is.serves.program, sound easy.unicode pattern.groups pattern.first_group 0 pattern.tree is.serves.plain) in
+        (is.serves.program, sound easy.unicode pattern.groups pattern.first_group 0 pattern.tree is.serves.plain)
+        (plain_may easy.unicode pattern.groups pattern.first_group 0 pattern.tree is.serves.plain) in
         let shows = shows_all easy.unicode easy.longest text input easy.matchers.items (classes pattern.tree) is.serves.matchers_are utf8 in
         let explains : Explains context looked view d.go = record {
           longest = ap (λ r. r.longest) (sym of.rules);

@@ -1,16 +1,16 @@
 -- The states of a tree do what trying it does.
-use Rattle.std.proofs.Common.{◌≡◌, ℕ, ◌+◌, ◌*◌, ◌<◌, List, length, refl, sym, ap, ap₂, ◌∙◌, inr, ⊎_elim, arith}
+use Rattle.std.proofs.Common.{◌≡◌, ℕ, ◌+◌, ◌*◌, ◌<◌, ◌≤◌, true, List, length, refl, sym, ap, ap₂, ◌∙◌, inr, ⊎_elim, arith}
 use Rattle.std.proofs.lemmas.Bool.{cases_lt}
-use Rattle.fancy_regex_states.specs.Attempts.{View, AttemptResult, Continuation, guard, either, save}
+use Rattle.fancy_regex_states.specs.Attempts.{View, AttemptResult, Continuation, guard, either, save, accept, asked, passed, pick, NamesBelow, MayAsk, visit}
 use Rattle.fancy_regex_linear.specs.Meaning.{is_unbounded}
-use Rattle.fancy_regex_linear.specs.Attempt.{pick, attempt}
-use Rattle.fancy_regex_linear.specs.Program.{IsSound, push, emitted, emitted_both, emitted_both_group, AgreeBut}
-use Rattle.fancy_regex_linear.specs.Re.{Re, nothing, read, test, cat, alt, group, repeat}
+use Rattle.fancy_regex_linear.specs.Attempt.{attempt}
+use Rattle.fancy_regex_linear.specs.Program.{IsSound, MayAskIn, push, Emitter, BothEmitter, emitted, emitted_part, emitted_both, emitted_both_group, emitted_both_part, emitted_both_asking, AgreeBut}
+use Rattle.fancy_regex_linear.specs.Re.{Re, nothing, read, test, cat, alt, group, repeat, ask, atomic}
 use Rattle.fancy_regex_states.specs.declared.state.State.{State}
-use Rattle.fancy_regex_states.specs.declared.state.State.TheVariants.{Split, Enter, Leave, Match}
+use Rattle.fancy_regex_states.specs.declared.state.State.TheVariants.{Split, Enter, Leave, Ask, Atomic, Match}
 use Rattle.fancy_regex_states.specs.declared.state.State.TheVariants as S
-use Rattle.fancy_regex_linear.proofs.AgreeLemmas.{guard_cong, reads_below, pick_same, pick_moved, attempt_agree, attempt_moves}
-use Rattle.fancy_regex_linear.proofs.EmitLemmas.{length-push, push_done, Done}
+use Rattle.fancy_regex_linear.proofs.AgreeLemmas.{guard_cong, passed_cong, reads_below, pick_same, pick_moved, pick_both, Looks, attempt_agree, attempt_moves}
+use Rattle.fancy_regex_linear.proofs.EmitLemmas.{length-push, names_more, visit_same, push_done, Done, DoneBoth}
 use Rattle.fancy_regex_linear.proofs.RepeatLemmas.{Emits, EmitsTwo, seq_done, seq_two_done, repeat_done, repeat_two_done}
 
 module _ (view : View) (stop : ℕ) where
@@ -21,9 +21,93 @@ module _ (view : View) (stop : ℕ) where
   abbrev EmitsBoth : Re → Type 1
   EmitsBoth t = EmitsTwo view stop (emitted_both t) (attempt view stop t)
 
-  pub emit_done : ((t : Re) → IsSound t → EmitsBoth t) → (t : Re) → IsSound t → Emits view stop (emitted t) (attempt view stop t)
+  -- a part, once emitted, is attempted by itself
+  part_done : (one : Emitter) (T : Continuation → Continuation) → Emits view stop one T → (Open : ℕ → Type 0) (states : List State) (go : ℕ → Continuation)
+      → AgreeBut view stop Open states go → Done view stop Open states go (emitted_part one states) (T accept)
+  part_done one T ih Open states go before =
+      let c = push_done view stop Open states go Match accept before (inr (tt, tt, λ i b. refl)) in
+      let len = length-push states Match in
+      let d = ih Open (push states Match) c.next_go (length states) c.agree (omega arith) in
+      record {
+        next_go = d.next_go;
+        unchanged = λ q h. d.unchanged q (omega arith) ∙ c.unchanged q h;
+        longer = omega (arith, d.longer);
+        agree = d.agree;
+        entry = d.entry;
+        means = λ i h. d.means i h ∙ ap (λ k. T k i) c.here;
+      }
+
+  both_part_done : (both : BothEmitter) (T : Continuation → Continuation) → Looks view stop T → EmitsTwo view stop both T
+      → (Open : ℕ → Type 0) (states : List State) (go : ℕ → Continuation) → AgreeBut view stop Open states go
+      → Done view stop Open states go (emitted_both_part both states) (T accept)
+  both_part_done both T ok ih Open states go before =
+      let c = push_done view stop Open states go Match accept before (inr (tt, tt, λ i b. refl)) in
+      let len = length-push states Match in
+      let d = ih Open (push states Match) c.next_go (length states) (length states) c.agree (omega arith) (omega arith) in
+      record {
+        next_go = d.next_go;
+        unchanged = λ q h. d.unchanged q (omega arith) ∙ c.unchanged q h;
+        longer = omega (arith, d.longer);
+        agree = d.agree;
+        entry = d.same_in;
+        means = λ i h.
+            d.same_means i h ∙ ok _ _ i h (λ j _ _. pick_both i (c.next_go (length states)) j) ∙ ap (λ k. T k i) c.here;
+      }
+
+  -- a state behind what was emitted
+  behind_done : (Open : ℕ → Type 0) (states : List State) (go : ℕ → Continuation) (made : List State × ℕ) (part : Continuation) (state : State) (g : Continuation)
+      → (d : Done view stop Open states go made part) → NamesBelow (length made.0) state → MayAsk view.has_parts state
+      → ((i : ℕ) → i ≤ stop → g i ≡ visit view stop d.next_go state i)
+      → Done view stop Open states go (push made.0 state, length made.0) g
+  behind_done Open states go made part state g d names asks does =
+      let p = push_done view stop Open made.0 d.next_go state g d.agree (inr (names, asks, does)) in
+      let len = length-push made.0 state in
+      record {
+        next_go = p.next_go;
+        unchanged = λ q h. p.unchanged q (omega (arith, d.longer)) ∙ d.unchanged q h;
+        longer = omega (arith, d.longer);
+        agree = p.agree;
+        entry = omega arith;
+        means = λ i h. ap (λ f. f i) p.here;
+      }
+
+  -- two states behind it
+  two_behind_done : (Open : ℕ → Type 0) (states : List State) (go : ℕ → Continuation) (made : List State × ℕ) (part : Continuation) (one two : State) (f g : Continuation)
+      → (d : Done view stop Open states go made part) → NamesBelow (length made.0) one → NamesBelow (length made.0) two
+      → MayAsk view.has_parts one → MayAsk view.has_parts two
+      → ((i : ℕ) → i ≤ stop → f i ≡ visit view stop d.next_go one i) → ((i : ℕ) → i ≤ stop → g i ≡ visit view stop d.next_go two i)
+      → DoneBoth view stop Open states go (emitted_both_asking one two made.0) f g
+  unfolding emitted_both_asking
+  two_behind_done Open states go made part one two f g d names names2 asks asks2 does does2 =
+      let p = push_done view stop Open made.0 d.next_go one f d.agree (inr (names, asks, does)) in
+      let len = length-push made.0 one in
+      let q = push_done view stop Open (push made.0 one) p.next_go two g p.agree
+      (inr (
+        names_more (length made.0) (length (push made.0 one)) two (omega arith) names2,
+        asks2,
+        λ i h. does2 i h ∙ sym (visit_same view stop d.next_go p.next_go (length made.0) two names2 p.unchanged i),
+      )) in
+      let len2 = length-push (push made.0 one) two in
+      record {
+        next_go = q.next_go;
+        unchanged = λ r h. q.unchanged r (omega (arith, d.longer)) ∙ p.unchanged r (omega (arith, d.longer)) ∙ d.unchanged r h;
+        longer = omega (arith, d.longer);
+        agree = q.agree;
+        same_in = omega arith;
+        moved_in = omega arith;
+        same_means = λ i h. ap (λ k. k i) (q.unchanged (length made.0) (omega arith) ∙ p.here);
+        moved_means = λ i h. ap (λ k. k i) q.here;
+      }
+
+  -- what goes on at one place, moved or not
+  passes_one : (go : ℕ → Continuation) (k : Continuation) (result : AttemptResult) (part next i : ℕ) → go part i ≡ result → go next ≡ k
+      → passed result k ≡ passed (go part i) (pick i (go next) (go next))
+  passes_one go k result part next i part_means next_means =
+      ap₂ passed (sym part_means) (sym next_means) ∙ sym (passed_cong (go part i) (pick i (go next) (go next)) (go next) (λ t e. pick_both i (go next) t.end))
+
+  pub emit_done : ((t : Re) → IsSound t → MayAskIn view.has_parts t → EmitsBoth t) → (t : Re) → IsSound t → MayAskIn view.has_parts t → Emits view stop (emitted t) (attempt view stop t)
   unfolding emitted attempt
-  emit_done both nothing sound Open states go next before inside = record {
+  emit_done both nothing sound may Open states go next before inside = record {
     next_go = go;
     unchanged = λ q h. refl;
     longer = omega arith;
@@ -31,26 +115,27 @@ module _ (view : View) (stop : ℕ) where
     entry = inside;
     means = λ i b. refl;
   }
-  emit_done both (read leaf) sound Open states go next before inside =
-      let p = push_done view stop Open states go (S.Read leaf next) (attempt view stop (read leaf) (go next)) before (inr (inside, λ i b. refl)) in
+  emit_done both (read leaf) sound may Open states go next before inside =
+      let p = push_done view stop Open states go (S.Read leaf next) (attempt view stop (read leaf) (go next)) before (inr (inside, tt, λ i b. refl)) in
       let len = length-push states (S.Read leaf next) in
       record { next_go = p.next_go; unchanged = p.unchanged; longer = omega arith; agree = p.agree; entry = omega arith; means = λ i b. ap (λ f. f i) p.here }
-  emit_done both (test check) sound Open states go next before inside =
-      let p = push_done view stop Open states go (S.Look check next) (attempt view stop (test check) (go next)) before (inr (inside, λ i b. refl)) in
+  emit_done both (test check) sound may Open states go next before inside =
+      let p = push_done view stop Open states go (S.Look check next) (attempt view stop (test check) (go next)) before (inr (inside, tt, λ i b. refl)) in
       let len = length-push states (S.Look check next) in
       record { next_go = p.next_go; unchanged = p.unchanged; longer = omega arith; agree = p.agree; entry = omega arith; means = λ i b. ap (λ f. f i) p.here }
-  emit_done both (cat a b) sound Open states go next before inside =
-      seq_done view stop (emitted a) (emitted b) (attempt view stop a) (attempt view stop b) (attempt_agree view stop a) (emit_done both a sound.0) (emit_done both b sound.1)
+  emit_done both (cat a b) sound may Open states go next before inside =
+      seq_done view stop (emitted a) (emitted b) (attempt view stop a) (attempt view stop b) (attempt_agree view stop a) (emit_done both a sound.0 may.0) (emit_done both b sound.1 may.1)
       Open states go next before inside
-  emit_done both (alt a b) sound Open states go next before inside =
-      let d = emit_done both b sound.1 Open states go next before inside in
+  emit_done both (alt a b) sound may Open states go next before inside =
+      let d = emit_done both b sound.1 may.1 Open states go next before inside in
       let second = emitted b states next in
-      let e = emit_done both a sound.0 Open second.0 d.next_go next d.agree (omega (arith, d.longer)) in
+      let e = emit_done both a sound.0 may.0 Open second.0 d.next_go next d.agree (omega (arith, d.longer)) in
       let first = emitted a second.0 next in
       let state : State = Split first.1 second.1 in
       let p = push_done view stop Open first.0 e.next_go state (attempt view stop (alt a b) (go next)) e.agree
       (inr (
         (e.entry, omega (arith, d.entry, e.longer)),
+        tt,
         λ i h.
             ap₂ (either view.longest)
             (ap (λ k. attempt view stop a k i) (sym (d.unchanged next inside)) ∙ sym (e.means i h))
@@ -65,15 +150,15 @@ module _ (view : View) (stop : ℕ) where
         entry = omega arith;
         means = λ i h. ap (λ f. f i) p.here;
       }
-  emit_done both (group g a) sound Open states go next before inside =
+  emit_done both (group g a) sound may Open states go next before inside =
       let close : State = Leave g next in
-      let c = push_done view stop Open states go close (λ j. save (2 * g + 1) j (go next j)) before (inr (inside, λ i b. refl)) in
+      let c = push_done view stop Open states go close (λ j. save (2 * g + 1) j (go next j)) before (inr (inside, tt, λ i b. refl)) in
       let clen = length-push states close in
-      let d = emit_done both a sound Open (push states close) c.next_go (length states) c.agree (omega arith) in
+      let d = emit_done both a sound may Open (push states close) c.next_go (length states) c.agree (omega arith) in
       let body = emitted a (push states close) (length states) in
       let open_state : State = Enter g body.1 in
       let p = push_done view stop Open body.0 d.next_go open_state (attempt view stop (group g a) (go next)) d.agree
-      (inr (d.entry, λ i h. ap (save (2 * g) i) (ap (λ k. attempt view stop a k i) (sym c.here) ∙ sym (d.means i h)))) in
+      (inr (d.entry, tt, λ i h. ap (save (2 * g) i) (ap (λ k. attempt view stop a k i) (sym c.here) ∙ sym (d.means i h)))) in
       let len = length-push body.0 open_state in
       record {
         next_go = p.next_go;
@@ -83,9 +168,21 @@ module _ (view : View) (stop : ℕ) where
         entry = omega arith;
         means = λ i h. ap (λ f. f i) p.here;
       }
-  emit_done both (repeat lo hi greedy strict a) sound Open states go next before inside =
-      repeat_done view stop (emitted a) (emitted_both a) (attempt view stop a) (attempt_agree view stop a) (emit_done both a sound.1) (both a sound.1)
+  emit_done both (repeat lo hi greedy strict a) sound may Open states go next before inside =
+      repeat_done view stop (emitted a) (emitted_both a) (attempt view stop a) (attempt_agree view stop a) (emit_done both a sound.1 may) (both a sound.1 may)
       (is_unbounded hi) strict (λ e. attempt_moves view stop a (sound.0 e)) lo hi greedy Open states go next before inside
+  emit_done both (ask negated a) sound may Open states go next before inside =
+      let d = part_done (emitted a) (attempt view stop a) (emit_done both a sound may.1) Open states go before in
+      let part = emitted_part (emitted a) states in
+      behind_done Open states go part (attempt view stop a accept) (Ask part.1 negated next) (attempt view stop (ask negated a) (go next)) d
+      (d.entry, omega (arith, d.longer)) may.0
+      (λ i h. ap₂ (asked negated) (sym (d.means i h)) (ap (λ f. f i) (sym (d.unchanged next inside))))
+  emit_done both (atomic a) sound may Open states go next before inside =
+      let d = part_done (emitted a) (attempt view stop a) (emit_done both a sound may.1) Open states go before in
+      let part = emitted_part (emitted a) states in
+      behind_done Open states go part (attempt view stop a accept) (Atomic part.1 next next) (attempt view stop (atomic a) (go next)) d
+      (d.entry, omega (arith, d.longer), omega (arith, d.longer)) may.0
+      (λ i h. passes_one d.next_go (go next) (attempt view stop a accept i) part.1 next i (d.means i h) (d.unchanged next inside))
 
   -- what follows is applied on both sides of a pick
   pick_map : (f : ℕ → AttemptResult → AttemptResult) (i : ℕ) (same moved same2 moved2 : Continuation) (j : ℕ) → same2 j ≡ f j (same j) → moved2 j ≡ f j (moved j)
@@ -96,9 +193,9 @@ module _ (view : View) (stop : ℕ) where
       (λ ge. pick_same i same2 moved2 j ge ∙ e ∙ ap (f j) (sym (pick_same i same moved j ge)))
       (cases_lt i j)
 
-  pub emit_both_done : (t : Re) → IsSound t → EmitsBoth t
+  pub emit_both_done : (t : Re) → IsSound t → MayAskIn view.has_parts t → EmitsBoth t
   unfolding emitted_both emitted_both_group attempt
-  emit_both_done nothing sound Open states go same moved before a_in b_in = record {
+  emit_both_done nothing sound may Open states go same moved before a_in b_in = record {
     next_go = go;
     unchanged = λ q h. refl;
     longer = omega arith;
@@ -108,8 +205,8 @@ module _ (view : View) (stop : ℕ) where
     same_means = λ i h. sym (pick_same i (go same) (go moved) i (omega arith));
     moved_means = λ i h. refl;
   }
-  emit_both_done (read leaf) sound Open states go same moved before a_in b_in =
-      let p = push_done view stop Open states go (S.Read leaf moved) (attempt view stop (read leaf) (go moved)) before (inr (b_in, λ i b. refl)) in
+  emit_both_done (read leaf) sound may Open states go same moved before a_in b_in =
+      let p = push_done view stop Open states go (S.Read leaf moved) (attempt view stop (read leaf) (go moved)) before (inr (b_in, tt, λ i b. refl)) in
       let len = length-push states (S.Read leaf moved) in
       record {
         next_go = p.next_go;
@@ -121,13 +218,13 @@ module _ (view : View) (stop : ℕ) where
         same_means = λ i h. ap (λ f. f i) p.here ∙ guard_cong _ _ _ (λ e. sym (pick_moved i (go same) (go moved) (view.next i) (reads_below view stop leaf i e).0));
         moved_means = λ i h. ap (λ f. f i) p.here;
       }
-  emit_both_done (test check) sound Open states go same moved before a_in b_in =
+  emit_both_done (test check) sound may Open states go same moved before a_in b_in =
       let one : State = S.Look check same in
       let two : State = S.Look check moved in
-      let p = push_done view stop Open states go one (attempt view stop (test check) (go same)) before (inr (a_in, λ i b. refl)) in
+      let p = push_done view stop Open states go one (attempt view stop (test check) (go same)) before (inr (a_in, tt, λ i b. refl)) in
       let len = length-push states one in
       let q = push_done view stop Open (push states one) p.next_go two (attempt view stop (test check) (go moved)) p.agree
-      (inr (omega arith, λ i b. ap (λ f. guard (view.holds check i) (f i)) (sym (p.unchanged moved b_in)))) in
+      (inr (omega arith, tt, λ i b. ap (λ f. guard (view.holds check i) (f i)) (sym (p.unchanged moved b_in)))) in
       let len2 = length-push (push states one) two in
       record {
         next_go = q.next_go;
@@ -140,19 +237,20 @@ module _ (view : View) (stop : ℕ) where
             ∙ ap (guard (view.holds check i)) (sym (pick_same i (go same) (go moved) i (omega arith)));
         moved_means = λ i h. ap (λ f. f i) q.here;
       }
-  emit_both_done (cat a b) sound Open states go same moved before a_in b_in =
+  emit_both_done (cat a b) sound may Open states go same moved before a_in b_in =
       seq_two_done view stop (emitted_both a) (emitted_both b) (attempt view stop a) (attempt view stop b) (attempt_agree view stop a) (attempt_agree view stop b)
-      (emit_both_done a sound.0) (emit_both_done b sound.1) Open states go same moved before a_in b_in
-  emit_both_done (alt a b) sound Open states go same moved before a_in b_in =
-      let d = emit_both_done b sound.1 Open states go same moved before a_in b_in in
+      (emit_both_done a sound.0 may.0) (emit_both_done b sound.1 may.1) Open states go same moved before a_in b_in
+  emit_both_done (alt a b) sound may Open states go same moved before a_in b_in =
+      let d = emit_both_done b sound.1 may.1 Open states go same moved before a_in b_in in
       let second = emitted_both b states same moved in
-      let e = emit_both_done a sound.0 Open second.0 d.next_go same moved d.agree (omega (arith, d.longer)) (omega (arith, d.longer)) in
+      let e = emit_both_done a sound.0 may.0 Open second.0 d.next_go same moved d.agree (omega (arith, d.longer)) (omega (arith, d.longer)) in
       let first = emitted_both a second.0 same moved in
       let one : State = Split first.1 second.1 in
       let two : State = Split first.2 second.2 in
       let p = push_done view stop Open first.0 e.next_go one (fresh (alt a b) (go same) (go moved)) e.agree
       (inr (
         (e.same_in, omega (arith, d.same_in, e.longer)),
+        tt,
         λ i h.
             ap₂ (either view.longest)
             (ap₂ (λ k l. fresh a k l i) (sym (d.unchanged same a_in)) (sym (d.unchanged moved b_in)) ∙ sym (e.same_means i h))
@@ -162,6 +260,7 @@ module _ (view : View) (stop : ℕ) where
       let q = push_done view stop Open (push first.0 one) p.next_go two (attempt view stop (alt a b) (go moved)) p.agree
       (inr (
         (omega (arith, e.moved_in), omega (arith, d.moved_in, e.longer)),
+        tt,
         λ i h.
             ap₂ (either view.longest)
             (ap (λ k. attempt view stop a k i) (sym (d.unchanged moved b_in)) ∙ sym (e.moved_means i h) ∙ ap (λ f. f i) (sym (p.unchanged first.2 e.moved_in)))
@@ -178,17 +277,17 @@ module _ (view : View) (stop : ℕ) where
         same_means = λ i h. ap (λ f. f i) (q.unchanged (length first.0) (omega arith) ∙ p.here);
         moved_means = λ i h. ap (λ f. f i) q.here;
       }
-  emit_both_done (group g a) sound Open states go same moved before a_in b_in =
+  emit_both_done (group g a) sound may Open states go same moved before a_in b_in =
       let s1 : State = Leave g same in
       let s2 : State = Leave g moved in
-      let c1 = push_done view stop Open states go s1 (λ j. save (2 * g + 1) j (go same j)) before (inr (a_in, λ i b. refl)) in
+      let c1 = push_done view stop Open states go s1 (λ j. save (2 * g + 1) j (go same j)) before (inr (a_in, tt, λ i b. refl)) in
       let l1 = length-push states s1 in
       let one = push states s1 in
       let c2 = push_done view stop Open one c1.next_go s2 (λ j. save (2 * g + 1) j (go moved j)) c1.agree
-      (inr (omega arith, λ i b. ap (λ f. save (2 * g + 1) i (f i)) (sym (c1.unchanged moved b_in)))) in
+      (inr (omega arith, tt, λ i b. ap (λ f. save (2 * g + 1) i (f i)) (sym (c1.unchanged moved b_in)))) in
       let l2 = length-push one s2 in
       let two = push one s2 in
-      let d = emit_both_done a sound Open two c2.next_go (length states) (length one) c2.agree (omega arith) (omega arith) in
+      let d = emit_both_done a sound may Open two c2.next_go (length states) (length one) c2.agree (omega arith) (omega arith) in
       let body = emitted_both a two (length states) (length one) in
       let at_same : c2.next_go (length states) ≡ (λ j. save (2 * g + 1) j (go same j)) = c2.unchanged (length states) (omega arith) ∙ c1.here in
       let s3 : State = Enter g body.1 in
@@ -196,6 +295,7 @@ module _ (view : View) (stop : ℕ) where
       let p = push_done view stop Open body.0 d.next_go s3 (fresh (group g a) (go same) (go moved)) d.agree
       (inr (
         d.same_in,
+        tt,
         λ i h. ap (save (2 * g) i)
             (attempt_agree view stop a _ _ i h (λ j c k. sym (pick_map (λ r v. save (2 * g + 1) r v) i (go same) (go moved) _ _ j
             (ap (λ f. f j) at_same) (ap (λ f. f j) c2.here)))
@@ -206,6 +306,7 @@ module _ (view : View) (stop : ℕ) where
       let q = push_done view stop Open three p.next_go s4 (attempt view stop (group g a) (go moved)) p.agree
       (inr (
         omega (arith, d.moved_in),
+        tt,
         λ i h. ap (save (2 * g) i)
             (ap (λ k. attempt view stop a k i) (sym c2.here) ∙ sym (d.moved_means i h) ∙ ap (λ f. f i) (sym (p.unchanged body.2 d.moved_in))),
       )) in
@@ -220,12 +321,40 @@ module _ (view : View) (stop : ℕ) where
         same_means = λ i h. ap (λ f. f i) (q.unchanged (length body.0) (omega arith) ∙ p.here);
         moved_means = λ i h. ap (λ f. f i) q.here;
       }
-  emit_both_done (repeat lo hi greedy strict a) sound Open states go same moved before a_in b_in =
-      repeat_two_done view stop (emitted_both a) (attempt view stop a) (attempt_agree view stop a) (emit_both_done a sound.1)
+  emit_both_done (repeat lo hi greedy strict a) sound may Open states go same moved before a_in b_in =
+      repeat_two_done view stop (emitted_both a) (attempt view stop a) (attempt_agree view stop a) (emit_both_done a sound.1 may)
       (is_unbounded hi) strict (λ e. attempt_moves view stop a (sound.0 e)) lo hi greedy Open states go same moved before a_in b_in
+  emit_both_done (ask negated a) sound may Open states go same moved before a_in b_in =
+      let d = both_part_done (emitted_both a) (attempt view stop a) (attempt_agree view stop a) (emit_both_done a sound may.1) Open states go before in
+      let part = emitted_both_part (emitted_both a) states in
+      two_behind_done Open states go part (attempt view stop a accept) (Ask part.1 negated same) (Ask part.1 negated moved)
+      (fresh (ask negated a) (go same) (go moved)) (attempt view stop (ask negated a) (go moved)) d
+      (d.entry, omega (arith, d.longer)) (d.entry, omega (arith, d.longer)) may.0 may.0
+      (λ i h. ap₂ (asked negated) (sym (d.means i h)) (pick_same i (go same) (go moved) i (omega arith) ∙ ap (λ f. f i) (sym (d.unchanged same a_in))))
+      (λ i h. ap₂ (asked negated) (sym (d.means i h)) (ap (λ f. f i) (sym (d.unchanged moved b_in))))
+  emit_both_done (atomic a) sound may Open states go same moved before a_in b_in =
+      let d = both_part_done (emitted_both a) (attempt view stop a) (attempt_agree view stop a) (emit_both_done a sound may.1) Open states go before in
+      let part = emitted_both_part (emitted_both a) states in
+      two_behind_done Open states go part (attempt view stop a accept) (Atomic part.1 same moved) (Atomic part.1 moved moved)
+      (fresh (atomic a) (go same) (go moved)) (attempt view stop (atomic a) (go moved)) d
+      (d.entry, omega (arith, d.longer), omega (arith, d.longer)) (d.entry, omega (arith, d.longer), omega (arith, d.longer)) may.0 may.0
+      (λ i h. ap₂ passed (sym (d.means i h)) (ap₂ (pick i) (sym (d.unchanged same a_in)) (sym (d.unchanged moved b_in))))
+      (λ i h. passes_one d.next_go (go moved) (attempt view stop a accept i) part.1 moved i (d.means i h) (d.unchanged moved b_in))
 
   -- the states of a tree, with nothing open
-  pub emit_means : (t : Re) → IsSound t → (states : List State) (go : ℕ → Continuation) (next : ℕ)
+  pub emit_means : (t : Re) → IsSound t → MayAskIn view.has_parts t → (states : List State) (go : ℕ → Continuation) (next : ℕ)
       → AgreeBut view stop (λ _. ⊥) states go → next < length states
       → Done view stop (λ _. ⊥) states go (emitted t states next) (attempt view stop t (go next))
-  emit_means t sound states go next before inside = emit_done emit_both_done t sound (λ _. ⊥) states go next before inside
+  emit_means t sound may states go next before inside = emit_done emit_both_done t sound may (λ _. ⊥) states go next before inside
+
+-- a pattern that may ask parts may ask any
+pub may_all : (t : Re) → MayAskIn true t
+may_all nothing = tt
+may_all (read leaf) = tt
+may_all (test check) = tt
+may_all (cat a b) = (may_all a, may_all b)
+may_all (alt a b) = (may_all a, may_all b)
+may_all (group g a) = may_all a
+may_all (repeat lo hi greedy strict a) = may_all a
+may_all (ask negated a) = (refl, may_all a)
+may_all (atomic a) = (refl, may_all a)

@@ -1,11 +1,13 @@
 -- Trying a tree finds the first of its ways from which the rest goes on.
 use Rattle.std.proofs.Common.{◌≡◌, ℕ, zero, suc, ◌+◌, ◌*◌, ◌-◌, ◌<◌, ◌≤◌, Bool, true, false, List, [], ◌∷◌, ◌++◌, map, Option, Some, None, if◌then◌else◌, nat_lt, arith, set, refl, sym, ap, ap₂, ◌∙◌, ⊎_elim, lt-ltb, le-ltb}
 use Rattle.std.proofs.lemmas.Bool.{cases_lt}
-use Rattle.fancy_regex_states.specs.Attempts.{View, reads, Trace, AttemptResult, Continuation, score, better, better_trace, failed, guard, write, save}
-use Rattle.fancy_regex_linear.specs.Meaning.{Spot, each, in_order, after_iteration, loop_ways, times_ways, upto_ways, tail_ways, is_unbounded, ways}
+use Rattle.std.proofs.lemmas.Option.{none-some, same_Some}
+use Rattle.fancy_regex_states.specs.Attempts.{View, reads, Trace, AttemptResult, Continuation, score, better, better_trace, failed, accept, guard, write, save, after_writes, asked_answer, passed_answer, pick}
+use Rattle.fancy_regex_linear.specs.Meaning.{Spot, each, in_order, after_iteration, loop_ways, times_ways, upto_ways, tail_ways, is_unbounded, asked_ways, first_way, ways}
 use Rattle.fancy_regex_linear.specs.Attempt.{apply, trace_end}
-use Rattle.fancy_regex_linear.specs.Attempt.{better_spot, prefer, pick, iterations, times_try, upto_try, tail_try, attempt}
-use Rattle.fancy_regex_linear.specs.Re.{Re, nothing, read, test, cat, alt, group, repeat}
+use Rattle.fancy_regex_linear.specs.Attempt.{better_spot, prefer, iterations, times_try, upto_try, tail_try, attempt}
+use Rattle.fancy_regex_linear.specs.Program.{MayAskIn}
+use Rattle.fancy_regex_linear.specs.Re.{Re, nothing, read, test, cat, alt, group, repeat, ask, atomic}
 use Rattle.fancy_regex_linear.proofs.AgreeLemmas.{pick_same, pick_moved}
 
 pub better-None : {A : Type 0} (rank : A → ℕ) (a : Option A) → better rank a None ≡ a
@@ -62,6 +64,23 @@ pub trace_end_write : (slots : List ℕ) (slot i : ℕ) (o : Option Trace) → t
 unfolding trace_end apply
 trace_end_write slots slot i None = refl
 trace_end_write slots slot i (Some t) = refl
+
+apply_append : (us ws : List (ℕ × ℕ)) (slots : List ℕ) → apply (us ++ ws) slots ≡ apply ws (apply us slots)
+unfolding apply
+apply_append [] ws slots = refl
+apply_append (u ∷ us) ws slots = apply_append us ws (set slots u.0 u.1)
+
+-- writes before those of what follows
+trace_end_after : (slots : List ℕ) (ws : List (ℕ × ℕ)) (o : Option Trace) → trace_end slots (after_writes ws o) ≡ trace_end (apply ws slots) o
+unfolding trace_end
+trace_end_after slots ws None = refl
+trace_end_after slots ws (Some t) =
+    ap (λ (xs : List ℕ). let it : Option Spot = Some (record { at = t.end; slots = xs }) in it) (apply_append ws t.writes slots)
+
+-- the first of these
+abbrev pub first_of : List Spot → Option Spot
+first_of [] = None
+first_of (w ∷ ws) = Some w
 
 -- where the rest goes from a way
 abbrev pub onward : Continuation → Spot → Option Spot
@@ -164,25 +183,71 @@ module _ (longest : Bool) where
   tail_list true stop g body list ih n k s = iterations_list g body list ih (stop - s.at) k s
   tail_list false stop g body list ih n k s = upto_list g body list ih n k s
 
+  asked_list : (negated : Bool) (s : Spot) (k : Continuation) (part : Option Trace) (ws : List Spot) → trace_end s.slots part ≡ first_of ws
+      → trace_end s.slots (asked_answer negated part (k s.at).answer) ≡ best_from (onward k) (asked_ways negated s ws)
+  unfolding best_from trace_end
+  asked_list false s k None [] h = refl
+  asked_list false s k None (w ∷ ws) h = absurd (none-some w h)
+  asked_list false s k (Some t) [] h = absurd (none-some _ (sym h))
+  asked_list false s k (Some t) (w ∷ ws) h =
+      trace_end_after s.slots t.writes (k s.at).answer
+      ∙ ap (λ (v : Spot). trace_end v.slots (k s.at).answer) (same_Some _ w h)
+      ∙ sym (first_one (onward k) (record { at = s.at; slots = w.slots }))
+  asked_list true s k None [] h = sym (first_one (onward k) s)
+  asked_list true s k None (w ∷ ws) h = absurd (none-some w h)
+  asked_list true s k (Some t) [] h = absurd (none-some _ (sym h))
+  asked_list true s k (Some t) (w ∷ ws) h = refl
+
+  passed_list : (s : Spot) (k : Continuation) (part : Option Trace) (ws : List Spot) → trace_end s.slots part ≡ first_of ws
+      → trace_end s.slots (passed_answer part k) ≡ best_from (onward k) (first_way ws)
+  unfolding best_from trace_end
+  passed_list s k None [] h = refl
+  passed_list s k None (w ∷ ws) h = absurd (none-some w h)
+  passed_list s k (Some t) [] h = absurd (none-some _ (sym h))
+  passed_list s k (Some t) (w ∷ ws) h =
+      trace_end_after s.slots t.writes (k t.end).answer ∙ ap (onward k) (same_Some _ w h) ∙ sym (first_one (onward k) w)
+
+first_better : (w : Spot) (o : Option Spot) → better_spot false (Some w) o ≡ Some w
+first_better w None = refl
+first_better w (Some v) = refl
+
+-- where the first is wanted, it is the first
+pub first_best : (ws : List Spot) → best_from false (onward accept) ws ≡ first_of ws
+unfolding best_from trace_end apply
+first_best [] = refl
+first_best (w ∷ ws) = first_better w (best_from false (onward accept) ws)
+
 module _ (view : View) (stop : ℕ) where
-  pub attempt_lists : (t : Re) → Lists view.longest (attempt view stop t) (ways view stop t)
+  first_is : view.longest ≡ false → (ws : List Spot) → best_from view.longest (onward accept) ws ≡ first_of ws
+  first_is wants_first ws = rw wants_first (first_best ws)
+
+  pub attempt_lists : (view.has_parts ≡ true → view.longest ≡ false) → (t : Re) → MayAskIn view.has_parts t → Lists view.longest (attempt view stop t) (ways view stop t)
   unfolding attempt ways
-  attempt_lists nothing k s = sym (first_one view.longest (onward k) s)
-  attempt_lists (read leaf) k s = first_guard view.longest (onward k) (reads view stop leaf s.at) _ s.slots (k (view.next s.at)) refl
-  attempt_lists (test check) k s = first_guard view.longest (onward k) (view.holds check s.at) _ s.slots (k s.at) refl
-  attempt_lists (cat a b) k s =
-      attempt_lists a (attempt view stop b k) s
-      ∙ first_cong view.longest _ _ (ways view stop a s) (λ w. attempt_lists b k w)
+  attempt_lists first nothing may k s = sym (first_one view.longest (onward k) s)
+  attempt_lists first (read leaf) may k s = first_guard view.longest (onward k) (reads view stop leaf s.at) _ s.slots (k (view.next s.at)) refl
+  attempt_lists first (test check) may k s = first_guard view.longest (onward k) (view.holds check s.at) _ s.slots (k s.at) refl
+  attempt_lists first (cat a b) may k s =
+      attempt_lists first a may.0 (attempt view stop b k) s
+      ∙ first_cong view.longest _ _ (ways view stop a s) (λ w. attempt_lists first b may.1 k w)
       ∙ sym (first_each view.longest (onward k) (ways view stop b) (ways view stop a s))
-  attempt_lists (alt a b) k s =
-      trace_end_better view.longest s.slots _ _ ∙ ap₂ (better_spot view.longest) (attempt_lists a k s) (attempt_lists b k s)
+  attempt_lists first (alt a b) may k s =
+      trace_end_better view.longest s.slots _ _ ∙ ap₂ (better_spot view.longest) (attempt_lists first a may.0 k s) (attempt_lists first b may.1 k s)
       ∙ sym (first_append view.longest (onward k) (ways view stop a s) (ways view stop b s))
-  attempt_lists (group g a) k s =
+  attempt_lists first (group g a) may k s =
       trace_end_write s.slots (2 * g) s.at _
-      ∙ attempt_lists a (λ j. save (2 * g + 1) j (k j)) (record { at = s.at; slots = set s.slots (2 * g) s.at })
+      ∙ attempt_lists first a may (λ j. save (2 * g + 1) j (k j)) (record { at = s.at; slots = set s.slots (2 * g) s.at })
       ∙ first_cong view.longest _ _ _ (λ w. trace_end_write w.slots (2 * g + 1) w.at _)
       ∙ sym (first_map view.longest (onward k) _ _)
-  attempt_lists (repeat lo hi g strict a) k s =
-      times_list view.longest (attempt view stop a) (ways view stop a) (attempt_lists a)
+  attempt_lists first (repeat lo hi g strict a) may k s =
+      times_list view.longest (attempt view stop a) (ways view stop a) (attempt_lists first a may)
       (tail_try view.longest (is_unbounded hi) stop g (attempt view stop a) (hi - lo)) (tail_ways (is_unbounded hi) stop g (ways view stop a) (hi - lo))
-      (tail_list view.longest (is_unbounded hi) stop g (attempt view stop a) (ways view stop a) (attempt_lists a) (hi - lo)) lo k s
+      (tail_list view.longest (is_unbounded hi) stop g (attempt view stop a) (ways view stop a) (attempt_lists first a may) (hi - lo)) lo k s
+  attempt_lists first (ask negated a) may k s =
+      asked_list view.longest negated s k (attempt view stop a accept s.at).answer (ways view stop a s) (attempt_lists first a may.1 accept s ∙ first_is (first may.0) (ways view stop a s))
+  attempt_lists first (atomic a) may k s =
+      passed_list view.longest s k (attempt view stop a accept s.at).answer (ways view stop a s) (attempt_lists first a may.1 accept s ∙ first_is (first may.0) (ways view stop a s))
+
+  -- a part has the first of its ways
+  pub part_first : (view.has_parts ≡ true → view.longest ≡ false) → view.longest ≡ false → (t : Re) → MayAskIn view.has_parts t → (s : Spot)
+      → trace_end s.slots (attempt view stop t accept s.at).answer ≡ first_of (ways view stop t s)
+  part_first first wants_first t may s = attempt_lists first t may accept s ∙ first_is wants_first (ways view stop t s)

@@ -1,15 +1,11 @@
 -- An attempt to match a pattern at an offset: its answer, and the depth of its search.
 use Rattle.std.specs.Prelude.{true, false, ℕ, zero, suc, ◌+◌, ◌-◌, ◌*◌, Bool, List, [], ◌∷◌, Option, Some, None, if◌then◌else◌, nat_lt, slice_set}
-use Rattle.fancy_regex_linear.specs.Re.{Re, nothing, read, test, cat, alt, group, repeat}
-use Rattle.fancy_regex_states.specs.Attempts.{View, Trace, AttemptResult, Continuation, score, better, failed, guard, save, either, reads}
+use Rattle.fancy_regex_linear.specs.Re.{Re, nothing, read, test, cat, alt, group, repeat, ask, atomic}
+use Rattle.fancy_regex_states.specs.Attempts.{View, Trace, AttemptResult, Continuation, score, better, failed, guard, save, either, reads, accept, asked, passed, pick}
 use Rattle.fancy_regex_linear.specs.Meaning.{Spot, is_unbounded}
 
 abbrev pub better_spot : Bool → Option Spot → Option Spot → Option Spot
 better_spot longest = better (λ s. score longest s.at)
-
--- after a node that began at i: `same` where it matched the empty string, `moved` where it did not
-unfoldable pub pick : ℕ → Continuation → Continuation → Continuation
-pick i same moved j = if nat_lt i j then moved j else same j
 
 unfoldable pub times_try : (Continuation → Continuation) → ℕ → Continuation → Continuation
 times_try body zero k i = k i
@@ -49,6 +45,8 @@ module _ (view : View) (stop : ℕ) where
   attempt (group g a) k i = save (2 * g) i (attempt a (λ j. save (2 * g + 1) j (k j)) i)
   attempt (repeat lo hi greedy strict a) k i =
       times_try (attempt a) lo (tail_try view.longest (is_unbounded hi) stop greedy (attempt a) (hi - lo) k) i
+  attempt (ask negated a) k i = asked negated (attempt a accept i) (k i)
+  attempt (atomic a) k i = passed (attempt a accept i) k
 
 -- the slots after these writes
 unfoldable pub apply : List (ℕ × ℕ) → List ℕ → List ℕ

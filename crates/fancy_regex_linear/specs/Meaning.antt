@@ -1,6 +1,6 @@
 -- What a pattern matches in a range: the list of its matches in the order of preference (the ways).
 use Rattle.std.specs.Prelude.{ℕ, zero, suc, ◌+◌, ◌-◌, ◌*◌, Bool, true, false, ◌&&◌, List, [], ◌∷◌, ◌++◌, map, if◌then◌else◌, nat_lt, nat_le, nat_eq, slice_set}
-use Rattle.fancy_regex_linear.specs.Re.{Re, nothing, read, test, cat, alt, group, repeat}
+use Rattle.fancy_regex_linear.specs.Re.{Re, nothing, read, test, cat, alt, group, repeat, ask, atomic}
 use Rattle.fancy_regex_states.specs.Attempts.{View, reads}
 use Rattle.fancy_regex_states.specs.declared.atom.Leaf.{Leaf}
 use Rattle.fancy_regex_states.specs.declared.atom.Test.{Test}
@@ -46,6 +46,17 @@ unfoldable pub tail_ways : Bool → ℕ → Bool → (Spot → List Spot) → �
 tail_ways true stop greedy body n s = loop_ways greedy body (stop - s.at) s
 tail_ways false stop greedy body n s = upto_ways greedy body n s
 
+-- where the body has a way, here with the slots of the first; or, negated, where it has none
+abbrev pub asked_ways : Bool → Spot → List Spot → List Spot
+asked_ways false s [] = []
+asked_ways false s (w ∷ ws) = record { at = s.at; slots = w.slots } ∷ []
+asked_ways true s [] = s ∷ []
+asked_ways true s (w ∷ ws) = []
+
+abbrev pub first_way : List Spot → List Spot
+first_way [] = []
+first_way (w ∷ ws) = w ∷ []
+
 module _ (view : View) (stop : ℕ) where
   -- the ways of a pattern from an offset, in the order of preference
   unfoldable pub ways : Re → Spot → List Spot
@@ -59,6 +70,8 @@ module _ (view : View) (stop : ℕ) where
       (ways a (record { at = s.at; slots = slice_set s.slots (2 * k) s.at }))
   ways (repeat lo hi greedy strict a) s =
       times_ways (ways a) lo (tail_ways (is_unbounded hi) stop greedy (ways a) (hi - lo)) s
+  ways (ask negated a) s = asked_ways negated s (ways a s)
+  ways (atomic a) s = first_way (ways a s)
 
 -- the ways that end by `stop`
 unfoldable pub ending_by : ℕ → List Spot → List Spot

@@ -1,6 +1,6 @@
 -- Plain trees, and the patterns of two branches at most that they become.
 use Rattle.std.specs.Prelude.{◌≢◌, ℕ, ◌+◌, Bool, true, false, not, ◌&&◌, List, [], ◌∷◌, ◌++◌, length, Option, Some, None, slice_index, if◌then◌else◌, ◌==◌}
-use Rattle.fancy_regex_tree.specs.Tree.{Tree, Trees, Text, empty, any, assertion, literal, concat, alt, group, look_around, repeat, delegate, no_trees, more_trees}
+use Rattle.fancy_regex_tree.specs.Tree.{Tree, Trees, Text, empty, any, assertion, literal, concat, alt, group, look_around, repeat, delegate, atomic_group, no_trees, more_trees}
 use Rattle.fancy_regex_tree.specs.declared.expr.Assertion.{Assertion}
 use Rattle.fancy_regex_tree.specs.declared.expr.Assertion.TheVariants as A
 use Rattle.fancy_regex_tree.specs.declared.expr.LookAround.{LookAround}
@@ -60,6 +60,29 @@ abbrev mutual
   ArePlain no_trees = Unit {0}
   ArePlain (more_trees t ts) = IsPlain t × ArePlain ts
 
+-- Trees that become a pattern with parts: plain ones, look-aheads and atomic groups over any such tree.
+abbrev mutual
+  pub IsRegular : Tree → Type 0
+  IsRegular empty = Unit {0}
+  IsRegular (any newline crlf) = Unit {0}
+  IsRegular (literal val casei) = Unit {0}
+  IsRegular (delegate class casei) = Unit {0}
+  IsRegular (assertion a) = IsServed (test_of a)
+  IsRegular (concat ts) = AreRegular ts
+  IsRegular (alt ts) = (ts ≢ no_trees) × AreRegular ts
+  IsRegular (group t) = IsRegular t
+  IsRegular (look_around t L.LookAhead) = IsRegular t
+  IsRegular (look_around t L.LookAheadNeg) = IsRegular t
+  IsRegular (look_around t L.LookBehind) = IsOneChar t
+  IsRegular (look_around t L.LookBehindNeg) = IsOneChar t
+  IsRegular (atomic_group t) = IsRegular t
+  IsRegular (repeat t lo hi greedy) = IsRegular t
+  IsRegular _ = ⊥
+
+  pub AreRegular : Trees → Type 0
+  AreRegular no_trees = Unit {0}
+  AreRegular (more_trees t ts) = IsRegular t × AreRegular ts
+
 -- a repeat that has no iteration at all: nothing is made of its body
 abbrev pub has_no_iteration : ℕ → ℕ → Bool
 has_no_iteration lo hi = (lo == 0) && (hi == 0)
@@ -73,14 +96,15 @@ abbrev pub char_classes : Tree → List (Text × Bool)
 char_classes (delegate class casei) = (class, casei) ∷ []
 char_classes _ = []
 
--- the classes of a plain tree in order: the text of each, and whether case is disregarded
+-- the classes of such a tree in order: the text of each, and whether case is disregarded
 unfoldable mutual
   pub classes : Tree → List (Text × Bool)
   classes (delegate class casei) = (class, casei) ∷ []
   classes (concat ts) = row_classes ts
   classes (alt ts) = row_classes ts
   classes (group t) = classes t
-  classes (look_around t how) = char_classes t
+  classes (look_around t how) = classes t
+  classes (atomic_group t) = classes t
   classes (repeat t lo hi greedy) = if has_no_iteration lo hi then [] else classes t
   classes _ = []
 
@@ -106,12 +130,19 @@ look_test L.LookAheadNeg leaf = LookAheadNeg leaf
 look_test L.LookBehind leaf = LookBehind leaf
 look_test L.LookBehindNeg leaf = LookBehindNeg leaf
 
-abbrev pub looked : LookAround → Option Leaf → Re
-looked how None = re.nothing
-looked how (Some leaf) = re.test (look_test how leaf)
+-- a look-around over another tree: a look-ahead asks a part, a look-behind is not there
+abbrev pub asking : LookAround → Re → Re
+asking L.LookAhead body = re.ask false body
+asking L.LookAheadNeg body = re.ask true body
+asking L.LookBehind body = re.nothing
+asking L.LookBehindNeg body = re.nothing
+
+abbrev pub looked : LookAround → Option Leaf → Re → Re
+looked how None body = asking how body
+looked how (Some leaf) body = re.test (look_test how leaf)
 
 module _ (unicode : Bool) (groups : List Tree) where
-  -- the pattern of a plain tree, with the numbers of the group that opens first in it and of its first class
+  -- the pattern of a tree, with the numbers of the group that opens first in it and of its first class
   unfoldable mutual
     pub re_of : ℕ → ℕ → Tree → Re
     re_of n k empty = re.nothing
@@ -122,7 +153,8 @@ module _ (unicode : Bool) (groups : List Tree) where
     re_of n k (concat ts) = row_of n k ts
     re_of n k (alt ts) = branches_of n k ts
     re_of n k (group t) = re.group n (re_of (n + 1) k t)
-    re_of n k (look_around t how) = looked how (char_leaf unicode k t)
+    re_of n k (look_around t how) = looked how (char_leaf unicode k t) (re_of n k t)
+    re_of n k (atomic_group t) = re.atomic (re_of n k t)
     re_of n k (repeat t lo hi greedy) =
         unless (has_no_iteration lo hi) (re.repeat lo hi greedy (not (may_be_empty groups t)) (re_of n k t))
     re_of n k _ = re.nothing

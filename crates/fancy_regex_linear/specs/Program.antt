@@ -3,9 +3,9 @@ use Rattle.std.specs.Prelude.{◌≡◌, ℕ, zero, suc, ◌-◌, true, false, �
 use Rattle.fancy_regex_states.specs.First.{state_at}
 use Rattle.fancy_regex_states.specs.Attempts.{Continuation, guard, either, save, accept, View, Agrees}
 use Rattle.fancy_regex_linear.specs.Meaning.{is_unbounded}
-use Rattle.fancy_regex_linear.specs.Re.{Re, nothing, read, test, cat, alt, group, repeat}
+use Rattle.fancy_regex_linear.specs.Re.{Re, nothing, read, test, cat, alt, group, repeat, ask, atomic}
 use Rattle.fancy_regex_states.specs.declared.state.State.{State}
-use Rattle.fancy_regex_states.specs.declared.state.State.TheVariants.{Split, Enter, Leave, Match}
+use Rattle.fancy_regex_states.specs.declared.state.State.TheVariants.{Split, Enter, Leave, Ask, Atomic, Match}
 use Rattle.fancy_regex_states.specs.declared.state.State.TheVariants as S
 
 -- the loop at its head: another iteration, or out
@@ -24,6 +24,8 @@ never_empty (cat a b) = never_empty a || never_empty b
 never_empty (alt a b) = never_empty a && never_empty b
 never_empty (group g a) = never_empty a
 never_empty (repeat lo hi greedy strict a) = nat_lt 0 lo && never_empty a
+never_empty (ask negated a) = false
+never_empty (atomic a) = never_empty a
 
 -- a repeat that says of its body that each way moves is right
 abbrev pub IsSound : Re → Type 0
@@ -34,6 +36,20 @@ IsSound (cat a b) = IsSound a × IsSound b
 IsSound (alt a b) = IsSound a × IsSound b
 IsSound (group g a) = IsSound a
 IsSound (repeat lo hi greedy strict a) = (strict ≡ true → never_empty a ≡ true) × IsSound a
+IsSound (ask negated a) = IsSound a
+IsSound (atomic a) = IsSound a
+
+-- the pattern asks parts only where it may
+abbrev pub MayAskIn : Bool → Re → Type 0
+MayAskIn has_parts nothing = Unit {0}
+MayAskIn has_parts (read leaf) = Unit {0}
+MayAskIn has_parts (test check) = Unit {0}
+MayAskIn has_parts (cat a b) = MayAskIn has_parts a × MayAskIn has_parts b
+MayAskIn has_parts (alt a b) = MayAskIn has_parts a × MayAskIn has_parts b
+MayAskIn has_parts (group g a) = MayAskIn has_parts a
+MayAskIn has_parts (repeat lo hi greedy strict a) = MayAskIn has_parts a
+MayAskIn has_parts (ask negated a) = (has_parts ≡ true) × MayAskIn has_parts a
+MayAskIn has_parts (atomic a) = (has_parts ≡ true) × MayAskIn has_parts a
 
 -- how one node is emitted that continues at one state, or at two
 abbrev pub Emitter : Type 0
@@ -139,6 +155,21 @@ emitted_both_group g both states same moved =
     let three = push body.0 (Enter g body.1) in
     (push three (Enter g body.2), length body.0, length three)
 
+-- a part: a final state, and then the states of its body, which goes on there
+abbrev pub emitted_part : Emitter → List State → List State × ℕ
+emitted_part one states = one (push states Match) (length states)
+
+abbrev pub emitted_both_part : BothEmitter → List State → List State × ℕ
+emitted_both_part both states =
+    let body = both (push states Match) (length states) (length states) in
+    (body.0, body.1)
+
+-- a part that is asked, and what goes on; the part is there once
+unfoldable pub emitted_both_asking : State → State → List State → List State × ℕ × ℕ
+emitted_both_asking same moved states =
+    let one = push states same in
+    (push one moved, length states, length one)
+
 -- The states so far, then those of a tree that goes on at two places: `same` where it moved nothing, `moved` where it did.
 -- The two numbers are the entries where nothing was moved yet, and where something was.
 unfoldable pub emitted_both : Re → List State → ℕ → ℕ → List State × ℕ × ℕ
@@ -158,6 +189,12 @@ emitted_both (alt a b) states same moved =
 emitted_both (group g a) states same moved = emitted_both_group g (emitted_both a) states same moved
 emitted_both (repeat lo hi greedy strict a) states same moved =
     emitted_both_repeat (is_unbounded hi) strict lo hi greedy (emitted_both a) states same moved
+emitted_both (ask negated a) states same moved =
+    let part = emitted_both_part (emitted_both a) states in
+    emitted_both_asking (Ask part.1 negated same) (Ask part.1 negated moved) part.0
+emitted_both (atomic a) states same moved =
+    let part = emitted_both_part (emitted_both a) states in
+    emitted_both_asking (Atomic part.1 same moved) (Atomic part.1 moved moved) part.0
 
 -- the states so far, then those of a tree that goes on at `next`; the number is the entry
 unfoldable pub emitted : Re → List State → ℕ → List State × ℕ
@@ -176,6 +213,12 @@ emitted (group g a) states next =
     (push body.0 (Enter g body.1), length body.0)
 emitted (repeat lo hi greedy strict a) states next =
     emitted_repeat (is_unbounded hi) strict lo hi greedy (emitted a) (emitted_both a) states next
+emitted (ask negated a) states next =
+    let part = emitted_part (emitted a) states in
+    (push part.0 (Ask part.1 negated next), length part.0)
+emitted (atomic a) states next =
+    let part = emitted_part (emitted a) states in
+    (push part.0 (Atomic part.1 next next), length part.0)
 
 -- one branch in front of those that are there
 unfoldable pub with_branch : Re → ℕ → List State × ℕ → List State × ℕ
@@ -212,6 +255,8 @@ weight (cat a b) = weight a + weight b
 weight (alt a b) = weight a + weight b + 3
 weight (group g a) = weight a + 2
 weight (repeat lo hi greedy strict a) = repeat_weight (is_unbounded hi) strict lo hi (weight a)
+weight (ask negated a) = weight a + 2
+weight (atomic a) = weight a + 2
 
 module _ (view : View) (stop : ℕ) where
   -- all states do, but for the open ones

@@ -1,5 +1,5 @@
 -- The text of a setting, as the linear engine reads it.
-use Rattle.std.specs.Prelude.{ℕ, Bool, not, List, ◌==◌, slice_get}
+use Rattle.std.specs.Prelude.{ℕ, Bool, false, not, List, ◌==◌, slice_get}
 use Rattle.regex_hir.specs.Text.{is_some_and, char_at, char_before}
 use Rattle.fancy_regex_tree.specs.Tree.{Text}
 use Rattle.fancy_regex_tree.specs.declared.expr.Assertion.TheVariants as A
@@ -39,4 +39,5 @@ view_of s cs far = record {
   next = position_after s.text;
   holds = test_holds s cs;
   longest = far;
+  has_parts = false;
 }

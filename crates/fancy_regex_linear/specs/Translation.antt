@@ -1,11 +1,11 @@
--- How an easy pattern is translated.
+-- How a pattern is translated.
 use Rattle.std.specs.Prelude.{◌≡◌, ℕ, ◌+◌, ◌&&◌, true, Bool, List, [], ◌∷◌, ◌++◌, length, map, All}
 use Rattle.fancy_regex_tree.specs.Tree.{Tree, Trees, Text, trees, tree_of}
 use Rattle.fancy_regex_tree.specs.declared.expr.Expr.{Expr}
 use Rattle.fancy_regex_meaning.specs.Groups.{group_count, row_group_count}
 use Rattle.fancy_regex_class.specs.declared.class.CharClassMatcher.{CharClassMatcher}
 use Rattle.fancy_regex_linear.specs.Re.{Re}
-use Rattle.fancy_regex_linear.specs.Plain.{ArePlain, classes, row_classes, re_of}
+use Rattle.fancy_regex_linear.specs.Plain.{AreRegular, classes, row_classes, re_of}
 use Rattle.fancy_regex_linear.specs.Program.{IsSound, never_empty}
 use Rattle.fancy_regex_linear.specs.Easy.{HaveMatchers}
 use Rattle.fancy_regex_linear.specs.Refusals.{IsRead}
@@ -46,6 +46,6 @@ pub record BuildsRow (before after : Translator) (ts : List Tree) (xs : List Re)
   pub unicode : after.unicode ≡ before.unicode
   pub matchers : Extends before.unicode before.matchers.items after.matchers.items (row_classes (trees ts))
   pub sound : AreSound xs
-  pub groups : ArePlain (trees ts) → after.next_group ≡ before.next_group + row_group_count (trees ts)
-  pub patterns : ArePlain (trees ts) → (groups : List Tree)
+  pub groups : AreRegular (trees ts) → after.next_group ≡ before.next_group + row_group_count (trees ts)
+  pub patterns : AreRegular (trees ts) → (groups : List Tree)
       → xs ≡ row_list before.unicode groups before.next_group (length before.matchers.items) ts

@@ -1,7 +1,7 @@
 //! Translation of an easy syntax tree to nodes and class matchers.
 
-ghost use Rattle.std.specs.Prelude.{◌≡◌, ◌+◌, true, false, ◌++◌, ◌∷◌, [], List, length, not, All, OnOk, IfOk, IfErr, IfSome, chars, string_bytes, slice_index, if◌then◌else◌};
-ghost use Rattle.fancy_regex_tree.specs.Tree.{Tree, tree_of};
+ghost use Rattle.std.specs.Prelude.{◌≡◌, ◌+◌, true, false, ◌++◌, ◌∷◌, [], ℕ, Bool, List, None, length, not, All, OnOk, IfOk, IfErr, IfSome, chars, string_bytes, slice_index, if◌then◌else◌};
+ghost use Rattle.fancy_regex_tree.specs.Tree.{Tree, tree_of, look_around};
 ghost use Rattle.fancy_regex_meaning.specs.Groups.{group_count, row_group_count};
 ghost use Rattle.fancy_regex_class.specs.Classes.{folded};
 ghost use Rattle.fancy_regex_linear.specs.Re.{shape};
@@ -9,7 +9,7 @@ ghost use Rattle.fancy_regex_linear.specs.Re as re;
 ghost use Rattle.fancy_regex_states.specs.declared.atom.Leaf.TheVariants as leaf;
 ghost use Rattle.fancy_regex_meaning.specs.Sizes.{may_be_empty};
 ghost use Rattle.fancy_regex_linear.specs.Program.{IsSound, never_empty};
-ghost use Rattle.fancy_regex_linear.specs.Plain.{test_of as test_of_assertion, IsPlain, ArePlain, IsOneChar, has_no_iteration, unless, looked, char_leaf, char_classes, classes, row_classes, re_of, row_of, branches_of};
+ghost use Rattle.fancy_regex_linear.specs.Plain.{test_of as test_of_assertion, IsPlain, ArePlain, IsRegular, AreRegular, IsOneChar, has_no_iteration, unless, looked, look_test, asking, char_leaf, char_classes, classes, row_classes, re_of, row_of, branches_of};
 ghost use Rattle.fancy_regex_linear.specs.Translation.{all_trees, AddsMatchers};
 ghost use Rattle.fancy_regex_linear.specs.Refusals.{IsRead, IsClassCause};
 ghost use Rattle.fancy_regex_info.specs.declared.error.CompileError.TheVariants as errors;
@@ -82,7 +82,9 @@ fn test_of(assertion: Assertion) -> Option<Test>
 
 /// The test of a look-around for a character of this leaf.
 fn look_node(look: LookAround, leaf: Option<Leaf>) -> Node
-    ensures { shape result ≡ looked look leaf }
+    ensures still { never_empty (shape result) ≡ false }
+    ensures sound { IsSound (shape result) }
+    ensures shape { IfSome leaf (λ l. shape result ≡ re.test (look_test look l)) }
 {
     let Some(leaf) = leaf else {
         return Node::Empty;
@@ -93,6 +95,23 @@ fn look_node(look: LookAround, leaf: Option<Leaf>) -> Node
         LookAround::LookBehind => Test::LookBehind(leaf),
         LookAround::LookBehindNeg => Test::LookBehindNeg(leaf),
     })
+}
+
+/// A look-around with this body; a look-behind is left out.
+fn asking_node(look: LookAround, body: Box<Node>) -> Node
+    ensures { shape result ≡ asking look (shape body.value) }
+{
+    match look {
+        LookAround::LookAhead => Node::Ask {
+            negated: false,
+            body,
+        },
+        LookAround::LookAheadNeg => Node::Ask {
+            negated: true,
+            body,
+        },
+        LookAround::LookBehind | LookAround::LookBehindNeg => Node::Empty,
+    }
 }
 
 /// Appends a value. The error is want of memory.
@@ -149,13 +168,13 @@ impl Translator {
     #[tactic(auto, unfolding(crate::specs::Plain::re_of, crate::specs::Plain::classes, fancy_regex_meaning::specs::Groups::group_count))]
     pub fn translated(&mut self, expr: &Expr) -> Result<Translated, CompileError>
         ensures unicode { self.new.unicode ≡ self.old.unicode }
-        ensures groups { IfOk result (λ _. IsPlain (tree_of expr.now)
+        ensures groups { IfOk result (λ _. IsRegular (tree_of expr.now)
             → self.new.next_group ≡ self.old.next_group + group_count (tree_of expr.now)) }
         ensures matchers { IfOk result (λ _. AddsMatchers self.old self.new (classes (tree_of expr.now))) }
         ensures moves { IfOk result (λ translated. translated.moves ≡ never_empty (shape translated.node)) }
         ensures sound { IfOk result (λ translated. IsSound (shape translated.node)) }
         ensures refused { IfErr result (IsClassCause self.old.unicode (classes (tree_of expr.now))) }
-        ensures shape { IfOk result (λ translated. IsPlain (tree_of expr.now) → (groups : List Tree) → shape translated.node
+        ensures shape { IfOk result (λ translated. IsRegular (tree_of expr.now) → (groups : List Tree) → shape translated.node
             ≡ re_of self.old.unicode groups self.old.next_group (length self.old.matchers.items) (tree_of expr.now)) }
     {
         match expr {
@@ -181,22 +200,53 @@ impl Translator {
                 greedy,
             } => self.repeat(child, *lo, *hi, *greedy),
             Expr::LookAround(child, look) => self.look_around(child, *look),
+            Expr::AtomicGroup(child) => self.atomic(child),
             _ => Ok(Translated::still(Node::Empty)),
         }
     }
 
-    /// Translates a look-around: to a test, if it is for one character. The error is that of its class.
+    /// Translates a look-around: to a test, if it is for one character, else to a part. The error is that of a class.
+    #[cycle(build)]
     fn look_around(&mut self, child: &Expr, look: LookAround) -> Result<Translated, CompileError>
         ensures unicode { self.new.unicode ≡ self.old.unicode }
-        ensures groups { self.new.next_group ≡ self.old.next_group }
-        ensures matchers { IfOk result (λ _. AddsMatchers self.old self.new (char_classes (tree_of child.now))) }
+        ensures groups { IfOk result (λ _. IsRegular (look_around (tree_of child.now) look)
+            → self.new.next_group ≡ self.old.next_group + group_count (tree_of child.now)) }
+        ensures matchers { IfOk result (λ _. AddsMatchers self.old self.new (classes (tree_of child.now))) }
         ensures moves { IfOk result (λ translated. translated.moves ≡ false) }
-        ensures refused { IfErr result (IsClassCause self.old.unicode (char_classes (tree_of child.now))) }
-        ensures shape { IfOk result (λ translated. shape translated.node
-            ≡ looked look (char_leaf self.old.unicode (length self.old.matchers.items) (tree_of child.now))) }
+        ensures still { IfOk result (λ translated. never_empty (shape translated.node) ≡ false) }
+        ensures sound { IfOk result (λ translated. IsSound (shape translated.node)) }
+        ensures refused { IfErr result (IsClassCause self.old.unicode (classes (tree_of child.now))) }
+        ensures shape { IfOk result (λ translated. IsRegular (look_around (tree_of child.now) look) → (groups : List Tree)
+            → shape translated.node ≡ looked look (char_leaf self.old.unicode (length self.old.matchers.items) (tree_of child.now))
+            (re_of self.old.unicode groups self.old.next_group (length self.old.matchers.items) (tree_of child.now))) }
     {
-        let leaf = self.leaf(child)?;
-        Ok(Translated::still(look_node(look, leaf)))
+        if is_one_char(child) {
+            let leaf = self.leaf(child)?;
+            return Ok(Translated::still(look_node(look, leaf)));
+        }
+        let translated = self.translated(child)?;
+        let body = boxed(self.alloc, translated.node)?;
+        Ok(Translated::still(asking_node(look, body)))
+    }
+
+    /// Translates an atomic group. The error is that of a class.
+    #[cycle(build)]
+    fn atomic(&mut self, child: &Expr) -> Result<Translated, CompileError>
+        ensures unicode { self.new.unicode ≡ self.old.unicode }
+        ensures groups { IfOk result (λ _. IsRegular (tree_of child.now)
+            → self.new.next_group ≡ self.old.next_group + group_count (tree_of child.now)) }
+        ensures matchers { IfOk result (λ _. AddsMatchers self.old self.new (classes (tree_of child.now))) }
+        ensures moves { IfOk result (λ translated. translated.moves ≡ never_empty (shape translated.node)) }
+        ensures sound { IfOk result (λ translated. IsSound (shape translated.node)) }
+        ensures refused { IfErr result (IsClassCause self.old.unicode (classes (tree_of child.now))) }
+        ensures shape { IfOk result (λ translated. IsRegular (tree_of child.now) → (groups : List Tree) → shape translated.node
+            ≡ re.atomic (re_of self.old.unicode groups self.old.next_group (length self.old.matchers.items) (tree_of child.now))) }
+    {
+        let translated = self.translated(child)?;
+        Ok(Translated {
+            node: Node::Atomic(boxed(self.alloc, translated.node)?),
+            moves: translated.moves,
+        })
     }
 
     /// The test of an expression that reads one character, if it is one; the matcher of a class is added. The error is that of a
@@ -270,13 +320,13 @@ impl Translator {
     #[cycle(build)]
     fn row(&mut self, children: &[Expr]) -> Result<Translated, CompileError>
         ensures unicode { self.new.unicode ≡ self.old.unicode }
-        ensures groups { IfOk result (λ _. ArePlain (all_trees children.now)
+        ensures groups { IfOk result (λ _. AreRegular (all_trees children.now)
             → self.new.next_group ≡ self.old.next_group + row_group_count (all_trees children.now)) }
         ensures matchers { IfOk result (λ _. AddsMatchers self.old self.new (row_classes (all_trees children.now))) }
         ensures moves { IfOk result (λ translated. translated.moves ≡ never_empty (shape translated.node)) }
         ensures sound { IfOk result (λ translated. IsSound (shape translated.node)) }
         ensures refused { IfErr result (IsClassCause self.old.unicode (row_classes (all_trees children.now))) }
-        ensures shape { IfOk result (λ translated. ArePlain (all_trees children.now) → (groups : List Tree) → shape translated.node
+        ensures shape { IfOk result (λ translated. AreRegular (all_trees children.now) → (groups : List Tree) → shape translated.node
             ≡ row_of self.old.unicode groups self.old.next_group (length self.old.matchers.items) (all_trees children.now)) }
     {
         let mut parts = Vec::new(self.alloc);
@@ -296,13 +346,13 @@ impl Translator {
     #[cycle(build)]
     fn branches(&mut self, children: &[Expr]) -> Result<Translated, CompileError>
         ensures unicode { self.new.unicode ≡ self.old.unicode }
-        ensures groups { IfOk result (λ _. ArePlain (all_trees children.now)
+        ensures groups { IfOk result (λ _. AreRegular (all_trees children.now)
             → self.new.next_group ≡ self.old.next_group + row_group_count (all_trees children.now)) }
         ensures matchers { IfOk result (λ _. AddsMatchers self.old self.new (row_classes (all_trees children.now))) }
         ensures moves { IfOk result (λ translated. translated.moves ≡ never_empty (shape translated.node)) }
         ensures sound { IfOk result (λ translated. IsSound (shape translated.node)) }
         ensures refused { IfErr result (IsClassCause self.old.unicode (row_classes (all_trees children.now))) }
-        ensures shape { IfOk result (λ translated. ArePlain (all_trees children.now) → (groups : List Tree) → shape translated.node
+        ensures shape { IfOk result (λ translated. AreRegular (all_trees children.now) → (groups : List Tree) → shape translated.node
             ≡ branches_of self.old.unicode groups self.old.next_group (length self.old.matchers.items) (all_trees children.now)) }
     {
         let mut parts = Vec::new(self.alloc);
@@ -323,13 +373,13 @@ impl Translator {
     #[cycle(build)]
     fn group(&mut self, child: &Expr) -> Result<Translated, CompileError>
         ensures unicode { self.new.unicode ≡ self.old.unicode }
-        ensures groups { IfOk result (λ _. IsPlain (tree_of child.now)
+        ensures groups { IfOk result (λ _. IsRegular (tree_of child.now)
             → self.new.next_group ≡ self.old.next_group + (group_count (tree_of child.now) + 1)) }
         ensures matchers { IfOk result (λ _. AddsMatchers self.old self.new (classes (tree_of child.now))) }
         ensures moves { IfOk result (λ translated. translated.moves ≡ never_empty (shape translated.node)) }
         ensures sound { IfOk result (λ translated. IsSound (shape translated.node)) }
         ensures refused { IfErr result (IsClassCause self.old.unicode (classes (tree_of child.now))) }
-        ensures shape { IfOk result (λ translated. IsPlain (tree_of child.now) → (groups : List Tree) → shape translated.node
+        ensures shape { IfOk result (λ translated. IsRegular (tree_of child.now) → (groups : List Tree) → shape translated.node
             ≡ re.group self.old.next_group
             (re_of self.old.unicode groups (self.old.next_group + 1) (length self.old.matchers.items) (tree_of child.now))) }
     {
@@ -355,7 +405,7 @@ impl Translator {
         greedy: bool,
     ) -> Result<Translated, CompileError>
         ensures unicode { self.new.unicode ≡ self.old.unicode }
-        ensures groups { IfOk result (λ _. IsPlain (tree_of child.now)
+        ensures groups { IfOk result (λ _. IsRegular (tree_of child.now)
             → self.new.next_group ≡ self.old.next_group + group_count (tree_of child.now)) }
         ensures matchers { IfOk result (λ _. AddsMatchers self.old self.new
             (if has_no_iteration lo hi then [] else classes (tree_of child.now))) }
@@ -363,7 +413,7 @@ impl Translator {
         ensures moves { IfOk result (λ translated. translated.moves ≡ never_empty (shape translated.node)) }
         ensures refused { IfErr result (IsClassCause self.old.unicode
             (if has_no_iteration lo hi then [] else classes (tree_of child.now))) }
-        ensures shape { IfOk result (λ translated. IsPlain (tree_of child.now) → (groups : List Tree) → shape translated.node
+        ensures shape { IfOk result (λ translated. IsRegular (tree_of child.now) → (groups : List Tree) → shape translated.node
             ≡ unless (has_no_iteration lo hi) (re.repeat lo hi greedy (not (may_be_empty groups (tree_of child.now)))
             (re_of self.old.unicode groups self.old.next_group (length self.old.matchers.items) (tree_of child.now)))) }
     {
@@ -390,7 +440,7 @@ impl Translator {
     fn skip_groups(&mut self, child: &Expr) -> Result<(), CompileError>
         ensures unicode { self.new.unicode ≡ self.old.unicode }
         ensures matchers { self.new.matchers ≡ self.old.matchers }
-        ensures groups { IfOk result (λ _. IsPlain (tree_of child.now)
+        ensures groups { IfOk result (λ _. IsRegular (tree_of child.now)
             → self.new.next_group ≡ self.old.next_group + group_count (tree_of child.now)) }
         ensures refused { IfErr result (λ error. error ≡ errors.Memory) }
     {
@@ -440,9 +490,45 @@ fn are_supported(children: &[Expr]) -> bool
     true
 }
 
+/// Whether the tree becomes a pattern with parts.
+#[cycle(regular)]
+pub fn is_regular(expr: &Expr) -> bool
+    ensures { result ≡ true → IsRegular (tree_of expr.now) }
+{
+    match expr {
+        Expr::Empty | Expr::Any { .. } | Expr::Literal { .. } | Expr::Delegate { .. } => true,
+        Expr::Assertion(assertion) => test_of(*assertion).is_some(),
+        Expr::Concat(children) => are_regular(children),
+        Expr::Alt(children) => !children.is_empty() && are_regular(children),
+        Expr::Group(child) | Expr::AtomicGroup(child) => is_regular(child),
+        Expr::Repeat { child, .. } => is_regular(child),
+        Expr::LookAround(child, LookAround::LookAhead | LookAround::LookAheadNeg) => {
+            is_regular(child)
+        }
+        Expr::LookAround(child, LookAround::LookBehind | LookAround::LookBehindNeg) => {
+            is_one_char(child)
+        }
+        _ => false,
+    }
+}
+
+/// Whether all these trees become patterns with parts.
+#[cycle(regular)]
+fn are_regular(children: &[Expr]) -> bool
+    ensures { result ≡ true → AreRegular (all_trees children.now) }
+{
+    for i in 0..children.len() {
+        if !is_regular(&children[i]) {
+            return false;
+        }
+    }
+    true
+}
+
 /// Whether the tree reads one character.
 fn is_one_char(expr: &Expr) -> bool
-    ensures { result ≡ true → IsOneChar (tree_of expr.now) }
+    ensures one { result ≡ true → IsOneChar (tree_of expr.now) }
+    ensures none { result ≡ false → (unicode : Bool) (k : ℕ) → char_leaf unicode k (tree_of expr.now) ≡ None }
 {
     match expr {
         Expr::Any { .. } | Expr::Literal { .. } | Expr::Delegate { .. } => true,
@@ -450,15 +536,17 @@ fn is_one_char(expr: &Expr) -> bool
     }
 }
 
-/// The number of capture groups in an easy tree, or `None` if it exceeds `usize`.
+/// The number of capture groups in a tree, or `None` if it exceeds `usize`.
 #[cycle(count)]
 #[tactic(auto, unfolding(fancy_regex_meaning::specs::Groups::group_count))]
 fn groups_in(expr: &Expr) -> Option<usize>
-    ensures { IfSome result (λ n. IsPlain (tree_of expr.now) → n ≡ group_count (tree_of expr.now)) }
+    ensures { IfSome result (λ n. IsRegular (tree_of expr.now) → n ≡ group_count (tree_of expr.now)) }
 {
     match expr {
         Expr::Group(child) => groups_in(child)?.checked_add(1),
-        Expr::Repeat { child, .. } => groups_in(child),
+        Expr::Repeat { child, .. } | Expr::LookAround(child, _) | Expr::AtomicGroup(child) => {
+            groups_in(child)
+        }
         Expr::Concat(children) | Expr::Alt(children) => groups_in_row(children),
         _ => Some(0),
     }
@@ -467,7 +555,7 @@ fn groups_in(expr: &Expr) -> Option<usize>
 /// The number of capture groups in all these trees, or `None` if it exceeds `usize`.
 #[cycle(count)]
 fn groups_in_row(children: &[Expr]) -> Option<usize>
-    ensures { IfSome result (λ n. ArePlain (all_trees children.now) → n ≡ row_group_count (all_trees children.now)) }
+    ensures { IfSome result (λ n. AreRegular (all_trees children.now) → n ≡ row_group_count (all_trees children.now)) }
 {
     let mut sum = 0usize;
     for i in 0..children.len() {

@@ -2,7 +2,7 @@
 
 ghost use Rattle.std.specs.Prelude.{◌≡◌, ◌≤◌, IfOk, length, vec_len};
 ghost use Rattle.fancy_regex_linear.specs.Re.{shape, shapes, cats, alts};
-ghost use Rattle.fancy_regex_linear.specs.Program.{emitted, emitted_both, emitted_repeat, emitted_times, emitted_upto, emitted_star, emitted_many};
+ghost use Rattle.fancy_regex_linear.specs.Program.{emitted, emitted_part, emitted_both, emitted_repeat, emitted_times, emitted_upto, emitted_star, emitted_many};
 ghost use Rattle.fancy_regex_linear.specs.Meaning.{is_unbounded};
 
 use crate::emit_both::emit_both;
@@ -42,7 +42,39 @@ pub fn emit(node: &Node, states: &mut Vec<State>, next: usize) -> Result<usize, 
             )
         }
         Node::Repeat { body, quantifier } => emit_repeat(body, *quantifier, states, next),
+        Node::Ask { negated, body } => {
+            let part = emit_part(body, states)?;
+            add(
+                states,
+                State::Ask {
+                    part,
+                    negated: *negated,
+                    next,
+                },
+            )
+        }
+        Node::Atomic(body) => {
+            let part = emit_part(body, states)?;
+            add(
+                states,
+                State::Atomic {
+                    part,
+                    same: next,
+                    moved: next,
+                },
+            )
+        }
     }
+}
+
+/// Adds a part: a final state, and the states of the node, which continues there. Returns the part's entry.
+#[cycle(emit)]
+fn emit_part(node: &Node, states: &mut Vec<State>) -> Result<usize, AllocError>
+    ensures longer { IfOk result (λ _. vec_len states.old ≤ vec_len states.new) }
+    ensures made { IfOk result (λ n. emitted_part (emitted (shape node.now)) states.old.items ≡ (states.new.items, n)) }
+{
+    let end = add(states, State::Match)?;
+    emit(node, states, end)
 }
 
 /// Adds the states of a concatenation, the last child first.

@@ -3,7 +3,7 @@
 
 ghost use Rattle.std.specs.Prelude.{◌≡◌, ◌≤◌, IfOk, length, vec_len};
 ghost use Rattle.fancy_regex_linear.specs.Re.{shape, shapes, cats, alts};
-ghost use Rattle.fancy_regex_linear.specs.Program.{emitted_both, emitted_both_repeat, emitted_both_times, emitted_both_upto, emitted_both_star, emitted_both_many, emitted_both_group};
+ghost use Rattle.fancy_regex_linear.specs.Program.{emitted_both, emitted_both_part, emitted_both_asking, emitted_both_repeat, emitted_both_times, emitted_both_upto, emitted_both_star, emitted_both_many, emitted_both_group};
 ghost use Rattle.fancy_regex_linear.specs.Meaning.{is_unbounded};
 
 use crate::node::{Node, Quantifier};
@@ -13,7 +13,7 @@ use std::alloc::AllocError;
 
 /// Adds the states of a node that continues at state `same` where the iteration has consumed nothing, and at `moved` where it
 /// has. Returns the two entry states, for nothing consumed so far and for something. The error is want of memory.
-#[tactic(auto, unfolding(crate::specs::Program::emitted_both))]
+#[tactic(auto, unfolding(crate::specs::Program::emitted_both, crate::specs::Program::emitted_both_asking))]
 #[cycle(both)]
 pub fn emit_both(
     node: &Node,
@@ -57,7 +57,46 @@ pub fn emit_both(
             same,
             moved,
         ),
+        Node::Ask { negated, body } => {
+            let part = emit_part_both(body, states)?;
+            add_both(
+                states,
+                State::Ask {
+                    part,
+                    negated: *negated,
+                    next: same,
+                },
+                State::Ask {
+                    part,
+                    negated: *negated,
+                    next: moved,
+                },
+            )
+        }
+        Node::Atomic(body) => {
+            let part = emit_part_both(body, states)?;
+            add_both(
+                states,
+                State::Atomic { part, same, moved },
+                State::Atomic {
+                    part,
+                    same: moved,
+                    moved,
+                },
+            )
+        }
     }
+}
+
+/// Adds a part: a final state, and the states of the node, which continues there. Returns the part's entry.
+#[cycle(both)]
+fn emit_part_both(node: &Node, states: &mut Vec<State>) -> Result<usize, AllocError>
+    ensures longer { IfOk result (λ _. vec_len states.old ≤ vec_len states.new) }
+    ensures made { IfOk result (λ n. emitted_both_part (emitted_both (shape node.now)) states.old.items ≡ (states.new.items, n)) }
+{
+    let end = add(states, State::Match)?;
+    let (entry, _) = emit_both(node, states, end, end)?;
+    Ok(entry)
 }
 
 /// Adds the states of a capture group.

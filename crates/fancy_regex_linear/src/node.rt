@@ -39,4 +39,11 @@ pub enum Node {
         body: Box<Node>,
         quantifier: Quantifier,
     },
+    /// A look-ahead: whether the body matches here or, where `negated`, does not.
+    Ask {
+        negated: bool,
+        body: Box<Node>,
+    },
+    /// The first match of the body alone.
+    Atomic(Box<Node>),
 }

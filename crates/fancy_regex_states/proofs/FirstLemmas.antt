@@ -6,7 +6,7 @@ use Rattle.std.specs.Prelude.{Contains}
 use Rattle.fancy_regex_states.specs.First.{state_at, Leads, Reaches, here, onward, IsClosed, IsAmong, Extends}
 use Rattle.fancy_regex_states.specs.declared.atom.Leaf.{Leaf}
 use Rattle.fancy_regex_states.specs.declared.state.State.{State}
-use Rattle.fancy_regex_states.specs.declared.state.State.TheVariants.{Split, Enter, Leave, Match}
+use Rattle.fancy_regex_states.specs.declared.state.State.TheVariants.{Split, Enter, Leave, Ask, Atomic, Match}
 use Rattle.fancy_regex_states.specs.declared.state.State.TheVariants as S
 
 -- what is reached is in the list
@@ -59,6 +59,8 @@ among_more xs ys (S.Look check next) more h = tt
 among_more xs ys (Split first second) more h = tt
 among_more xs ys (Enter g next) more h = tt
 among_more xs ys (Leave g next) more h = tt
+among_more xs ys (Ask part negated next) more h = tt
+among_more xs ys (Atomic part same moved) more h = tt
 among_more xs ys Match more h = h
 
 -- the first of these numbers are of states whose leaves are here

@@ -1,5 +1,5 @@
 -- What states mean: the text as an attempt reads it, the answer of an attempt, and what each state gives at an offset.
-use Rattle.std.specs.Prelude.{◌≡◌, ℕ, ◌+◌, ◌*◌, ◌<◌, ◌≤◌, Bool, ◌&&◌, List, [], ◌∷◌, length, Option, Some, None, option_map, unwrap_or, if◌then◌else◌, nat_lt, nat_le, IsCharBoundary}
+use Rattle.std.specs.Prelude.{◌≡◌, ℕ, ◌+◌, ◌*◌, ◌<◌, ◌≤◌, Bool, true, false, ◌&&◌, List, [], ◌∷◌, ◌++◌, length, Option, Some, None, option_map, unwrap_or, if◌then◌else◌, nat_lt, nat_le, IsCharBoundary}
 use Rattle.std.specs.Char.{len_utf8}
 use Rattle.regex_hir.specs.Text.{is_some_and, char_at, char_before}
 use Rattle.fancy_regex_class.specs.declared.class.CharClassMatcher.{CharClassMatcher}
@@ -9,7 +9,7 @@ use Rattle.fancy_regex_states.specs.declared.atom.Leaf.{Leaf}
 use Rattle.fancy_regex_states.specs.declared.atom.Test.{Test}
 use Rattle.fancy_regex_states.specs.declared.rules.Rules.{Rules}
 use Rattle.fancy_regex_states.specs.declared.state.State.{State}
-use Rattle.fancy_regex_states.specs.declared.state.State.TheVariants.{Split, Enter, Leave, Match}
+use Rattle.fancy_regex_states.specs.declared.state.State.TheVariants.{Split, Enter, Leave, Ask, Atomic, Match}
 use Rattle.fancy_regex_states.specs.declared.state.State.TheVariants as S
 
 -- The text as a search reads it, and whether the first or the longest match is wanted.
@@ -21,6 +21,8 @@ pub record View : Type 0 where
   pub holds : Test → ℕ → Bool
   -- leftmost-longest matching, instead of leftmost-first
   pub longest : Bool
+  -- whether states may ask parts
+  pub has_parts : Bool
 
 -- The trace of a successful attempt: its end, and each (slot, offset) that was written, oldest first.
 pub record Trace : Type 0 where
@@ -54,6 +56,10 @@ failed = record { answer = None; depth = 0 }
 abbrev pub accept : Continuation
 accept i = record { answer = Some (record { end = i; writes = [] }); depth = 0 }
 
+-- accepts as far as `stop`
+abbrev pub accept_by : ℕ → Continuation
+accept_by stop i = if nat_le i stop then accept i else failed
+
 abbrev pub guard : Bool → AttemptResult → AttemptResult
 guard b r = if b then record { answer = r.answer; depth = r.depth + 1 } else failed
 
@@ -68,6 +74,38 @@ module _ (longest : Bool) where
   abbrev pub either : AttemptResult → AttemptResult → AttemptResult
   either a b = record { answer = better_trace longest a.answer b.answer; depth = a.depth + b.depth + 1 }
 
+-- these writes before those of what follows
+abbrev pub after_writes : List (ℕ × ℕ) → Option Trace → Option Trace
+after_writes ws None = None
+after_writes ws (Some t) = Some (record { end = t.end; writes = ws ++ t.writes })
+
+-- what follows, where the part has a way or, negated, where it has none; a way's writes stand before the rest
+abbrev pub asked_answer : Bool → Option Trace → Option Trace → Option Trace
+asked_answer false None rest = None
+asked_answer false (Some t) rest = after_writes t.writes rest
+asked_answer true None rest = rest
+asked_answer true (Some t) rest = None
+
+abbrev pub asked : Bool → AttemptResult → AttemptResult → AttemptResult
+asked negated part rest =
+    record { answer = asked_answer negated part.answer rest.answer; depth = part.depth + rest.depth + 1 }
+
+-- what follows at the end of the part's first way
+abbrev pub passed_answer : Option Trace → Continuation → Option Trace
+passed_answer None k = None
+passed_answer (Some t) k = after_writes t.writes (k t.end).answer
+
+abbrev pub passed_depth : Option Trace → Continuation → ℕ
+passed_depth None k = 0
+passed_depth (Some t) k = (k t.end).depth
+
+abbrev pub passed : AttemptResult → Continuation → AttemptResult
+passed part k = record { answer = passed_answer part.answer k; depth = part.depth + passed_depth part.answer k + 1 }
+
+-- after a node that began at i: `same` where it matched the empty string, `moved` where it did not
+unfoldable pub pick : ℕ → Continuation → Continuation → Continuation
+pick i same moved j = if nat_lt i j then moved j else same j
+
 -- each state that this one names is below n
 abbrev pub NamesBelow : ℕ → State → Type 0
 NamesBelow n (S.Read leaf next) = next < n
@@ -75,7 +113,15 @@ NamesBelow n (S.Look check next) = next < n
 NamesBelow n (Split first second) = (first < n) × (second < n)
 NamesBelow n (Enter g next) = next < n
 NamesBelow n (Leave g next) = next < n
+NamesBelow n (Ask part negated next) = (part < n) × (next < n)
+NamesBelow n (Atomic part same moved) = (part < n) × (same < n) × (moved < n)
 NamesBelow n Match = Unit {0}
+
+-- the state asks a part only where states may
+abbrev pub MayAsk : Bool → State → Type 0
+MayAsk has_parts (Ask part negated next) = has_parts ≡ true
+MayAsk has_parts (Atomic part same moved) = has_parts ≡ true
+MayAsk has_parts _ = Unit {0}
 
 module _ (view : View) (stop : ℕ) where
   -- whether the leaf matches the character here, which ends by `stop`
@@ -89,22 +135,26 @@ module _ (view : View) (stop : ℕ) where
   visit go (Split first second) i = either view.longest (go first i) (go second i)
   visit go (Enter g next) i = save (2 * g) i (go next i)
   visit go (Leave g next) i = save (2 * g + 1) i (go next i)
+  visit go (Ask part negated next) i = asked negated (go part i) (go next i)
+  visit go (Atomic part same moved) i = passed (go part i) (pick i (go same) (go moved))
   visit go Match i = accept i
 
   -- the state q does what `go q` says, as far as the states that it names do
   pub record Agrees (go : ℕ → Continuation) (count q : ℕ) (state : State) : Type 0 where
     pub names : NamesBelow count state
+    pub asks : MayAsk view.has_parts state
     pub does : (i : ℕ) → i ≤ stop → go q i ≡ visit go state i
 
 -- all states do what `go` says
 abbrev pub AllAgree : View → ℕ → List State → (ℕ → Continuation) → Type 0
 AllAgree view stop states go = (q : ℕ) → q < length states → Agrees view stop go (length states) q (state_at states q)
 
--- the view agrees with the characters before and after this offset
+-- the view agrees with the characters before and after this offset, and states ask no parts
 pub record Shows (matchers : List CharClassMatcher) (rules : Rules) (view : View) (at : ℕ) (before after : Option ℕ) : Type 0 where
   pub has : (leaf : Leaf) → view.has leaf at ≡ is_some_and after (leaf_matches_char rules.unicode matchers leaf)
   pub next : view.next at ≡ at + unwrap_or (option_map len_utf8 after) 1
   pub holds : (test : Test) → view.holds test at ≡ passes matchers rules test before after
+  pub no_parts : view.has_parts ≡ false
 
 -- it does so of each boundary of the text
 abbrev pub ShowsAll : List CharClassMatcher → Rules → List ℕ → View → Type 0

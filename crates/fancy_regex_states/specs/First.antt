@@ -9,7 +9,7 @@ use Rattle.fancy_regex_states.specs.declared.atom.Test.{Test}
 use Rattle.fancy_regex_states.specs.declared.atom.Test.TheVariants.{StartText}
 use Rattle.fancy_regex_states.specs.declared.first.FirstChars.{FirstChars}
 use Rattle.fancy_regex_states.specs.declared.state.State.{State}
-use Rattle.fancy_regex_states.specs.declared.state.State.TheVariants.{Split, Enter, Leave, Match}
+use Rattle.fancy_regex_states.specs.declared.state.State.TheVariants.{Split, Enter, Leave, Ask, Atomic, Match}
 use Rattle.fancy_regex_states.specs.declared.state.State.TheVariants as S
 
 -- the state of this number
@@ -28,6 +28,8 @@ Leads (S.Look check next) p = MayHold check × (p ≡ next)
 Leads (Split first second) p = (p ≡ first) ⊎ (p ≡ second)
 Leads (Enter g next) p = p ≡ next
 Leads (Leave g next) p = p ≡ next
+Leads (Ask part negated next) p = p ≡ next
+Leads (Atomic part same moved) p = p ≡ part
 Leads Match p = ⊥
 
 -- the states that the entry leads to without reading, where a character stands before

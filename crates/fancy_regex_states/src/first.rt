@@ -150,7 +150,10 @@ fn add_led(found: &mut Vec<usize>, state: State) -> Result<(), AllocError>
             }
             add_number(found, next)
         }
-        State::Enter { next, .. } | State::Leave { next, .. } => add_number(found, next),
+        State::Enter { next, .. } | State::Leave { next, .. } | State::Ask { next, .. } => {
+            add_number(found, next)
+        }
+        State::Atomic { part, .. } => add_number(found, part),
         State::Split { first, second } => {
             add_number(found, first)?;
             add_number(found, second)
@@ -199,9 +202,12 @@ fn add_leaf(leaves: &mut Vec<Leaf>, state: State) -> Result<bool, AllocError>
             leaves.push(leaf)?;
             Ok(true)
         }
-        State::Look { .. } | State::Split { .. } | State::Enter { .. } | State::Leave { .. } => {
-            Ok(true)
-        }
+        State::Look { .. }
+        | State::Split { .. }
+        | State::Enter { .. }
+        | State::Leave { .. }
+        | State::Ask { .. }
+        | State::Atomic { .. } => Ok(true),
         State::Match => Ok(false),
     }
 }

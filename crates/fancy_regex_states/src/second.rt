@@ -71,9 +71,12 @@ fn refuse_after(
                 None => Ok(false),
             }
         }
-        State::Look { .. } | State::Split { .. } | State::Enter { .. } | State::Leave { .. } => {
-            Ok(true)
-        }
+        State::Look { .. }
+        | State::Split { .. }
+        | State::Enter { .. }
+        | State::Leave { .. }
+        | State::Ask { .. }
+        | State::Atomic { .. } => Ok(true),
         State::Match => Ok(false),
     }
 }

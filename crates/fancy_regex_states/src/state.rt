@@ -15,6 +15,18 @@ pub enum State {
     Enter { group: usize, next: usize },
     /// Writes the end of the capture group of this number.
     Leave { group: usize, next: usize },
-    /// The pattern has matched.
+    /// Asks the part that begins at the state `part`: continues where it has a way from here or, where `negated`, where it has none.
+    Ask {
+        part: usize,
+        negated: bool,
+        next: usize,
+    },
+    /// Continues where the first way of the part that begins at the state `part` ends: at `same` if that is here, else at `moved`.
+    Atomic {
+        part: usize,
+        same: usize,
+        moved: usize,
+    },
+    /// The pattern, or the part, has matched.
     Match,
 }

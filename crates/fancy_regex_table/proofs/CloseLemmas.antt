@@ -2,7 +2,7 @@
 use Rattle.std.proofs.Common.{◌≡◌, ℕ, ◌+◌, ◌*◌, ◌<◌, ◌≤◌, ◌⊎◌, Bool, true, false, List, [], ◌∷◌, ◌++◌, length, reverse, Option, Some, None, refl, sym, ap, subst, ◌∙◌, inl, inr, arith}
 use Rattle.std.proofs.lemmas.List.{reverse-append, reverse-reverse}
 use Rattle.std.specs.Prelude.{if◌then◌else◌}
-use Rattle.fancy_regex_states.specs.Attempts.{View, Continuation, AttemptResult, visit, reads}
+use Rattle.fancy_regex_states.specs.Attempts.{View, Continuation, AttemptResult, MayAsk, visit, reads}
 use Rattle.fancy_regex_states.specs.First.{state_at}
 use Rattle.fancy_regex_states.specs.declared.state.State.{State}
 use Rattle.fancy_regex_states.specs.declared.state.State.TheVariants as S
@@ -20,25 +20,27 @@ module _ (view : View) (stop : ℕ) (go : ℕ → Continuation) (i : ℕ) (befor
   look_end false next = refl
 
   -- the end of a state is that of its reading, or of what it leads to, or here
-  pub end_led : (state : State) (r : AttemptResult) → view.longest ≡ false → r ≡ visit view stop go state i → HoldsAs view i before after state
+  pub end_led : (state : State) (r : AttemptResult) → view.longest ≡ false → MayAsk false state → r ≡ visit view stop go state i → HoldsAs view i before after state
       → end_of r.answer ≡ or_else (read_end view stop go i state) (or_else (first_end go i (led_to before after state)) (end_if (is_final state) i))
-  end_led (S.Read leaf next) r first e h =
+  end_led (S.Read leaf next) r first asks e h =
       ap (λ v. end_of v.answer) e ∙ end_guard (reads view stop leaf i) (go next (view.next i)) ∙ sym (or_else_none (read_end view stop go i (S.Read leaf next)))
-  end_led (S.Look test next) r first e h =
+  end_led (S.Look test next) r first asks e h =
       ap (λ v. end_of v.answer) e ∙ end_guard (view.holds test i) (go next i)
       ∙ ap (λ (b : Bool). if b then end_at go i next else None) h ∙ look_end (holds_between test before after) next
-  end_led (S.Split one two) r first e h =
+  end_led (S.Split one two) r first asks e h =
       ap (λ v. end_of v.answer) e
       ∙ subst (λ (b : Bool). end_of (visit (record view { longest = b }) stop go (S.Split one two) i).answer ≡ or_else (end_at go i one) (end_at go i two)) (sym first)
       (end_better (go one i).answer (go two i).answer)
       ∙ sym (or_else_none (or_else (end_at go i one) (or_else (end_at go i two) None)) ∙ ap (or_else (end_at go i one)) (or_else_none (end_at go i two)))
-  end_led (S.Enter g next) r first e h =
+  end_led (S.Enter g next) r first asks e h =
       ap (λ v. end_of v.answer) e ∙ end_write (2 * g) i (go next i).answer
       ∙ sym (or_else_none (or_else (end_at go i next) None) ∙ or_else_none (end_at go i next))
-  end_led (S.Leave g next) r first e h =
+  end_led (S.Leave g next) r first asks e h =
       ap (λ v. end_of v.answer) e ∙ end_write (2 * g + 1) i (go next i).answer
       ∙ sym (or_else_none (or_else (end_at go i next) None) ∙ or_else_none (end_at go i next))
-  end_led S.Match r first e h = ap (λ v. end_of v.answer) e
+  end_led (S.Ask part negated next) r first asks e h = cc
+  end_led (S.Atomic part same moved) r first asks e h = cc
+  end_led S.Match r first asks e h = ap (λ v. end_of v.answer) e
 
   pub final_end : (state : State) (r : AttemptResult) → view.longest ≡ false → r ≡ visit view stop go state i → HoldsAs view i before after state
       → is_final state ≡ true → end_of r.answer ≡ Some i
@@ -47,6 +49,8 @@ module _ (view : View) (stop : ℕ) (go : ℕ → Continuation) (i : ℕ) (befor
   final_end (S.Split one two) r first e h final = cc
   final_end (S.Enter g next) r first e h final = cc
   final_end (S.Leave g next) r first e h final = cc
+  final_end (S.Ask part negated next) r first e h final = cc
+  final_end (S.Atomic part same moved) r first e h final = cc
   final_end S.Match r first e h final = ap (λ v. end_of v.answer) e
 
   -- these are less deep than d
@@ -71,6 +75,8 @@ module _ (view : View) (stop : ℕ) (go : ℕ → Continuation) (i : ℕ) (befor
       (omega arith, (omega arith, tt))
   led_below (S.Enter g next) r d e h le = let same : r.depth ≡ (go next i).depth + 1 = ap (λ v. v.depth) e in (omega arith, tt)
   led_below (S.Leave g next) r d e h le = let same : r.depth ≡ (go next i).depth + 1 = ap (λ v. v.depth) e in (omega arith, tt)
+  led_below (S.Ask part negated next) r d e h le = tt
+  led_below (S.Atomic part same moved) r d e h le = tt
   led_below S.Match r d e h le = tt
 
   -- one of these has a way, and it and those before it are less deep than d
@@ -146,6 +152,8 @@ module _ (view : View) (stop : ℕ) (go : ℕ → Continuation) (i : ℕ) (befor
     not_read (S.Split one two) e = refl
     not_read (S.Enter g next) e = refl
     not_read (S.Leave g next) e = refl
+    not_read (S.Ask part negated next) e = refl
+    not_read (S.Atomic part same moved) e = refl
     not_read S.Match e = refl
 
     grown_read : (b : Bool) → is_reader (state_at states q) ≡ b → first_read view stop go i states (if b then done ++ q ∷ [] else done)
@@ -174,20 +182,20 @@ module _ (view : View) (stop : ℕ) (go : ℕ → Continuation) (i : ℕ) (befor
         (lives_front d (led_to before after (state_at states q)) stack below (λ none. lives refl (sym fl_is ∙ none))))
 
     -- a state that was not seen gives way to what it leads to
-    pub so_far_next : (now : StateSet) (fresh after_reads : List ℕ) → view.longest ≡ false → go q i ≡ visit view stop go (state_at states q) i
+    pub so_far_next : (now : StateSet) (fresh after_reads : List ℕ) → view.longest ≡ false → MayAsk false (state_at states q) → go q i ≡ visit view stop go (state_at states q) i
         → HoldsAs view i before after (state_at states q) → is_final (state_at states q) ≡ false
         → ((p : ℕ) → Has now p → Has seen p ⊎ (p ≡ q))
         → fresh ≡ led_to before after (state_at states q) ++ stack
         → after_reads ≡ (if is_reader (state_at states q) then done ++ q ∷ [] else done)
         → SoFar states from now fresh after_reads
-    so_far_next now fresh after_reads first does holds final added is_fresh is_after =
+    so_far_next now fresh after_reads first asks does holds final added is_fresh is_after =
         let state = state_at states q in
         let led = led_to before after state in
         let fr = first_read view stop go i states done in
         let re = read_end view stop go i state in
         let fl = first_end go i led in
         let end_is : end_at go i q ≡ or_else re (or_else fl None) =
-        end_led state (go q i) first does holds ∙ ap (λ (b : Bool). or_else re (or_else fl (end_if b i))) final in
+        end_led state (go q i) first asks does holds ∙ ap (λ (b : Bool). or_else re (or_else fl (end_if b i))) final in
         let read_is : first_read view stop go i states after_reads ≡ or_else fr re =
         ap (first_read view stop go i states) is_after ∙ grown_read (is_reader state) refl in
         let rest_is : first_end go i fresh ≡ or_else fl (first_end go i stack) =
@@ -255,7 +263,7 @@ pub so_far_followed : (states : List State) (before after : Sort) (from : List �
 so_far_followed states before after from seen now stack rest fresh done reads q so_far is lt added final is_fresh is_reads view stop go i m le holds =
     so_far_next view stop go i before after states from seen q (reverse rest) done
     (subst (λ (xs : List ℕ). SoFar view stop go i before after states from seen xs done) (popped stack rest q is) (so_far view stop go i m le holds))
-    now (reverse fresh) reads m.first ((m.agree q lt).does i le) (holds q lt) final added is_fresh is_reads
+    now (reverse fresh) reads m.first (subst (λ (b : Bool). MayAsk b (state_at states q)) m.no_parts (m.agree q lt).asks) ((m.agree q lt).does i le) (holds q lt) final added is_fresh is_reads
 
 not_reader : (state : State) → is_final state ≡ true → is_reader state ≡ false
 not_reader (S.Read leaf next) e = cc
@@ -263,6 +271,8 @@ not_reader (S.Look test next) e = refl
 not_reader (S.Split one two) e = refl
 not_reader (S.Enter g next) e = refl
 not_reader (S.Leave g next) e = refl
+not_reader (S.Ask part negated next) e = refl
+not_reader (S.Atomic part same moved) e = refl
 not_reader S.Match e = refl
 
 pub so_far_ended : (states : List State) (before after : Sort) (from : List ℕ) (seen : StateSet) (stack rest done reads : List ℕ) (q : ℕ)

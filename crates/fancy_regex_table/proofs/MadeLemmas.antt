@@ -25,6 +25,8 @@ alike_same unicode matchers c (S.Look test next) = tt
 alike_same unicode matchers c (S.Split first second) = tt
 alike_same unicode matchers c (S.Enter g next) = tt
 alike_same unicode matchers c (S.Leave g next) = tt
+alike_same unicode matchers c (S.Ask part negated next) = tt
+alike_same unicode matchers c (S.Atomic part same moved) = tt
 alike_same unicode matchers c S.Match = tt
 
 module _ (parts : Parts) (columns : List Column) (alphabet : Alphabet) (is_alphabet : IsAlphabetOf parts.unicode parts.matchers parts.states alphabet)

@@ -12,9 +12,10 @@ use Rattle.fancy_regex_table.specs.Sorts.{holds_between}
 use Rattle.fancy_regex_table.specs.declared.close.Closed.{Closed}
 use Rattle.fancy_regex_table.specs.declared.sort.Sort.{Sort}
 
--- the states do what `go` says, and the first match is wanted
+-- the states do what `go` says and ask no parts, and the first match is wanted
 pub record IsMeaning (states : List State) (view : View) (stop : ℕ) (go : ℕ → Continuation) : Type 0 where
   pub first : view.longest ≡ false
+  pub no_parts : view.has_parts ≡ false
   pub agree : AllAgree view stop states go
 
 -- the assertion of the state holds here as between characters of these sorts
@@ -83,6 +84,8 @@ led_to before after (S.Split first second) = first ∷ second ∷ []
 led_to before after (S.Enter group next) = next ∷ []
 led_to before after (S.Leave group next) = next ∷ []
 led_to before after S.Match = []
+led_to before after (S.Ask part negated next) = []
+led_to before after (S.Atomic part same moved) = []
 
 abbrev pub is_reader : State → Bool
 is_reader (S.Read leaf next) = true

@@ -132,5 +132,7 @@ fn follow(
             Ok(false)
         }
         State::Match => Ok(true),
+        // No state of an easy pattern asks a part.
+        State::Ask { .. } | State::Atomic { .. } => Ok(false),
     }
 }

@@ -8,7 +8,7 @@ groups_in_row-returns t c = count_whole c.args.children.now c.loop-i.i _ c.loop-
 
 pub groups_in_row-loop-i-init : goal.groups_in_row-loop-i-init
 unfolding group_count
-groups_in_row-loop-i-init t c = λ plain. refl
+groups_in_row-loop-i-init t c = λ regular. refl
 
 pub groups_in_row-loop-i-preserved : goal.groups_in_row-loop-i-preserved
 groups_in_row-loop-i-preserved t c =

@@ -23,7 +23,7 @@ returns-clause-visit c =
           let here = get_or_default c.args.context.now.states.now c.args.id (Read (Any false false) 0) Match pair.state in
           c.in_ok-next.ensures.tracking view go c.args.id explains.longest
           (explains.shows c.args.at pair.boundary)
-          explains.agree
+          (rw here (explains.agree c.args.id pair.state).asks)
           (rw here ((explains.agree c.args.id pair.state).does c.args.at pair.high))
           aim best bottom c.args.visited.now c.insert_pair.new.self c.insert_pair.ensures.adds d;
       next = c.in_ok-next.ensures.next c.args.visited.now.base pair.low;

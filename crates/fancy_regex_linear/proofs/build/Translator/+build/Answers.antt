@@ -1,4 +1,4 @@
-use Rattle.std.proofs.Common.{◌≡◌, ℕ, vec_len, Bool, true, false, ◌==◌, ap₂, ◌∙◌, ◌∷◌, [], ◌&&◌, ◌||◌, not, length, map, ap, sym, refl, rules}
+use Rattle.std.proofs.Common.{◌≡◌, ℕ, vec_len, Bool, true, false, ◌==◌, ap₂, ◌∙◌, ◌∷◌, [], ◌&&◌, ◌||◌, not, length, map, ap, sym, refl, rules, arith}
 use Rattle.fancy_regex_tree.specs.Tree.{tree_of, concat, alt}
 use Rattle.fancy_regex_linear.specs.Re as re
 use Rattle.fancy_regex_linear.specs.Re.{Re, shape, shapes, cats, alts}
@@ -7,8 +7,8 @@ use Rattle.fancy_regex_linear.specs.Program.{never_empty}
 use Rattle.fancy_regex_linear.specs.Plain.{classes, re_of}
 use Rattle.fancy_regex_linear.specs.Refusals.{IsClassCause}
 use Rattle.fancy_regex_linear.specs.Translation.{all_trees, all_move}
-use Rattle.fancy_regex_linear.proofs.PlainLemmas.{flag_is}
-use Rattle.fancy_regex_linear.proofs.BuildLemmas.{row_none, row_sound, branches_sound, cause_in_row, if_ok, nodes_step, row_whole, row_is, branches_is, row_moves, all_moves, branches_move}
+use Rattle.fancy_regex_linear.proofs.PlainLemmas.{one_char_groups, one_char_classes, body_regular, sound_asking, never_asking, flag_is}
+use Rattle.fancy_regex_linear.proofs.BuildLemmas.{look_is, asking_is, row_none, row_sound, branches_sound, cause_in_row, if_ok, nodes_step, row_whole, row_is, branches_is, row_moves, all_moves, branches_move}
 use Rattle.std.proofs.lemmas.List.{map-append, length-map}
 use Rattle.fancy_regex_linear.proofs.ShapeLemmas.{tree_concat, tree_alt, shape_concat, shape_alt, shape_repeat}
 use Rattle.fancy_regex_linear.proofs.build.Translator.+build.Goals as goal
@@ -29,14 +29,14 @@ translated-returns-in-Alt-clause-shape t c =
     rw e (if_ok c.branches.result (λ translated h p groups. h p.1 groups) c.branches.ensures.shape)
 
 pub repeat-returns-clause-shape : goal.repeat-returns-clause-shape
-repeat-returns-clause-shape t c = λ plain groups.
+repeat-returns-clause-shape t c = λ regular groups.
     let unicode = c.args.self.now.unicode in
     let n = c.args.self.now.next_group in
     let k = length c.args.self.now.matchers.items in
     let child = tree_of c.args.child.now in
     let flag : c.in_ok-translated.translated.moves ≡ not (may_be_empty groups child) =
-    c.in_ok-translated.ensures.moves ∙ ap never_empty (c.in_ok-translated.ensures.shape plain groups) ∙ sym (flag_is unicode groups n k child plain) in
-    let body : shape c.in_ok-boxed.field-0.value ≡ re_of unicode groups n k child = ap shape c.in_ok-boxed.ensures ∙ c.in_ok-translated.ensures.shape plain groups in
+    c.in_ok-translated.ensures.moves ∙ ap never_empty (c.in_ok-translated.ensures.shape regular groups) ∙ sym (flag_is unicode groups n k child regular) in
+    let body : shape c.in_ok-boxed.field-0.value ≡ re_of unicode groups n k child = ap shape c.in_ok-boxed.ensures ∙ c.in_ok-translated.ensures.shape regular groups in
     rw (sym c.is_never_repeated.ensures ∙ c.if-is_never_repeated.false)
     (shape_repeat c.in_ok-boxed.field-0 (record { lo = c.args.lo; hi = c.args.hi; greedy = c.args.greedy; moves = c.in_ok-translated.translated.moves })
     ∙ ap₂ (λ (b : Bool) (x : Re). re.repeat c.args.lo c.args.hi c.args.greedy b x) flag body)
@@ -75,10 +75,10 @@ row-returns-clause-sound t c =
     rw (shape_concat c.loop-i.parts) (row_sound (shapes c.loop-i.parts.items) built.sound)
 
 pub row-returns-clause-shape : goal.row-returns-clause-shape
-row-returns-clause-shape t c = λ plain groups.
+row-returns-clause-shape t c = λ regular groups.
     let built = row_whole _ _ c.args.children.now c.loop-i.i _ c.loop-i-test.false c.loop-i.invariant.built in
     shape_concat c.loop-i.parts
-    ∙ ap cats (built.patterns plain groups)
+    ∙ ap cats (built.patterns regular groups)
     ∙ row_is c.args.self.now.unicode groups (map tree_of c.args.children.now) c.args.self.now.next_group (length c.args.self.now.matchers.items)
 
 pub branches-loop-i-init : goal.branches-loop-i-init
@@ -131,10 +131,10 @@ branches-returns-clause-sound t c =
     rw (shape_alt c.loop-i.parts) (branches_sound (shapes c.loop-i.parts.items) built.sound)
 
 pub branches-returns-clause-shape : goal.branches-returns-clause-shape
-branches-returns-clause-shape t c = λ plain groups.
+branches-returns-clause-shape t c = λ regular groups.
     let built = row_whole _ _ c.args.children.now c.loop-i.i _ c.loop-i-test.false c.loop-i.invariant.built in
     shape_alt c.loop-i.parts
-    ∙ ap alts (built.patterns plain groups)
+    ∙ ap alts (built.patterns regular groups)
     ∙ branches_is c.args.self.now.unicode groups (map tree_of c.args.children.now) c.args.self.now.next_group (length c.args.self.now.matchers.items)
 
 pub row-returns-in_err-translated-clause-refused : goal.row-returns-in_err-translated-clause-refused
@@ -154,3 +154,40 @@ branches-returns-in_err-translated-clause-refused t c =
     cause_in_row c.args.self.now.unicode c.args.children.now c.loop-i.i c.index-children-i.result c.in_err-translated.field-0.0 c.loop-i-test.true
     c.index-children-i.is cause in
     search rules
+
+pub look_around-returns-then-is_one_char-clause-groups : goal.look_around-returns-then-is_one_char-clause-groups
+look_around-returns-then-is_one_char-clause-groups t c = λ regular.
+    omega (arith, c.in_ok-leaf.ensures.groups, one_char_groups (tree_of c.args.child.now) (c.is_one_char.ensures.one c.if-is_one_char.true))
+
+pub look_around-returns-then-is_one_char-clause-matchers : goal.look_around-returns-then-is_one_char-clause-matchers
+look_around-returns-then-is_one_char-clause-matchers t c =
+    rw (one_char_classes (tree_of c.args.child.now) (c.is_one_char.ensures.one c.if-is_one_char.true)) c.in_ok-leaf.ensures.matchers
+
+pub look_around-returns-then-is_one_char-clause-shape : goal.look_around-returns-then-is_one_char-clause-shape
+look_around-returns-then-is_one_char-clause-shape t c = λ regular groups.
+    look_is c.args.self.now.unicode (length c.args.self.now.matchers.items) (tree_of c.args.child.now) c.args.look c.in_ok-leaf.leaf _ _
+    (c.is_one_char.ensures.one c.if-is_one_char.true) c.in_ok-leaf.ensures.leaf c.look_node.ensures.shape
+
+pub look_around-returns-in_err-leaf-clause-refused : goal.look_around-returns-in_err-leaf-clause-refused
+look_around-returns-in_err-leaf-clause-refused t c =
+    rw (one_char_classes (tree_of c.args.child.now) (c.is_one_char.ensures.one c.if-is_one_char.true)) c.in_err-leaf.ensures.refused
+
+pub look_around-returns-clause-groups : goal.look_around-returns-clause-groups
+look_around-returns-clause-groups t c = λ regular.
+    c.in_ok-translated.ensures.groups (body_regular (tree_of c.args.child.now) c.args.look regular)
+
+pub look_around-returns-clause-still : goal.look_around-returns-clause-still
+look_around-returns-clause-still t c = ap never_empty c.asking_node.ensures ∙ never_asking c.args.look (shape c.in_ok-boxed.body.value)
+
+pub look_around-returns-clause-sound : goal.look_around-returns-clause-sound
+look_around-returns-clause-sound t c =
+    rw c.asking_node.ensures (sound_asking c.args.look (shape c.in_ok-boxed.body.value) (rw c.in_ok-boxed.ensures c.in_ok-translated.ensures.sound))
+
+pub look_around-returns-clause-shape : goal.look_around-returns-clause-shape
+look_around-returns-clause-shape t c = λ regular groups.
+    let unicode = c.args.self.now.unicode in
+    let n = c.args.self.now.next_group in
+    let k = length c.args.self.now.matchers.items in
+    asking_is unicode groups n k (tree_of c.args.child.now) c.args.look (shape c.asking_node.result) (shape c.in_ok-boxed.body.value)
+    (c.is_one_char.ensures.none c.if-is_one_char.false unicode k) c.asking_node.ensures
+    (λ body. ap shape c.in_ok-boxed.ensures ∙ c.in_ok-translated.ensures.shape body groups) regular

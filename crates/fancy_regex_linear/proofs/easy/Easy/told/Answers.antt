@@ -9,7 +9,7 @@ use Rattle.fancy_regex_linear.specs.Starts.{spot_from}
 use Rattle.fancy_regex_linear.specs.Tellings.{has_match}
 use Rattle.fancy_regex_linear.proofs.AnswerLemmas.{program_does, closed, entry_in, span_is_match}
 use Rattle.fancy_regex_linear.proofs.CharTestLemmas.{shows_all}
-use Rattle.fancy_regex_linear.proofs.PlainLemmas.{sound}
+use Rattle.fancy_regex_linear.proofs.PlainLemmas.{sound, plain_may}
 use Rattle.fancy_regex_linear.proofs.ToldLemmas.{map_some, tells, told_goes_on}
 use Rattle.fancy_regex_linear.proofs.easy.Easy.told.Goals as goal
 
@@ -42,7 +42,8 @@ returns-clause-told c pattern is =
     let input = c.args.input.now in
     let re = re_of self.unicode pattern.groups pattern.first_group 0 pattern.tree in
     let view = view_of (setting_for self.unicode text input) (classes pattern.tree) self.longest in
-    let d = program_does view input.range.end self.states.items self.entry re (is.serves.program, sound self.unicode pattern.groups pattern.first_group 0 pattern.tree is.serves.plain) in
+    let d = program_does view input.range.end self.states.items self.entry re (is.serves.program, sound self.unicode pattern.groups pattern.first_group 0 pattern.tree is.serves.plain)
+    (plain_may self.unicode pattern.groups pattern.first_group 0 pattern.tree is.serves.plain) in
     let shows = shows_all self.unicode self.longest text input self.matchers.items (classes pattern.tree) is.serves.matchers_are c.utf8.text in
     let below : input.first ≤ input.range.end = omega (arith, c.if-at-stop.false) in
     let free : List ℕ = replicate (2 * length pattern.groups) 18446744073709551615 in

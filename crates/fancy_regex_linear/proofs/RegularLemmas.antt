@@ -1,0 +1,391 @@
+-- A regular tree and its pattern have the same first way, whichever places are wanted. A look-ahead keeps each way of its body,
+-- and its pattern the first, so that their other ways differ.
+use Rattle.std.proofs.Common.{◌≡◌, ◌≢◌, ℕ, zero, suc, ◌+◌, ◌-◌, ◌<◌, ◌≤◌, ◌==◌, Bool, true, false, cond, not, ◌&&◌, ◌||◌, ◌*◌, List, [], ◌∷◌, ◌++◌, map, length, slice_index, Option, Some, None, if◌then◌else◌, nat_le, set, refl, sym, ap, ap₂, ◌∙◌, inl, inr, ◌⊎◌, arith, lt-ltb, le-ltb, le-leb, leb-true, eq-eqb, ne_eqb, append-nil}
+use Rattle.std.specs.Prelude.{option_map, is_some}
+use Rattle.std.specs.List.{flat_map, find, list_any}
+use Rattle.std.specs.Option.{option_or, option_and_then}
+use Rattle.std.proofs.lemmas.Bool.{and_parts, cases_lt}
+use Rattle.std.proofs.lemmas.List.{map-append}
+use Rattle.std.proofs.lemmas.List.Folds.{find-append}
+use Rattle.std.proofs.lemmas.Option.{none-some, same_Some}
+use Rattle.fancy_regex_tree.specs.Tree.{Tree, Trees, Text, empty, any, assertion, literal, concat, alt, group, look_around, repeat, delegate, atomic_group, no_trees, more_trees}
+use Rattle.fancy_regex_tree.specs.declared.expr.LookAround.{LookAround}
+use Rattle.fancy_regex_tree.specs.declared.expr.LookAround.TheVariants.{LookAhead, LookAheadNeg, LookBehind, LookBehindNeg}
+use Rattle.regex_hir.specs.Text.{char_at}
+use Rattle.fancy_regex_class.specs.Classes.{folded}
+use Rattle.fancy_regex_class.specs.RunInputs.{group_slots}
+use Rattle.fancy_regex_meaning.specs.Groups.{group_count}
+use Rattle.fancy_regex_meaning.specs.Sizes.{bound_of}
+use Rattle.fancy_regex_meaning.specs.Ways.{MatchState, Moves, Setting, Meaning, meaning, meanings, all_of, any_of, prefer, due, up_to, loop, keep_only_pairs, first_only, is_none_of, match_empty_if}
+use Rattle.fancy_regex_meaning.specs.Ways as ways
+use Rattle.fancy_regex_states.specs.Attempts.{View, reads}
+use Rattle.fancy_regex_states.specs.declared.atom.Leaf.TheVariants.{Any}
+use Rattle.fancy_regex_linear.specs.Re.{Re, nothing, read, test, cat}
+use Rattle.fancy_regex_linear.specs.Re as re
+use Rattle.fancy_regex_linear.specs.Plain.{IsRegular, AreRegular, IsOneChar, looked, asking, char_leaf, has_no_iteration, unless, classes, row_classes, re_of, row_of, branches_of}
+use Rattle.fancy_regex_linear.specs.SettingView.{view_of}
+use Rattle.fancy_regex_linear.specs.Meaning.{Spot, each, in_order, after_iteration, loop_ways, times_ways, upto_ways, tail_ways, is_unbounded, asked_ways, first_way}
+use Rattle.fancy_regex_linear.specs.Meaning as plain
+use Rattle.fancy_regex_linear.proofs.BoundLemmas.{AllOf, Between, Ends, ways_end}
+use Rattle.fancy_regex_linear.proofs.EndLemmas.{ends, GoesByPlace, after_alike, loop_alike, times_alike, upto_alike, tail_alike, ways_alike}
+use Rattle.fancy_regex_linear.proofs.MeaningLemmas.{spot_of, Same, no_iterations, flat_set, map_map, char_same, StandAt, stand_left, stand_right, all_stand, assertion_same, literal_same, class_same, look_same}
+use Rattle.fancy_regex_linear.proofs.CarryLemmas.{Lacks, put, map_twice, ways_carry}
+use Rattle.fancy_regex_linear.proofs.PlainLemmas.{lacks}
+
+-- the first of these spots at a place that is wanted
+abbrev pub first_at : (ℕ → Bool) → List Spot → Option Spot
+first_at wanted = find (λ s. wanted s.at)
+
+-- both lists have the same first spot, whichever places are wanted
+abbrev pub SameFirst : List Spot → List Spot → Type 0
+SameFirst us ws = (wanted : ℕ → Bool) → first_at wanted us ≡ first_at wanted ws
+
+-- these moves have the first ways of that list
+abbrev pub HasFirsts : ℕ → Moves → (Spot → List Spot) → Type 0
+HasFirsts len f list = (w : MatchState) → w.position ≤ len → SameFirst (map spot_of (f w)) (list (spot_of w))
+
+of_same : (len : ℕ) (f : Moves) (list : Spot → List Spot) → Same len f list → HasFirsts len f list
+of_same len f list same w p wanted = ap (first_at wanted) (same w p)
+
+first_append : (us vs ws xs : List Spot) → SameFirst us ws → SameFirst vs xs → SameFirst (us ++ vs) (ws ++ xs)
+first_append us vs ws xs a b wanted =
+    find-append (λ s. wanted s.at) us vs ∙ ap₂ option_or (a wanted) (b wanted) ∙ sym (find-append (λ s. wanted s.at) ws xs)
+
+first_order : (g : Bool) (us vs ws xs : List Spot) → SameFirst us ws → SameFirst vs xs → SameFirst (in_order g us vs) (in_order g ws xs)
+first_order true us vs ws xs a b = first_append us vs ws xs a b
+first_order false us vs ws xs a b = first_append vs us xs ws b a
+
+-- whether there is one
+some_here : (b : Bool) (u : Spot) (o : Option Spot) (c : Bool) → is_some o ≡ c → is_some (cond b (Some u) o) ≡ (b || c)
+some_here true u o c e = refl
+some_here false u o c e = e
+
+any_at : (wanted : ℕ → Bool) (us : List Spot) → is_some (first_at wanted us) ≡ list_any wanted (ends us)
+any_at wanted [] = refl
+any_at wanted (u ∷ us) = some_here (wanted u.at) u (first_at wanted us) (list_any wanted (ends us)) (any_at wanted us)
+
+-- From each spot of a list: the first is from the first spot from which there is one.
+module _ (list : Spot → List Spot) (by_place : GoesByPlace list) (wanted : ℕ → Bool) where
+  abbrev leads : ℕ → Bool
+  leads p = is_some (first_at wanted (list (record { at = p; slots = [] })))
+
+  leads_on : (u : Spot) → leads u.at ≡ is_some (first_at wanted (list u))
+  leads_on u =
+      let here : Spot = record { at = u.at; slots = [] } in
+      any_at wanted (list here) ∙ ap (list_any wanted) (by_place here u refl) ∙ sym (any_at wanted (list u))
+
+  or_later : (b : Bool) (u : Spot) (o later first : Option Spot) → b ≡ is_some o → first_at wanted (list u) ≡ o → later ≡ option_and_then (λ w. first_at wanted (list w)) first
+      → option_or o later ≡ option_and_then (λ w. first_at wanted (list w)) (cond b (Some u) first)
+  or_later true u (Some x) later first e f g = sym f
+  or_later true u None later first e f g = cc
+  or_later false u (Some x) later first e f g = cc
+  or_later false u None later first e f g = g
+
+  first_each : (us : List Spot) → first_at wanted (each list us) ≡ option_and_then (λ w. first_at wanted (list w)) (first_at leads us)
+  first_each [] = refl
+  first_each (u ∷ us) =
+      find-append (λ s. wanted s.at) (list u) (each list us)
+      ∙ or_later (leads u.at) u (first_at wanted (list u)) (first_at wanted (each list us)) (first_at leads us) (leads_on u) refl (first_each us)
+
+same_each : (list : Spot → List Spot) → GoesByPlace list → (us ws : List Spot) → SameFirst us ws → SameFirst (each list us) (each list ws)
+same_each list by_place us ws same wanted =
+    first_each list by_place wanted us
+    ∙ ap (option_and_then (λ w. first_at wanted (list w))) (same (leads list by_place wanted))
+    ∙ sym (first_each list by_place wanted ws)
+
+-- one after another
+flat_firsts : (P : Spot → Type 0) (g : Moves) (list : Spot → List Spot) (vs : List MatchState) → AllOf P (map spot_of vs)
+    → ((v : MatchState) → P (spot_of v) → SameFirst (map spot_of (g v)) (list (spot_of v))) → SameFirst (map spot_of (flat_map g vs)) (each list (map spot_of vs))
+flat_firsts P g list [] all same wanted = refl
+flat_firsts P g list (v ∷ vs) all same wanted =
+    ap (first_at wanted) (map-append spot_of (g v) (flat_map g vs))
+    ∙ first_append (map spot_of (g v)) (map spot_of (flat_map g vs)) (list (spot_of v)) (each list (map spot_of vs)) (same v all.0) (flat_firsts P g list vs all.1 same) wanted
+
+-- Ways with the same firsts end within the same bounds.
+abbrev is_outside : ℕ → ℕ → ℕ → Bool
+is_outside low stop p = not (nat_le low p && nat_le p stop)
+
+inside_here : (b : Bool) (u : Spot) (rest : Option Spot) → b ≡ true → cond (not b) (Some u) rest ≡ rest
+inside_here true u rest e = refl
+inside_here false u rest e = cc
+
+none_outside : (low stop : ℕ) (ws : List Spot) → AllOf (Between low stop) ws → first_at (is_outside low stop) ws ≡ None
+none_outside low stop [] all = refl
+none_outside low stop (w ∷ ws) all =
+    inside_here (nat_le low w.at && nat_le w.at stop) w (first_at (is_outside low stop) ws) (ap₂ ◌&&◌ (le-leb low w.at all.0.0) (le-leb w.at stop all.0.1))
+    ∙ none_outside low stop ws all.1
+
+inside_if : (b : Bool) (u : Spot) (rest : Option Spot) → cond (not b) (Some u) rest ≡ None → (b ≡ true) × (rest ≡ None)
+inside_if true u rest e = (refl, e)
+inside_if false u rest e = absurd (none-some u (sym e))
+
+all_inside : (low stop : ℕ) (us : List Spot) → first_at (is_outside low stop) us ≡ None → AllOf (Between low stop) us
+all_inside low stop [] e = tt
+all_inside low stop (u ∷ us) e =
+    let here = inside_if (nat_le low u.at && nat_le u.at stop) u (first_at (is_outside low stop) us) e in
+    let both = and_parts (nat_le low u.at) (nat_le u.at stop) here.0 in
+    ((leb-true low u.at both.0, leb-true u.at stop both.1), all_inside low stop us here.1)
+
+same_ends : (low stop : ℕ) (us ws : List Spot) → SameFirst us ws → AllOf (Between low stop) ws → AllOf (Between low stop) us
+same_ends low stop us ws same all = all_inside low stop us (same (is_outside low stop) ∙ none_outside low stop ws all)
+
+-- where the moves of a body lead
+body_ends : (len : ℕ) (f : Moves) (lf : Spot → List Spot) → Ends len lf → HasFirsts len f lf → (w : MatchState) → w.position ≤ len → AllOf (Between w.position len) (map spot_of (f w))
+body_ends len f lf ef a w p = same_ends w.position len (map spot_of (f w)) (lf (spot_of w)) (a w p) (ef (spot_of w) p)
+
+then_firsts : (len : ℕ) (f g : Moves) (lf lg : Spot → List Spot) → Ends len lf → GoesByPlace lg → HasFirsts len f lf → (w : MatchState) → w.position ≤ len
+    → ((v : MatchState) → w.position ≤ v.position → v.position ≤ len → SameFirst (map spot_of (g v)) (lg (spot_of v)))
+    → SameFirst (map spot_of (flat_map g (f w))) (each lg (lf (spot_of w)))
+then_firsts len f g lf lg ef pg a w p b wanted =
+    flat_firsts (Between w.position len) g lg (f w) (body_ends len f lf ef a w p) (λ v q. b v q.0 q.1) wanted
+    ∙ same_each lg pg (map spot_of (f w)) (lf (spot_of w)) (a w p) wanted
+
+seq_firsts : (len : ℕ) (f g : Moves) (lf lg : Spot → List Spot) → Ends len lf → GoesByPlace lg → HasFirsts len f lf → HasFirsts len g lg
+    → HasFirsts len (λ w. flat_map g (f w)) (λ s. each lg (lf s))
+seq_firsts len f g lf lg ef pg a b w p = then_firsts len f g lf lg ef pg a w p (λ v low high. b v high)
+
+due_firsts : (len n : ℕ) (f g : Moves) (lf lg : Spot → List Spot) → Ends len lf → GoesByPlace lf → GoesByPlace lg → HasFirsts len f lf → HasFirsts len g lg
+    → HasFirsts len (due n f g) (times_ways lf n lg)
+unfolding times_ways
+due_firsts len zero f g lf lg ef pf pg a b w p = b w p
+due_firsts len (suc n) f g lf lg ef pf pg a b w p =
+    seq_firsts len f (due n f g) lf (times_ways lf n lg) ef (times_alike lf lg pf pg n) a (due_firsts len n f g lf lg ef pf pg a b) w p
+
+-- a greedy or lazy choice between what goes on and the exit
+turn_firsts : (g : Bool) (us : List MatchState) (ws : List Spot) (w : MatchState) → SameFirst (map spot_of us) ws
+    → SameFirst (map spot_of (prefer g us (w ∷ []))) (in_order g ws (spot_of w ∷ []))
+turn_firsts true us ws w same wanted =
+    ap (first_at wanted) (map-append spot_of us (w ∷ [])) ∙ first_append (map spot_of us) (spot_of w ∷ []) ws (spot_of w ∷ []) same (λ _. refl) wanted
+turn_firsts false us ws w same wanted = first_append (spot_of w ∷ []) (map spot_of us) (spot_of w ∷ []) ws (λ _. refl) same wanted
+
+up_to_firsts : (len n : ℕ) (g : Bool) (f : Moves) (lf : Spot → List Spot) → Ends len lf → GoesByPlace lf → HasFirsts len f lf → HasFirsts len (up_to n g f) (upto_ways g lf n)
+unfolding upto_ways
+up_to_firsts len zero g f lf ef pf a w p = λ wanted. refl
+up_to_firsts len (suc n) g f lf ef pf a w p =
+    turn_firsts g (flat_map (up_to n g f) (f w)) (each (upto_ways g lf n) (lf (spot_of w))) w
+    (seq_firsts len f (up_to n g f) lf (upto_ways g lf n) ef (upto_alike g lf pf n) a (up_to_firsts len n g f lf ef pf a) w p)
+
+-- an iteration, and what follows it
+iteration_firsts : (w v : MatchState) (again : List MatchState) (next : Spot → List Spot) → w.position ≤ v.position → (w.position < v.position → SameFirst (map spot_of again) (next (spot_of v)))
+    → SameFirst (map spot_of (if v.position == w.position then v ∷ [] else again)) (after_iteration next (spot_of w) (spot_of v))
+unfolding after_iteration
+iteration_firsts w v again next le same wanted =
+    elim (cases_lt w.position v.position) [
+      | inl lt ↦ rw (ne_eqb v.position w.position (omega arith), lt-ltb w.position v.position lt) (same lt wanted)
+      | inr ge ↦ rw (eq-eqb v.position w.position (omega arith), le-ltb w.position v.position ge) refl
+    ]
+
+-- an iteration of a loop, and then the loop again
+round_firsts : (len : ℕ) (g : Bool) (f again : Moves) (lf next : Spot → List Spot) → Ends len lf → GoesByPlace next → HasFirsts len f lf → (w : MatchState) → w.position ≤ len
+    → ((v : MatchState) → w.position < v.position → v.position ≤ len → SameFirst (map spot_of (again v)) (next (spot_of v)))
+    → SameFirst (map spot_of (prefer g (flat_map (λ v. if v.position == w.position then v ∷ [] else again v) (f w)) (w ∷ [])))
+    (in_order g (each (after_iteration next (spot_of w)) (lf (spot_of w))) (spot_of w ∷ []))
+round_firsts len g f again lf next ef pn a w p b =
+    turn_firsts g (flat_map (λ v. if v.position == w.position then v ∷ [] else again v) (f w)) (each (after_iteration next (spot_of w)) (lf (spot_of w))) w
+    (then_firsts len f (λ v. if v.position == w.position then v ∷ [] else again v) lf (after_iteration next (spot_of w)) ef
+    (after_alike next pn (spot_of w) (spot_of w) refl) a w p
+    (λ v low high. iteration_firsts w v (again v) next low (λ lt. b v lt high)))
+
+loop_firsts : (len n m : ℕ) (g : Bool) (f : Moves) (lf : Spot → List Spot) → Ends len lf → GoesByPlace lf → HasFirsts len f lf → (w : MatchState) → w.position ≤ len
+    → len - w.position < n → len - w.position ≤ m → SameFirst (map spot_of (loop n g f w)) (loop_ways g lf m (spot_of w))
+unfolding loop_ways
+loop_firsts len zero m g f lf ef pf a w p x y = absurd (omega arith)
+loop_firsts len (suc n) zero g f lf ef pf a w p x y =
+    round_firsts len g f (loop n g f) lf (λ _. []) ef (λ v u e. refl) a w p (λ v low high. absurd {0} (omega arith))
+loop_firsts len (suc n) (suc m) g f lf ef pf a w p x y =
+    round_firsts len g f (loop n g f) lf (loop_ways g lf m) ef (loop_alike g lf pf m) a w p
+    (λ v low high. loop_firsts len n m g f lf ef pf a v high (omega arith) (omega arith))
+
+repeat_firsts : (s : Setting) (lo hi : ℕ) (g u : Bool) (f : Moves) (lf : Spot → List Spot) → Ends (length s.text) lf → GoesByPlace lf → HasFirsts (length s.text) f lf
+    → HasFirsts (length s.text) (ways.repeat s lo (cond u None (Some hi)) g f) (times_ways lf lo (tail_ways u (length s.text) g lf (hi - lo)))
+unfolding tail_ways
+repeat_firsts s lo hi g true f lf ef pf a w p =
+    due_firsts (length s.text) lo f (loop (length s.text + 1) g f) lf (tail_ways true (length s.text) g lf (hi - lo)) ef pf (tail_alike true (length s.text) g lf pf (hi - lo)) a
+    (λ v q. loop_firsts (length s.text) (length s.text + 1) (length s.text - v.position) g f lf ef pf a v q (omega arith) (omega arith)) w p
+repeat_firsts s lo hi g false f lf ef pf a w p =
+    due_firsts (length s.text) lo f (up_to (hi - lo) g f) lf (tail_ways false (length s.text) g lf (hi - lo)) ef pf (tail_alike false (length s.text) g lf pf (hi - lo)) a
+    (up_to_firsts (length s.text) (hi - lo) g f lf ef pf a) w p
+
+-- a repeat that may be left out
+out_firsts : (s : Setting) (lo hi : ℕ) (g : Bool) (f : Moves) (view : View) (a : Re) (b : Bool) → (b ≡ true → (lo ≡ 0) × (hi ≡ 0))
+    → (b ≡ false → HasFirsts (length s.text) (ways.repeat s lo (bound_of hi) g f) (plain.ways view (length s.text) a))
+    → HasFirsts (length s.text) (ways.repeat s lo (bound_of hi) g f) (plain.ways view (length s.text) (unless b a))
+unfolding plain.ways
+out_firsts s lo hi g f view a true zeros h w p = rw ((zeros refl).0, (zeros refl).1) (λ wanted. refl)
+out_firsts s lo hi g f view a false zeros h w p = h refl w p
+
+-- writes of slots
+map_here : (h : Spot → Spot) (b : Bool) (u : Spot) (o : Option Spot) → cond b (Some (h u)) (option_map h o) ≡ option_map h (cond b (Some u) o)
+map_here h true u o = refl
+map_here h false u o = refl
+
+first_map : (wanted : ℕ → Bool) (h : Spot → Spot) → ((u : Spot) → (h u).at ≡ u.at) → (us : List Spot) → first_at wanted (map h us) ≡ option_map h (first_at wanted us)
+first_map wanted h same [] = refl
+first_map wanted h same (u ∷ us) =
+    ap₂ (λ (p : ℕ) (o : Option Spot). cond (wanted p) (Some (h u)) o) (same u) (first_map wanted h same us)
+    ∙ map_here h (wanted u.at) u (first_at wanted us)
+
+same_map : (h : Spot → Spot) → ((u : Spot) → (h u).at ≡ u.at) → (us ws : List Spot) → SameFirst us ws → SameFirst (map h us) (map h ws)
+same_map h at us ws same wanted = first_map wanted h at us ∙ ap (option_map h) (same wanted) ∙ sym (first_map wanted h at ws)
+
+-- a group: its pair is written at its close, and its slots at its opening and its close
+group_firsts : (view : View) (len n : ℕ) (f : Moves) (a : Re) → Lacks n a → HasFirsts len f (plain.ways view len a) → HasFirsts len (ways.group n f) (plain.ways view len (re.group n a))
+unfolding plain.ways
+group_firsts view len n f a lacks same w p wanted =
+    let close : Spot → Spot = λ v. record { at = v.at; slots = set v.slots (2 * n + 1) v.at } in
+    let both : Spot → Spot = λ v. close (put (2 * n) w.position v) in
+    ap (first_at wanted)
+    (map_map (λ v. ways.set_pair n (w.position, v.position) v) both (f w)
+    (λ v. ap (λ (xs : List ℕ). let r : Spot = record { at = v.position; slots = xs } in r) (flat_set v.pairs n w.position v.position)))
+    ∙ same_map both (λ v. refl) (map spot_of (f w)) (plain.ways view len a (spot_of w)) (same w p) wanted
+    ∙ ap (first_at wanted)
+    (sym (map_twice close (put (2 * n) w.position) (plain.ways view len a (spot_of w)))
+    ∙ ap (map close) (sym (ways_carry view len n w.position a lacks (spot_of w))))
+
+-- The first way at all decides what a look-ahead and an atomic group leave.
+abbrev anywhere : ℕ → Bool
+anywhere p = true
+
+kept_here : (b : Bool) (x y : Spot) (o : Option Spot) → x ≡ y → (b ≡ false → o ≡ None) → cond b (Some x) o ≡ cond b (Some y) None
+kept_here true x y o e none = ap Some e
+kept_here false x y o e none = none refl
+
+none_kept : (w : MatchState) (vs : List MatchState) (wanted : ℕ → Bool) → wanted w.position ≡ false → first_at wanted (map spot_of (keep_only_pairs w vs)) ≡ None
+none_kept w [] wanted no_match = refl
+none_kept w (v ∷ vs) wanted no_match =
+    ap (λ (b : Bool). cond b (Some (record { at = w.position; slots = group_slots v.pairs })) (first_at wanted (map spot_of (keep_only_pairs w vs)))) no_match
+    ∙ none_kept w vs wanted no_match
+
+first_kept : (w : MatchState) (vs : List MatchState) (ws : List Spot) → first_at anywhere (map spot_of vs) ≡ first_at anywhere ws
+    → SameFirst (map spot_of (keep_only_pairs w vs)) (asked_ways false (spot_of w) ws)
+first_kept w [] [] e wanted = refl
+first_kept w [] (u ∷ us) e wanted = absurd (none-some u e)
+first_kept w (v ∷ vs) [] e wanted = absurd (none-some (spot_of v) (sym e))
+first_kept w (v ∷ vs) (u ∷ us) e wanted =
+    kept_here (wanted w.position) (record { at = w.position; slots = group_slots v.pairs }) (record { at = w.position; slots = u.slots }) _
+    (ap (λ (x : Spot). let r : Spot = record { at = w.position; slots = x.slots } in r) (same_Some (spot_of v) u e)) (none_kept w vs wanted)
+
+first_refused : (w : MatchState) (vs : List MatchState) (ws : List Spot) → first_at anywhere (map spot_of vs) ≡ first_at anywhere ws
+    → SameFirst (map spot_of (match_empty_if (is_none_of vs) w)) (asked_ways true (spot_of w) ws)
+first_refused w [] [] e wanted = refl
+first_refused w [] (u ∷ us) e wanted = absurd (none-some u e)
+first_refused w (v ∷ vs) [] e wanted = absurd (none-some (spot_of v) (sym e))
+first_refused w (v ∷ vs) (u ∷ us) e wanted = refl
+
+first_alone : (vs : List MatchState) (ws : List Spot) → first_at anywhere (map spot_of vs) ≡ first_at anywhere ws
+    → SameFirst (map spot_of (first_only vs)) (first_way ws)
+first_alone [] [] e wanted = refl
+first_alone [] (u ∷ us) e wanted = absurd (none-some u e)
+first_alone (v ∷ vs) [] e wanted = absurd (none-some (spot_of v) (sym e))
+first_alone (v ∷ vs) (u ∷ us) e wanted = ap (λ (x : Spot). first_at wanted (x ∷ [])) (same_Some (spot_of v) u e)
+
+-- a look-ahead, and an atomic group, where the body has the first ways of this pattern
+module _ (view : View) (len : ℕ) (m : Meaning) (body : Re) (same : HasFirsts len m.from (plain.ways view len body)) where
+  ahead_firsts : HasFirsts len (ways.look LookAhead m) (plain.ways view len (asking LookAhead body))
+  unfolding plain.ways
+  ahead_firsts w p = first_kept w (m.from w) (plain.ways view len body (spot_of w)) (same w p anywhere)
+
+  ahead_neg_firsts : HasFirsts len (ways.look LookAheadNeg m) (plain.ways view len (asking LookAheadNeg body))
+  unfolding plain.ways
+  ahead_neg_firsts w p = first_refused w (m.from w) (plain.ways view len body (spot_of w)) (same w p anywhere)
+
+  atomic_firsts : HasFirsts len (λ w. first_only (m.from w)) (plain.ways view len (re.atomic body))
+  unfolding plain.ways
+  atomic_firsts w p = first_alone (m.from w) (plain.ways view len body (spot_of w)) (same w p anywhere)
+
+-- whether the tree reads one character, so that a look-around is a test
+one_char_cases : (unicode : Bool) (k : ℕ) (t : Tree) → IsOneChar t ⊎ (char_leaf unicode k t ≡ None)
+one_char_cases unicode k (any newline crlf) = inl tt
+one_char_cases unicode k (literal val casei) = inl tt
+one_char_cases unicode k (delegate class casei) = inl tt
+one_char_cases unicode k _ = inr refl
+
+-- the text, for states that ask parts
+abbrev pub asking_view : Setting → List (Text × Bool) → View
+asking_view s cs = record (view_of s cs false) { has_parts = true }
+
+module _ (s : Setting) (groups : List Tree) (unicode : Bool) (call : ℕ → Moves) (cs : List (Text × Bool)) (same_fold : (c : ℕ) → s.fold c ≡ folded unicode c) where
+  abbrev len : ℕ
+  len = length s.text
+
+  abbrev view : View
+  view = asking_view s cs
+
+  -- a look-around for one character is a test
+  test_firsts : (n k : ℕ) (t : Tree) (how : LookAround) → IsOneChar t → StandAt s groups unicode call cs false same_fold k (classes t) → (body : Re)
+      → HasFirsts len (ways.look how (meaning s groups call n t)) (plain.ways view len (looked how (char_leaf unicode k t) body))
+  unfolding plain.ways
+  test_firsts n k (any newline crlf) how p h body w q =
+      λ wanted. ap (first_at wanted) (look_same s groups unicode call cs false same_fold n k (any newline crlf) how p h body w q)
+  test_firsts n k (literal val casei) how p h body w q =
+      λ wanted. ap (first_at wanted) (look_same s groups unicode call cs false same_fold n k (literal val casei) how p h body w q)
+  test_firsts n k (delegate class casei) how p h body w q =
+      λ wanted. ap (first_at wanted) (look_same s groups unicode call cs false same_fold n k (delegate class casei) how p h body w q)
+  test_firsts n k _ how p h body w q = absurd p
+
+  -- a look-ahead is such a test, or asks a part
+  look_firsts : (n k : ℕ) (t : Tree) (how : LookAround) → StandAt s groups unicode call cs false same_fold k (classes t) → (body : Re)
+      → HasFirsts len (ways.look how (meaning s groups call n t)) (plain.ways view len (asking how body))
+      → HasFirsts len (ways.look how (meaning s groups call n t)) (plain.ways view len (looked how (char_leaf unicode k t) body))
+  look_firsts n k t how h body part =
+      elim (one_char_cases unicode k t) [
+        | inl one ↦ test_firsts n k t how one h body
+        | inr more ↦ rw more part
+      ]
+
+  mutual
+    unfolding meaning re_of classes plain.ways reads
+
+    -- a regular tree has the first ways of its pattern
+    pub tree_firsts : (n k : ℕ) (t : Tree) → IsRegular t → StandAt s groups unicode call cs false same_fold k (classes t)
+        → HasFirsts len (meaning s groups call n t).from (plain.ways view len (re_of unicode groups n k t))
+    tree_firsts n k empty p h w q = λ wanted. refl
+    tree_firsts n k (any newline crlf) p h w q =
+        λ wanted. ap (first_at wanted) (char_same s cs false (Any newline crlf) w (char_at s.text w.position) refl _ (λ c e. refl))
+    tree_firsts n k (literal val casei) p h w q =
+        λ wanted. ap (first_at wanted) (literal_same s groups unicode call cs false same_fold (slice_index val 0) casei w q)
+    tree_firsts n k (delegate class casei) p h w q = λ wanted. ap (first_at wanted) (class_same s groups unicode call cs false same_fold k class casei h w q)
+    tree_firsts n k (assertion a) p h w q = λ wanted. ap (first_at wanted) (assertion_same s groups unicode call cs false same_fold a p w q)
+    tree_firsts n k (concat ts) p h w q = row_firsts n k ts p h w q
+    tree_firsts n k (alt ts) p h w q = branches_firsts n k ts p.0 p.1 h w q
+    tree_firsts n k (group t) p h w q =
+        group_firsts view len n (meaning s groups call (n + 1) t).from (re_of unicode groups (n + 1) k t) (lacks unicode groups n (n + 1) k t (omega arith))
+        (tree_firsts (n + 1) k t p h) w q
+    tree_firsts n k (look_around t LookAhead) p h w q =
+        look_firsts n k t LookAhead h (re_of unicode groups n k t) (ahead_firsts view len (meaning s groups call n t) (re_of unicode groups n k t) (tree_firsts n k t p h)) w q
+    tree_firsts n k (look_around t LookAheadNeg) p h w q =
+        look_firsts n k t LookAheadNeg h (re_of unicode groups n k t) (ahead_neg_firsts view len (meaning s groups call n t) (re_of unicode groups n k t) (tree_firsts n k t p h)) w q
+    tree_firsts n k (look_around t LookBehind) p h w q = test_firsts n k t LookBehind p h (re_of unicode groups n k t) w q
+    tree_firsts n k (look_around t LookBehindNeg) p h w q = test_firsts n k t LookBehindNeg p h (re_of unicode groups n k t) w q
+    tree_firsts n k (atomic_group t) p h w q = atomic_firsts view len (meaning s groups call n t) (re_of unicode groups n k t) (tree_firsts n k t p h) w q
+    tree_firsts n k (repeat t lo hi greedy) p h w q =
+        out_firsts s lo hi greedy (meaning s groups call n t).from view _ (has_no_iteration lo hi) (no_iterations lo hi)
+        (λ made. repeat_firsts s lo hi greedy (is_unbounded hi) (meaning s groups call n t).from (plain.ways view len (re_of unicode groups n k t))
+        (ways_end view len (re_of unicode groups n k t)) (ways_alike view len (re_of unicode groups n k t))
+        (tree_firsts n k t p (all_stand s groups unicode call cs false same_fold k lo hi t made h))) w q
+    tree_firsts n k _ p h w q = absurd p
+
+    row_firsts : (n k : ℕ) (ts : Trees) → AreRegular ts → StandAt s groups unicode call cs false same_fold k (row_classes ts)
+        → HasFirsts len (all_of (meanings s groups call n ts)) (plain.ways view len (row_of unicode groups n k ts))
+    row_firsts n k no_trees p h w q = λ wanted. refl
+    row_firsts n k (more_trees t ts) p h w q =
+        seq_firsts len (meaning s groups call n t).from (all_of (meanings s groups call (n + group_count t) ts))
+        (plain.ways view len (re_of unicode groups n k t)) (plain.ways view len (row_of unicode groups (n + group_count t) (k + length (classes t)) ts))
+        (ways_end view len (re_of unicode groups n k t)) (ways_alike view len (row_of unicode groups (n + group_count t) (k + length (classes t)) ts))
+        (tree_firsts n k t p.0 (stand_left s groups unicode call cs false same_fold k (classes t) (row_classes ts) h))
+        (row_firsts (n + group_count t) (k + length (classes t)) ts p.1 (stand_right s groups unicode call cs false same_fold k (classes t) (row_classes ts) h)) w q
+
+    branches_firsts : (n k : ℕ) (ts : Trees) → (ts ≢ no_trees) → AreRegular ts → StandAt s groups unicode call cs false same_fold k (row_classes ts)
+        → HasFirsts len (any_of (meanings s groups call n ts)).from (plain.ways view len (branches_of unicode groups n k ts))
+    branches_firsts n k no_trees some p h w q = absurd (some refl)
+    branches_firsts n k (more_trees t no_trees) some p h w q =
+        λ wanted. ap (λ vs. first_at wanted (map spot_of vs)) (append-nil ((meaning s groups call n t).from w))
+        ∙ tree_firsts n k t p.0 (stand_left s groups unicode call cs false same_fold k (classes t) (row_classes no_trees) h) w q wanted
+    branches_firsts n k (more_trees t (more_trees u us)) some p h w q =
+        let rest = any_of (meanings s groups call (n + group_count t) (more_trees u us)) in
+        λ wanted. ap (first_at wanted) (map-append spot_of ((meaning s groups call n t).from w) (rest.from w))
+        ∙ first_append (map spot_of ((meaning s groups call n t).from w)) (map spot_of (rest.from w))
+        (plain.ways view len (re_of unicode groups n k t) (spot_of w)) (plain.ways view len (branches_of unicode groups (n + group_count t) (k + length (classes t)) (more_trees u us)) (spot_of w))
+        (tree_firsts n k t p.0 (stand_left s groups unicode call cs false same_fold k (classes t) (row_classes (more_trees u us)) h) w q)
+        (branches_firsts (n + group_count t) (k + length (classes t)) (more_trees u us) (λ e. cc) p.1 (stand_right s groups unicode call cs false same_fold k (classes t) (row_classes (more_trees u us)) h) w q)
+        wanted

@@ -1,0 +1,7 @@
+use Rattle.std.proofs.Common.{map, take}
+use Rattle.fancy_regex_tree.specs.Tree.{tree_of, trees}
+use Rattle.fancy_regex_linear.specs.Plain.{AreRegular}
+use Rattle.fancy_regex_linear.proofs.build.+regular.Given as goal
+
+abbrev pub invariant-are_regular-loop-i : goal.invariant-are_regular-loop-i
+invariant-are_regular-loop-i l = AreRegular (trees (map tree_of (take l.i l.children)))
