@@ -72,7 +72,7 @@ program_does view stop states entry pattern e may =
     } in
     subst (λ (m : List State × ℕ). Does view stop m.0 m.1 pattern) e.0 made
 
-blind : View
+abbrev blind : View
 blind = record { has = λ leaf i. false; next = λ i. i; holds = λ test i. false; longest = false; has_parts = true }
 
 pub closed : (states : List State) (entry : ℕ) → IsMade states entry → Closed states

@@ -5,7 +5,7 @@ use Rattle.std.specs.List.{Contains}
 use Rattle.std.proofs.lemmas.List.Elements.{All-nil, All-cons, All-append, Contains-append_left, Contains-append_right}
 use Rattle.std.proofs.Math.Bool.{or_assoc, and_assoc, and-true}
 use Rattle.regex_class.proofs.RangesLemmas.{or-false}
-use Rattle.fancy_regex_tree.specs.Tree.{Tree, Text, look_around, no_trees, more_trees, trees, tree_of}
+use Rattle.fancy_regex_tree.specs.Tree.{Tree, Text, look_around, no_trees, trees, tree_of}
 use Rattle.fancy_regex_tree.specs.declared.expr.LookAround.{LookAround}
 use Rattle.fancy_regex_tree.specs.declared.expr.Expr.{Expr}
 use Rattle.fancy_regex_meaning.specs.Groups.{group_count, row_group_count}
@@ -17,7 +17,7 @@ use Rattle.fancy_regex_linear.specs.Re as re
 use Rattle.fancy_regex_linear.specs.Re.{Re, cats, alts, cat, alt, shape, shapes}
 use Rattle.fancy_regex_linear.specs.declared.node.Node.{Node}
 use Rattle.fancy_regex_linear.specs.Program.{IsSound, never_empty}
-use Rattle.fancy_regex_linear.specs.Plain.{IsPlain, ArePlain, IsRegular, AreRegular, asking, looked, look_test, char_leaf, classes, row_classes, re_of, row_of, branches_of}
+use Rattle.fancy_regex_linear.specs.Plain.{IsOneChar, IsPlain, ArePlain, IsRegular, AreRegular, asking, looked, look_test, char_leaf, classes, row_classes, re_of, row_of, branches_of}
 use Rattle.fancy_regex_linear.specs.Easy.{HaveMatchers}
 use Rattle.fancy_regex_states.specs.declared.atom.Leaf.{Leaf}
 use Rattle.fancy_regex_linear.specs.Refusals.{IsRead, IsClassCause}

@@ -13,7 +13,7 @@ use Rattle.regex_hir.proofs.TextLemmas.{char_at_from, char_at_parts, char_at_fit
 use Rattle.regex_hir.proofs.Utf8Lemmas.{char_at_cases, IsOneByteAt, IsTwoBytesAt, IsThreeBytesAt, IsFourBytesAt}
 use Rattle.fancy_regex_tree.specs.Tree.{Text}
 use Rattle.fancy_regex_meaning.specs.Positions.{is_after_byte, is_before_byte, is_at_end}
-use Rattle.fancy_regex_meaning.specs.Ways.{Setting, holds}
+use Rattle.fancy_regex_meaning.specs.Ways.{Setting}
 use Rattle.fancy_regex_class.specs.Classes.{in_class}
 use Rattle.fancy_regex_class.specs.Matchers.{has}
 use Rattle.fancy_regex_class.specs.declared.class.CharClassMatcher.{CharClassMatcher}

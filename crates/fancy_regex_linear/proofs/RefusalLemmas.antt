@@ -17,11 +17,10 @@ use Rattle.fancy_regex_states.specs.declared.rules.Rules.{Rules}
 use Rattle.fancy_regex_states.specs.declared.state.State.{State}
 use Rattle.fancy_regex_states.specs.declared.state.State.TheVariants.{Split, Enter, Leave, Ask, Atomic, Match}
 use Rattle.fancy_regex_states.specs.declared.state.State.TheVariants as S
-use Rattle.fancy_regex_states.specs.Attempts.{View, reads, Continuation, Trace, write, score, better_trace, asked_answer, passed_answer, passed_depth, pick, Shows, NamesBelow, visit, AllAgree}
+use Rattle.fancy_regex_states.specs.Attempts.{View, reads, Continuation, Trace, write, better_trace, asked_answer, passed_answer, passed_depth, pick, Shows, NamesBelow, visit, AllAgree}
 use Rattle.fancy_regex_linear.specs.Search.{Explains, RefusesAscii}
 use Rattle.fancy_regex_class.proofs.AdjacentCharLemmas.{boundary_past_ascii}
 use Rattle.fancy_regex_linear.specs.Starts.{HasRefusedPair}
-use Rattle.fancy_regex_states.specs.declared.atom.Leaf.{Leaf}
 use Rattle.fancy_regex_linear.specs.declared.search.SearchContext.{SearchContext}
 use Rattle.fancy_regex_linear.proofs.CharTestLemmas.{before_some}
 use Rattle.fancy_regex_linear.proofs.DfsLemmas.{guard_yes, guard_no}

@@ -1,5 +1,5 @@
 -- What a search for the first match says of the match of a pattern.
-use Rattle.std.proofs.Common.{◌≡◌, ℕ, ◌+◌, ◌-◌, ◌*◌, ◌^◌, ◌≤◌, ◌∙◌, Bool, false, List, min, length, replicate, Option, None, Some, IfSome, sym, ap, ap₂, subst, arith, IsUtf8}
+use Rattle.std.proofs.Common.{◌≡◌, ℕ, ◌+◌, ◌-◌, ◌*◌, ◌^◌, ◌≤◌, ◌∙◌, Bool, false, List, min, length, replicate, Option, None, Some, IfSome, sym, ap, ap₂, arith, IsUtf8}
 use Rattle.std.specs.Prelude.{option_map}
 use Rattle.fancy_regex_meaning.specs.Groups.{Pattern}
 use Rattle.fancy_regex_meaning.specs.Sizes.{tree_weight}

@@ -1,5 +1,5 @@
 -- An attempt to match a pattern at an offset: its answer, and the depth of its search.
-use Rattle.std.specs.Prelude.{true, false, ℕ, zero, suc, ◌+◌, ◌-◌, ◌*◌, Bool, List, [], ◌∷◌, Option, Some, None, if◌then◌else◌, nat_lt, slice_set}
+use Rattle.std.specs.Prelude.{true, false, ℕ, zero, suc, ◌+◌, ◌-◌, ◌*◌, Bool, List, [], ◌∷◌, Option, Some, None, if◌then◌else◌, slice_set}
 use Rattle.fancy_regex_linear.specs.Re.{Re, nothing, read, test, cat, alt, group, repeat, ask, atomic}
 use Rattle.fancy_regex_states.specs.Attempts.{View, Trace, AttemptResult, Continuation, score, better, failed, guard, save, either, reads, accept, asked, passed, pick}
 use Rattle.fancy_regex_linear.specs.Meaning.{Spot, is_unbounded}

@@ -1,7 +1,7 @@
 -- The states that a tree becomes.
-use Rattle.std.specs.Prelude.{◌≡◌, ℕ, zero, suc, ◌-◌, true, false, ◌&&◌, ◌||◌, max, nat_lt, ◌+◌, ◌*◌, ◌<◌, ◌≤◌, ◌⊎◌, Bool, List, [], ◌∷◌, ◌++◌, length, slice_set, if◌then◌else◌}
+use Rattle.std.specs.Prelude.{◌≡◌, ℕ, zero, suc, ◌-◌, true, false, ◌&&◌, ◌||◌, max, nat_lt, ◌+◌, ◌*◌, ◌<◌, ◌⊎◌, Bool, List, [], ◌∷◌, ◌++◌, length, slice_set, if◌then◌else◌}
 use Rattle.fancy_regex_states.specs.First.{state_at}
-use Rattle.fancy_regex_states.specs.Attempts.{Continuation, guard, either, save, accept, View, Agrees}
+use Rattle.fancy_regex_states.specs.Attempts.{Continuation, View, Agrees}
 use Rattle.fancy_regex_linear.specs.Meaning.{is_unbounded}
 use Rattle.fancy_regex_linear.specs.Re.{Re, nothing, read, test, cat, alt, group, repeat, ask, atomic}
 use Rattle.fancy_regex_states.specs.declared.state.State.{State}

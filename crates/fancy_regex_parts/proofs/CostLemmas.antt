@@ -1,8 +1,9 @@
 -- What is due for the frames and the task of a search.
-use Rattle.std.proofs.Common.{◌≡◌, ℕ, ◌+◌, ◌*◌, ◌<◌, ◌≤◌, Bool, true, false, List, [], ◌∷◌, length, Option, Some, None, refl, arith}
+use Rattle.std.proofs.Common.{◌≡◌, ℕ, ◌+◌, ◌≤◌, true, false, List, [], ◌∷◌, length, max, Option, Some, None, refl, arith}
 use Rattle.fancy_regex_class.specs.declared.class.CharClassMatcher.{CharClassMatcher}
 use Rattle.fancy_regex_states.specs.CharTests.{leaf_matches_char, passes}
 use Rattle.fancy_regex_states.specs.declared.rules.Rules.{Rules}
+use Rattle.std.specs.Prelude.{nat_lt}
 use Rattle.std.specs.Char.{len_utf8}
 use Rattle.fancy_regex_parts.specs.Tables.{owed, due}
 use Rattle.fancy_regex_parts.specs.Frames.{step_frames, step_task, resume_task, frame_due, pending, task_due, task_mode}
@@ -10,21 +11,23 @@ use Rattle.fancy_regex_parts.specs.declared.frame.Frame.{Frame}
 use Rattle.fancy_regex_parts.specs.declared.frame.Frame.TheVariants.{Branch, Open, Ask, Atomic}
 use Rattle.fancy_regex_parts.specs.declared.frame.Task.{Task}
 use Rattle.fancy_regex_parts.specs.declared.frame.Task.TheVariants.{Visit, Answer}
-use Rattle.fancy_regex_parts.specs.declared.state.PartState.{PartState}
-use Rattle.fancy_regex_parts.specs.declared.state.PartState.TheVariants as S
+use Rattle.fancy_regex_states.specs.declared.state.State.{State}
+use Rattle.fancy_regex_states.specs.declared.state.State.TheVariants as S
 use Rattle.fancy_regex_parts.specs.declared.table.PartTable.{PartTable}
-use Rattle.fancy_regex_parts.proofs.StackLemmas.{task_if}
+use Rattle.fancy_regex_parts.proofs.StackLemmas.{task_if, one_of}
 
 pub mode_most : (task : Task) → task_mode task ≤ 1
 mode_most (Visit q i) = omega arith
 mode_most (Answer end) = omega arith
 
-pub step_length : (state : PartState) (at : ℕ) (frames : List Frame) → length (step_frames state at frames) ≤ length frames + 1
+pub step_length : (state : State) (at : ℕ) (frames : List Frame) → length (step_frames state at frames) ≤ length frames + 1
 step_length (S.Read leaf next) at frames = omega arith
 step_length (S.Look check next) at frames = omega arith
 step_length (S.Split first second) at frames = omega arith
 step_length (S.Ask part negated next) at frames = omega arith
-step_length (S.Atomic part next) at frames = omega arith
+step_length (S.Enter g next) at frames = omega arith
+step_length (S.Leave g next) at frames = omega arith
+step_length (S.Atomic part same moved) at frames = omega arith
 step_length S.Match at frames = omega arith
 
 module _ (table : PartTable) where
@@ -37,20 +40,22 @@ module _ (table : PartTable) where
   pending_none = refl
 
   -- a step leaves no more than what is owed
-  pub step_due : (matchers : List CharClassMatcher) (rules : Rules) (state : PartState) (at : ℕ) (before after : Option ℕ) (frames : List Frame)
-      → task_due table (step_task matchers rules state at before after) + pending table (step_frames state at frames)
+  pub step_due : (matchers : List CharClassMatcher) (rules : Rules) (stop q : ℕ) (state : State) (at : ℕ) (before after : Option ℕ) (frames : List Frame)
+      → task_due table (step_task matchers rules stop q state at before after) + pending table (step_frames state at frames)
       ≤ owed table state + pending table frames
-  step_due matchers rules (S.Read leaf next) at before None frames = omega arith
-  step_due matchers rules (S.Read leaf next) at before (Some c) frames =
+  step_due matchers rules stop q (S.Read leaf next) at before None frames = omega arith
+  step_due matchers rules stop q (S.Read leaf next) at before (Some c) frames =
       task_if (λ task. task_due table task + pending table frames ≤ due table next + pending table frames)
       (leaf_matches_char rules.unicode matchers leaf c) (Visit next (at + len_utf8 c)) (Answer None) (λ yes. omega arith) (λ no. omega arith)
-  step_due matchers rules (S.Look check next) at before after frames =
+  step_due matchers rules stop q (S.Look check next) at before after frames =
       task_if (λ task. task_due table task + pending table frames ≤ due table next + pending table frames)
       (passes matchers rules check before after) (Visit next at) (Answer None) (λ yes. omega arith) (λ no. omega arith)
-  step_due matchers rules (S.Split first second) at before after frames = omega (arith, pending_cons (Branch second at) frames)
-  step_due matchers rules (S.Ask part negated next) at before after frames = omega (arith, pending_cons (Ask negated next at) frames)
-  step_due matchers rules (S.Atomic part next) at before after frames = omega (arith, pending_cons (Atomic next) frames)
-  step_due matchers rules S.Match at before after frames = omega arith
+  step_due matchers rules stop q (S.Split first second) at before after frames = omega (arith, pending_cons (Branch second at) frames)
+  step_due matchers rules stop q (S.Ask part negated next) at before after frames = omega (arith, pending_cons (Ask negated next at) frames)
+  step_due matchers rules stop q (S.Enter g next) at before after frames = omega arith
+  step_due matchers rules stop q (S.Leave g next) at before after frames = omega arith
+  step_due matchers rules stop q (S.Atomic part same moved) at before after frames = omega (arith, pending_cons (Atomic at same moved) frames)
+  step_due matchers rules stop q S.Match at before after frames = omega arith
 
   -- nor does a frame
   pub resume_due : (f : Frame) (end : Option ℕ) → task_due table (resume_task f end) ≤ frame_due table f
@@ -61,5 +66,6 @@ module _ (table : PartTable) where
   resume_due (Ask false next i) (Some e) = omega arith
   resume_due (Ask true next i) None = omega arith
   resume_due (Ask true next i) (Some e) = omega arith
-  resume_due (Atomic next) None = omega arith
-  resume_due (Atomic next) (Some e) = omega arith
+  resume_due (Atomic i same moved) None = omega arith
+  resume_due (Atomic i same moved) (Some e) =
+      one_of (λ q. due table q ≤ max (due table same) (due table moved)) (nat_lt i e) moved same (omega arith) (omega arith)

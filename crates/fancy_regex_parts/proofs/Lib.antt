@@ -4,3 +4,5 @@ pub mod TrackLemmas
 pub mod CostLemmas
 pub mod VisitLemmas
 pub mod LoopLemmas
+pub mod EmittedLemmas
+pub mod FindLemmas

@@ -1,12 +1,12 @@
 -- From one task of a search to the next.
-use Rattle.std.proofs.Common.{◌≡◌, ℕ, ◌+◌, ◌-◌, ◌*◌, ◌<◌, ◌≤◌, ◌∙◌, Bool, true, false, List, [], ◌∷◌, length, Option, Some, None, refl, sym, ap, subst, arith}
+use Rattle.std.proofs.Common.{◌≡◌, ℕ, ◌+◌, ◌-◌, ◌*◌, ◌≤◌, ◌∙◌, List, ◌∷◌, length, Option, Some, None, sym, ap, subst, arith}
 use Rattle.std.proofs.Math.Nat.{mul-le-mul_left, mul_assoc, mul_comm}
-use Rattle.fancy_regex_class.specs.Looks.{looked_text, look_count}
+use Rattle.fancy_regex_class.specs.Looks.{looked_text}
 use Rattle.fancy_regex_class.specs.declared.counted.Counted.{Counted}
 use Rattle.fancy_regex_parts.specs.Recall.{known_count}
 use Rattle.fancy_regex_states.specs.Attempts.{View}
 use Rattle.fancy_regex_parts.specs.Ways.{Ways}
-use Rattle.fancy_regex_parts.specs.Frames.{resume_task, IsTaskWithin, EndsWithin, Tracks, pending, frame_due, task_due}
+use Rattle.fancy_regex_parts.specs.Frames.{resume_task, IsTaskWithin, EndsWithin, Tracks, pending, task_due}
 use Rattle.fancy_regex_parts.specs.Layers.{HasWays, IsOfText, IsAtTask, IsPaid, IsResumed, IsVisit}
 use Rattle.fancy_regex_parts.specs.declared.frame.Frame.{Frame}
 use Rattle.fancy_regex_parts.specs.declared.frame.Frame.TheVariants.{Branch, Open, Ask, Atomic}
@@ -41,8 +41,8 @@ kept (Open k) None is = kept_same is
 kept (Open k) (Some e) is = record { rows = is.1; width = is.0.width; base = is.0.base; count = is.0.count }
 kept (Ask negated next i) None is = kept_same is
 kept (Ask negated next i) (Some e) is = kept_same is
-kept (Atomic next) None is = kept_same is
-kept (Atomic next) (Some e) is = kept_same is
+kept (Atomic i same moved) None is = kept_same is
+kept (Atomic i same moved) (Some e) is = kept_same is
 
 module _ (text : List ℕ) (count base : ℕ) (old new : Recall) where
   ends_on : new ≡ old → EndsWithin text base old → EndsWithin text base new
@@ -56,8 +56,8 @@ module _ (text : List ℕ) (count base : ℕ) (old new : Recall) where
   ends_kept (Open k) (Some e) is place ends = ends_stored text base k e is.0 place ends
   ends_kept (Ask negated next i) None is place ends = ends_on is ends
   ends_kept (Ask negated next i) (Some e) is place ends = ends_on is ends
-  ends_kept (Atomic next) None is place ends = ends_on is ends
-  ends_kept (Atomic next) (Some e) is place ends = ends_on is ends
+  ends_kept (Atomic i same moved) None is place ends = ends_on is ends
+  ends_kept (Atomic i same moved) (Some e) is place ends = ends_on is ends
 
 module _ (context : PartContext) (text new_text : Counted) (first old new : Recall) (left : ℕ) where
   -- the looks that are paid for stay so where an answer comes to a frame

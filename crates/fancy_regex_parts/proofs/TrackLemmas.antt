@@ -1,23 +1,21 @@
 -- Each step of a search in parts keeps `Tracks`.
-use Rattle.std.proofs.Common.{◌≡◌, ℕ, ◌+◌, ◌-◌, ◌*◌, ◌/◌, ◌%◌, ◌<◌, ◌≤◌, ◌⊎◌, ◌∙◌, Bool, true, false, List, [], ◌∷◌, length, Option, Some, None, get_or, refl, sym, ap, ap₂, subst, inl, inr, arith, if◌then◌else◌, true≢false}
+use Rattle.std.proofs.Common.{◌≡◌, ℕ, ◌+◌, ◌-◌, ◌*◌, ◌/◌, ◌%◌, ◌<◌, ◌≤◌, ◌∙◌, Bool, true, false, List, [], ◌∷◌, length, Option, Some, None, get_or, refl, sym, ap, ap₂, subst, inl, inr, arith, if◌then◌else◌, true≢false}
 use Rattle.std.proofs.lemmas.Bool.{cases_eq}
-use Rattle.std.specs.Prelude.{option_and_then}
 use Rattle.std.specs.Char.{len_utf8}
 use Rattle.fancy_regex_class.specs.declared.class.CharClassMatcher.{CharClassMatcher}
 use Rattle.fancy_regex_states.specs.Attempts.{View, Shows}
 use Rattle.fancy_regex_states.specs.CharTests.{leaf_matches_char, passes}
 use Rattle.fancy_regex_states.specs.declared.rules.Rules.{Rules}
-use Rattle.fancy_regex_parts.specs.Ways.{Ways, first_way, Falls, or_else, if_asked}
+use Rattle.fancy_regex_parts.specs.Ways.{Ways, first_way, Falls, state_after}
 use Rattle.fancy_regex_parts.specs.Recall.{cell, IsSame, IsOpened, IsStored}
 use Rattle.fancy_regex_parts.specs.Frames.{step_frames, step_task, resume_task, IsOpen, cell_end, cell_depth, IsBelowOpen, Resumes, task_end, IsTaskBelow, Remembers, Tracks}
 use Rattle.fancy_regex_parts.specs.Layers.{IsResumed}
 use Rattle.fancy_regex_parts.specs.declared.frame.Frame.{Frame}
 use Rattle.fancy_regex_parts.specs.declared.frame.Frame.TheVariants.{Branch, Open, Ask, Atomic}
-use Rattle.fancy_regex_parts.specs.declared.frame.Task.{Task}
 use Rattle.fancy_regex_parts.specs.declared.frame.Task.TheVariants.{Visit, Answer}
 use Rattle.fancy_regex_parts.specs.declared.recall.Recall.{Recall}
-use Rattle.fancy_regex_parts.specs.declared.state.PartState.{PartState}
-use Rattle.fancy_regex_parts.specs.declared.state.PartState.TheVariants as S
+use Rattle.fancy_regex_states.specs.declared.state.State.{State}
+use Rattle.fancy_regex_states.specs.declared.state.State.TheVariants as S
 use Rattle.fancy_regex_parts.proofs.RecallLemmas.{place_parts}
 use Rattle.fancy_regex_parts.proofs.StackLemmas.{task_if}
 
@@ -29,12 +27,14 @@ end_if X false true x e h = absurd (true≢false (sym e))
 end_if X false false x e h = (λ yes. absurd (true≢false (sym yes)), λ _. h)
 
 -- an at_open pair stays at_open
-open_stepped : (state : PartState) (at k : ℕ) (frames : List Frame) → IsOpen k frames → IsOpen k (step_frames state at frames)
+open_stepped : (state : State) (at k : ℕ) (frames : List Frame) → IsOpen k frames → IsOpen k (step_frames state at frames)
 open_stepped (S.Read leaf next) at k frames h = h
 open_stepped (S.Look check next) at k frames h = h
 open_stepped (S.Split first second) at k frames h = h
 open_stepped (S.Ask part negated next) at k frames h = h
-open_stepped (S.Atomic part next) at k frames h = h
+open_stepped (S.Enter g next) at k frames h = h
+open_stepped (S.Leave g next) at k frames h = h
+open_stepped (S.Atomic part same moved) at k frames h = h
 open_stepped S.Match at k frames h = h
 
 module _ (ways : Ways) (heads : List ℕ) (base : ℕ) where
@@ -44,7 +44,7 @@ module _ (ways : Ways) (heads : List ℕ) (base : ℕ) where
   below_less d less (Branch q i ∷ rest) le h = below_less d less rest le h
   below_less d less (Open k ∷ rest) le h = (omega (arith, le, h.0), below_less d less rest le h.1)
   below_less d less (Ask negated next i ∷ rest) le h = below_less d less rest le h
-  below_less d less (Atomic next ∷ rest) le h = below_less d less rest le h
+  below_less d less (Atomic i same moved ∷ rest) le h = below_less d less rest le h
 
   -- an at_open pair is deeper than what is below the at_open ones
   open_deeper : (d k : ℕ) (frames : List Frame) → IsOpen k frames → IsBelowOpen ways heads base d frames → d < cell_depth ways heads base k
@@ -53,18 +53,18 @@ module _ (ways : Ways) (heads : List ℕ) (base : ℕ) where
   open_deeper d k (Open j ∷ rest) at_open h =
       elim at_open [ inl same ↦ subst (λ n. d < cell_depth ways heads base n) (sym same) h.0 | inr under ↦ open_deeper d k rest under h.1 ]
   open_deeper d k (Ask negated next i ∷ rest) at_open h = open_deeper d k rest at_open h
-  open_deeper d k (Atomic next ∷ rest) at_open h = open_deeper d k rest at_open h
+  open_deeper d k (Atomic i same moved ∷ rest) at_open h = open_deeper d k rest at_open h
 
   -- what a step over a state makes of the answer, where all less deep pairs are below the at_open ones
-  pub step_resumes : (view : View) (matchers : List CharClassMatcher) (rules : Rules) (state : PartState) (at d : ℕ) (before after : Option ℕ)
+  pub step_resumes : (view : View) (matchers : List CharClassMatcher) (rules : Rules) (stop q : ℕ) (state : State) (at d : ℕ) (before after : Option ℕ)
       (frames : List Frame) (goal : Option ℕ) → Shows matchers rules view at before after → Falls view ways state at d
       → ((less : ℕ) → less < d → IsBelowOpen ways heads base less frames)
-      → Resumes ways heads base frames (first_way view ways state at) goal
-      → Resumes ways heads base (step_frames state at frames) (task_end ways heads base (step_task matchers rules state at before after)) goal
-      × IsTaskBelow ways heads base (step_task matchers rules state at before after) (step_frames state at frames)
-  step_resumes view matchers rules (S.Read leaf next) at d before None frames goal shows falls below h =
+      → Resumes ways heads base frames (first_way view ways stop q state at) goal
+      → Resumes ways heads base (step_frames state at frames) (task_end ways heads base (step_task matchers rules stop q state at before after)) goal
+      × IsTaskBelow ways heads base (step_task matchers rules stop q state at before after) (step_frames state at frames)
+  step_resumes view matchers rules stop q (S.Read leaf next) at d before None frames goal shows falls below h =
       ((end_if (λ a. Resumes ways heads base frames a goal) (view.has leaf at) false (ways.end next (view.next at)) (shows.has leaf) h).1 refl, tt)
-  step_resumes view matchers rules (S.Read leaf next) at d before (Some c) frames goal shows falls below h =
+  step_resumes view matchers rules stop q (S.Read leaf next) at d before (Some c) frames goal shows falls below h =
       let on = end_if (λ a. Resumes ways heads base frames a goal) (view.has leaf at) (leaf_matches_char rules.unicode matchers leaf c)
       (ways.end next (view.next at)) (shows.has leaf) h in
       let next_is : view.next at ≡ at + len_utf8 c = shows.next in
@@ -75,20 +75,22 @@ module _ (ways : Ways) (heads : List ℕ) (base : ℕ) where
         subst (λ (j : ℕ). IsBelowOpen ways heads base (ways.depth next j) frames) next_is (below _ (falls (shows.has leaf ∙ yes))),
       ))
       (λ no. (on.1 no, tt))
-  step_resumes view matchers rules (S.Look check next) at d before after frames goal shows falls below h =
+  step_resumes view matchers rules stop q (S.Look check next) at d before after frames goal shows falls below h =
       let on = end_if (λ a. Resumes ways heads base frames a goal) (view.holds check at) (passes matchers rules check before after)
       (ways.end next at) (shows.holds check) h in
       task_if (λ task. Resumes ways heads base frames (task_end ways heads base task) goal × IsTaskBelow ways heads base task frames)
       (passes matchers rules check before after) (Visit next at) (Answer None)
       (λ yes. (on.0 yes, below _ (falls (shows.holds check ∙ yes))))
       (λ no. (on.1 no, tt))
-  step_resumes view matchers rules (S.Split first second) at d before after frames goal shows falls below h =
+  step_resumes view matchers rules stop q (S.Split first second) at d before after frames goal shows falls below h =
       ((below _ falls.1, h), below _ falls.0)
-  step_resumes view matchers rules (S.Ask part negated next) at d before after frames goal shows falls below h =
+  step_resumes view matchers rules stop q (S.Ask part negated next) at d before after frames goal shows falls below h =
       ((below _ falls.1, h), below _ falls.0)
-  step_resumes view matchers rules (S.Atomic part next) at d before after frames goal shows falls below h =
+  step_resumes view matchers rules stop q (S.Enter g next) at d before after frames goal shows falls below h = (h, below _ falls)
+  step_resumes view matchers rules stop q (S.Leave g next) at d before after frames goal shows falls below h = (h, below _ falls)
+  step_resumes view matchers rules stop q (S.Atomic part same moved) at d before after frames goal shows falls below h =
       ((λ e is. below _ (falls.1 e is), h), below _ falls.0)
-  step_resumes view matchers rules S.Match at d before after frames goal shows falls below h = (h, tt)
+  step_resumes view matchers rules stop q S.Match at d before after frames goal shows falls below h = (h, tt)
 
   module _ {old new : Recall} where
     -- the cells say the same
@@ -174,11 +176,11 @@ module _ (ways : Ways) (heads : List ℕ) (base : ℕ) where
   Tracks-resume {old} {new} (Ask true next i) rest (Some e) goal is t =
       subst (λ (r : Recall). Tracks ways heads base r (Answer None) rest goal) (sym is)
       (record { resumes = t.resumes.1; below = tt; remembers = record { fails = t.remembers.fails; ends = t.remembers.ends } })
-  Tracks-resume {old} {new} (Atomic next) rest None goal is t =
+  Tracks-resume {old} {new} (Atomic i same moved) rest None goal is t =
       subst (λ (r : Recall). Tracks ways heads base r (Answer None) rest goal) (sym is)
       (record { resumes = t.resumes.1; below = tt; remembers = record { fails = t.remembers.fails; ends = t.remembers.ends } })
-  Tracks-resume {old} {new} (Atomic next) rest (Some e) goal is t =
-      subst (λ (r : Recall). Tracks ways heads base r (Visit next e) rest goal) (sym is)
+  Tracks-resume {old} {new} (Atomic i same moved) rest (Some e) goal is t =
+      subst (λ (r : Recall). Tracks ways heads base r (Visit (state_after i same moved e) e) rest goal) (sym is)
       (record { resumes = t.resumes.1; below = t.resumes.0 e refl; remembers = record { fails = t.remembers.fails; ends = t.remembers.ends } })
 
   -- a pair of which it is known that there is no way
@@ -208,13 +210,13 @@ module _ (ways : Ways) (heads : List ℕ) (base : ℕ) where
   }
 
   -- a step over a state that is not marked
-  pub Tracks-step : {old : Recall} (view : View) (matchers : List CharClassMatcher) (rules : Rules) (state : PartState) (q at : ℕ) (before after : Option ℕ)
+  pub Tracks-step : {old : Recall} (view : View) (matchers : List CharClassMatcher) (rules : Rules) (stop : ℕ) (state : State) (q at : ℕ) (before after : Option ℕ)
       (frames : List Frame) (goal : Option ℕ) → Shows matchers rules view at before after → Falls view ways state at (ways.depth q at)
-      → ways.end q at ≡ first_way view ways state at
+      → ways.end q at ≡ first_way view ways stop q state at
       → Tracks ways heads base old (Visit q at) frames goal
-      → Tracks ways heads base old (step_task matchers rules state at before after) (step_frames state at frames) goal
-  Tracks-step {old} view matchers rules state q at before after frames goal shows falls is t =
-      let on = step_resumes view matchers rules state at (ways.depth q at) before after frames goal shows falls
+      → Tracks ways heads base old (step_task matchers rules stop q state at before after) (step_frames state at frames) goal
+  Tracks-step {old} view matchers rules stop state q at before after frames goal shows falls is t =
+      let on = step_resumes view matchers rules stop q state at (ways.depth q at) before after frames goal shows falls
       (λ less lt. below_less (ways.depth q at) less frames (omega arith) t.below)
       (subst (λ (a : Option ℕ). Resumes ways heads base frames a goal) is t.resumes) in
       record {
@@ -227,15 +229,15 @@ module _ (ways : Ways) (heads : List ℕ) (base : ℕ) where
       }
 
   -- a step over a marked state whose pair was opened
-  pub Tracks-open : {old new : Recall} (k : ℕ) (view : View) (matchers : List CharClassMatcher) (rules : Rules) (state : PartState) (q at : ℕ)
+  pub Tracks-open : {old new : Recall} (k : ℕ) (view : View) (matchers : List CharClassMatcher) (rules : Rules) (stop : ℕ) (state : State) (q at : ℕ)
       (before after : Option ℕ) (frames : List Frame) (goal : Option ℕ) → IsOpened old new k
       → cell_end ways heads base k ≡ ways.end q at → cell_depth ways heads base k ≡ ways.depth q at
       → Shows matchers rules view at before after → Falls view ways state at (ways.depth q at)
-      → ways.end q at ≡ first_way view ways state at
+      → ways.end q at ≡ first_way view ways stop q state at
       → Tracks ways heads base old (Visit q at) frames goal
-      → Tracks ways heads base new (step_task matchers rules state at before after) (step_frames state at (Open k ∷ frames)) goal
-  Tracks-open {old} {new} k view matchers rules state q at before after frames goal opened end_is depth_is shows falls is t =
-      let on = step_resumes view matchers rules state at (ways.depth q at) before after (Open k ∷ frames) goal shows falls
+      → Tracks ways heads base new (step_task matchers rules stop q state at before after) (step_frames state at (Open k ∷ frames)) goal
+  Tracks-open {old} {new} k view matchers rules stop state q at before after frames goal opened end_is depth_is shows falls is t =
+      let on = step_resumes view matchers rules stop q state at (ways.depth q at) before after (Open k ∷ frames) goal shows falls
       (λ less lt. (omega (arith, lt, depth_is), below_less (ways.depth q at) less frames (omega arith) t.below))
       (subst (λ (a : Option ℕ). Resumes ways heads base (Open k ∷ frames) a goal) is (sym end_is, t.resumes)) in
       let r = opened_remembers k frames opened t.remembers in

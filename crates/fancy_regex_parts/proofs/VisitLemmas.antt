@@ -1,22 +1,22 @@
 -- What the visit of a pair leaves.
-use Rattle.std.proofs.Common.{◌≡◌, ℕ, ◌+◌, ◌-◌, ◌*◌, ◌^◌, ◌<◌, ◌≤◌, ◌∙◌, List, [], ◌∷◌, length, Option, Some, None, get_or, refl, sym, ap, subst, arith, max}
-use Rattle.std.proofs.lemmas.List.{get_or_default}
+use Rattle.std.proofs.Common.{◌≡◌, ℕ, ◌+◌, ◌-◌, ◌*◌, ◌<◌, ◌≤◌, ◌∙◌, List, ◌∷◌, length, Option, Some, None, refl, sym, ap, subst, arith, max}
 use Rattle.std.specs.Prelude.{IfSome, IsCharBoundary}
 use Rattle.std.specs.Char.{len_utf8}
 use Rattle.regex_hir.specs.Text.{char_at, char_before}
 use Rattle.fancy_regex_class.specs.Looks.{looked_text, look_count}
 use Rattle.fancy_regex_class.specs.declared.counted.Counted.{Counted}
-use Rattle.fancy_regex_parts.specs.Ways.{part_state, NamesBelow}
+use Rattle.fancy_regex_states.specs.Attempts.{NamesBelow}
+use Rattle.fancy_regex_states.specs.First.{state_at}
 use Rattle.fancy_regex_parts.specs.Tables.{IsTable, IsRightAt, mark_of, cost_of, due, due_of, owed}
 use Rattle.fancy_regex_parts.specs.Recall.{cell, cell_number, known_count, IsSame, IsOpened}
-use Rattle.fancy_regex_parts.specs.Frames.{step_frames, step_task, IsPlace, AllWithin, IsTaskWithin, pending, task_due, task_mode}
+use Rattle.fancy_regex_parts.specs.Frames.{step_frames, step_task, IsPlace, pending, task_due}
 use Rattle.fancy_regex_parts.specs.Layers.{IsOnlyLookedAt, IsOfText, IsAtTask, IsPaid, IsVisit}
 use Rattle.fancy_regex_parts.specs.declared.frame.Frame.{Frame}
 use Rattle.fancy_regex_parts.specs.declared.frame.Frame.TheVariants.{Open}
 use Rattle.fancy_regex_parts.specs.declared.frame.Task.{Task}
 use Rattle.fancy_regex_parts.specs.declared.frame.Task.TheVariants.{Visit, Answer}
 use Rattle.fancy_regex_parts.specs.declared.recall.Recall.{Recall}
-use Rattle.fancy_regex_parts.specs.declared.state.PartState.{PartState}
+use Rattle.fancy_regex_states.specs.declared.state.State.{State}
 use Rattle.fancy_regex_parts.specs.declared.step.PartContext.{PartContext}
 use Rattle.fancy_regex_parts.specs.declared.table.PartTable.{PartTable}
 use Rattle.fancy_regex_parts.proofs.CostLemmas.{step_due, step_length, mode_most, pending_cons}
@@ -79,14 +79,14 @@ module _ (context : PartContext) (text new_text : Counted) (recall : Recall) (fr
     }
 
     module _ (next : IfSome (char_at (looked_text text) at) (λ c. IsCharBoundary (looked_text text) (at + len_utf8 c))) (task : Task) (new_frames : List Frame)
-        (state : PartState) (state_is : state ≡ part_state context.table.now.states.items q)
-        (task_is : task ≡ step_task context.matchers.now context.rules state at (char_before (looked_text text) at) (char_at (looked_text text) at))
+        (state : State) (state_is : state ≡ state_at context.table.now.states.items q)
+        (task_is : task ≡ step_task context.matchers.now context.rules context.stop q state at (char_before (looked_text text) at) (char_at (looked_text text) at))
         (frames_are : new_frames ≡ step_frames state at frames) where
       pub unmarked_paid : IsPaid context text new_text recall recall (due context.table.now q + pending context.table.now frames)
           (task_due context.table.now task + pending context.table.now new_frames)
       unmarked_paid =
           let here : owed context.table.now state + 1 ≤ cost_of context.table.now q = subst (λ s. owed context.table.now s + 1 ≤ cost_of context.table.now q) (sym state_is) right.paid in
-          let step = step_due context.table.now context.matchers.now context.rules state at (char_before (looked_text text) at) (char_at (looked_text text) at) frames in
+          let step = step_due context.table.now context.matchers.now context.rules context.stop q state at (char_before (looked_text text) at) (char_at (looked_text text) at) frames in
           record {
             base = refl;
             memory = memory;
@@ -98,16 +98,16 @@ module _ (context : PartContext) (text new_text : Counted) (recall : Recall) (fr
       unmarked_visit =
           let here : owed context.table.now state + 1 ≤ cost_of context.table.now q = subst (λ s. owed context.table.now s + 1 ≤ cost_of context.table.now q) (sym state_is) right.paid in
           let names : NamesBelow (length context.table.now.states.items) state = subst (NamesBelow (length context.table.now.states.items)) (sym state_is) right.closed in
-          let step = step_due context.table.now context.matchers.now context.rules state at (char_before (looked_text text) at) (char_at (looked_text text) at) frames in
+          let step = step_due context.table.now context.matchers.now context.rules context.stop q state at (char_before (looked_text text) at) (char_at (looked_text text) at) frames in
           record {
             tracking = λ view ways has goal t.
                 let is = has.ends q at place.task.0 place.task.1.boundary in
                 let falls = has.falls q at place.task.0 place.task.1.boundary in
                 rw (task_is, frames_are, state_is)
-                (Tracks-step ways context.table.now.heads.items recall.base view context.matchers.now context.rules (part_state context.table.now.states.items q) q at _ _ frames goal
+                (Tracks-step ways context.table.now.heads.items recall.base view context.matchers.now context.rules context.stop (state_at context.table.now.states.items q) q at _ _ frames goal
                 (has.shows at place.task.1.boundary) falls is t);
             within = rw (task_is, frames_are) (record {
-              task = task_within (looked_text text) (length context.table.now.states.items) recall.base context.matchers.now context.rules state at _ _ names place.task.1 next;
+              task = task_within (looked_text text) (length context.table.now.states.items) recall.base context.matchers.now context.rules context.stop q state at _ _ names place.task.1 next;
               frames = frames_within (looked_text text) (length context.table.now.states.items) recall.base state at frames names place.task.1 place.frames;
             });
             progress = rw (task_is, frames_are) (omega (
@@ -116,7 +116,7 @@ module _ (context : PartContext) (text new_text : Counted) (recall : Recall) (fr
               step,
               due_none context.table.now q none,
               step_length state at frames,
-              mode_most (step_task context.matchers.now context.rules state at (char_before (looked_text text) at) (char_at (looked_text text) at)),
+              mode_most (step_task context.matchers.now context.rules context.stop q state at (char_before (looked_text text) at) (char_at (looked_text text) at)),
             ));
           }
 
@@ -185,15 +185,15 @@ module _ (context : PartContext) (text new_text : Counted) (recall : Recall) (fr
 
       module _ (k_is : k ≡ cell_number recall mark at) (looks : IsOnlyLookedAt text new_text) (count : look_count new_text ≤ look_count text + 1)
           (next : IfSome (char_at (looked_text text) at) (λ c. IsCharBoundary (looked_text text) (at + len_utf8 c))) (task : Task) (new_frames : List Frame)
-          (state : PartState) (state_is : state ≡ part_state context.table.now.states.items q)
-          (task_is : task ≡ step_task context.matchers.now context.rules state at (char_before (looked_text text) at) (char_at (looked_text text) at))
+          (state : State) (state_is : state ≡ state_at context.table.now.states.items q)
+          (task_is : task ≡ step_task context.matchers.now context.rules context.stop q state at (char_before (looked_text text) at) (char_at (looked_text text) at))
           (frames_are : new_frames ≡ step_frames state at (Open k ∷ frames)) where
         pub opened_paid : IsPaid context text new_text recall new_recall (due context.table.now q + pending context.table.now frames)
             (task_due context.table.now task + pending context.table.now new_frames)
         opened_paid =
             let here : owed context.table.now state + 1 ≤ cost_of context.table.now q = subst (λ s. owed context.table.now s + 1 ≤ cost_of context.table.now q) (sym state_is) right.paid in
             let m = (right.marked mark some).2 in
-            let step = step_due context.table.now context.matchers.now context.rules state at (char_before (looked_text text) at) (char_at (looked_text text) at) (Open k ∷ frames) in
+            let step = step_due context.table.now context.matchers.now context.rules context.stop q state at (char_before (looked_text text) at) (char_at (looked_text text) at) (Open k ∷ frames) in
             record {
               base = opened.base;
               memory = of_text_opened context (looked_text text) memory at k opened rows place.task.1;
@@ -207,16 +207,16 @@ module _ (context : PartContext) (text new_text : Counted) (recall : Recall) (fr
             let names : NamesBelow (length context.table.now.states.items) state = subst (NamesBelow (length context.table.now.states.items)) (sym state_is) right.closed in
             let m = right.marked mark some in
             let most = m.2 in
-            let step = step_due context.table.now context.matchers.now context.rules state at (char_before (looked_text text) at) (char_at (looked_text text) at) (Open k ∷ frames) in
+            let step = step_due context.table.now context.matchers.now context.rules context.stop q state at (char_before (looked_text text) at) (char_at (looked_text text) at) (Open k ∷ frames) in
             record {
               tracking = λ view ways has goal t.
                   let is = cell_is ways context.table.now.heads.items recall.base q at mark m.0 m.1 place.task.1.low in
                   let pair = k_is ∙ cell_pair in
                   rw (task_is, frames_are, state_is)
-                  (Tracks-open ways context.table.now.heads.items recall.base k view context.matchers.now context.rules (part_state context.table.now.states.items q) q at _ _ frames goal
+                  (Tracks-open ways context.table.now.heads.items recall.base k view context.matchers.now context.rules context.stop (state_at context.table.now.states.items q) q at _ _ frames goal
                   opened (rw pair is.0) (rw pair is.1) (has.shows at place.task.1.boundary) (has.falls q at place.task.0 place.task.1.boundary) (has.ends q at place.task.0 place.task.1.boundary) t);
               within = rw (task_is, frames_are) (record {
-                task = task_within (looked_text text) (length context.table.now.states.items) recall.base context.matchers.now context.rules state at _ _ names place.task.1 next;
+                task = task_within (looked_text text) (length context.table.now.states.items) recall.base context.matchers.now context.rules context.stop q state at _ _ names place.task.1 next;
                 frames = frames_within (looked_text text) (length context.table.now.states.items) recall.base state at (Open k ∷ frames) names place.task.1 (tt, place.frames);
               });
               progress = rw (task_is, frames_are) (omega (
@@ -227,6 +227,6 @@ module _ (context : PartContext) (text new_text : Counted) (recall : Recall) (fr
                 most_more,
                 pending_cons context.table.now (Open k) frames,
                 step_length state at (Open k ∷ frames),
-                mode_most (step_task context.matchers.now context.rules state at (char_before (looked_text text) at) (char_at (looked_text text) at)),
+                mode_most (step_task context.matchers.now context.rules context.stop q state at (char_before (looked_text text) at) (char_at (looked_text text) at)),
               ));
             }

@@ -1,11 +1,11 @@
 -- The stack of a search in parts: what becomes of the answer that is found above it.
-use Rattle.std.specs.Prelude.{◌≡◌, ℕ, ◌+◌, ◌/◌, ◌%◌, ◌<◌, ◌≤◌, ◌⊎◌, Bool, true, false, List, [], ◌∷◌, ◌++◌, length, Option, Some, None, option_and_then, if◌then◌else◌, slice_index_or, IsCharBoundary}
+use Rattle.std.specs.Prelude.{◌≡◌, ℕ, ◌+◌, ◌/◌, ◌%◌, ◌<◌, ◌≤◌, ◌⊎◌, true, false, List, [], ◌∷◌, ◌++◌, length, max, Option, Some, None, option_and_then, if◌then◌else◌, slice_index_or, IsCharBoundary}
 use Rattle.std.specs.Char.{len_utf8}
 use Rattle.fancy_regex_class.specs.declared.class.CharClassMatcher.{CharClassMatcher}
 use Rattle.fancy_regex_states.specs.CharTests.{leaf_matches_char, passes}
 use Rattle.fancy_regex_states.specs.declared.atom.Leaf.{Leaf}
 use Rattle.fancy_regex_states.specs.declared.rules.Rules.{Rules}
-use Rattle.fancy_regex_parts.specs.Ways.{Ways, or_else, if_asked}
+use Rattle.fancy_regex_parts.specs.Ways.{Ways, or_else, if_asked, state_after, match_end}
 use Rattle.fancy_regex_parts.specs.Tables.{due}
 use Rattle.fancy_regex_parts.specs.Recall.{cell}
 use Rattle.fancy_regex_parts.specs.declared.frame.Frame.{Frame}
@@ -13,8 +13,8 @@ use Rattle.fancy_regex_parts.specs.declared.frame.Frame.TheVariants.{Branch, Ope
 use Rattle.fancy_regex_parts.specs.declared.frame.Task.{Task}
 use Rattle.fancy_regex_parts.specs.declared.frame.Task.TheVariants.{Visit, Answer}
 use Rattle.fancy_regex_parts.specs.declared.recall.Recall.{Recall}
-use Rattle.fancy_regex_parts.specs.declared.state.PartState.{PartState}
-use Rattle.fancy_regex_parts.specs.declared.state.PartState.TheVariants as S
+use Rattle.fancy_regex_states.specs.declared.state.State.{State}
+use Rattle.fancy_regex_states.specs.declared.state.State.TheVariants as S
 use Rattle.fancy_regex_parts.specs.declared.table.PartTable.{PartTable}
 
 -- the frames with the last one first
@@ -23,12 +23,14 @@ top_first [] = []
 top_first (f ∷ fs) = top_first fs ++ f ∷ []
 
 -- What a state leaves to be done, and what is done next.
-abbrev pub step_frames : PartState → ℕ → List Frame → List Frame
+abbrev pub step_frames : State → ℕ → List Frame → List Frame
 step_frames (S.Read leaf next) at frames = frames
 step_frames (S.Look check next) at frames = frames
 step_frames (S.Split first second) at frames = Branch second at ∷ frames
 step_frames (S.Ask part negated next) at frames = Ask negated next at ∷ frames
-step_frames (S.Atomic part next) at frames = Atomic next ∷ frames
+step_frames (S.Enter g next) at frames = frames
+step_frames (S.Leave g next) at frames = frames
+step_frames (S.Atomic part same moved) at frames = Atomic at same moved ∷ frames
 step_frames S.Match at frames = frames
 
 module _ (matchers : List CharClassMatcher) (rules : Rules) where
@@ -37,13 +39,16 @@ module _ (matchers : List CharClassMatcher) (rules : Rules) where
   read_task leaf next at (Some c) =
       if leaf_matches_char rules.unicode matchers leaf c then Visit next (at + len_utf8 c) else Answer None
 
-  abbrev pub step_task : PartState → ℕ → Option ℕ → Option ℕ → Task
-  step_task (S.Read leaf next) at before after = read_task leaf next at after
-  step_task (S.Look check next) at before after = if passes matchers rules check before after then Visit next at else Answer None
-  step_task (S.Split first second) at before after = Visit first at
-  step_task (S.Ask part negated next) at before after = Visit part at
-  step_task (S.Atomic part next) at before after = Visit part at
-  step_task S.Match at before after = Answer (Some at)
+  -- what is done next behind a state, which has the number q
+  abbrev pub step_task : ℕ → ℕ → State → ℕ → Option ℕ → Option ℕ → Task
+  step_task stop q (S.Read leaf next) at before after = read_task leaf next at after
+  step_task stop q (S.Look check next) at before after = if passes matchers rules check before after then Visit next at else Answer None
+  step_task stop q (S.Split first second) at before after = Visit first at
+  step_task stop q (S.Ask part negated next) at before after = Visit part at
+  step_task stop q (S.Enter g next) at before after = Visit next at
+  step_task stop q (S.Leave g next) at before after = Visit next at
+  step_task stop q (S.Atomic part same moved) at before after = Visit part at
+  step_task stop q S.Match at before after = Answer (match_end stop q at)
 
 -- what is done next where the answer comes to a frame
 abbrev pub resume_task : Frame → Option ℕ → Task
@@ -54,8 +59,8 @@ resume_task (Ask false next i) None = Answer None
 resume_task (Ask false next i) (Some e) = Visit next i
 resume_task (Ask true next i) None = Visit next i
 resume_task (Ask true next i) (Some e) = Answer None
-resume_task (Atomic next) None = Answer None
-resume_task (Atomic next) (Some e) = Visit next e
+resume_task (Atomic i same moved) None = Answer None
+resume_task (Atomic i same moved) (Some e) = Visit (state_after i same moved e) e
 
 -- i is a place of the text from `base` on
 pub record IsPlace (text : List ℕ) (base i : ℕ) : Type 0 where
@@ -67,7 +72,7 @@ module _ (text : List ℕ) (count base : ℕ) where
   IsFrameWithin (Branch q i) = (q < count) × IsPlace text base i
   IsFrameWithin (Open k) = Unit {0}
   IsFrameWithin (Ask negated next i) = (next < count) × IsPlace text base i
-  IsFrameWithin (Atomic next) = next < count
+  IsFrameWithin (Atomic i same moved) = (same < count) × (moved < count)
 
   abbrev pub AllWithin : List Frame → Type 0
   AllWithin [] = Unit {0}
@@ -88,7 +93,7 @@ module _ (table : PartTable) where
   frame_due (Branch q i) = due table q
   frame_due (Open k) = 0
   frame_due (Ask negated next i) = due table next
-  frame_due (Atomic next) = due table next
+  frame_due (Atomic i same moved) = max (due table same) (due table moved)
 
   unfoldable pub pending : List Frame → ℕ
   pending [] = 0
@@ -108,7 +113,7 @@ IsOpen k [] = ⊥
 IsOpen k (Branch q i ∷ rest) = IsOpen k rest
 IsOpen k (Open j ∷ rest) = (k ≡ j) ⊎ IsOpen k rest
 IsOpen k (Ask negated next i ∷ rest) = IsOpen k rest
-IsOpen k (Atomic next ∷ rest) = IsOpen k rest
+IsOpen k (Atomic i same moved ∷ rest) = IsOpen k rest
 
 module _ (ways : Ways) (heads : List ℕ) (base : ℕ) where
   -- the answer and the depth of the pair of a cell
@@ -124,7 +129,7 @@ module _ (ways : Ways) (heads : List ℕ) (base : ℕ) where
   IsBelowOpen d (Branch q i ∷ rest) = IsBelowOpen d rest
   IsBelowOpen d (Open k ∷ rest) = (d < cell_depth k) × IsBelowOpen d rest
   IsBelowOpen d (Ask negated next i ∷ rest) = IsBelowOpen d rest
-  IsBelowOpen d (Atomic next ∷ rest) = IsBelowOpen d rest
+  IsBelowOpen d (Atomic i same moved ∷ rest) = IsBelowOpen d rest
 
   -- The frames make the goal of this answer; on the way each open pair gets its answer, and what is tried is below the open pairs.
   abbrev pub Resumes : List Frame → Option ℕ → Option ℕ → Type 0
@@ -134,8 +139,9 @@ module _ (ways : Ways) (heads : List ℕ) (base : ℕ) where
   Resumes (Open k ∷ rest) answer goal = (answer ≡ cell_end k) × Resumes rest answer goal
   Resumes (Ask negated next i ∷ rest) answer goal =
       IsBelowOpen (ways.depth next i) rest × Resumes rest (if_asked negated answer (ways.end next i)) goal
-  Resumes (Atomic next ∷ rest) answer goal =
-      ((e : ℕ) → answer ≡ Some e → IsBelowOpen (ways.depth next e) rest) × Resumes rest (option_and_then (ways.end next) answer) goal
+  Resumes (Atomic i same moved ∷ rest) answer goal =
+      ((e : ℕ) → answer ≡ Some e → IsBelowOpen (ways.depth (state_after i same moved e) e) rest)
+      × Resumes rest (option_and_then (λ e. ways.end (state_after i same moved e) e) answer) goal
 
   abbrev pub task_end : Task → Option ℕ
   task_end (Visit q i) = ways.end q i

@@ -1,23 +1,22 @@
 -- What each layer of a search in parts needs, and what it leaves.
-use Rattle.std.specs.Prelude.{◌≡◌, ◌+◌, ◌-◌, ◌*◌, ◌^◌, ◌<◌, ◌≤◌, ℕ, List, [], ◌∷◌, Option, Some, None, length, vec_len, min, max}
+use Rattle.std.specs.Prelude.{◌≡◌, ◌+◌, ◌-◌, ◌*◌, ◌^◌, ◌<◌, ◌≤◌, ℕ, List, [], Option, Some, length, min}
 use Rattle.fancy_regex_class.specs.Looks.{looked_text, look_count, SameCounter}
 use Rattle.fancy_regex_class.specs.declared.counted.Counted.{Counted}
 use Rattle.fancy_regex_states.specs.Attempts.{View}
 use Rattle.fancy_regex_parts.specs.Ways.{Ways, Explains}
-use Rattle.fancy_regex_parts.specs.Tables.{IsTable, due}
-use Rattle.fancy_regex_parts.specs.Recall.{cell, known_count, IsStored}
-use Rattle.fancy_regex_parts.specs.Frames.{IsPlace, EndsWithin, AllWithin, IsTaskWithin, Tracks, Remembers, pending, task_due, task_mode, top_first}
+use Rattle.fancy_regex_parts.specs.Tables.{due}
+use Rattle.fancy_regex_parts.specs.Recall.{known_count, IsStored}
+use Rattle.fancy_regex_parts.specs.Frames.{EndsWithin, AllWithin, IsTaskWithin, Tracks, Remembers, pending, task_due, task_mode}
 use Rattle.fancy_regex_parts.specs.declared.frame.Frame.{Frame}
 use Rattle.fancy_regex_parts.specs.declared.frame.Frame.TheVariants.{Open}
 use Rattle.fancy_regex_parts.specs.declared.frame.Task.{Task}
 use Rattle.fancy_regex_parts.specs.declared.frame.Task.TheVariants.{Visit}
-use Rattle.fancy_regex_parts.specs.declared.memory.PartMemory.{PartMemory}
 use Rattle.fancy_regex_parts.specs.declared.recall.Recall.{Recall}
 use Rattle.fancy_regex_parts.specs.declared.step.PartContext.{PartContext}
 
 -- the states of a context have these ways in the text
 abbrev pub HasWays : PartContext → List ℕ → View → Ways → Type 0
-HasWays context text view ways = Explains context.matchers.now context.rules context.table.now.states.items text view ways
+HasWays context text view ways = Explains context.matchers.now context.rules context.stop context.table.now.states.items text view ways
 
 -- the text was looked at, and nothing else was done with it
 pub record IsOnlyLookedAt (old new : Counted) : Type 0 where

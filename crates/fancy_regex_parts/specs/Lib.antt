@@ -3,3 +3,4 @@ pub mod Ways
 pub mod Tables
 pub mod Frames
 pub mod Layers
+pub mod Find

@@ -1,9 +1,10 @@
 -- A table of states with marks, and what a visit of each state costs.
-use Rattle.std.specs.Prelude.{◌≡◌, ℕ, ◌+◌, ◌*◌, ◌<◌, ◌≤◌, List, length, Option, Some, None, slice_index_or}
-use Rattle.fancy_regex_parts.specs.Ways.{part_state, NamesBelow}
-use Rattle.fancy_regex_parts.specs.declared.state.PartState.{PartState}
-use Rattle.fancy_regex_parts.specs.declared.state.PartState.TheVariants.{Split, Ask, Atomic, Match}
-use Rattle.fancy_regex_parts.specs.declared.state.PartState.TheVariants as S
+use Rattle.std.specs.Prelude.{◌≡◌, ℕ, ◌+◌, ◌*◌, ◌<◌, ◌≤◌, length, Option, Some, None, max, slice_index_or}
+use Rattle.fancy_regex_states.specs.Attempts.{NamesBelow}
+use Rattle.fancy_regex_states.specs.First.{state_at}
+use Rattle.fancy_regex_states.specs.declared.state.State.{State}
+use Rattle.fancy_regex_states.specs.declared.state.State.TheVariants.{Split, Enter, Leave, Ask, Atomic, Match}
+use Rattle.fancy_regex_states.specs.declared.state.State.TheVariants as S
 use Rattle.fancy_regex_parts.specs.declared.table.PartTable.{PartTable}
 
 -- the mark of a state, if it has one
@@ -22,13 +23,15 @@ due_of None cost = cost
 abbrev pub due : PartTable → ℕ → ℕ
 due table q = due_of (mark_of table q) (cost_of table q)
 
--- what is due for the states that this one leads to
-abbrev pub owed : PartTable → PartState → ℕ
+-- what is due for the states that this one leads to; behind an atomic group one of the two is tried
+abbrev pub owed : PartTable → State → ℕ
 owed table (S.Read leaf next) = due table next
 owed table (S.Look check next) = due table next
+owed table (Enter g next) = due table next
+owed table (Leave g next) = due table next
 owed table (Split first second) = due table first + due table second
 owed table (Ask part negated next) = due table part + due table next
-owed table (Atomic part next) = due table part + due table next
+owed table (Atomic part same moved) = due table part + max (due table same) (due table moved)
 owed table Match = 0
 
 -- the parts' weight: a bound on the looks for each place, over all questions
@@ -38,12 +41,12 @@ table_weight table = table.most * length table.heads.items
 -- what is right of the state q
 pub record IsRightAt (table : PartTable) (q : ℕ) : Type 0 where
   -- it names states
-  pub closed : NamesBelow (length table.states.items) (part_state table.states.items q)
+  pub closed : NamesBelow (length table.states.items) (state_at table.states.items q)
   -- its mark is its own, and no marked state costs more than this
   pub marked : (mark : ℕ) → mark_of table q ≡ Some mark
       → (mark < length table.heads.items) × (slice_index_or table.heads.items mark 0 ≡ q) × (cost_of table q ≤ table.most)
   -- its cost is enough for it and those behind it
-  pub paid : owed table (part_state table.states.items q) + 1 ≤ cost_of table q
+  pub paid : owed table (state_at table.states.items q) + 1 ≤ cost_of table q
 
 -- all states are right
 unfoldable pub IsTable : PartTable → Type 0

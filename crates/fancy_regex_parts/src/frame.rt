@@ -18,9 +18,12 @@ pub enum Frame {
         next: usize,
         at: usize,
     },
-    /// The answer is that of the part of an atomic group; the search continues with `next` at the end, or fails.
+    /// The answer is that of the part of an atomic group that begins at the byte offset `at`; the search continues at the end, with
+    /// `same` if that is `at`, else with `moved`, or fails.
     Atomic {
-        next: usize,
+        at: usize,
+        same: usize,
+        moved: usize,
     },
 }
 

@@ -8,8 +8,8 @@ use crate::recall::Recall;
 use crate::step::PartContext;
 use std::alloc::Global;
 
-/// What earlier questions have found out about the parts of one table in one text, and the stack that they use. It has to be started anew
-/// for other parts or another text.
+/// What earlier questions have found out about the parts of one context in one text, and the stack that they use. It has to be started
+/// anew for other parts, another text or another end of the range.
 #[derive(Drop)]
 pub struct PartMemory {
     /// What is known of pairs of a marked state and a byte offset.

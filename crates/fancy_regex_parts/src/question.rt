@@ -3,11 +3,12 @@
 ghost use Rattle.std.specs.Prelude.{◌≡◌, ◌+◌, ◌-◌, ◌*◌, ◌^◌, ◌<◌, ◌≤◌, ℕ, None, length, vec_len, slice_index, slice_index_or, IfOk, IfSome, OnOk};
 ghost use Rattle.fancy_regex_class.specs.Looks.{looked_text, look_count};
 ghost use Rattle.fancy_regex_states.specs.Attempts.{View};
-ghost use Rattle.fancy_regex_parts.specs.Ways.{Ways};
+ghost use Rattle.fancy_regex_parts.specs.Ways.{Ways, state_after};
 ghost use Rattle.fancy_regex_parts.specs.Tables.{IsTable, due, table_weight};
 ghost use Rattle.fancy_regex_parts.specs.Recall.{known_count};
 ghost use Rattle.fancy_regex_parts.specs.Frames.{IsPlace, resume_task, top_first};
 ghost use Rattle.fancy_regex_parts.specs.Layers.{HasWays, IsOnlyLookedAt, IsOfText, IsPaid, IsTrueOf, IsResumed};
+ghost use Rattle.fancy_regex_parts.specs.declared.frame.Task.TheVariants.{Visit};
 
 use crate::frame::{Frame, Task};
 use crate::memory::PartMemory;
@@ -41,11 +42,20 @@ fn resume(frame: Frame, end: Option<usize>, recall: &mut Recall) -> Task
                 Task::Answer(None)
             }
         }
-        Frame::Atomic { next } => match end {
-            Some(e) => Task::Visit { state: next, at: e },
+        Frame::Atomic { at, same, moved } => match end {
+            Some(e) => visit_behind(at, same, moved, e),
             None => Task::Answer(None),
         },
     }
+}
+
+/// Continues behind the part of an atomic group that began at `at` and ends at `end`.
+#[inline(always)]
+fn visit_behind(at: usize, same: usize, moved: usize, end: usize) -> Task
+    ensures { result ≡ Visit (state_after at same moved end) end }
+{
+    let state = if at < end { moved } else { same };
+    Task::Visit { state, at: end }
 }
 
 /// The answer of `ask`. After an error pairs may be left open.

@@ -4,6 +4,7 @@ ghost use Rattle.std.specs.Prelude.{◌≡◌, ◌+◌, ◌^◌, ◌<◌, ◌≤
 ghost use Rattle.std.specs.Char.{len_utf8};
 ghost use Rattle.regex_hir.specs.Text.{char_at, char_before};
 ghost use Rattle.fancy_regex_class.specs.Looks.{looked_text, look_count};
+ghost use Rattle.fancy_regex_parts.specs.Ways.{match_end};
 ghost use Rattle.fancy_regex_parts.specs.Tables.{IsTable, mark_of, due};
 ghost use Rattle.fancy_regex_parts.specs.Frames.{pending, task_due, step_frames, step_task, read_task, top_first};
 ghost use Rattle.fancy_regex_parts.specs.Layers.{IsOnlyLookedAt, IsOfText, IsAtTask, IsPaid, IsVisit};
@@ -11,10 +12,9 @@ ghost use Rattle.fancy_regex_parts.specs.declared.frame.Task.TheVariants.{Visit}
 
 use crate::frame::{Frame, Task};
 use crate::recall::{Known, Recall};
-use crate::state::PartState;
 use crate::table::PartTable;
 use fancy_regex_class::{CharClassMatcher, Counted};
-use fancy_regex_states::{Leaf, Rules, leaf_matches, test_holds};
+use fancy_regex_states::{Leaf, Rules, State, leaf_matches, test_holds};
 use std::alloc::AllocError;
 
 /// What a search in parts reads and does not change.
@@ -26,20 +26,23 @@ pub struct PartContext<'p> {
     pub matchers: &'p [CharClassMatcher],
     /// The flags of the search.
     pub rules: Rules,
+    /// The pattern's own final state, state 0, matches up to this byte offset. The text behind it is seen all the same.
+    pub stop: usize,
 }
 
-/// Executes a state at the byte offset `at`, which costs one look. The error is want of memory.
+/// Executes the state of the number `q` at the byte offset `at`, which costs one look. The error is want of memory.
 #[inline(always)]
 fn step(
     context: &PartContext,
     text: &mut Counted,
-    state: PartState,
+    q: usize,
+    state: State,
     at: usize,
     stack: &mut Vec<Frame>,
 ) -> Result<Task, AllocError>
     requires boundary { IsCharBoundary (looked_text text.old) at }
     requires small { length (looked_text text.old) < 2 ^ 63 }
-    ensures task { IfOk result (λ task. task ≡ step_task context.now.matchers.now context.now.rules state at
+    ensures task { IfOk result (λ task. task ≡ step_task context.now.matchers.now context.now.rules context.now.stop q state at
         (char_before (looked_text text.old) at) (char_at (looked_text text.old) at)) }
     ensures frames { OnOk result (top_first stack.new.items ≡ step_frames state at (top_first stack.old.items)) }
     ensures next { IfSome (char_at (looked_text text.old) at) (λ c. IsCharBoundary (looked_text text.old) (at + len_utf8 c)) }
@@ -47,38 +50,41 @@ fn step(
     ensures looks { IsOnlyLookedAt text.old text.new }
 {
     let (before, after) = text.look(at);
-    let task = advance(context, state, at, before, after, stack)?;
+    let task = advance(context, q, state, at, before, after, stack)?;
     Ok(task)
 }
 
-/// Executes a state at the byte offset `at`, between the characters `before` and `after`. The error is want of memory.
+/// Executes the state of the number `q` at the byte offset `at`, between the characters `before` and `after`. The error is want of
+/// memory.
 #[inline(always)]
 fn advance(
     context: &PartContext,
-    state: PartState,
+    q: usize,
+    state: State,
     at: usize,
     before: Option<char>,
     after: Option<char>,
     stack: &mut Vec<Frame>,
 ) -> Result<Task, AllocError>
     requires { IfSome after (λ c. at + len_utf8 c < 2 ^ 64) }
-    ensures task { IfOk result (λ task. task ≡ step_task context.now.matchers.now context.now.rules state at before after) }
+    ensures task { IfOk result (λ task. task ≡
+        step_task context.now.matchers.now context.now.rules context.now.stop q state at before after) }
     ensures frames { OnOk result (top_first stack.new.items ≡ step_frames state at (top_first stack.old.items)) }
 {
     match state {
-        PartState::Read { leaf, next } => Ok(read(context, leaf, next, at, after)),
-        PartState::Look { test, next } => {
+        State::Read { leaf, next } => Ok(read(context, leaf, next, at, after)),
+        State::Look { test, next } => {
             if test_holds(context.matchers, context.rules, test, before, after) {
                 Ok(Task::Visit { state: next, at })
             } else {
                 Ok(Task::Answer(None))
             }
         }
-        PartState::Split { first, second } => {
+        State::Split { first, second } => {
             push(stack, Frame::Branch { state: second, at })?;
             Ok(Task::Visit { state: first, at })
         }
-        PartState::Ask {
+        State::Ask {
             part,
             negated,
             next,
@@ -86,12 +92,23 @@ fn advance(
             push(stack, Frame::Ask { negated, next, at })?;
             Ok(Task::Visit { state: part, at })
         }
-        PartState::Atomic { part, next } => {
-            push(stack, Frame::Atomic { next })?;
+        State::Enter { next, .. } | State::Leave { next, .. } => {
+            Ok(Task::Visit { state: next, at })
+        }
+        State::Atomic { part, same, moved } => {
+            push(stack, Frame::Atomic { at, same, moved })?;
             Ok(Task::Visit { state: part, at })
         }
-        PartState::Match => Ok(Task::Answer(Some(at))),
+        State::Match => Ok(Task::Answer(final_end(context.stop, q, at))),
     }
+}
+
+/// Where the final state of the number `q` ends at `at`: there, but for the pattern's own behind `stop`.
+#[inline(always)]
+fn final_end(stop: usize, q: usize, at: usize) -> Option<usize>
+    ensures { result ≡ match_end stop q at }
+{
+    if q == 0 && at > stop { None } else { Some(at) }
 }
 
 /// Pushes a frame. The error is want of memory.
@@ -142,7 +159,7 @@ pub fn visit(
     match context.table.mark(q) {
         Some(mark) => visit_marked(context, text, recall, stack, mark, q, at),
         None => {
-            let task = step(context, text, context.table.states[q], at, stack)?;
+            let task = step(context, text, q, context.table.states[q], at, stack)?;
             Ok(task)
         }
     }
@@ -175,7 +192,7 @@ fn visit_marked(
     match known {
         Known::New(cell) => {
             push(stack, Frame::Open { cell })?;
-            let task = step(context, text, context.table.states[q], at, stack)?;
+            let task = step(context, text, q, context.table.states[q], at, stack)?;
             Ok(task)
         }
         Known::Fails => Ok(Task::Answer(None)),

@@ -1,9 +1,9 @@
 //! The states of parts, which of them are marked, and what it costs to try them.
 
 ghost use Rattle.std.specs.Prelude.{◌≡◌, ◌+◌, ◌-◌, ◌*◌, ◌^◌, ◌<◌, ◌≤◌, ℕ, true, Some, length, min, slice_index_or, IfOk, IfSome};
-ghost use Rattle.fancy_regex_parts.specs.Ways.{NamesBelow};
+ghost use Rattle.fancy_regex_states.specs.Attempts.{NamesBelow};
 
-use crate::state::PartState;
+use fancy_regex_states::State;
 use std::alloc::{AllocError, Global};
 
 /// States of parts with their marks. A state is marked where two states lead to it, or where it leads to a later one, as the head of a
@@ -11,7 +11,7 @@ use std::alloc::{AllocError, Global};
 #[derive(Drop)]
 pub struct PartTable {
     /// The states of all parts. Those of a part that is asked by another one come before the other's.
-    pub(crate) states: Vec<PartState>,
+    pub(crate) states: Vec<State>,
     /// For each state its mark, if it has one.
     pub(crate) marks: Vec<Option<usize>>,
     /// For each mark the state that has it.
@@ -23,12 +23,12 @@ pub struct PartTable {
 }
 
 impl PartTable {
-    ghost use Rattle.fancy_regex_parts.specs.Ways.{part_state};
+    ghost use Rattle.fancy_regex_states.specs.First.{state_at};
     ghost use Rattle.fancy_regex_parts.specs.Tables.{IsTable, IsRightAt, mark_of, cost_of, due as due_is, owed as owed_is, table_weight};
 
     /// The table of these states. A state leads to earlier states, but for the heads of loops; `None` where a state leads to one that
     /// is not there, or where states that are not marked lead in a circle. The error is want of memory.
-    pub fn new(alloc: Global, states: Vec<PartState>) -> Result<Option<PartTable>, AllocError>
+    pub fn new(alloc: Global, states: Vec<State>) -> Result<Option<PartTable>, AllocError>
         ensures { IfOk result (λ made. IfSome made (λ table. IsTable table × (table.states.items ≡ states.items))) }
     {
         let marked = marked_states(alloc, &states)?;
@@ -91,18 +91,20 @@ impl PartTable {
     }
 
     /// What is due for the states that this one leads to.
-    fn owed(&self, state: PartState) -> usize
+    fn owed(&self, state: State) -> usize
         ensures { result ≡ min (owed_is self.now state) (2 ^ 64 - 1) }
     {
         match state {
-            PartState::Read { next, .. } | PartState::Look { next, .. } => self.due(next),
-            PartState::Split { first, second } => {
-                self.due(first).saturating_add(self.due(second))
-            }
-            PartState::Ask { part, next, .. } | PartState::Atomic { part, next } => {
-                self.due(part).saturating_add(self.due(next))
-            }
-            PartState::Match => 0,
+            State::Read { next, .. }
+            | State::Look { next, .. }
+            | State::Enter { next, .. }
+            | State::Leave { next, .. } => self.due(next),
+            State::Split { first, second } => { self.due(first).saturating_add(self.due(second)) }
+            State::Ask { part, next, .. } => self.due(part).saturating_add(self.due(next)),
+            State::Atomic { part, same, moved } => self
+                .due(part)
+                .saturating_add(self.due(same).max(self.due(moved))),
+            State::Match => 0,
         }
     }
 
@@ -164,50 +166,62 @@ impl PartTable {
 }
 
 /// Whether each state that this one names is below `count`.
-fn names_below(state: PartState, count: usize) -> bool
+fn names_below(state: State, count: usize) -> bool
     ensures { result ≡ true → NamesBelow count state }
 {
     match state {
-        PartState::Read { next, .. } | PartState::Look { next, .. } => next < count,
-        PartState::Split { first, second } => first < count && second < count,
-        PartState::Ask { part, next, .. } | PartState::Atomic { part, next } => {
-            part < count && next < count
-        }
-        PartState::Match => true,
-    }
-}
-
-/// The states that this one leads to.
-fn led(state: PartState) -> (Option<usize>, Option<usize>) {
-    match state {
-        PartState::Read { next, .. } | PartState::Look { next, .. } => (Some(next), None),
-        PartState::Split { first, second } => (Some(first), Some(second)),
-        PartState::Ask { part, next, .. } | PartState::Atomic { part, next } => {
-            (Some(part), Some(next))
-        }
-        PartState::Match => (None, None),
+        State::Read { next, .. }
+        | State::Look { next, .. }
+        | State::Enter { next, .. }
+        | State::Leave { next, .. } => next < count,
+        State::Split { first, second } => first < count && second < count,
+        State::Ask { part, next, .. } => part < count && next < count,
+        State::Atomic { part, same, moved } => part < count && same < count && moved < count,
+        State::Match => true,
     }
 }
 
 /// For each state whether it is to be marked. The error is want of memory.
-fn marked_states(alloc: Global, states: &[PartState]) -> Result<Vec<bool>, AllocError> {
+fn marked_states(alloc: Global, states: &[State]) -> Result<Vec<bool>, AllocError> {
     let mut marked = Vec::new(alloc);
     marked.resize(states.len(), false)?;
     let mut entered = Vec::new(alloc);
     entered.resize(states.len(), false)?;
     for q in 0..states.len() {
-        let (first, second) = led(states[q]);
-        note_edge(&mut marked, &mut entered, q, first);
-        note_edge(&mut marked, &mut entered, q, second);
+        note_edges(&mut marked, &mut entered, q, states[q]);
     }
     Ok(marked)
 }
 
+/// Notes where the state of this number leads. Behind an atomic group one of its two states is tried, so one of them counts where
+/// they are the same.
+fn note_edges(marked: &mut [bool], entered: &mut [bool], from: usize, state: State) {
+    match state {
+        State::Read { next, .. }
+        | State::Look { next, .. }
+        | State::Enter { next, .. }
+        | State::Leave { next, .. } => note_edge(marked, entered, from, next),
+        State::Split { first, second } => {
+            note_edge(marked, entered, from, first);
+            note_edge(marked, entered, from, second);
+        }
+        State::Ask { part, next, .. } => {
+            note_edge(marked, entered, from, part);
+            note_edge(marked, entered, from, next);
+        }
+        State::Atomic { part, same, moved } => {
+            note_edge(marked, entered, from, part);
+            note_edge(marked, entered, from, same);
+            if moved != same {
+                note_edge(marked, entered, from, moved);
+            }
+        }
+        State::Match => {}
+    }
+}
+
 /// Notes that the state `from` leads to this one: a state that leads to a later one is marked, and one that was led to before.
-fn note_edge(marked: &mut [bool], entered: &mut [bool], from: usize, to: Option<usize>) {
-    let Some(to) = to else {
-        return;
-    };
+fn note_edge(marked: &mut [bool], entered: &mut [bool], from: usize, to: usize) {
     if from < marked.len() && from <= to {
         marked[from] = true;
     }

@@ -1,6 +1,5 @@
 use Rattle.std.proofs.Common.{◌≡◌, ◌==◌, ◌∙◌, ℕ, vec_len, length, ap, sym, rules}
 use Rattle.fancy_regex_tree.specs.Tree.{tree_of, alt}
-use Rattle.fancy_regex_linear.specs.Plain.{IsPlain}
 use Rattle.fancy_regex_linear.specs.Translation.{all_trees}
 use Rattle.fancy_regex_linear.proofs.BuildLemmas.{plain_step, plain_whole, some_trees}
 use Rattle.fancy_regex_linear.proofs.ShapeLemmas.{tree_alt}

@@ -1,10 +1,8 @@
-use Rattle.std.proofs.Common.{◌≡◌, ℕ, ◌+◌, ◌-◌, ◌*◌, ◌<◌, ◌≤◌, ◌∙◌, List, [], ◌∷◌, ◌++◌, Option, None, length, get_or, refl, sym, ap, subst, inl, inr, arith, length-append}
+use Rattle.std.proofs.Common.{◌≡◌, ℕ, ◌+◌, ◌-◌, ◌*◌, ◌≤◌, ◌∙◌, List, [], ◌∷◌, ◌++◌, Option, None, length, get_or, refl, sym, ap, subst, inl, inr, arith, length-append}
 use Rattle.std.proofs.lemmas.Bool.{cases_lt}
 use Rattle.std.proofs.lemmas.List.{get_or_append_left, get_or-append_right}
-use Rattle.fancy_regex_class.specs.Looks.{looked_text, look_count}
+use Rattle.fancy_regex_class.specs.Looks.{looked_text}
 use Rattle.fancy_regex_parts.specs.Tables.{due}
-use Rattle.fancy_regex_parts.specs.Recall.{known_count}
-use Rattle.fancy_regex_parts.specs.Frames.{IsPlace}
 use Rattle.fancy_regex_parts.specs.Layers.{HasWays, IsOfText}
 use Rattle.fancy_regex_parts.proofs.VisitLemmas.{no_look, looks_on}
 use Rattle.fancy_regex_parts.proofs.LoopLemmas.{known_cap, weight_is}

@@ -1,13 +1,10 @@
-use Rattle.std.proofs.Common.{◌≡◌, ℕ, ◌+◌, ◌-◌, ◌*◌, ◌≤◌, ◌∙◌, List, [], ◌∷◌, Option, refl, sym, ap, subst, arith, length, vec_len}
+use Rattle.std.proofs.Common.{◌≡◌, ℕ, ◌+◌, ◌∙◌, List, [], ◌∷◌, refl, sym, ap, subst, arith, length}
 use Rattle.std.proofs.lemmas.List.{nil_from_length}
 use Rattle.fancy_regex_class.specs.Looks.{looked_text}
 use Rattle.fancy_regex_parts.specs.Tables.{due}
-use Rattle.fancy_regex_parts.specs.Recall.{known_count}
-use Rattle.fancy_regex_parts.specs.Frames.{top_first, pending, task_due, task_mode, Tracks, Remembers, IsTaskWithin, resume_task}
+use Rattle.fancy_regex_parts.specs.Frames.{top_first, pending, task_due, task_mode, Remembers, IsTaskWithin}
 use Rattle.fancy_regex_parts.specs.Layers.{IsAtTask, IsOfText, IsPaid}
-use Rattle.fancy_regex_parts.specs.declared.frame.Frame.{Frame}
 use Rattle.fancy_regex_parts.specs.declared.frame.Task.{Task}
-use Rattle.fancy_regex_parts.specs.declared.frame.Task.TheVariants.{Visit, Answer}
 use Rattle.fancy_regex_parts.proofs.StackLemmas.{top_pushed, small_place, resume_within}
 use Rattle.fancy_regex_parts.proofs.CostLemmas.{pending_cons, resume_due, mode_most}
 use Rattle.fancy_regex_parts.proofs.TrackLemmas.{Tracks-resume}

@@ -1,4 +1,4 @@
-use Rattle.std.proofs.Common.{◌≡◌, ◌∙◌, ◌+◌, Option, ℕ, sym, ap₂, subst, arith, refl}
+use Rattle.std.proofs.Common.{◌∙◌, ◌+◌, Option, ℕ, ap₂, subst}
 use Rattle.std.specs.Prelude.{IfSome, IsCharBoundary}
 use Rattle.std.specs.Char.{len_utf8}
 use Rattle.fancy_regex_class.specs.Looks.{looked_text}
@@ -8,7 +8,7 @@ use Rattle.fancy_regex_parts.proofs.step.step.Goals as goal
 
 pub returns-clause-task : goal.returns-clause-task
 returns-clause-task c =
-    c.in_ok-task.ensures.task ∙ ap₂ (step_task c.args.context.now.matchers.now c.args.context.now.rules c.args.state c.args.at) c.look-before.ensures.before c.look-before.ensures.after
+    c.in_ok-task.ensures.task ∙ ap₂ (step_task c.args.context.now.matchers.now c.args.context.now.rules c.args.context.now.stop c.args.q c.args.state c.args.at) c.look-before.ensures.before c.look-before.ensures.after
 
 pub returns-clause-next : goal.returns-clause-next
 returns-clause-next c =

@@ -1,7 +1,7 @@
-use Rattle.std.proofs.Common.{◌∙◌, false, refl, sym, arith}
+use Rattle.std.proofs.Common.{◌∙◌, sym}
 use Rattle.std.proofs.lemmas.List.{get_or_read}
 use Rattle.fancy_regex_parts.specs.Frames.{top_first}
-use Rattle.fancy_regex_parts.specs.declared.state.PartState.TheVariants.{Match}
+use Rattle.fancy_regex_states.specs.declared.state.State.TheVariants.{Match}
 use Rattle.fancy_regex_parts.proofs.VisitLemmas.{unmarked_visit, unmarked_paid, unmarked_looked}
 use Rattle.fancy_regex_parts.proofs.step.visit.Goals as goal
 

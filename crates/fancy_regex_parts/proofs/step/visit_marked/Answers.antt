@@ -1,7 +1,7 @@
-use Rattle.std.proofs.Common.{Some, None, ◌<◌, ◌≡◌, ◌∙◌, ◌+◌, ap, false, refl, sym, arith}
+use Rattle.std.proofs.Common.{Some, None, ◌∙◌, ap, arith}
 use Rattle.std.proofs.lemmas.List.{get_or_read}
 use Rattle.fancy_regex_parts.specs.Frames.{top_first, step_frames}
-use Rattle.fancy_regex_parts.specs.declared.state.PartState.TheVariants.{Match}
+use Rattle.fancy_regex_states.specs.declared.state.State.TheVariants.{Match}
 use Rattle.fancy_regex_parts.proofs.VisitLemmas.{opened_visit, opened_paid, opened_looked, fails_visit, ends_visit, known_paid, known_looked, no_look, right_at}
 use Rattle.fancy_regex_parts.proofs.step.visit_marked.Goals as goal
 

@@ -165,29 +165,38 @@ look_around-returns-then-is_one_char-clause-matchers t c =
 
 pub look_around-returns-then-is_one_char-clause-shape : goal.look_around-returns-then-is_one_char-clause-shape
 look_around-returns-then-is_one_char-clause-shape t c = λ regular groups.
-    look_is c.args.self.now.unicode (length c.args.self.now.matchers.items) (tree_of c.args.child.now) c.args.look c.in_ok-leaf.leaf _ _
+    let unicode = c.args.self.now.unicode in
+    let n = c.args.self.now.next_group in
+    let k = length c.args.self.now.matchers.items in
+    let child = tree_of c.args.child.now in
+    ap shape c.still.ensures.0
+    ∙ look_is unicode k child c.args.look c.in_ok-leaf.leaf (shape c.look_node.result) (re_of unicode groups n k child)
     (c.is_one_char.ensures.one c.if-is_one_char.true) c.in_ok-leaf.ensures.leaf c.look_node.ensures.shape
 
 pub look_around-returns-in_err-leaf-clause-refused : goal.look_around-returns-in_err-leaf-clause-refused
 look_around-returns-in_err-leaf-clause-refused t c =
-    rw (one_char_classes (tree_of c.args.child.now) (c.is_one_char.ensures.one c.if-is_one_char.true)) c.in_err-leaf.ensures.refused
+    let cause : IsClassCause c.args.self.now.unicode (classes (tree_of c.args.child.now)) c.in_err-leaf.field-0.0 =
+    rw (one_char_classes (tree_of c.args.child.now) (c.is_one_char.ensures.one c.if-is_one_char.true)) c.in_err-leaf.ensures.refused in
+    search rules
 
 pub look_around-returns-clause-groups : goal.look_around-returns-clause-groups
 look_around-returns-clause-groups t c = λ regular.
     c.in_ok-translated.ensures.groups (body_regular (tree_of c.args.child.now) c.args.look regular)
 
 pub look_around-returns-clause-still : goal.look_around-returns-clause-still
-look_around-returns-clause-still t c = ap never_empty c.asking_node.ensures ∙ never_asking c.args.look (shape c.in_ok-boxed.body.value)
+look_around-returns-clause-still t c =
+    ap never_empty (ap shape c.still-2.ensures.0 ∙ c.asking_node.ensures) ∙ never_asking c.args.look (shape c.in_ok-body.body.value)
 
 pub look_around-returns-clause-sound : goal.look_around-returns-clause-sound
 look_around-returns-clause-sound t c =
-    rw c.asking_node.ensures (sound_asking c.args.look (shape c.in_ok-boxed.body.value) (rw c.in_ok-boxed.ensures c.in_ok-translated.ensures.sound))
+    rw (ap shape c.still-2.ensures.0 ∙ c.asking_node.ensures)
+    (sound_asking c.args.look (shape c.in_ok-body.body.value) (rw c.in_ok-body.ensures c.in_ok-translated.ensures.sound))
 
 pub look_around-returns-clause-shape : goal.look_around-returns-clause-shape
 look_around-returns-clause-shape t c = λ regular groups.
     let unicode = c.args.self.now.unicode in
     let n = c.args.self.now.next_group in
     let k = length c.args.self.now.matchers.items in
-    asking_is unicode groups n k (tree_of c.args.child.now) c.args.look (shape c.asking_node.result) (shape c.in_ok-boxed.body.value)
-    (c.is_one_char.ensures.none c.if-is_one_char.false unicode k) c.asking_node.ensures
-    (λ body. ap shape c.in_ok-boxed.ensures ∙ c.in_ok-translated.ensures.shape body groups) regular
+    asking_is unicode groups n k (tree_of c.args.child.now) c.args.look (shape c.still-2.result.node) (shape c.in_ok-body.body.value)
+    (c.is_one_char.ensures.none c.if-is_one_char.false unicode k) (ap shape c.still-2.ensures.0 ∙ c.asking_node.ensures)
+    (λ body. ap shape c.in_ok-body.ensures ∙ c.in_ok-translated.ensures.shape body groups) regular

@@ -1,4 +1,4 @@
-use Rattle.std.proofs.Common.{◌≡◌, ◌+◌, ◌-◌, ◌≤◌, max}
+use Rattle.std.proofs.Common.{◌+◌, ◌-◌, ◌≤◌, max}
 use Rattle.fancy_regex_parts.specs.Recall.{IsSame}
 use Rattle.fancy_regex_parts.proofs.recall.Recall.reach.Given as goal
 

@@ -1,4 +1,4 @@
-use Rattle.std.proofs.Common.{◌≡◌, ◌≤◌, ◌<◌, ◌∙◌, get_or, length, refl, sym, arith}
+use Rattle.std.proofs.Common.{◌≡◌, ◌<◌, ◌∙◌, get_or, length, refl, sym, arith}
 use Rattle.std.proofs.lemmas.List.{get_or_read, get_or_past}
 use Rattle.fancy_regex_parts.proofs.RecallLemmas.{stored_set, stored_none}
 use Rattle.fancy_regex_parts.proofs.recall.Recall.store.Goals as goal

@@ -1,4 +1,4 @@
-use Rattle.std.proofs.Common.{◌≡◌, ◌+◌, ◌-◌, ◌*◌, ◌<◌, ◌∙◌, ℕ, get_or, length, refl, sym, arith}
+use Rattle.std.proofs.Common.{◌≡◌, ◌+◌, ◌-◌, ◌*◌, ◌<◌, ◌∙◌, get_or, length, refl, sym, arith}
 use Rattle.std.proofs.lemmas.List.{get_or_read}
 use Rattle.fancy_regex_parts.proofs.RecallLemmas.{place_below, opened_set, same_cells}
 use Rattle.fancy_regex_parts.proofs.recall.Recall.take.Goals as goal

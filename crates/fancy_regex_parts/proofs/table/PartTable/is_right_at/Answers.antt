@@ -1,15 +1,16 @@
 use Rattle.std.proofs.Common.{◌≡◌, ◌+◌, ◌<◌, ◌≤◌, ℕ, length, subst, arith}
 use Rattle.std.proofs.lemmas.Bool.{ltb-true}
 use Rattle.std.proofs.lemmas.List.{get_or_read}
-use Rattle.fancy_regex_parts.specs.Ways.{part_state, NamesBelow}
+use Rattle.fancy_regex_states.specs.Attempts.{NamesBelow}
+use Rattle.fancy_regex_states.specs.First.{state_at}
 use Rattle.fancy_regex_parts.specs.Tables.{cost_of, owed}
-use Rattle.fancy_regex_parts.specs.declared.state.PartState.TheVariants.{Match}
+use Rattle.fancy_regex_states.specs.declared.state.State.TheVariants.{Match}
 use Rattle.fancy_regex_parts.proofs.table.PartTable.is_right_at.Goals as goal
 
 pub returns : goal.returns
 returns c holds =
     let table = c.args.self.now in
-    let state : c.index-state.result.now ≡ part_state table.states.items c.args.q = get_or_read table.states.items c.args.q _ c.requires c.index-state.ensures Match in
+    let state : c.index-state.result.now ≡ state_at table.states.items c.args.q = get_or_read table.states.items c.args.q _ c.requires c.index-state.ensures Match in
     let count : c.len.result ≡ length table.states.items = omega (arith, c.len.ensures, table.states.ok.0) in
     let less : c.owed.result < c.cost-cost.result = ltb-true _ _ holds in
     let paid : owed table c.index-state.result.now + 1 ≤ cost_of table c.args.q = omega (arith, less, c.owed.ensures, c.cost-cost.ensures) in

@@ -1,0 +1,25 @@
+-- A search over starts.
+use Rattle.std.specs.Prelude.{◌≡◌, ℕ, ◌+◌, ◌<◌, ◌≤◌, List, [], ◌∷◌, Option, Some, None, IsCharBoundary}
+use Rattle.fancy_regex_meaning.specs.Positions.{boundaries}
+
+-- the first of these starts that has a way, and where that ends
+unfoldable pub earliest : (ℕ → Option ℕ) → List ℕ → Option (ℕ × ℕ)
+earliest f [] = None
+earliest f (p ∷ ps) = elim (f p) [ None ↦ earliest f ps | Some e ↦ Some (p, e) ]
+
+-- how many of these starts are asked: up to the first that has a way
+unfoldable pub attempted : (ℕ → Option ℕ) → List ℕ → ℕ
+attempted f [] = 0
+attempted f (p ∷ ps) = 1 + elim (f p) [ None ↦ attempted f ps | Some e ↦ 0 ]
+
+-- the start after this one, of those up to the last
+pub record IsNext (text : List ℕ) (last at next : ℕ) : Type 0 where
+  pub later : at < next
+  pub early : next ≤ last
+  pub boundary : IsCharBoundary text next
+  pub starts : boundaries text at last ≡ at ∷ boundaries text next last
+
+-- the start after this one, or that there is none
+abbrev pub IsAfter : List ℕ → ℕ → ℕ → Option ℕ → Type 0
+IsAfter text last at None = boundaries text at last ≡ at ∷ []
+IsAfter text last at (Some next) = IsNext text last at next
