@@ -25,6 +25,7 @@ pub mod AnswerLemmas
 pub mod ShapeLemmas
 pub mod BuildLemmas
 pub mod TranslationLemmas
+pub mod RegularStateLemmas
 pub mod ServedLemmas
 pub mod LayerLemmas
 pub mod SettleLemmas

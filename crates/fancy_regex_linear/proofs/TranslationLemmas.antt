@@ -35,19 +35,25 @@ pub whole_is : (explicit : Bool) (tree : Tree) → not explicit ≡ not ((patter
 whole_is true tree = refl
 whole_is false tree = refl
 
--- the states of the pattern, from the translation
+-- the pattern, from the translation
+pub shape_is : (unicode explicit : Bool) (tree : Tree) (translator : Translator) (node : Node)
+    → translator.unicode ≡ unicode → translator.next_group ≡ (if explicit then 0 else 1) → translator.matchers.items ≡ []
+    → ((groups : List Tree) → shape node ≡ re_of translator.unicode groups translator.next_group (length translator.matchers.items) tree)
+    → shape node ≡ re_of unicode (pattern_in explicit tree).groups (pattern_in explicit tree).first_group 0 tree
+shape_is unicode explicit tree translator node mode first none built =
+    let groups = (pattern_in explicit tree).groups in
+    built groups
+    ∙ ap (λ b. re_of b groups translator.next_group (length translator.matchers.items) tree) mode
+    ∙ ap₂ (λ (n : ℕ) (ms : List CharClassMatcher). re_of unicode groups n (length ms) tree) (first ∙ first_is explicit tree) none
+
+-- and its states
 pub program_is : (unicode explicit : Bool) (tree : Tree) (translator : Translator) (node : Node) (states : List State) (entry : ℕ)
     → translator.unicode ≡ unicode → translator.next_group ≡ (if explicit then 0 else 1) → translator.matchers.items ≡ []
     → ((groups : List Tree) → shape node ≡ re_of translator.unicode groups translator.next_group (length translator.matchers.items) tree)
     → emitted (shape node) (End ∷ []) 0 ≡ (states, entry)
     → emitted (re_of unicode (pattern_in explicit tree).groups (pattern_in explicit tree).first_group 0 tree) (End ∷ []) 0 ≡ (states, entry)
 program_is unicode explicit tree translator node states entry mode first none built e =
-    let groups = (pattern_in explicit tree).groups in
-    let same : shape node ≡ re_of unicode groups (pattern_in explicit tree).first_group 0 tree =
-    built groups
-    ∙ ap (λ b. re_of b groups translator.next_group (length translator.matchers.items) tree) mode
-    ∙ ap₂ (λ (n : ℕ) (ms : List CharClassMatcher). re_of unicode groups n (length ms) tree) (first ∙ first_is explicit tree) none in
-    sym (ap (λ re. emitted re (End ∷ []) 0) same) ∙ e
+    sym (ap (λ re. emitted re (End ∷ []) 0) (shape_is unicode explicit tree translator node mode first none built)) ∙ e
 
 -- a matcher for each class, from those that were added to none
 pub serves_all : (unicode : Bool) (before after : List CharClassMatcher) (cs : List (Text × Bool)) → before ≡ [] → Extends unicode before after cs → HaveMatchers unicode after cs

@@ -19,3 +19,4 @@ pub mod Settled
 pub mod EasyTables
 pub mod Tellings
 pub mod Alone
+pub mod RegularStates

@@ -18,6 +18,7 @@ mod first;
 mod frame;
 mod memory;
 mod node;
+mod regular;
 mod search;
 mod settle;
 mod starts;
@@ -27,3 +28,4 @@ mod visited;
 
 pub use easy::Easy;
 pub use memory::SearchMemory;
+pub use regular::RegularStates;

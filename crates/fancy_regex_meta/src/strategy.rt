@@ -21,10 +21,10 @@ ghost use Rattle.fancy_regex_meta.specs.declared.options.RegexOptions.{RegexOpti
 ghost use Rattle.fancy_regex_meta.specs.Refusals.{compile_options_of, IsCompileRefusal};
 ghost use Rattle.fancy_regex_info.specs.declared.error.CompileError.TheVariants as errors;
 ghost use Rattle.fancy_regex_meta.specs.FoundParts.{found_parts, wanted_parts};
-ghost use Rattle.fancy_regex_meta.specs.Strategies.{IsMatcherFor, linear_or_program as strategy_of, search_of};
+ghost use Rattle.fancy_regex_meta.specs.Strategies.{IsMatcherFor, IsRegularFor, hard_strategy as strategy_of, search_of};
 
-use crate::error::Result;
-use crate::found::{FoundMatch, MatchDetail, found_groups, found_span};
+use crate::error::{Error, Result};
+use crate::found::{FoundMatch, MatchDetail, found_groups, found_span, found_whole};
 use crate::memory::MetaMemory;
 use crate::options::RegexOptions;
 use crate::seek::seek_table;
@@ -33,7 +33,9 @@ use fancy_regex_compiled::Prog;
 use fancy_regex_compiler::compile;
 use fancy_regex_info::{CompileError, CompileOptions, Info};
 use fancy_regex_linear::Easy;
-use fancy_regex_machine::{RunOptions, run_in, run_spans_in};
+use fancy_regex_machine::{RunMemory, RunOptions, RuntimeError, run_in, run_spans_in};
+use fancy_regex_parts::PartMemory;
+use fancy_regex_regular::Regular;
 use std::alloc::{AllocError, Global};
 
 /// What executes a compiled pattern.
@@ -54,6 +56,16 @@ pub enum Strategy {
         prog: Prog,
         /// The options of its runs, with the seek table: for each byte, whether a match may start with it; `None` tries each start
         /// offset.
+        run_options: RunOptions,
+    },
+    /// The backtracking program of a pattern that refers to no matched text and has no groups, with the states that answer where a run of
+    /// the program meets a limit.
+    Regular {
+        /// The states.
+        regular: Regular,
+        /// The program.
+        prog: Prog,
+        /// The options of its runs, as for any other pattern.
         run_options: RunOptions,
     },
 }
@@ -97,13 +109,84 @@ fn linear_matcher(
     }
 }
 
-/// The strategy of a tree that is not easy: its matcher, if it has one, and else its program.
-fn linear_or_program(prog: Prog, run_options: RunOptions, linear: Option<Easy>) -> Strategy
-    ensures { result ≡ strategy_of prog run_options linear }
+/// The states with parts of a tree that is not easy, where it has no groups and becomes such states. The error is `Memory`.
+fn regular_states(
+    alloc: Global,
+    info: &Info<'_>,
+    options: &RegexOptions,
+    calls: bool,
+) -> std::result::Result<Option<Regular>, CompileError>
+    ensures states { IfOk result (λ found. IfSome found (λ regular. (t : Tree) → info_of info.now ≡ analysis false t
+        → IsRegularFor regular options.now t)) }
+    ensures memory { IfErr result (λ error. error ≡ errors.Memory) }
 {
-    match linear {
-        Some(linear) => Strategy::Linear { linear, prog },
-        None => Strategy::Program { prog, run_options },
+    if options.find_not_empty || options.leftmost_longest || info.start_group() != info.end_group() {
+        return Ok(None);
+    }
+    match Regular::if_supported(alloc, info, &compile_options(options, calls)) {
+        Ok(found) => Ok(found),
+        Err(CompileError::Memory) => Err(CompileError::Memory),
+        Err(_) => Ok(None),
+    }
+}
+
+/// The strategy of a tree that is not easy: its matcher, if it has one, and else its program, with its states if it has them.
+fn hard_strategy(
+    prog: Prog,
+    run_options: RunOptions,
+    linear: Option<Easy>,
+    regular: Option<Regular>,
+) -> Strategy
+    ensures { result ≡ strategy_of prog run_options linear regular }
+{
+    match (linear, regular) {
+        (Some(linear), _) => Strategy::Linear { linear, prog },
+        (None, Some(regular)) => Strategy::Regular {
+            regular,
+            prog,
+            run_options,
+        },
+        (None, None) => Strategy::Program { prog, run_options },
+    }
+}
+
+/// The first match by the program. Errors: a limit, or `Memory`.
+#[inline(always)]
+fn run_program(
+    alloc: Global,
+    prog: &Prog,
+    run_options: &RunOptions,
+    text: &str,
+    input: &RunInput,
+    wanted: MatchDetail,
+    memory: &mut RunMemory,
+) -> std::result::Result<Option<FoundMatch>, RuntimeError> {
+    match wanted {
+        MatchDetail::Span => {
+            let span = run_spans_in(alloc, prog, text, input, run_options, memory)?;
+            Ok(found_span(alloc, span))
+        }
+        MatchDetail::Groups => {
+            let slots = run_in(alloc, prog, text, input, run_options, memory)?;
+            Ok(found_groups(slots))
+        }
+    }
+}
+
+/// The first match by the states with parts. The error is want of memory.
+#[inline(never)]
+fn search_regular(
+    alloc: Global,
+    regular: &Regular,
+    text: &str,
+    input: &RunInput,
+    wanted: MatchDetail,
+    memory: &mut PartMemory,
+) -> std::result::Result<Option<FoundMatch>, AllocError> {
+    let span = regular.find_span_in(text, input, memory)?;
+    match wanted {
+        MatchDetail::Span => Ok(found_span(alloc, span)),
+        MatchDetail::Groups => found_whole(alloc, span),
     }
 }
 
@@ -180,7 +263,8 @@ impl Strategy {
                 seek,
             };
             let linear = linear_matcher(alloc, info, options, calls)?;
-            return Ok(linear_or_program(prog, run_options, linear));
+            let regular = regular_states(alloc, info, options, calls)?;
+            return Ok(hard_strategy(prog, run_options, linear, regular));
         }
         Ok(Strategy::Easy(Easy::new(alloc, info, &compile_options(options, calls))?))
     }
@@ -233,14 +317,22 @@ impl Strategy {
             }
             Strategy::Program { prog, run_options } => {
                 let memory = &mut memory.program;
-                match wanted {
-                    MatchDetail::Span => {
-                        let span = run_spans_in(alloc, prog, text, input, run_options, memory)?;
-                        Ok(found_span(alloc, span))
-                    }
-                    MatchDetail::Groups => {
-                        let slots = run_in(alloc, prog, text, input, run_options, memory)?;
-                        Ok(found_groups(slots))
+                let found = run_program(alloc, prog, run_options, text, input, wanted, memory)?;
+                Ok(found)
+            }
+            Strategy::Regular {
+                regular,
+                prog,
+                run_options,
+            } => {
+                let run = &mut memory.program;
+                match run_program(alloc, prog, run_options, text, input, wanted, run) {
+                    Ok(found) => Ok(found),
+                    Err(RuntimeError::Memory) => Err(Error::Memory),
+                    Err(_) => {
+                        let parts = &mut memory.parts;
+                        let found = search_regular(alloc, regular, text, input, wanted, parts)?;
+                        Ok(found)
                     }
                 }
             }
@@ -276,7 +368,7 @@ impl Strategy {
                 let answer = linear.has_match_in(text, input, &mut memory.easy)?;
                 Ok(answer)
             }
-            Strategy::Program { .. } => {
+            Strategy::Program { .. } | Strategy::Regular { .. } => {
                 let steps = &mut Steps::new();
                 let found = self.search(alloc, text, input, MatchDetail::Span, steps, memory)?;
                 Ok(found.is_some())

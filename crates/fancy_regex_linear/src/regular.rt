@@ -1,0 +1,63 @@
+//! The states of patterns with parts.
+
+ghost use Rattle.std.specs.Prelude.{◌≡◌, Bool, IfOk, IfSome};
+ghost use Rattle.fancy_regex_tree.specs.Tree.{Tree};
+
+use crate::build::{Translator, is_regular};
+use crate::emit::emit;
+use crate::state::add;
+use fancy_regex_class::CharClassMatcher;
+use fancy_regex_info::{CompileError, CompileOptions, Info};
+use fancy_regex_states::State;
+use std::alloc::Global;
+
+/// The greatest weight of a pattern that becomes states with parts.
+const GREATEST_WEIGHT: u64 = 4_000;
+
+/// The states of a pattern that may ask parts: the bodies of its look-aheads and atomic groups, which are among the states.
+#[derive(Drop)]
+pub struct RegularStates {
+    /// The states. State 0 is the pattern's final state; each part has one of its own.
+    pub states: Vec<State>,
+    /// The state at which an attempt begins.
+    pub entry: usize,
+    /// The matchers of the classes.
+    pub matchers: Vec<CharClassMatcher>,
+}
+
+impl RegularStates {
+    ghost use Rattle.fancy_regex_linear.specs.RegularStates.{AreRegularStates};
+    ghost use Rattle.fancy_regex_info.specs.Analysis.{analysis};
+    ghost use Rattle.fancy_regex_info.specs.Infos.{info_of};
+    ghost use Rattle.fancy_regex_info.specs.Views.{pattern_in};
+
+    /// The states of an analyzed pattern; `None` where its weight is above 4,000, or where it has more than characters, assertions,
+    /// look-behinds for one character, look-aheads, groups, atomic groups, alternations and repeats of these. The error is
+    /// `InnerError` with the text of a class that `regex` refuses, or `Memory`.
+    pub fn new(
+        alloc: Global,
+        info: &Info<'_>,
+        options: &CompileOptions,
+    ) -> Result<Option<RegularStates>, CompileError>
+        ensures { IfOk result (λ found. IfSome found (λ made. (explicit : Bool) (t : Tree) → info_of info.now ≡ analysis explicit t
+            → AreRegularStates options.now.unicode made.states.items made.entry made.matchers.items (pattern_in explicit t))) }
+    {
+        if info.weight > GREATEST_WEIGHT {
+            return Ok(None);
+        }
+        if !is_regular(info.expr) {
+            return Ok(None);
+        }
+        let explicit = info.start_group() == 0;
+        let mut translator = Translator::new(alloc, options.unicode, explicit);
+        let translated = translator.translated(info.expr)?;
+        let mut states = Vec::new(alloc);
+        add(&mut states, State::Match)?;
+        let entry = emit(&translated.node, &mut states, 0)?;
+        Ok(Some(RegularStates {
+            states,
+            entry,
+            matchers: translator.matchers,
+        }))
+    }
+}

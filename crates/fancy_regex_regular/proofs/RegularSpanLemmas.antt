@@ -1,0 +1,94 @@
+-- What a search in parts finds is the span of the match of the definitions.
+use Rattle.std.proofs.Common.{◌≡◌, ◌∙◌, ℕ, ◌-◌, ◌+◌, ◌<◌, ◌≤◌, Bool, true, false, cond, List, [], ◌∷◌, length, Option, Some, None, if◌then◌else◌, nat_lt, refl, sym, ap, arith, lt-ltb, le-ltb, IsUtf8, IsCharBoundary}
+use Rattle.std.specs.Prelude.{option_map}
+use Rattle.fancy_regex_meaning.specs.Groups.{Pattern}
+use Rattle.fancy_regex_meaning.specs.Positions.{boundaries}
+use Rattle.fancy_regex_meaning.specs.Searches.{first_some, first_match, starts}
+use Rattle.fancy_regex_meaning.proofs.NextBoundaryLemmas.{from_here}
+use Rattle.fancy_regex_class.specs.RunInputs.{setting_for, search_for}
+use Rattle.fancy_regex_class.specs.declared.class.CharClassMatcher.{CharClassMatcher}
+use Rattle.fancy_regex_class.specs.declared.input.RunInput.{RunInput}
+use Rattle.fancy_regex_states.specs.Attempts.{View}
+use Rattle.fancy_regex_states.specs.declared.state.State.{State}
+use Rattle.fancy_regex_parts.specs.Find.{earliest}
+use Rattle.fancy_regex_parts.specs.Ways.{Ways, Explains, answer_end, ways_of, text_view}
+use Rattle.fancy_regex_parts.proofs.EmittedLemmas.{explains_of}
+use Rattle.fancy_regex_linear.specs.Easy.{rules_for}
+use Rattle.fancy_regex_linear.specs.EasyPatterns.{span_of_match}
+use Rattle.fancy_regex_linear.specs.Plain.{classes, re_of}
+use Rattle.fancy_regex_linear.specs.RegularStates.{AreRegularStates}
+use Rattle.fancy_regex_linear.proofs.CharTestLemmas.{shows_all}
+use Rattle.fancy_regex_linear.proofs.RegularLemmas.{asking_view}
+use Rattle.fancy_regex_linear.proofs.RegularAnswerLemmas.{first_span_by_ends}
+use Rattle.fancy_regex_linear.proofs.RegularStateLemmas.{first_is_final, does_by}
+use Rattle.fancy_regex_regular.specs.Starts.{last_start}
+
+-- the first of the starts that has a way, with the end of that
+module _ (f : ℕ → Option ℕ) where
+  abbrev span_from : ℕ → Option (ℕ × ℕ)
+  span_from p = option_map (λ e. (p, e)) (f p)
+
+  first_here : (p : ℕ) (o : Option ℕ) (r q : Option (ℕ × ℕ)) → r ≡ q
+      → ◌≡◌ {A = Option (ℕ × ℕ)} (elim o [ None ↦ r | Some e ↦ Some (p, e) ]) (elim (option_map (λ e. (p, e)) o) [ None ↦ q | Some y ↦ Some y ])
+  first_here p None r q h = h
+  first_here p (Some e) r q h = refl
+
+  earliest_is : (ps : List ℕ) → earliest f ps ≡ first_some span_from ps
+  unfolding earliest
+  earliest_is [] = refl
+  earliest_is (p ∷ ps) = first_here p (f p) (earliest f ps) (first_some span_from ps) (earliest_is ps)
+
+-- one start alone
+one_start : (text : List ℕ) (p : ℕ) → IsCharBoundary text p → boundaries text p p ≡ p ∷ []
+one_start text p b =
+    let none : p - p ≡ 0 = omega arith in
+    let split = from_here text p p b (omega arith) in
+    rw none at split
+
+module _ (text : List ℕ) (input : RunInput) where
+  -- the starts of a search within its range
+  all_starts : (anchored : Bool) → IsCharBoundary text input.first
+      → cond anchored (input.first ∷ []) (boundaries text input.first input.range.end)
+      ≡ boundaries text input.first (if anchored then input.first else input.range.end)
+  all_starts true b = sym (one_start text input.first b)
+  all_starts false b = refl
+
+  starts_are : (unicode : Bool) (pattern : Pattern) → IsCharBoundary text input.first → input.first ≤ input.range.end
+      → starts (setting_for unicode text input) pattern (search_for false input) ≡ boundaries text input.first (last_start input)
+  starts_are unicode pattern b below = rw (le-ltb input.range.end input.first below) (all_starts input.anchored b)
+
+-- The ways of the states of a pattern in a text: where the first start that has one begins and ends is the match.
+pub record IsSearched (unicode : Bool) (states : List State) (entry : ℕ) (matchers : List CharClassMatcher) (pattern : Pattern)
+    (text : List ℕ) (input : RunInput) : Type 0 where
+  pub view : View
+  pub ways : Ways
+  pub explains : Explains matchers (rules_for unicode false input) input.range.end states text view ways
+  pub first_is : earliest (ways.end entry) (boundaries text input.first (last_start input))
+      ≡ option_map span_of_match (first_match (setting_for unicode text input) pattern (search_for false input))
+
+module _ (unicode : Bool) (states : List State) (entry : ℕ) (matchers : List CharClassMatcher) (pattern : Pattern)
+    (is : AreRegularStates unicode states entry matchers pattern) (text : List ℕ) (input : RunInput) where
+  pub is_searched : IsUtf8 text → IsCharBoundary text input.first → input.first ≤ input.range.end → input.range.end ≤ length text
+      → IsSearched unicode states entry matchers pattern text input
+  is_searched u b below fits =
+      let re = re_of unicode pattern.groups pattern.first_group 0 pattern.tree in
+      let view = asking_view (setting_for unicode text input) (classes pattern.tree) in
+      let stop = input.range.end in
+      let d = does_by states entry re is.sound is.program view (length text) stop refl in
+      let final = first_is_final states entry re is.sound is.program in
+      let shows = shows_all unicode false text input matchers (classes pattern.tree) is.matchers_are u in
+      record {
+        view = text_view view;
+        ways = ways_of d.go;
+        explains = explains_of matchers (rules_for unicode false input) stop text view d.go refl shows states d.zero_is final d.agree;
+        first_is =
+            earliest_is ((ways_of d.go).end entry) (boundaries text input.first (last_start input))
+            ∙ ap (first_some (span_from ((ways_of d.go).end entry))) (sym (starts_are text input unicode pattern b below))
+            ∙ sym (first_span_by_ends unicode text input pattern is.regular ((ways_of d.go).end entry) (λ p h. ap answer_end (d.means p h)) fits);
+      }
+
+  -- a search that begins past its range has no starts
+  pub none_past : input.range.end < input.first
+      → None ≡ option_map span_of_match (first_match (setting_for unicode text input) pattern (search_for false input))
+  unfolding first_match
+  none_past past = rw (lt-ltb input.range.end input.first past) refl

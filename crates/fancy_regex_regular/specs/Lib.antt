@@ -1,0 +1,3 @@
+pub mod TableProps
+pub mod Starts
+pub mod Regulars

@@ -1,0 +1,28 @@
+-- Which pattern a regular one is of, and what its searches answer.
+use Rattle.std.specs.Prelude.{◌≡◌, ℕ, false, List, Option, option_map}
+use Rattle.fancy_regex_meaning.specs.Groups.{Pattern}
+use Rattle.fancy_regex_meaning.specs.Searches.{first_match}
+use Rattle.fancy_regex_class.specs.RunInputs.{setting_for, search_for}
+use Rattle.fancy_regex_class.specs.declared.input.RunInput.{RunInput}
+use Rattle.fancy_regex_parts.specs.declared.step.PartContext.{PartContext}
+use Rattle.fancy_regex_linear.specs.Easy.{rules_for}
+use Rattle.fancy_regex_linear.specs.EasyPatterns.{span_of_match}
+use Rattle.fancy_regex_linear.specs.RegularStates.{AreRegularStates}
+use Rattle.fancy_regex_regular.specs.declared.regular.Regular.{Regular}
+
+-- it has the states and matchers of the pattern
+abbrev pub IsRegularOf : Regular → Pattern → Type 0
+IsRegularOf regular pattern =
+    AreRegularStates regular.unicode regular.table.states.items regular.entry regular.matchers.items pattern
+
+-- what a search of this pattern reads and does not change
+pub record IsContextOf (regular : Regular) (input : RunInput) (context : PartContext) : Type 0 where
+  pub table_is : context.table.now ≡ regular.table
+  pub matchers_are : context.matchers.now ≡ regular.matchers.items
+  pub rules_are : context.rules ≡ rules_for regular.unicode false input
+  pub stop_is : context.stop ≡ input.range.end
+
+-- the span that was found is that of the match of the definitions, of this text and input
+abbrev pub IsSpan : Regular → List ℕ → RunInput → Option (ℕ × ℕ) → Type 0
+IsSpan regular text input found = (pattern : Pattern) → IsRegularOf regular pattern
+    → found ≡ option_map span_of_match (first_match (setting_for regular.unicode text input) pattern (search_for false input))

@@ -1,0 +1,23 @@
+-- That a table is right is so in one way.
+use Rattle.std.specs.Prelude.{ℕ, ◌<◌, length}
+use Rattle.std.specs.Coded.{×_prop, Unit-prop, le_prop, Coded-set, coded_ℕ}
+use Rattle.fancy_regex_states.specs.Attempts.{NamesBelow}
+use Rattle.fancy_regex_states.specs.declared.state.State.{State}
+use Rattle.fancy_regex_states.specs.declared.state.State.TheVariants.{Split, Enter, Leave, Ask, Atomic, Match}
+use Rattle.fancy_regex_states.specs.declared.state.State.TheVariants as S
+use Rattle.fancy_regex_parts.specs.Tables.{IsTable}
+use Rattle.fancy_regex_parts.specs.declared.table.PartTable.{PartTable}
+
+names_prop : (n : ℕ) (s : State) → IsProp (NamesBelow n s)
+names_prop n (S.Read leaf next) = le_prop
+names_prop n (S.Look check next) = le_prop
+names_prop n (Split first second) = ×_prop le_prop le_prop
+names_prop n (Enter g next) = le_prop
+names_prop n (Leave g next) = le_prop
+names_prop n (Ask part negated next) = ×_prop le_prop le_prop
+names_prop n (Atomic part same moved) = hlevel le_prop
+names_prop n Match = Unit-prop
+
+pub table_prop : (table : PartTable) → IsProp (IsTable table)
+unfolding IsTable
+table_prop table = hlevel (names_prop, le_prop, Coded-set coded_ℕ)
