@@ -82,6 +82,7 @@ macro_rules! texts {
                 before(str::as_bytes(self), index)
             }
 
+            #[inline]
             fn make_match(&self, start: usize, end: usize) -> Match<'_> {
                 Match::new(self, Span { start, end })
             }
@@ -90,6 +91,7 @@ macro_rules! texts {
                 after(str::as_bytes(self), index)
             }
 
+            #[inline]
             fn text(&self) -> Option<&str> {
                 Some(self)
             }
@@ -420,6 +422,20 @@ pub(crate) struct Search<'t> {
     pub position: usize,
     pub continues: bool,
     pub anchored: bool,
+}
+
+impl<'t> Search<'t> {
+    /// The search of a whole input, if that is a text.
+    #[inline]
+    pub fn whole<S: Input + ?Sized>(input: &'t S) -> Result<Search<'t>> {
+        let text = input.text().ok_or(RuntimeError::NotUtf8)?;
+        Ok(Search {
+            text,
+            position: 0,
+            continues: true,
+            anchored: false,
+        })
+    }
 }
 
 impl<S: Input + ?Sized> Clone for RegexInput<'_, S> {

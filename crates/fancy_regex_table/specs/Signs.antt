@@ -3,12 +3,15 @@ use Rattle.std.specs.Prelude.{◌≡◌, ◌<◌, ◌≤◌, ◌+◌, ℕ, Bool,
 use Rattle.fancy_regex_table.specs.ByClass.{IsFoundCell}
 use Rattle.fancy_regex_table.specs.Cells.{Search, NoneBefore}
 use Rattle.fancy_regex_table.specs.Ends.{end_at}
-use Rattle.fancy_regex_table.specs.Tables.{IsPlaceOf}
+use Rattle.fancy_regex_table.specs.Tables.{IsPlaceOf, IsOnward}
 use Rattle.fancy_regex_table.specs.declared.row.Cell.TheVariants.{Next}
+use Rattle.fancy_regex_table.specs.declared.sign.Onward.{Onward}
+use Rattle.fancy_regex_table.specs.declared.sign.Onward.TheVariants as O
 use Rattle.fancy_regex_table.specs.declared.sign.Sign.{Sign}
 use Rattle.fancy_regex_table.specs.declared.sign.Sign.TheVariants as G
 use Rattle.fancy_regex_table.specs.declared.table.Passed.{Passed}
 use Rattle.fancy_regex_table.specs.declared.table.Passed.TheVariants as P
+use Rattle.fancy_regex_table.specs.declared.table.Place.{Place}
 use Rattle.fancy_regex_table.specs.declared.table.Table.{Table}
 
 -- a match starts somewhere in the range
@@ -46,3 +49,15 @@ pub record IsNoted (table : Table) (byte row : ℕ) : Type 0 where
   pub next : ℕ
   pub begins : Bool
   pub found : IsFoundCell table.cells.items (slice_index table.ascii byte) row (Next begins true next)
+
+-- the character at a place leads on to the next one, or notes an end
+abbrev pub IsLearned : Table → Place → ℕ → Onward → Type 0
+IsLearned table place byte (O.To next) = IsOnward place byte next
+IsLearned table place byte O.Noted = IsNoted table byte place.row
+IsLearned table place byte O.Nowhere = Unit {0}
+
+-- the place that it leads to, if it leads to one, is as this says
+abbrev pub IfTo : Onward → (Place → Type 0) → Type 0
+IfTo (O.To next) P = P next
+IfTo O.Noted P = Unit {0}
+IfTo O.Nowhere P = Unit {0}

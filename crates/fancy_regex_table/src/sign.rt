@@ -1,6 +1,6 @@
 //! A pass over a text that ends at the first sign of a match.
 
-ghost use Rattle.std.specs.Prelude.{◌≡◌, ◌<◌, ℕ, true, IsCharBoundary, length};
+ghost use Rattle.std.specs.Prelude.{◌≡◌, ◌+◌, ◌^◌, ◌<◌, ◌≤◌, IsCharBoundary, length};
 ghost use Rattle.regex_hir.specs.Text.{char_before};
 ghost use Rattle.fancy_regex_states.specs.declared.rules.Rules.{Rules};
 ghost use Rattle.fancy_regex_table.specs.Cells.{Parts, Search};
@@ -8,7 +8,7 @@ ghost use Rattle.fancy_regex_table.specs.Signs.{sign_in};
 
 use crate::by_class::cell_at;
 use crate::row::Cell;
-use crate::table::{Passed, Place, Table};
+use crate::table::{Passed, Place, Table, begun_at};
 use fancy_regex_class::CharClassMatcher;
 
 /// What a pass found that ends at the first sign of a match.
@@ -24,9 +24,20 @@ pub enum Sign {
     Unknown { from: usize },
 }
 
+/// What a pass to the first sign of a match learns by a character.
+#[derive(Clone, Copy)]
+enum Onward {
+    /// The place after the character.
+    To(Place),
+    /// The first attempt has a match before the character, and goes on.
+    Noted,
+    /// Neither: no row is led to, or the character is not ASCII.
+    Nowhere,
+}
+
 impl Table {
-    ghost use Rattle.fancy_regex_table.specs.Tables.{IsTable, IsSearchOf};
-    ghost use Rattle.fancy_regex_table.specs.Signs.{IsSign, IsSignInRange, IsNoted};
+    ghost use Rattle.fancy_regex_table.specs.Tables.{IsTable, IsSearchOf, IsAsciiAt, Stands};
+    ghost use Rattle.fancy_regex_table.specs.Signs.{IsSign, IsSignInRange, IsLearned, IfTo};
 
     /// Goes through the text as `pass` does, from the byte offset `from`, after the character `before`, to the end of the text, but
     /// only up to where the first attempt has a match, which need not be the one that is wanted. The matchers are those of the states.
@@ -57,27 +68,39 @@ impl Table {
         };
         'chars: while place.at < bytes.len() {
             let byte = bytes[place.at];
-            if self.notes_end(byte, place.row) {
-                return Sign::Match;
-            }
-            match self.step(byte, place) {
-                Some(next) => place = next,
-                None => return sign_of(self.told(byte, place)),
+            match self.onward(byte, place) {
+                Onward::To(next) => place = next,
+                Onward::Noted => return Sign::Match,
+                Onward::Nowhere => return sign_of(self.told(byte, place)),
             }
         }
         sign_of(self.at_stop(place, true))
     }
 
-    /// Whether the first attempt has a match before the character with this first byte, in the row of this number, and goes on.
+    /// What is learned by the character at this place, whose first byte this is. Its cell is looked up once.
     #[inline(always)]
-    fn notes_end(&self, byte: u8, row: usize) -> bool
-        ensures { result ≡ true → IsNoted self.now byte row }
+    fn onward(&self, byte: u8, place: Place) -> Onward
+        requires next { place.at + 1 < 2 ^ 64 }
+        requires order { place.start ≤ place.at }
+        ensures learned { IsLearned self.now place byte result }
+        ensures stands { (parts : Parts) (rules : Rules) (s : Search) (table : IsTable parts self.now) → IsSearchOf parts rules s
+            → (byte < 128 → IsAsciiAt s.text place.at byte) → place.at < s.stop
+            → Stands parts.matchers self.now.asked self.now.unicode table.rows s place
+            → IfTo result (Stands parts.matchers self.now.asked self.now.unicode table.rows s) }
     {
-        byte < 128
-            && matches!(
-                cell_at(&self.cells, self.ascii[byte as usize] as usize, row),
-                Cell::Next { ends: true, .. }
-            )
+        if byte >= 128 {
+            return Onward::Nowhere;
+        }
+        match cell_at(&self.cells, self.ascii[byte as usize] as usize, place.row) {
+            Cell::Next { ends: true, .. } => Onward::Noted,
+            Cell::Next { begins, row, .. } => Onward::To(Place {
+                row: row as usize,
+                at: place.at + 1,
+                start: begun_at(begins, place.at, place.start),
+                last: place.last,
+            }),
+            _ => Onward::Nowhere,
+        }
     }
 }
 

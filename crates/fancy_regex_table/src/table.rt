@@ -345,7 +345,7 @@ impl Table {
 
 /// What was noted, or this place if it is to be noted.
 #[inline(always)]
-fn begun_at(is_noted: bool, at: usize, before: usize) -> usize
+pub(crate) fn begun_at(is_noted: bool, at: usize, before: usize) -> usize
     ensures { result ≡ noted_at is_noted at before }
 {
     if is_noted { at } else { before }

@@ -9,7 +9,7 @@ use Rattle.fancy_regex_table.specs.declared.table.Place.{Place}
 use Rattle.fancy_regex_table.proofs.SignLemmas.{match_noted, sign_passed}
 use Rattle.fancy_regex_table.proofs.TableLemmas.{stands_first, ascii_here}
 use Rattle.fancy_regex_table.proofs.table.Table.sign.Goals as goal
-use Rattle.fancy_regex_table.proofs.table.Table.sign.Goals.{After-notes_end}
+use Rattle.fancy_regex_table.proofs.table.Table.sign.Goals.{After-onward}
 
 pub chars-init : goal.chars-init
 chars-init c = record {
@@ -25,30 +25,30 @@ chars-init c = record {
 }
 
 -- the byte that the pass has come to lies in the text
-inside : (c : After-notes_end) → c.chars.place.at < length c.args.text.now
+inside : (c : After-onward) → c.chars.place.at < length c.args.text.now
 inside c = omega (arith, c.chars-test.true, ap length c.as_bytes-bytes.ensures.value)
 
-abbrev byte_at : After-notes_end → ℕ
+abbrev byte_at : After-onward → ℕ
 byte_at c = get_or c.as_bytes-bytes.result.now c.chars.place.at 0
 
-ascii : (c : After-notes_end) → byte_at c < 128 → IsAsciiAt c.args.text.now c.chars.place.at (byte_at c)
+ascii : (c : After-onward) → byte_at c < 128 → IsAsciiAt c.args.text.now c.chars.place.at (byte_at c)
 ascii c small =
     ascii_here c.args.text.now c.chars.place.at (byte_at c) 0 c.utf8.text c.chars.invariant.boundary (inside c)
     (ap (λ (t : List ℕ). get_or t c.chars.place.at 0) c.as_bytes-bytes.ensures.value) small
 
-pub returns-then-notes_end-clause-sign : goal.returns-then-notes_end-clause-sign
-returns-then-notes_end-clause-sign c parts rules s table by same text from stop =
-    let d = (goal.at.returns-then-notes_end-clause-sign c).After-notes_end in
-    let noted = c.notes_end.ensures c.if-notes_end.true in
+pub returns-in-Noted-clause-sign : goal.returns-in-Noted-clause-sign
+returns-in-Noted-clause-sign c parts rules s table by same text from stop =
+    let d = (goal.at.returns-in-Noted-clause-sign c).After-onward in
+    let noted = c.in-Noted.ensures.learned in
     match_noted table by c.chars.place (c.chars.invariant.stands parts rules s table by same text from stop) (byte_at d)
     (subst (λ (t : List ℕ). IsAsciiAt t c.chars.place.at (byte_at d)) (sym text) (ascii d noted.small)) (omega (arith, inside d, stop)) noted
 
 pub chars-preserved : goal.chars-preserved
 chars-preserved c =
-    let d = (goal.at.chars-preserved c).After-notes_end in
+    let d = (goal.at.chars-preserved c).After-onward in
     let inv = c.chars.invariant in
     let at = c.chars.place.at in
-    let onward = c.in-Some-step.ensures.onward in
+    let onward = c.in-To.ensures.learned in
     record {
       high = omega (arith, onward.at, inside d);
       boundary = subst (IsCharBoundary c.args.text.now) (sym onward.at) (ascii d onward.ascii).boundary_next;
@@ -60,13 +60,13 @@ chars-preserved c =
                 let next : at + 1 ≡ i = omega (arith, high, after, onward.at) in subst (IsCharBoundary c.args.text.now) next (ascii d onward.ascii).boundary_next
           ];
       stands = λ parts rules s table by same text from stop.
-          c.in-Some-step.ensures.stands parts rules s table by (λ small. subst (λ (t : List ℕ). IsAsciiAt t at (byte_at d)) (sym text) (ascii d small))
+          c.in-To.ensures.stands parts rules s table by (λ small. subst (λ (t : List ℕ). IsAsciiAt t at (byte_at d)) (sym text) (ascii d small))
           (omega (arith, inside d, stop)) (inv.stands parts rules s table by same text from stop);
     }
 
-pub returns-in-None-clause-sign : goal.returns-in-None-clause-sign
-returns-in-None-clause-sign c parts rules s table by same text from stop =
-    let d = (goal.at.returns-in-None-clause-sign c).After-notes_end in
+pub returns-in-Nowhere-clause-sign : goal.returns-in-Nowhere-clause-sign
+returns-in-Nowhere-clause-sign c parts rules s table by same text from stop =
+    let d = (goal.at.returns-in-Nowhere-clause-sign c).After-onward in
     let passed = c.told.ensures.passed parts rules s table by
     (λ small. subst (λ (t : List ℕ). IsAsciiAt t c.chars.place.at (byte_at d)) (sym text) (ascii d small))
     (omega (arith, inside d, stop)) (c.chars.invariant.stands parts rules s table by same text from stop) in
@@ -82,9 +82,9 @@ in_range text low place byte (P.Idle to) begins order all lt next is =
 in_range text low place byte (P.Unknown from read) begins order all lt next is =
     (omega (arith, is.0), omega (arith, is.1, is.2), all from (omega (arith, is.0)) (omega (arith, is.1, is.2)))
 
-pub returns-in-None-clause-range : goal.returns-in-None-clause-range
-returns-in-None-clause-range c =
-    let d = (goal.at.returns-in-None-clause-range c).After-notes_end in
+pub returns-in-Nowhere-clause-range : goal.returns-in-Nowhere-clause-range
+returns-in-Nowhere-clause-range c =
+    let d = (goal.at.returns-in-Nowhere-clause-range c).After-onward in
     let inv = c.chars.invariant in
     subst (IsSignInRange c.args.text.now c.args.from) (sym c.sign_of.ensures)
     (in_range c.args.text.now c.args.from c.chars.place (byte_at d) c.told.result inv.order.0 inv.order.1 inv.read (inside d)
