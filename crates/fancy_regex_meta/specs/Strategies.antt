@@ -1,5 +1,5 @@
 -- When a strategy executes a tree under options, and which search it makes.
-use Rattle.std.specs.Prelude.{◌≡◌, ℕ, Bool, true, false, List, length, Option, Some, None}
+use Rattle.std.specs.Prelude.{◌≡◌, ℕ, Bool, true, false, List, length, Option, Some, None, min}
 use Rattle.fancy_regex_tree.specs.Tree.{Tree}
 use Rattle.fancy_regex_meaning.specs.Groups.{pattern_of}
 use Rattle.fancy_regex_meaning.specs.Searches.{Search}
@@ -59,14 +59,27 @@ IsProgramFor prog run o t =
     IsCompiled prog t × (prog.unicode ≡ o.unicode_mode) × (prog.longest ≡ o.leftmost_longest) × IsSeekTable o t run.seek × IsInOrder t
     × (run ≡ run_options_of o run.seek)
 
+-- how often the program of a pattern with parts goes back at most, before its states answer
+abbrev pub most_allowed : ℕ
+most_allowed = 100
+
+-- these options, with that limit where theirs is higher
+abbrev pub allowed : RegexOptions → RegexOptions
+allowed o = record o { backtrack_limit = min o.backtrack_limit most_allowed }
+
+-- the same of the options of a run
+abbrev pub allowed_run : RunOptions → RunOptions
+allowed_run run = record run { backtrack_limit = min run.backtrack_limit most_allowed }
+
 -- The strategy executes this tree under these options: the linear-time matcher of the tree, where empty matches are allowed,
 -- or its program with its seek table, where no repeat is reversed; both with the options' Unicode mode and leftmost-longest
--- mode. The program is run with the options' backtrack limit. Where a tree that is not easy has a matcher, its program is kept too.
+-- mode. The program is run with the options' backtrack limit, or with a lower one where states answer past it. Where a tree that is not
+-- easy has a matcher, its program is kept too.
 abbrev pub Executes : Strategy → RegexOptions → Tree → Type 0
 Executes (Easy easy) o t = IsMatcherFor easy o t
 Executes (Linear linear prog) o t = IsMatcherFor linear o t × IsCompiled prog t
 Executes (Program prog run) o t = IsProgramFor prog run o t
-Executes (Regular regular prog run) o t = IsRegularFor regular o t × IsProgramFor prog run o t
+Executes (Regular regular prog run) o t = IsRegularFor regular o t × IsProgramFor prog run (allowed o) t
 
 -- A program has no more instructions than the cap, if one is set. The linear-time matcher has no cap.
 abbrev pub StrategyKeepsCap : Option ℕ → Strategy → Type 0
@@ -85,7 +98,7 @@ is_whole (Regular regular prog run) = prog.whole
 -- a matcher for a tree that is not easy, if there is one, and else its program, with its states with parts if there are any
 abbrev pub hard_strategy : Prog → RunOptions → Option EasyMatcher → Option RegularStates → Strategy
 hard_strategy prog run None None = Program prog run
-hard_strategy prog run None (Some regular) = Regular regular prog run
+hard_strategy prog run None (Some regular) = Regular regular prog (allowed_run run)
 hard_strategy prog run (Some linear) regular = Linear linear prog
 
 -- the search of the definitions for a strategy's input

@@ -21,7 +21,10 @@ ghost use Rattle.fancy_regex_meta.specs.declared.options.RegexOptions.{RegexOpti
 ghost use Rattle.fancy_regex_meta.specs.Refusals.{compile_options_of, IsCompileRefusal};
 ghost use Rattle.fancy_regex_info.specs.declared.error.CompileError.TheVariants as errors;
 ghost use Rattle.fancy_regex_meta.specs.FoundParts.{found_parts, wanted_parts};
-ghost use Rattle.fancy_regex_meta.specs.Strategies.{IsMatcherFor, IsRegularFor, hard_strategy as strategy_of, search_of};
+ghost use Rattle.fancy_regex_meta.specs.Strategies.{IsMatcherFor, IsRegularFor, IsProgramFor, RunsUnder, allowed_run, hard_strategy as strategy_of, search_of};
+ghost use Rattle.fancy_regex_meta.specs.ErrorConversions.{from_runtime_error};
+ghost use Rattle.fancy_regex_meta.specs.SearchLimits.{IsSearchError, IsStrategyError, StrategyStaysInLimits, run_choices};
+ghost use Rattle.fancy_regex_meta.specs.declared.strategy.Strategy.TheVariants as strategies;
 
 use crate::error::{Error, Result};
 use crate::found::{FoundMatch, MatchDetail, found_groups, found_span, found_whole};
@@ -37,6 +40,10 @@ use fancy_regex_machine::{RunMemory, RunOptions, RuntimeError, run_in, run_spans
 use fancy_regex_parts::PartMemory;
 use fancy_regex_regular::Regular;
 use std::alloc::{AllocError, Global};
+
+/// How often a run of the program of a pattern with parts goes back at most, before its states answer: each time it may read the rest of
+/// the text.
+const MOST_ALLOWED: usize = 100;
 
 /// What executes a compiled pattern.
 #[derive(Drop)]
@@ -65,7 +72,7 @@ pub enum Strategy {
         regular: Regular,
         /// The program.
         prog: Prog,
-        /// The options of its runs, as for any other pattern.
+        /// The options of its runs, as for any other pattern, but that they go back 100 times at most.
         run_options: RunOptions,
     },
 }
@@ -120,13 +127,26 @@ fn regular_states(
         → IsRegularFor regular options.now t)) }
     ensures memory { IfErr result (λ error. error ≡ errors.Memory) }
 {
-    if options.find_not_empty || options.leftmost_longest || info.start_group() != info.end_group() {
+    if options.leftmost_longest || options.find_not_empty {
+        return Ok(None);
+    }
+    if info.start_group() != info.end_group() {
         return Ok(None);
     }
     match Regular::if_supported(alloc, info, &compile_options(options, calls)) {
         Ok(found) => Ok(found),
         Err(CompileError::Memory) => Err(CompileError::Memory),
         Err(_) => Ok(None),
+    }
+}
+
+/// The options of a run whose limit may come early, since states answer past it.
+fn allowed(run_options: RunOptions) -> RunOptions
+    ensures { result ≡ allowed_run run_options }
+{
+    RunOptions {
+        backtrack_limit: run_options.backtrack_limit.min(MOST_ALLOWED),
+        ..run_options
     }
 }
 
@@ -144,7 +164,7 @@ fn hard_strategy(
         (None, Some(regular)) => Strategy::Regular {
             regular,
             prog,
-            run_options,
+            run_options: allowed(run_options),
         },
         (None, None) => Strategy::Program { prog, run_options },
     }
@@ -160,7 +180,20 @@ fn run_program(
     input: &RunInput,
     wanted: MatchDetail,
     memory: &mut RunMemory,
-) -> std::result::Result<Option<FoundMatch>, RuntimeError> {
+) -> std::result::Result<Option<FoundMatch>, RuntimeError>
+    requires first { IsCharBoundary text.now input.now.first }
+    requires range { input.now.range.end ≤ length text.now }
+    requires whole { prog.now.whole ≡ true }
+    ensures answer { IfOk result (λ found. (o : RegexOptions) (t : Tree) → IsProgramFor prog.now run_options.now o t
+        → option_map found_parts found ≡ option_map (wanted_parts wanted (pattern_of t))
+        (first_match (setting_for o.unicode_mode text.now input.now) (pattern_of t) (search_of o input.now))) }
+    ensures limits { IfErr result (λ e. (o : RegexOptions) (t : Tree) → IsProgramFor prog.now run_options.now o t
+        → IsSearchError false o.backtrack_limit (run_choices o text.now input.now t) (from_runtime_error e)) }
+    ensures passed { IfErr result (λ e. (o : RegexOptions) (t : Tree) → IsProgramFor prog.now run_options.now o t
+        → IsStrategyError (strategies.Program prog.now run_options.now) o text.now input.now (from_runtime_error e)) }
+    ensures stays { IfOk result (λ _. (o : RegexOptions) → RunsUnder (strategies.Program prog.now run_options.now) o
+        → StrategyStaysInLimits (strategies.Program prog.now run_options.now) o text.now input.now) }
+{
     match wanted {
         MatchDetail::Span => {
             let span = run_spans_in(alloc, prog, text, input, run_options, memory)?;
@@ -182,11 +215,20 @@ fn search_regular(
     input: &RunInput,
     wanted: MatchDetail,
     memory: &mut PartMemory,
-) -> std::result::Result<Option<FoundMatch>, AllocError> {
+) -> std::result::Result<Option<FoundMatch>, AllocError>
+    requires first { IsCharBoundary text.now input.now.first }
+    requires range { input.now.range.end ≤ length text.now }
+    ensures { IfOk result (λ found. (o : RegexOptions) (t : Tree) → IsRegularFor regular.now o t
+        → option_map found_parts found ≡ option_map (wanted_parts wanted (pattern_of t))
+        (first_match (setting_for o.unicode_mode text.now input.now) (pattern_of t) (search_of o input.now))) }
+{
     let span = regular.find_span_in(text, input, memory)?;
     match wanted {
         MatchDetail::Span => Ok(found_span(alloc, span)),
-        MatchDetail::Groups => found_whole(alloc, span),
+        MatchDetail::Groups => {
+            let found = found_whole(alloc, span)?;
+            Ok(found)
+        }
     }
 }
 
@@ -220,9 +262,9 @@ fn search_uncounted(
 
 impl Strategy {
     ghost use Rattle.fancy_regex_compiled.specs.Programs.{RefersToGroups};
-    ghost use Rattle.fancy_regex_meta.specs.Strategies.{Executes, RunsUnder, StrategyKeepsCap, is_whole};
+    ghost use Rattle.fancy_regex_meta.specs.Strategies.{Executes, StrategyKeepsCap, is_whole};
     ghost use Rattle.fancy_regex_meta.specs.EasyPatterns.{uses_easy, is_easy_strategy};
-    ghost use Rattle.fancy_regex_meta.specs.SearchLimits.{IsSearchError, IsStrategyError, StrategyStaysInLimits, weight_of, run_choices, run_tried};
+    ghost use Rattle.fancy_regex_meta.specs.SearchLimits.{weight_of, run_tried};
 
     /// Compiles an analyzed tree, all of whose references must be to existing groups: for the linear-time matcher if the
     /// tree is easy and empty matches are allowed, otherwise to a program, with its seek table if the options ask for it. A

@@ -6,3 +6,5 @@ pub mod VisitLemmas
 pub mod LoopLemmas
 pub mod EmittedLemmas
 pub mod FindLemmas
+pub mod SilentLemmas
+pub mod WalkLemmas

@@ -122,3 +122,8 @@ pub small_place : (text : List ℕ) (base : ℕ) (end : Option ℕ) (count : ℕ
     → IfSome end (λ e. e < 2 ^ 64 - 2)
 small_place text base None count small h = tt
 small_place text base (Some e) count small h = omega (arith, small, h.boundary.0)
+
+-- an answer ends at a place
+pub answer_place : (text : List ℕ) (base : ℕ) (end : Option ℕ) (count : ℕ) → IsTaskWithin text count base (Answer end) → IfSome end (IsPlace text base)
+answer_place text base None count h = tt
+answer_place text base (Some e) count h = h

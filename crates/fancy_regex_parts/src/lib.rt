@@ -6,15 +6,19 @@
 #![tactic(auto)]
 
 mod frame;
+mod groups;
 mod memory;
 mod question;
 mod recall;
+mod silent;
 mod starts;
 mod step;
 mod table;
 
+pub use groups::{WalkMemory, walk};
 pub use memory::PartMemory;
 pub use question::{ask, ask_each};
+pub use silent::parts_are_silent;
 pub use starts::find;
 pub use step::PartContext;
 pub use table::PartTable;

@@ -75,6 +75,7 @@ fn search(
     ensures answer { IfOk result (λ end. (view : View) (ways : Ways) → HasWays context.now (looked_text text.old) view ways
         → IsTrueOf context.now ways memory.old.recall → (end ≡ ways.end part at) × IsTrueOf context.now ways memory.new.recall) }
     ensures stack { OnOk result (vec_len memory.new.stack ≡ 0) }
+    ensures place { IfOk result (λ end. IfSome end (IsPlace (looked_text text.old) memory.old.recall.base)) }
     ensures paid { IsPaid context.now text.old text.new memory.old.recall memory.new.recall (due context.now.table.now part) 0 }
 {
     let mut task = Task::Visit { state: part, at };
@@ -118,6 +119,7 @@ pub fn ask(
     requires stack { vec_len memory.old.stack ≡ 0 }
     ensures answer { IfOk result (λ end. (view : View) (ways : Ways) → HasWays context.now (looked_text text.old) view ways
         → IsTrueOf context.now ways memory.old.recall → end ≡ ways.end part at) }
+    ensures place { IfOk result (λ end. IfSome end (IsPlace (looked_text text.old) memory.old.recall.base)) }
     ensures remembers { (view : View) (ways : Ways) → HasWays context.now (looked_text text.old) view ways
         → IsTrueOf context.now ways memory.old.recall → IsTrueOf context.now ways memory.new.recall }
     ensures memory { IsOfText context.now (looked_text text.old) memory.new.recall }

@@ -5,7 +5,7 @@ use Rattle.fancy_regex_parts.specs.Tables.{due}
 use Rattle.fancy_regex_parts.specs.Frames.{top_first, pending, task_due, task_mode, Remembers, IsTaskWithin}
 use Rattle.fancy_regex_parts.specs.Layers.{IsAtTask, IsOfText, IsPaid}
 use Rattle.fancy_regex_parts.specs.declared.frame.Task.{Task}
-use Rattle.fancy_regex_parts.proofs.StackLemmas.{top_pushed, small_place, resume_within}
+use Rattle.fancy_regex_parts.proofs.StackLemmas.{top_pushed, small_place, answer_place, resume_within}
 use Rattle.fancy_regex_parts.proofs.CostLemmas.{pending_cons, resume_due, mode_most}
 use Rattle.fancy_regex_parts.proofs.TrackLemmas.{Tracks-resume}
 use Rattle.fancy_regex_parts.proofs.VisitLemmas.{no_look}
@@ -47,6 +47,11 @@ returns-in_default-clause-answer c view ways has true_of =
       t.resumes,
       subst (λ (b : ℕ). Remembers ways c.args.context.now.table.now.heads.items b c.tasks.memory.recall []) (sym c.tasks.invariant.paid.base) t.remembers,
     )
+
+pub returns-in_default-clause-place : goal.returns-in_default-clause-place
+returns-in_default-clause-place c =
+    answer_place (looked_text c.args.text.now) c.args.memory.now.recall.base _ (length c.args.context.now.table.now.states.items)
+    (subst (IsTaskWithin (looked_text c.args.text.now) (length c.args.context.now.table.now.states.items) c.args.memory.now.recall.base) c.in-Answer.is c.tasks.invariant.place.task)
 
 pub returns-in_default-clause-paid : goal.returns-in_default-clause-paid
 returns-in_default-clause-paid c = paid_down c.args.context.now _ _ 0 (omega arith) c.tasks.invariant.paid
