@@ -55,7 +55,8 @@ IsRowTold (Ok written) status count = (count ≡ written) × (written ≡ 0 → 
 IsRowTold (Err fault) status count = (count ≡ 0) × (status ≡ fault_status fault)
 
 -- How a call for a row of matches of what was built ends: with the matches; or with a fault, which is recorded.
-pub record RowEnds (subject : Subject) (text : List ℕ) (query : Query) (status : Status) (count : ℕ) (spans written : List Span) (old new : Option CallError) : Type 0 where
+pub record RowEnds (subject : Subject) (text : List ℕ) (query : Query) (status : Status) (count : ℕ) (spans written : List Span)
+    (old new : Option CallError) : Type 0 where
   pub answer : Result ℕ CallError
   pub is_row : IsRowBy subject text query answer spans written
   pub is_told : IsRowTold answer status count
@@ -67,4 +68,5 @@ abbrev pub RowReports : Option Contents → Option Contents → List ℕ → Que
 RowReports (Some contents) left text query code spans written count =
     (after : Contents) × (status : Status) × (left ≡ Some after) × (code ≡ code_of status) × (after.subject ≡ contents.subject)
     × RowEnds contents.subject text query status count spans written contents.fault after.fault
-RowReports None left text query code spans written count = (code ≡ code_of statuses.EmptyHandle) × (written ≡ spans) × (count ≡ 0) × (left ≡ None)
+RowReports None left text query code spans written count =
+    (code ≡ code_of statuses.EmptyHandle) × (written ≡ spans) × (count ≡ 0) × (left ≡ None)

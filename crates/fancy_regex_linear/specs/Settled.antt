@@ -6,6 +6,8 @@ use Rattle.fancy_regex_states.specs.Attempts.{View, Continuation}
 use Rattle.fancy_regex_table.specs.Cells.{Parts}
 use Rattle.fancy_regex_table.specs.Ends.{end_of}
 use Rattle.fancy_regex_table.specs.Tables.{IsTable}
+use Rattle.fancy_regex_table.specs.declared.table.Passed.{Passed}
+use Rattle.fancy_regex_table.specs.declared.table.Passed.TheVariants as P
 use Rattle.fancy_regex_linear.specs.Attempt.{trace_end}
 use Rattle.fancy_regex_linear.specs.Find.{FoundMatch, earliest, attempted, places, places_from, found_of_span}
 use Rattle.fancy_regex_linear.specs.Layers.{IsBetweenAttempts, IsOnlyLookedAt}
@@ -30,6 +32,14 @@ pub record IsTableSearch (context : SearchContext) (text : List ℕ) (it : Table
   pub start_shown : context.rules.no_start_text ≡ false
   pub end_shown : context.rules.no_end_text ≡ false
   pub whole : context.stop ≡ length text
+
+-- A pass from `start` costs one look for each place at which it tests a row of the table, but for the first. Where it tells nothing
+-- more, none is counted.
+abbrev pub CountsPass : Counted → Counted → ℕ → ℕ → Passed → Type 0
+CountsPass old new start stop (P.Match first end read) = look_count new ≡ min (look_count old + (read - start)) (2 ^ 64 - 1)
+CountsPass old new start stop P.Ended = look_count new ≡ min (look_count old + (stop - start)) (2 ^ 64 - 1)
+CountsPass old new start stop (P.Idle next) = look_count new ≡ min (look_count old + (next - (start + 1))) (2 ^ 64 - 1)
+CountsPass old new start stop (P.Unknown from read) = new ≡ old
 
 -- no match starts at these places; the last one is not meant
 abbrev pub FailBetween : SearchContext → List ℕ → (ℕ → Continuation) → ℕ → ℕ → Type 0

@@ -9,9 +9,9 @@ ghost use Rattle.fancy_regex_linear.specs.Alone.{AllFailBetween, AloneSays, IsLe
 ghost use Rattle.fancy_regex_linear.specs.Layers.{IsSearchContext};
 ghost use Rattle.fancy_regex_linear.specs.Settled.{IsTableSearch};
 
-use crate::by_table::{TableSearch, char_before};
+use crate::by_table::{TableSearch, pass_counted};
 use crate::search::SearchContext;
-use crate::starts::{Start, pass_pairs, refuses_all, second_chars, start_after};
+use crate::starts::{Start, pass_pairs, refuse_rest, refuses_all, second_chars, start_after};
 use fancy_regex_class::{Counted, skip_ascii};
 use fancy_regex_table::Passed;
 
@@ -52,8 +52,7 @@ fn pass_over(
         return Some((at, text.look(at).1));
     }
     if refuses_all(context) {
-        let _ = text.look(at);
-        text.count_places(at, context.stop);
+        refuse_rest(context, text, at);
         return None;
     }
     let Some(second) = second_chars(context) else {
@@ -97,24 +96,14 @@ pub fn by_table_alone(
         if !is_ascii(after) {
             return left(context, (start, after), start, start);
         }
-        let before = char_before(it.text, start);
-        match it.table.pass(context.matchers, it.text, start, before, context.stop, true) {
+        match pass_counted(context, text, it, start) {
             Passed::Match {
                 start: first,
                 end,
-                read,
-            } => {
-                text.count_places(start, read);
-                return Alone::Found { start: first, end };
-            }
-            Passed::Ended => {
-                text.count_places(start, context.stop);
-                return Alone::NoMatch;
-            }
-            Passed::Idle { at: next } => {
-                text.count_places(start + 1, next);
-                at = next;
-            }
+                ..
+            } => return Alone::Found { start: first, end },
+            Passed::Ended => return Alone::NoMatch,
+            Passed::Idle { at: next } => at = next,
             Passed::Unknown { from, read } => return left(context, (start, after), from, read),
         }
     }

@@ -2,12 +2,14 @@
 
 ghost use Rattle.std.specs.Prelude.{◌≡◌, ◌-◌, ◌+◌, ◌<◌, ◌≤◌, ◌^◌, ℕ, Bool, false, Option, Some, None, length, min, IfOk, OnOk, IfSome, IsCharBoundary};
 ghost use Rattle.regex_hir.specs.Text.{char_before as char_before_of};
-ghost use Rattle.fancy_regex_class.specs.Looks.{looked_text, look_count};
+ghost use Rattle.fancy_regex_class.specs.Looks.{looked_text, look_count, SameCounter};
 ghost use Rattle.fancy_regex_states.specs.Attempts.{View, Continuation};
-ghost use Rattle.fancy_regex_table.specs.Tables.{AreBoundaries};
+ghost use Rattle.fancy_regex_states.specs.declared.rules.Rules.{Rules};
+ghost use Rattle.fancy_regex_table.specs.Cells.{Parts, Search};
+ghost use Rattle.fancy_regex_table.specs.Tables.{AreBoundaries, IsInRange, IsPassed, IsSearchOf, IsTable};
 ghost use Rattle.fancy_regex_linear.specs.Layers.{IsSearchContext, IsBetweenAttempts, IsAttempt};
 ghost use Rattle.fancy_regex_linear.specs.Search.{Explains};
-ghost use Rattle.fancy_regex_linear.specs.Settled.{IsAtStart, IsLoaded, IsSettled, IsSettledAfter, IsSettling, IsTableSearch, IsTried, FailBetween};
+ghost use Rattle.fancy_regex_linear.specs.Settled.{IsAtStart, IsLoaded, IsSettled, IsSettledAfter, IsSettling, IsTableSearch, IsTried, CountsPass, FailBetween};
 
 use crate::memory::SearchMemory;
 use crate::search::{SearchContext, attempt_start};
@@ -24,9 +26,40 @@ pub struct TableSearch<'p> {
     pub text: &'p str,
 }
 
-/// Settles the starts from this one on as far as the table tells something of them. `None` says nothing, and costs no look. Each
-/// character that the table reads costs one; where it leads on to a later start, the look by which the search found this one stands for
-/// the first. The error is want of memory.
+/// What the table tells of the starts from `start` on, at which a search has looked. The table reads the text by itself. Each place at
+/// which it tests a row costs one look, but for the first, for which the look by which the search found it stands. Where the table tells
+/// nothing more, none is counted: who goes on there counts what was read.
+#[inline(always)]
+pub fn pass_counted(
+    context: &SearchContext,
+    text: &mut Counted,
+    it: TableSearch,
+    start: usize,
+) -> Passed
+    requires table { IsTableSearch context.now (looked_text text.old) it }
+    requires range { (start ≤ context.now.stop) × (context.now.stop ≤ length (looked_text text.old)) }
+    requires boundary { IsCharBoundary (looked_text text.old) start }
+    ensures passed { (parts : Parts) (rules : Rules) (s : Search) → IsTable parts it.entry.table.now → IsSearchOf parts rules s
+        → parts.matchers ≡ context.now.matchers.now → s.text ≡ it.entry.text.now → s.from ≡ start → s.stop ≡ context.now.stop
+        → IsPassed s result }
+    ensures range { IsInRange it.entry.text.now start context.now.stop result }
+    ensures looks { CountsPass text.old text.new start context.now.stop result }
+    ensures text { looked_text text.new ≡ looked_text text.old }
+    ensures same_counter { SameCounter text.old text.new }
+{
+    let before = char_before(it.text, start);
+    let passed = it.table.pass(context.matchers, it.text, start, before, context.stop, true);
+    match passed {
+        Passed::Match { read, .. } => text.count_places(start, read),
+        Passed::Ended => text.count_places(start, context.stop),
+        Passed::Idle { at } => text.count_places(start + 1, at),
+        Passed::Unknown { .. } => {}
+    }
+    passed
+}
+
+/// Settles the starts from this one on as far as the table tells something of them. `None` says nothing, and costs no look. What the
+/// table reads costs looks as at `pass_counted`. The error is want of memory.
 #[inline(always)]
 pub fn by_table(
     context: &SearchContext,
@@ -52,28 +85,13 @@ pub fn by_table(
     if anchored || !is_ascii(place.after) {
         return Ok(None);
     }
-    let before = char_before(it.text, place.at);
-    match it.table.pass(
-        context.matchers,
-        it.text,
-        place.at,
-        before,
-        context.stop,
-        true,
-    ) {
-        Passed::Match { start, end, read } => {
-            text.count_places(place.at, read);
+    match pass_counted(context, text, it, place.at) {
+        Passed::Match { start, end, .. } => {
             load_match(context, text, start, memory, span_only)?;
             Ok(Some(Settled::Found { start, end }))
         }
-        Passed::Ended => {
-            text.count_places(place.at, context.stop);
-            Ok(Some(Settled::On { next: None }))
-        }
-        Passed::Idle { at } => {
-            text.count_places(place.at + 1, at);
-            Ok(Some(Settled::On { next: Some(at) }))
-        }
+        Passed::Ended => Ok(Some(Settled::On { next: None })),
+        Passed::Idle { at } => Ok(Some(Settled::On { next: Some(at) })),
         Passed::Unknown { from, read } => {
             if read == place.at {
                 return Ok(None);
@@ -116,7 +134,8 @@ fn load_match(
 }
 
 /// Settles the starts up to `read` and that one, where the table has read the text up to there and no match starts before `from`, by
-/// attempts. The error is want of memory.
+/// attempts. Each place behind the first at which the table has tested a row costs one look: the last is looked at here. The error is
+/// want of memory.
 pub fn by_attempts(
     context: &SearchContext,
     text: &mut Counted,

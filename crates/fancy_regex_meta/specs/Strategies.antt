@@ -61,7 +61,7 @@ IsProgramFor prog run o t =
 
 -- how often the program of a pattern with parts goes back at most, before its states answer
 abbrev pub most_allowed : ℕ
-most_allowed = 100
+most_allowed = 1000000
 
 -- these options, with that limit where theirs is higher
 abbrev pub allowed : RegexOptions → RegexOptions

@@ -43,7 +43,7 @@ use std::alloc::{AllocError, Global};
 
 /// How often a run of the program of a pattern with parts goes back at most, before its states answer: each time it may read the rest of
 /// the text.
-const MOST_ALLOWED: usize = 100;
+const MOST_ALLOWED: usize = 1_000_000;
 
 /// What executes a compiled pattern.
 #[derive(Drop)]

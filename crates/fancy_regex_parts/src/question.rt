@@ -142,7 +142,7 @@ pub fn ask(
 
 /// The answers of `ask` for this part at each of these byte offsets, in turn. All of them together look at each place of the text at
 /// most as often as the parts weigh, and what is due for the part's first state once more for each answer. The error is want of
-/// memory.
+/// memory, and what the memory remembers then is still true.
 pub fn ask_each(
     alloc: Global,
     context: &PartContext,
@@ -161,8 +161,17 @@ pub fn ask_each(
     ensures answers { IfOk result (λ answers. (view : View) (ways : Ways) → HasWays context.now (looked_text text.old) view ways
         → IsTrueOf context.now ways memory.old.recall
         → (k : ℕ) → k < length places.now → slice_index_or answers.items k None ≡ ways.end part (slice_index places.now k)) }
+    ensures remembers { (view : View) (ways : Ways) → HasWays context.now (looked_text text.old) view ways
+        → IsTrueOf context.now ways memory.old.recall → IsTrueOf context.now ways memory.new.recall }
+    ensures memory { IsOfText context.now (looked_text text.old) memory.new.recall }
+    ensures base { memory.new.recall.base ≡ memory.old.recall.base }
+    ensures stack { vec_len memory.new.stack ≡ 0 }
+    ensures counted { OnOk result (look_count text.new + context.now.table.now.most * known_count memory.old.recall
+        ≤ look_count text.old + length places.now * due context.now.table.now part
+        + context.now.table.now.most * known_count memory.new.recall) }
     ensures at_most { OnOk result (look_count text.new ≤ look_count text.old + length places.now * due context.now.table.now part
         + (length (looked_text text.old) - memory.old.recall.base + 1) * table_weight context.now.table.now) }
+    ensures looks { IsOnlyLookedAt text.old text.new }
 {
     let mut answers = Vec::new(alloc);
     for k in 0..places.len() {

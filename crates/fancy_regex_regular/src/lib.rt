@@ -1,5 +1,6 @@
-//! Searches of patterns that refer to no matched text and have look-aheads or atomic groups: by states with parts, in a number of looks that
-//! is bounded by the weight of the states times the length of the text. A search fails for want of memory alone.
+//! Searches of patterns that refer to no matched text and have look-aheads or atomic groups, by states with parts. `fancy_regex_parts`
+//! bounds how often a search looks at the text: by the weight of its states times the length of the text. A search fails for want of
+//! memory alone.
 #![tactic(auto)]
 
 mod regular;

@@ -90,7 +90,14 @@ impl Regular {
         let mut steps = Steps::new();
         let mut counted = Counted::new(text, &mut steps);
         let last = last_start(input);
-        let span = find(&context, &mut counted, memory, self.entry, input.first, last)?;
+        let span = find(
+            &context,
+            &mut counted,
+            memory,
+            self.entry,
+            input.first,
+            last,
+        )?;
         Ok(span)
     }
 

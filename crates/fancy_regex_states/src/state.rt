@@ -6,15 +6,30 @@ use crate::atom::{Leaf, Test};
 #[derive(Clone, Copy, PartialEq, Eq, Debug)]
 pub enum State {
     /// Consumes one character that the leaf matches.
-    Read { leaf: Leaf, next: usize },
+    Read {
+        leaf: Leaf,
+        next: usize,
+    },
     /// Checks a zero-width assertion.
-    Look { test: Test, next: usize },
+    Look {
+        test: Test,
+        next: usize,
+    },
     /// Two alternatives; the first is preferred.
-    Split { first: usize, second: usize },
+    Split {
+        first: usize,
+        second: usize,
+    },
     /// Writes the start of the capture group of this number.
-    Enter { group: usize, next: usize },
+    Enter {
+        group: usize,
+        next: usize,
+    },
     /// Writes the end of the capture group of this number.
-    Leave { group: usize, next: usize },
+    Leave {
+        group: usize,
+        next: usize,
+    },
     /// Asks the part that begins at the state `part`: continues where it has a way from here or, where `negated`, where it has none.
     Ask {
         part: usize,

@@ -7,6 +7,7 @@ abbrev pub invariant-row : goal.invariant-row
 invariant-row l = record {
   row : IsRow l.fn.regex.meta l.fn.text l.fn.query l.count l.fn.spans l.spans;
   length_is : length l.spans ≡ length l.fn.spans;
+  same : l.count ≡ 0 → l.spans ≡ l.fn.spans;
   next_is : IsNext l.fn.query l.count l.spans l.next;
 }
 

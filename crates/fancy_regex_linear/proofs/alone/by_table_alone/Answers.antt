@@ -2,12 +2,13 @@ use Rattle.std.proofs.Common.{◌≡◌, ◌+◌, ◌-◌, ◌≤◌, ◌∙◌,
 use Rattle.fancy_regex_class.specs.Looks.{looked_text}
 use Rattle.fancy_regex_table.specs.Tables.{IsInRange}
 use Rattle.fancy_regex_table.specs.declared.table.Passed.TheVariants as P
-use Rattle.fancy_regex_linear.specs.Alone.{AllFailBetween, IsLookedAt, IsNoneFrom}
+use Rattle.fancy_regex_class.specs.declared.counted.Counted.{Counted}
+use Rattle.fancy_regex_linear.specs.Alone.{AllFailBetween, AloneSays, IsLookedAt, IsNoneFrom}
 use Rattle.fancy_regex_linear.specs.Settled.{parts_of}
 use Rattle.fancy_regex_linear.proofs.AloneLemmas.{all_fail_on, left_says, looked_then, none_then}
 use Rattle.fancy_regex_linear.proofs.SettleLemmas.{search_of, is_search, fail_by, end_by}
 use Rattle.fancy_regex_linear.proofs.alone.by_table_alone.Goals as goal
-use Rattle.fancy_regex_linear.proofs.alone.by_table_alone.Goals.{In-Some, After-pass}
+use Rattle.fancy_regex_linear.proofs.alone.by_table_alone.Goals.{In-Some, After-pass_counted}
 
 pub starts-init : goal.starts-init
 starts-init c = record {
@@ -34,8 +35,8 @@ returns-in_default c =
     (rw c.in_default.is at c.pass_over.ensures)
 
 -- what the pass says of the starts from there on
-range_of : (c : After-pass) → IsInRange (looked_text c.args.text.now) c.in-Some.start c.args.context.now.stop c.pass.result
-range_of c = rw c.requires.table.text_is at c.pass.ensures.range
+range_of : (c : After-pass_counted) → IsInRange (looked_text c.args.text.now) c.in-Some.start c.args.context.now.stop c.pass_counted.result
+range_of c = rw c.requires.table.text_is at c.pass_counted.ensures.range
 
 pub returns-then-not-is_ascii : goal.returns-then-not-is_ascii
 returns-then-not-is_ascii c =
@@ -54,7 +55,7 @@ returns-in-Match c =
     let first : ℕ = c.in-Match.first in
     let end : ℕ = c.in-Match.end in
     let range : IsInRange text start context.stop (P.Match first end c.in-Match.read) = rw by.text_is at c.in-Match.ensures.range in
-    let counts = c.count_places.ensures in (
+    let counts = c.pass_counted.ensures in (
       record {
         range = (omega (arith, at.range.0, range.0), omega (arith, range.1, range.2));
         boundary = range.3;
@@ -68,8 +69,8 @@ returns-in-Match c =
             (is_search context text c.args.it by view go explains start c.requires.text c.requires.range.1) refl (sym by.text_is) refl refl).0.end_is);
       },
       record {
-        at_least = omega (arith, at.looked.at_least, counts.ticked, range.0, range.1, at.range.0);
-        at_most = omega (arith, at.looked.at_most, counts.ticked, range.0, range.1, range.2, at.range);
+        at_least = omega (arith, at.looked.at_least, c.in-Match.ensures.looks, range.0, range.1, at.range.0);
+        at_most = omega (arith, at.looked.at_most, c.in-Match.ensures.looks, range.0, range.1, range.2, at.range);
         text = counts.text ∙ at.looked.text;
         same_counter = counts.same_counter ∙ at.looked.same_counter;
       },
@@ -82,15 +83,15 @@ returns-in-Ended c =
     let text = looked_text c.args.text.now in
     let by = c.requires.table in
     let start : ℕ = c.in-Some.start in
-    let counts = c.count_places-in-Ended.ensures in
+    let counts = c.pass_counted.ensures in
     record {
       fails = all_fail_on context text c.args.from start (context.stop + 1) at.fails (λ view go explains.
           fail_by context text c.args.it by view go explains start (context.stop + 1)
           (λ t. c.in-Ended.ensures.passed (parts_of context) context.rules (search_of context text c.args.it by view go explains start) t
           (is_search context text c.args.it by view go explains start c.requires.text c.requires.range.1) refl (sym by.text_is) refl refl));
       looked = record {
-        at_least = omega (arith, at.looked.at_least, counts.ticked, at.range);
-        at_most = omega (arith, at.looked.at_most, counts.ticked, at.range);
+        at_least = omega (arith, at.looked.at_least, c.in-Ended.ensures.looks, at.range);
+        at_most = omega (arith, at.looked.at_most, c.in-Ended.ensures.looks, at.range);
         text = counts.text ∙ at.looked.text;
         same_counter = counts.same_counter ∙ at.looked.same_counter;
       };
@@ -105,7 +106,7 @@ starts-preserved c =
     let start : ℕ = c.in-Some.start in
     let next : ℕ = c.in-Idle.next in
     let range : IsInRange text start context.stop (P.Idle next) = rw by.text_is at c.in-Idle.ensures.range in
-    let counts = c.count_places-in-Idle.ensures in
+    let counts = c.pass_counted.ensures in
     record {
       way = record {
         range = (omega (arith, at.range.0, range.0), range.1);
@@ -114,8 +115,8 @@ starts-preserved c =
             fail_by context text c.args.it by view go explains start next
             (λ t. (c.in-Idle.ensures.passed (parts_of context) context.rules (search_of context text c.args.it by view go explains start) t
             (is_search context text c.args.it by view go explains start c.requires.text c.requires.range.1) refl (sym by.text_is) refl refl).0.early));
-        at_least = omega (arith, at.looked.at_least, counts.ticked, range.0, at.range.0);
-        at_most = omega (arith, at.looked.at_most, counts.ticked, range.0, at.range.0);
+        at_least = omega (arith, at.looked.at_least, c.in-Idle.ensures.looks, range.0, at.range.0);
+        at_most = omega (arith, at.looked.at_most, c.in-Idle.ensures.looks, range.0, at.range.0);
         text = counts.text ∙ at.looked.text;
         same_counter = counts.same_counter ∙ at.looked.same_counter;
       };
@@ -131,10 +132,11 @@ returns-in-Unknown c =
     let from : ℕ = c.in-Unknown.from in
     let read : ℕ = c.in-Unknown.read in
     let range : IsInRange text start context.stop (P.Unknown from read) = rw by.text_is at c.in-Unknown.ensures.range in
-    left_says context c.args.text.now c.pass_over.new.text c.args.from from read (start, c.in-Some.after) c.left-in-Unknown.result c.requires.text c.requires.range.1 at
+    subst (λ (t : Counted). AloneSays context c.args.text.now t c.args.from c.left-in-Unknown.result) (sym c.in-Unknown.ensures.looks)
+    (left_says context c.args.text.now c.pass_over.new.text c.args.from from read (start, c.in-Some.after) c.left-in-Unknown.result c.requires.text c.requires.range.1 at
     (range.0, range.1, range.2)
     (λ view go explains.
     fail_by context text c.args.it by view go explains start from
     (λ t. (c.in-Unknown.ensures.passed (parts_of context) context.rules (search_of context text c.args.it by view go explains start) t
     (is_search context text c.args.it by view go explains start c.requires.text c.requires.range.1) refl (sym by.text_is) refl refl).early))
-    range.3 c.left-in-Unknown.ensures
+    range.3 c.left-in-Unknown.ensures)

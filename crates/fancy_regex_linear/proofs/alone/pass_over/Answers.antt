@@ -23,17 +23,16 @@ returns-then-at-eq0 c = record {
 pub returns-then-refuses_all : goal.returns-then-refuses_all
 returns-then-refuses_all c =
     let text = looked_text c.args.text.now in
-    let one = c.look-then-refuses_all.ensures in
-    let all = c.count_places.ensures in
+    let all = c.refuse_rest.ensures in
     record {
       fails = λ view go explains p low less boundary.
           start_fails c.args.context.now text view go explains c.requires.text p (char_at text p) boundary (omega (arith, low, c.if-at-eq0.false)) (omega (arith, less))
           c.requires.context.entry refl (c.refuses_all.ensures c.if-refuses_all.true (char_at text p));
       looked = record {
-        at_least = omega (arith, one.ticked, all.ticked, c.requires.range.0);
-        at_most = omega (arith, one.ticked, all.ticked, c.requires.range.0);
-        text = all.text ∙ one.text;
-        same_counter = all.same_counter ∙ one.same_counter;
+        at_least = omega (arith, all.looks, c.requires.range.0);
+        at_most = omega (arith, all.looks, c.requires.range.0);
+        text = all.text;
+        same_counter = all.same_counter;
       };
     }
 

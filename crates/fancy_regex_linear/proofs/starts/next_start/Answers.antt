@@ -40,7 +40,7 @@ returns-then-refuses_all-clause-at_least c view go explains slots =
     let d = (goal.at.returns-then-refuses_all-clause-at_least c).After-refuses_all in
     let most = (none_left d c.if-refuses_all.true c.if-from-gt0.true view go explains slots).1 in
     let none = tried_none (spot_from go c.args.context.now.entry slots) in
-    omega (arith, most, none, c.count_places.ensures.ticked, c.look.ensures.ticked)
+    omega (arith, most, none, c.refuse_rest.ensures.looks)
 
 abbrev text_of : After-is_refused → List ℕ
 text_of c = looked_text c.args.text.now

@@ -78,3 +78,64 @@ returns-clause-at_most c =
     let all : c.loop-k.k ≡ length c.args.places.now = omega (arith, c.loop-k.invariant.len, c.loop-k-test.false) in
     let dues = ap (λ n. n * due c.args.context.now.table.now c.args.part) all in
     omega (arith, paid.counted, cap, weight, dues)
+
+pub returns-clause-remembers : goal.returns-clause-remembers
+returns-clause-remembers c view ways has true_of = c.loop-k.invariant.true_of view ways has true_of
+
+pub returns-clause-memory : goal.returns-clause-memory
+returns-clause-memory c = c.loop-k.invariant.paid.memory
+
+pub returns-clause-base : goal.returns-clause-base
+returns-clause-base c = c.loop-k.invariant.paid.base
+
+pub returns-clause-stack : goal.returns-clause-stack
+returns-clause-stack c = c.loop-k.invariant.stack
+
+pub returns-clause-counted : goal.returns-clause-counted
+returns-clause-counted c =
+    let all : c.loop-k.k ≡ length c.args.places.now = omega (arith, c.loop-k.invariant.len, c.loop-k-test.false) in
+    let dues = ap (λ n. n * due c.args.context.now.table.now c.args.part) all in
+    omega (arith, c.loop-k.invariant.paid.counted, dues)
+
+pub returns-clause-looks : goal.returns-clause-looks
+returns-clause-looks c = c.loop-k.invariant.paid.looks
+
+-- a question failed
+pub returns-in_err-end-clause-remembers : goal.returns-in_err-end-clause-remembers
+returns-in_err-end-clause-remembers c view ways has true_of =
+    let invariant = c.loop-k.invariant in
+    c.ask.ensures.remembers view ways (subst (λ (t : List ℕ). HasWays c.args.context.now t view ways) (sym invariant.paid.looks.text) has)
+    (invariant.true_of view ways has true_of)
+
+pub returns-in_err-end-clause-memory : goal.returns-in_err-end-clause-memory
+returns-in_err-end-clause-memory c =
+    subst (λ (t : List ℕ). IsOfText c.args.context.now t c.ask.new.memory.recall) c.loop-k.invariant.paid.looks.text c.ask.ensures.memory
+
+pub returns-in_err-end-clause-base : goal.returns-in_err-end-clause-base
+returns-in_err-end-clause-base c = c.ask.ensures.base ∙ c.loop-k.invariant.paid.base
+
+pub returns-in_err-end-clause-stack : goal.returns-in_err-end-clause-stack
+returns-in_err-end-clause-stack c = c.ask.ensures.stack
+
+pub returns-in_err-end-clause-looks : goal.returns-in_err-end-clause-looks
+returns-in_err-end-clause-looks c = looks_on c.loop-k.invariant.paid.looks c.ask.ensures.looks
+
+-- there was no room for an answer
+pub returns-in_err-push-clause-remembers : goal.returns-in_err-push-clause-remembers
+returns-in_err-push-clause-remembers c view ways has true_of =
+    let invariant = c.loop-k.invariant in
+    c.ask.ensures.remembers view ways (subst (λ (t : List ℕ). HasWays c.args.context.now t view ways) (sym invariant.paid.looks.text) has)
+    (invariant.true_of view ways has true_of)
+
+pub returns-in_err-push-clause-memory : goal.returns-in_err-push-clause-memory
+returns-in_err-push-clause-memory c =
+    subst (λ (t : List ℕ). IsOfText c.args.context.now t c.ask.new.memory.recall) c.loop-k.invariant.paid.looks.text c.ask.ensures.memory
+
+pub returns-in_err-push-clause-base : goal.returns-in_err-push-clause-base
+returns-in_err-push-clause-base c = c.ask.ensures.base ∙ c.loop-k.invariant.paid.base
+
+pub returns-in_err-push-clause-stack : goal.returns-in_err-push-clause-stack
+returns-in_err-push-clause-stack c = c.ask.ensures.stack
+
+pub returns-in_err-push-clause-looks : goal.returns-in_err-push-clause-looks
+returns-in_err-push-clause-looks c = looks_on c.loop-k.invariant.paid.looks c.ask.ensures.looks
