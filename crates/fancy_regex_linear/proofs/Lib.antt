@@ -16,6 +16,7 @@ pub mod CarryLemmas
 pub mod PlainLemmas
 pub mod LookLemmas
 pub mod MeaningLemmas
+pub mod PassingLemmas
 pub mod SameStartLemmas
 pub mod EndLemmas
 pub mod RegularLemmas

@@ -9,7 +9,7 @@ use mathlib.Core.HLevel.{Π_prop, Unit-prop, ⊥_prop}
 use mathlib.Core.Logic.{∥∥₁_elim}
 use Rattle.regex_hir.specs.Text.{char_at, char_before}
 use Rattle.fancy_regex_class.specs.declared.class.CharClassMatcher.{CharClassMatcher}
-use Rattle.fancy_regex_states.specs.First.{state_at, MayHold, Leads, Reaches, here, onward, CannotRead, CannotBegin, CannotGoOn, CannotFollow, IsTableOf}
+use Rattle.fancy_regex_states.specs.First.{state_at, MayHold, Leads, Reaches, here, onward, CannotRead, CannotBegin, CannotGoOn, CannotFollow, IsTableOf, RefusesSecond}
 use Rattle.fancy_regex_states.specs.declared.atom.Test.{Test}
 use Rattle.fancy_regex_states.specs.declared.atom.Test.TheVariants.{StartText}
 use Rattle.fancy_regex_states.specs.declared.first.FirstChars.{FirstChars}
@@ -187,6 +187,12 @@ pub marks_say : (unicode : Bool) (matchers : List CharClassMatcher) (states : Li
     → (c : ℕ) → c < 128 → slice_index_or marks c false ≡ true → CannotBegin unicode matchers states entry (Some c)
 marks_say unicode matchers states entry marks is c low marked =
     ∥∥₁_elim is (Π_prop λ q. Π_prop λ _. CannotRead-prop unicode matchers (Some c) (state_at states q)) (λ refuses. refuses c low marked)
+
+-- what the marks of second characters say holds
+pub seconds_say : (unicode : Bool) (matchers : List CharClassMatcher) (states : List State) (entry : ℕ) (marks : List Bool) → ∥ RefusesSecond unicode matchers states entry marks ∥₁
+    → (c : ℕ) → c < 128 → slice_index_or marks c false ≡ true → CannotFollow unicode matchers states entry (Some c)
+seconds_say unicode matchers states entry marks is c low marked =
+    ∥∥₁_elim is (Π_prop λ q. Π_prop λ _. CannotGoOn-prop unicode matchers states (Some c) (state_at states q)) (λ refuses. refuses c low marked)
 
 -- no match begins where this character is refused, after another character of the text
 pub start_fails : (context : SearchContext) (text : List ℕ) (view : View) (go : ℕ → Continuation) → Explains context text view go → IsUtf8 text

@@ -47,6 +47,8 @@ module _ (easy : Easy) (text : List ℕ) (input : RunInput) (context : SearchCon
   serves_search it h = record {
     table = rw (of.states, of.matchers, of.entry, of.rules) h.table;
     text_is = h.text_is ∙ sym same;
+    passing = ap (λ p. p.first) h.passing ∙ sym of.refused;
+    seconds = rw (h.passing, of.states, of.matchers, of.entry, of.rules) easy.seconds;
     first = ap (λ r. r.longest) of.rules ∙ h.first;
     start_shown = ap (λ r. r.no_start_text) of.rules ∙ h.start_shown;
     end_shown = ap (λ r. r.no_end_text) of.rules ∙ h.end_shown;

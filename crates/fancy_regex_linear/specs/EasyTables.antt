@@ -7,10 +7,12 @@ use Rattle.fancy_regex_linear.specs.declared.easy.Easy.{Easy}
 use Rattle.fancy_regex_linear.specs.declared.search.SearchContext.{SearchContext}
 use Rattle.fancy_regex_linear.specs.Easy.{rules_for}
 
--- The table is that of the pattern, and the text is searched to its end, with no end of it hidden, for the first match.
+-- The table is that of the pattern, and so is what is known of starts. The text is searched to its end, with no end of it hidden, for the
+-- first match.
 pub record IsTableFor (easy : Easy) (text : List ℕ) (input : RunInput) (it : TableSearch) : Type 0 where
   pub table : ∥ IsTable (record { states = easy.states.items; entry = easy.entry; matchers = easy.matchers.items; unicode = easy.unicode }) it.table.now ∥₁
   pub text_is : it.text.now ≡ text
+  pub passing : it.passing.now ≡ easy.passing
   pub first : easy.longest ≡ false
   pub start_shown : input.no_start_text ≡ false
   pub end_shown : input.no_end_text ≡ false
@@ -24,4 +26,4 @@ pub record IsContextOf (easy : Easy) (input : RunInput) (context : SearchContext
   pub entry : context.entry ≡ easy.entry
   pub first : context.first.now ≡ easy.first
   pub stop : context.stop ≡ input.range.end
-  pub refused : context.refused.now ≡ easy.refused
+  pub refused : context.refused.now ≡ easy.passing.first

@@ -20,3 +20,4 @@ pub mod EasyTables
 pub mod Tellings
 pub mod Alone
 pub mod RegularStates
+pub mod Passing

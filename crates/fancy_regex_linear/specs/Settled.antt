@@ -3,6 +3,7 @@ use Rattle.std.specs.Prelude.{◌≡◌, ◌+◌, ◌-◌, ◌^◌, ◌<◌, ◌
 use Rattle.fancy_regex_class.specs.Looks.{look_count}
 use Rattle.fancy_regex_class.specs.declared.counted.Counted.{Counted}
 use Rattle.fancy_regex_states.specs.Attempts.{View, Continuation}
+use Rattle.fancy_regex_states.specs.First.{RefusesSecond}
 use Rattle.fancy_regex_table.specs.Cells.{Parts}
 use Rattle.fancy_regex_table.specs.Ends.{end_of}
 use Rattle.fancy_regex_table.specs.Tables.{IsTable}
@@ -24,10 +25,13 @@ use Rattle.fancy_regex_linear.specs.declared.starts.Start.{Start}
 abbrev pub parts_of : SearchContext → Parts
 parts_of context = record { states = context.states.now; entry = context.entry; matchers = context.matchers.now; unicode = context.rules.unicode }
 
--- The table is that of the states, and the text is searched to its end, with no end of it hidden, for the first match.
+-- The table is that of the states, and what stands at starts that are passed over is refused by them. The text is searched to its end,
+-- with no end of it hidden, for the first match.
 pub record IsTableSearch (context : SearchContext) (text : List ℕ) (it : TableSearch) : Type 0 where
   pub table : ∥ IsTable (parts_of context) it.table.now ∥₁
   pub text_is : it.text.now ≡ text
+  pub passing : it.passing.now.first ≡ context.refused.now
+  pub seconds : ∥ RefusesSecond context.rules.unicode context.matchers.now context.states.now context.entry it.passing.now.second ∥₁
   pub first : context.rules.longest ≡ false
   pub start_shown : context.rules.no_start_text ≡ false
   pub end_shown : context.rules.no_end_text ≡ false

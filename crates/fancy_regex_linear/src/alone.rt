@@ -11,8 +11,9 @@ ghost use Rattle.fancy_regex_linear.specs.Settled.{IsTableSearch};
 
 use crate::by_table::{TableSearch, pass_counted};
 use crate::search::SearchContext;
-use crate::starts::{Start, pass_pairs, refuse_rest, refuses_all, second_chars, start_after};
-use fancy_regex_class::{Counted, skip_ascii};
+use crate::skip::{skip_pairs, skip_refused};
+use crate::starts::{Start, refuse_rest, refuses_all, second_chars, start_after};
+use fancy_regex_class::Counted;
 use fancy_regex_table::Passed;
 
 /// What a search by the table alone finds.
@@ -40,9 +41,11 @@ pub enum Alone {
 fn pass_over(
     context: &SearchContext,
     text: &mut Counted,
+    it: TableSearch,
     at: usize,
 ) -> Option<(usize, Option<char>)>
     requires context { IsSearchContext context.now }
+    requires table { IsTableSearch context.now (looked_text text.old) it }
     requires range { (at ≤ context.now.stop) × (context.now.stop ≤ length (looked_text text.old)) }
     requires text { IsUtf8 (looked_text text.old) }
     requires boundary { IsCharBoundary (looked_text text.old) at }
@@ -56,9 +59,9 @@ fn pass_over(
         return None;
     }
     let Some(second) = second_chars(context) else {
-        return Some(skip_ascii(text, at, context.stop, context.refused));
+        return Some(skip_refused(context, text, it, at));
     };
-    Some(pass_pairs(context, text, at, second))
+    Some(skip_pairs(context, text, it, at, second))
 }
 
 /// That the starts from this one on are left, where none before `from` matches and the characters up to `read` were read.
@@ -90,7 +93,7 @@ pub fn by_table_alone(
 {
     let mut at = from;
     'starts: loop {
-        let Some((start, after)) = pass_over(context, text, at) else {
+        let Some((start, after)) = pass_over(context, text, it, at) else {
             return Alone::NoMatch;
         };
         if !is_ascii(after) {

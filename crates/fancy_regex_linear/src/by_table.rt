@@ -12,6 +12,7 @@ ghost use Rattle.fancy_regex_linear.specs.Search.{Explains};
 ghost use Rattle.fancy_regex_linear.specs.Settled.{IsAtStart, IsLoaded, IsSettled, IsSettledAfter, IsSettling, IsTableSearch, IsTried, CountsPass, FailBetween};
 
 use crate::memory::SearchMemory;
+use crate::passing::Passing;
 use crate::search::{SearchContext, attempt_start};
 use crate::settle::Settled;
 use crate::starts::{Start, start_after};
@@ -24,6 +25,8 @@ use std::alloc::AllocError;
 pub struct TableSearch<'p> {
     pub table: &'p Table,
     pub text: &'p str,
+    /// The characters at which starts are passed over.
+    pub passing: &'p Passing,
 }
 
 /// What the table tells of the starts from `start` on, at which a search has looked. The table reads the text by itself. Each place at

@@ -1,10 +1,11 @@
 //! Compiled easy patterns, and their searches.
 
-ghost use Rattle.std.specs.Prelude.{◌≡◌, Bool, false, IfErr, ◌≤◌, length, IfOk, option_map, IsCharBoundary, slice_set, IfSome};
+ghost use Rattle.std.specs.Prelude.{◌≡◌, ℕ, List, Bool, false, IfErr, ◌≤◌, length, IfOk, option_map, IsCharBoundary, slice_set, IfSome};
 ghost use Rattle.fancy_regex_linear.specs.Easy.{IsMade, rules_for, found_slots, found_at};
 ghost use Rattle.fancy_regex_linear.specs.Find.{found_of_span};
 ghost use Rattle.fancy_regex_tree.specs.Tree.{Tree};
-ghost use Rattle.fancy_regex_states.specs.First.{IsTableOf};
+ghost use Rattle.fancy_regex_states.specs.First.{IsTableOf, RefusesSecond};
+ghost use Rattle.fancy_regex_states.specs.declared.state.State.{State as StateValue};
 ghost use Rattle.fancy_regex_linear.specs.Search.{RefusesAscii};
 ghost use Rattle.fancy_regex_table.specs.Tables.{IsTable};
 
@@ -13,6 +14,7 @@ use crate::by_table::TableSearch;
 use crate::emit::emit;
 use crate::first::{by_table_first, with_memory};
 use crate::memory::SearchMemory;
+use crate::passing::Passing;
 use crate::search::SearchContext;
 use crate::starts::refused_ascii;
 use crate::state::add;
@@ -43,13 +45,14 @@ pub struct Easy {
     longest: bool,
     /// The characters that a match can begin with, if they are known.
     first: Option<FirstChars>,
-    /// For each ASCII character whether it is known that no match begins with it, after another character.
-    refused: [bool; 128],
+    /// The characters at which starts are passed over.
+    passing: Passing,
     /// The table that goes through the text, where the first match is wanted.
     rows: Option<Table>,
     ghost made: { IsMade states.items entry },
     ghost table: { ∥ IfSome first (IsTableOf unicode matchers.items states.items entry) ∥₁ },
-    ghost marks: { ∥ RefusesAscii unicode matchers.items states.items entry refused ∥₁ },
+    ghost marks: { ∥ RefusesAscii unicode matchers.items states.items entry passing.first ∥₁ },
+    ghost seconds: { ∥ RefusesSecond unicode matchers.items states.items entry passing.second ∥₁ },
     ghost cells: { ∥ IfSome rows (IsTable (record {
       states = states.items;
       entry = entry;
@@ -176,6 +179,7 @@ impl Easy {
         let entry = emit(&translated.node, &mut states, 0)?;
         let first = FirstChars::new(alloc, &states, entry, &translator.matchers, options.unicode)?;
         let refused = refused_ascii(&first, &translator.matchers, options.unicode);
+        let passing = passing_of(&first, &refused);
         let rows = table_of(
             alloc,
             &states,
@@ -193,7 +197,7 @@ impl Easy {
             unicode: options.unicode,
             longest: options.leftmost_longest,
             first,
-            refused,
+            passing,
             rows,
         })
     }
@@ -315,7 +319,7 @@ impl Easy {
             entry: self.entry,
             first: &self.first,
             stop,
-            refused: &self.refused,
+            refused: &self.passing.first,
         };
         let mut steps = Steps::new();
         let mut counted = Counted::new(text, &mut steps);
@@ -430,7 +434,7 @@ impl Easy {
             entry: self.entry,
             first: &self.first,
             stop: input.range.end,
-            refused: &self.refused,
+            refused: &self.passing.first,
         }
     }
 
@@ -448,7 +452,11 @@ impl Easy {
             return None;
         }
         match &self.rows {
-            Some(table) => Some(TableSearch { table, text }),
+            Some(table) => Some(TableSearch {
+                table,
+                text,
+                passing: &self.passing,
+            }),
             None => None,
         }
     }
@@ -474,6 +482,18 @@ impl Easy {
             put(&mut slots, 1, end);
         }
         slots
+    }
+}
+
+/// The characters at which starts are passed over, by these tables.
+fn passing_of(first: &Option<FirstChars>, refused: &[bool; 128]) -> Passing
+    ensures first { result.first ≡ refused.now }
+    ensures second { (unicode : Bool) (matchers : List CharClassMatcher) (states : List StateValue) (entry : ℕ)
+        → ∥ IfSome first.now (IsTableOf unicode matchers states entry) ∥₁ → ∥ RefusesSecond unicode matchers states entry result.second ∥₁ }
+{
+    match first {
+        Some(first) => Passing::new(refused, first.refused_second()),
+        None => Passing::new(refused, &None),
     }
 }
 

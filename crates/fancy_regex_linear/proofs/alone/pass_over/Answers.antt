@@ -38,7 +38,7 @@ returns-then-refuses_all c =
 
 pub returns-in_default : goal.returns-in_default
 returns-in_default c =
-    let is = c.skip_ascii.ensures in
+    let is = c.skip_refused.ensures in
     record {
       range = is.range;
       boundary = is.boundary;
@@ -46,7 +46,7 @@ returns-in_default c =
       next = is.next;
       fails = λ view go explains.
           refused_between c.args.context.now (looked_text c.args.text.now) view go explains c.requires.text c.requires.context.entry c.requires.context.marks
-          c.args.at c.skip_ascii.result.0 (omega (arith, c.if-at-eq0.false)) is.range.1 (λ i low less. inl (is.passed i low less));
+          c.args.at c.skip_refused.result.0 (omega (arith, c.if-at-eq0.false)) is.range.1 (λ i low less. inl (is.passed i low less));
       looked = record {
         at_least = omega (arith, is.ticked);
         at_most = omega (arith, is.ticked);
@@ -57,7 +57,7 @@ returns-in_default c =
 
 pub returns : goal.returns
 returns c =
-    let is = c.pass_pairs.ensures in
+    let is = c.skip_pairs.ensures in
     let place = is.place in
     record {
       range = place.range;
@@ -66,7 +66,7 @@ returns c =
       next = place.next;
       fails = λ view go explains.
           refused_between c.args.context.now (looked_text c.args.text.now) view go explains c.requires.text c.requires.context.entry c.requires.context.marks
-          c.args.at c.pass_pairs.result.0 (omega (arith, c.if-at-eq0.false)) place.range.1 is.passed;
+          c.args.at c.skip_pairs.result.0 (omega (arith, c.if-at-eq0.false)) place.range.1 is.passed;
       looked = record {
         at_least = is.at_least;
         at_most = omega (arith, is.at_most);

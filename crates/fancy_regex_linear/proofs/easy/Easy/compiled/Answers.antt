@@ -29,7 +29,9 @@ pub invariant_of-result : goal.invariant_of-result
 invariant_of-result c = record {
   made = is_made (shape c.in_ok-translated.translated.node) c.emit.new.states.items c.in_ok-entry.entry c.in_ok-translated.ensures.sound (states (goal.at.invariant_of-result c).In_ok-entry);
   table = ∣ rw (c.deref.ensures.value, c.deref-2.ensures.value) at c.in_ok-first.ensures ∣₁;
-  marks = ∣ rw c.deref-3.ensures.value at c.refused_ascii-refused.ensures c.emit.new.states.items c.in_ok-entry.entry ∣ rw (c.deref.ensures.value, c.deref-2.ensures.value) at c.in_ok-first.ensures ∣₁ ∣₁;
+  marks = ∣ rw c.passing_of-passing.ensures.first (rw c.deref-3.ensures.value at c.refused_ascii-refused.ensures c.emit.new.states.items c.in_ok-entry.entry ∣ rw (c.deref.ensures.value, c.deref-2.ensures.value) at c.in_ok-first.ensures ∣₁) ∣₁;
+  seconds = c.passing_of-passing.ensures.second c.args.options.now.unicode c.translated.new.self.matchers.items c.emit.new.states.items c.in_ok-entry.entry
+      ∣ rw (c.deref.ensures.value, c.deref-2.ensures.value) at c.in_ok-first.ensures ∣₁;
   cells = ∣ rw (c.deref-4.ensures.value, c.deref-5.ensures.value) at c.in_ok-rows.ensures ∣₁;
 }
 

@@ -1,0 +1,8 @@
+//! Bytes that a search passes over, sixteen at a time: those of ASCII characters that are in none of three ranges.
+#![tactic(auto)]
+
+mod byte_range;
+mod lanes;
+mod stops;
+
+pub use stops::Stops;

@@ -1,0 +1,191 @@
+//! The bytes at which a search for a start may stop.
+
+ghost use Rattle.std.specs.Prelude.{◌≡◌, ◌≤◌, ◌<◌, ◌+◌, ℕ, List, Bool, true, IfSome, length, map, slice_index_or};
+ghost use Rattle.std.specs.Simd.Lanes.{zip2};
+ghost use Rattle.fancy_regex_stops.specs.Gaps.{gap_in, pair_gap};
+ghost use Rattle.fancy_regex_stops.specs.Stops.{Covers, IsMarkedAt, IsPairAt};
+
+use crate::byte_range::{ByteRange, gap_to_wide, gaps_to_wide};
+use crate::lanes::{LANES, greatest, lanes_to_zero, least, load};
+use std::simd::prelude::*;
+
+/// Three ranges that have all ASCII characters at which a search stops. It stops at all others too.
+#[derive(Clone, Copy)]
+pub struct Stops {
+    first: ByteRange,
+    second: ByteRange,
+    third: ByteRange,
+}
+
+impl Stops {
+    /// The ranges of the ASCII characters that are not marked; `None` where they are more than three.
+    pub fn of(marked: &[bool; 128]) -> Option<Stops>
+        ensures { IfSome result (λ stops. Covers stops marked.now) }
+    {
+        let stops = ranges_of(marked)?;
+        if stops.covers(marked) {
+            return Some(stops);
+        }
+        None
+    }
+
+    /// The first byte offset from `from` on of a byte at which a search stops, or one behind which fewer than sixteen bytes are left.
+    // Not inlined: the loop alone keeps its values in registers.
+    #[inline(never)]
+    pub fn until(&self, bytes: &[u8], from: usize) -> usize
+        requires { from ≤ length bytes.now }
+        ensures range { (from ≤ result) × (result ≤ length bytes.now) }
+        ensures passed { (marks : List Bool) → Covers self.now marks → (i : ℕ) → from ≤ i → i < result → IsMarkedAt bytes.now marks i }
+    {
+        let mut at = from;
+        'blocks: while bytes.len() - at >= LANES {
+            let passed = self.passed_at(bytes, at);
+            at += passed;
+            if passed < LANES {
+                return at;
+            }
+        }
+        at
+    }
+
+    /// The first byte offset from `from` on of a byte at which a search stops, before one at which the search for a second one does, or
+    /// one behind which fewer than seventeen bytes are left.
+    #[inline(never)]
+    pub fn pairs_until(&self, second: &Stops, bytes: &[u8], from: usize) -> usize
+        requires { from ≤ length bytes.now }
+        ensures range { (from ≤ result) × (result ≤ length bytes.now) }
+        ensures passed { (marks others : List Bool) → Covers self.now marks → Covers second.now others
+            → (i : ℕ) → from ≤ i → i < result → IsPairAt bytes.now marks others i }
+    {
+        let mut at = from;
+        'blocks: while bytes.len() - at > LANES {
+            let passed = self.pairs_at(second, bytes, at);
+            at += passed;
+            if passed < LANES {
+                return at;
+            }
+        }
+        at
+    }
+
+    /// How many of the sixteen bytes from `at` on come before one at which the search stops.
+    #[inline(always)]
+    fn passed_at(&self, bytes: &[u8], at: usize) -> usize
+        requires { at + 16 ≤ length bytes.now }
+        ensures most { result ≤ 16 }
+        ensures passed { (i : ℕ) → at ≤ i → i < at + result → 0 < gap_in self.now (slice_index_or bytes.now i 0) }
+    {
+        lanes_to_zero(self.gaps(load(bytes, at)))
+    }
+
+    /// The same, where the bytes after them are tested too, if the search stops at one of the sixteen.
+    #[inline(always)]
+    fn pairs_at(&self, second: &Stops, bytes: &[u8], at: usize) -> usize
+        requires { at + 17 ≤ length bytes.now }
+        ensures most { result ≤ 16 }
+        ensures passed { (i : ℕ) → at ≤ i → i < at + result
+            → 0 < pair_gap self.now second.now (slice_index_or bytes.now i 0) (slice_index_or bytes.now (i + 1) 0) }
+    {
+        let passed = self.passed_at(bytes, at);
+        if passed >= LANES {
+            return LANES;
+        }
+        lanes_to_zero(self.pair_gaps(second, load(bytes, at), load(bytes, at + 1)))
+    }
+
+    /// 0 for a byte of one of the ranges, and for one that is not ASCII.
+    fn gap(&self, byte: u8) -> u8
+        ensures { result ≡ gap_in self.now byte }
+    {
+        let wide = gap_to_wide(byte);
+        let first = wide.min(self.first.gap(byte));
+        let second = first.min(self.second.gap(byte));
+        second.min(self.third.gap(byte))
+    }
+
+    /// The same for each lane.
+    #[inline(always)]
+    fn gaps(&self, lanes: u8x16) -> u8x16
+        ensures { result ≡ map (gap_in self.now) lanes }
+    {
+        let wide = gaps_to_wide(lanes);
+        let first = least(wide, self.first.gaps(lanes));
+        let second = least(first, self.second.gaps(lanes));
+        least(second, self.third.gaps(lanes))
+    }
+
+    /// 0 for a byte that is not ASCII, and where both bytes have no gap.
+    #[inline(always)]
+    fn pair_gaps(&self, second: &Stops, lanes: u8x16, nexts: u8x16) -> u8x16
+        ensures { result ≡ zip2 (pair_gap self.now second.now) lanes nexts }
+    {
+        let either = greatest(self.gaps(lanes), second.gaps(nexts));
+        least(gaps_to_wide(lanes), either)
+    }
+
+    /// Whether each ASCII character that is not marked is in one of the ranges.
+    fn covers(&self, marked: &[bool; 128]) -> bool
+        ensures { result ≡ true → Covers self.now marked.now }
+    {
+        for code in 0..128u8 {
+            if self.gap(code) > 0 && !marked[code as usize] {
+                return false;
+            }
+        }
+        true
+    }
+}
+
+/// The ranges of the ASCII characters that are not marked; `None` where they are none, or more than three.
+fn ranges_of(marked: &[bool; 128]) -> Option<Stops> {
+    let (first, end) = range_from(marked, 0)?;
+    let Some((second, end)) = range_from(marked, end) else {
+        return Some(Stops {
+            first,
+            second: first,
+            third: first,
+        });
+    };
+    let Some((third, end)) = range_from(marked, end) else {
+        return Some(Stops {
+            first,
+            second,
+            third: second,
+        });
+    };
+    if range_from(marked, end).is_some() {
+        return None;
+    }
+    Some(Stops {
+        first,
+        second,
+        third,
+    })
+}
+
+/// The first range from this code on of ASCII characters that are not marked, and the code behind it.
+fn range_from(marked: &[bool; 128], from: usize) -> Option<(ByteRange, usize)> {
+    let low = run_end(marked, from, true);
+    if low >= marked.len() {
+        return None;
+    }
+    let last = run_end(marked, low + 1, false) - 1;
+    let range = ByteRange {
+        low: low as u8,
+        width: (last - low) as u8,
+    };
+    Some((range, last + 1))
+}
+
+/// The first code from this one on that is marked otherwise, or the number of codes.
+fn run_end(marked: &[bool; 128], from: usize, mark: bool) -> usize
+    ensures low { from ≤ result }
+    ensures high { from ≤ 128 → result ≤ 128 }
+{
+    for code in from..marked.len() {
+        if marked[code] != mark {
+            return code;
+        }
+    }
+    from.max(marked.len())
+}
