@@ -88,8 +88,8 @@ impl<'t, 's> Counted<'t, 's> {
     }
 
     /// Counts a look at each byte offset from `from` up to `to`, which is not one of them. They stand for looks that are not made by
-    /// `look`: `skip_ascii` tested the byte at each of them, a table that has read the haystack by itself tested its row there, or a
-    /// state refuses each of them that refuses every character, and is not shown any.
+    /// `look`: `skip_ascii` or a search of sixteen bytes at a time tested the byte at each of them, a table that has read the haystack by
+    /// itself tested its row there, or a state refuses each of them that refuses every character, and is not shown any.
     #[inline(always)]
     pub fn count_places(&mut self, from: usize, to: usize)
         requires range { (from ≤ to) × (to ≤ length (looked_text self.old)) }

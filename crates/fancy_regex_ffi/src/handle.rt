@@ -94,8 +94,6 @@ impl Handle {
         ensures { self.new.contents ≡ Some contents.value }
     {
         let old = mem::replace(self, Handle::of(contents));
-        if let Some(before) = old.into_box(alloc) {
-            drop(before);
-        }
+        drop(old.into_box(alloc));
     }
 }

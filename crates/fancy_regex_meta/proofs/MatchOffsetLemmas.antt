@@ -134,27 +134,6 @@ pub first-parts : (t : Tree) (s : Setting) (find : Search) → IsUtf8 s.text →
 first-parts t s find utf8 h inside =
     parts-same t (first_match s (pattern_of t) find) (λ m e. (first_lies s (pattern_of t) find utf8 h inside m e).many)
 
--- the offsets of the one group of a match
-one-group : (ps : Pairs) (a b : ℕ) → length ps ≡ 1 → slice_set (slice_set (group_slots ps) 0 a) 1 b ≡ a ∷ b ∷ []
-one-group [] a b h = absurd (omega (arith, h))
-one-group (None ∷ []) a b h = refl
-one-group (Some pair ∷ []) a b h = refl
-one-group (p ∷ q ∷ ps) a b h = absurd (omega (arith, h))
-
-whole-same : (t : Tree) (o : Option Match) → ((m : Match) → o ≡ Some m → length m.pairs ≡ 1) →
-    option_map (λ (s : ℕ × ℕ). (s.0, (s.1, s.0 ∷ s.1 ∷ []))) (option_map (λ (m : Match). (m.start, m.end)) o)
-    ≡ option_map (wanted_parts Groups (pattern_of t)) o
-whole-same t None one = refl
-whole-same t (Some m) one = ap (λ xs. Some (m.start, (m.end, xs))) (sym (one-group m.pairs m.start m.end (one m refl)))
-
--- the parts of the match of a search whose pattern has one group, from its span
-pub whole-parts : (t : Tree) (s : Setting) (find : Search) → IsUtf8 s.text → IsCharBoundary s.text find.first → find.stop ≤ length s.text →
-    length (pattern_of t).groups ≡ 1 →
-    option_map (λ (s : ℕ × ℕ). (s.0, (s.1, s.0 ∷ s.1 ∷ []))) (option_map (λ (m : Match). (m.start, m.end)) (first_match s (pattern_of t) find))
-    ≡ option_map (wanted_parts Groups (pattern_of t)) (first_match s (pattern_of t) find)
-whole-parts t s find utf8 h inside one =
-    whole-same t (first_match s (pattern_of t) find) (λ m e. (first_lies s (pattern_of t) find utf8 h inside m e).many ∙ one)
-
 -- parts have codes, so that equations between them have one proof
 pub coded_parts : Coded (ℕ × (ℕ × List ℕ))
 coded_parts = coded× coded_ℕ (coded× coded_ℕ (coded_list coded_ℕ))

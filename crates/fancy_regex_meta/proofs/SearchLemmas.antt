@@ -25,7 +25,7 @@ use Rattle.std.proofs.Math.Bridge.{le_prop}
 use Rattle.std.proofs.Math.Bool.{Bool-set}
 use Rattle.fancy_regex_meta.specs.declared.options.RegexOptions.{RegexOptions}
 use Rattle.fancy_regex_meta.specs.declared.strategy.Strategy.{Strategy}
-use Rattle.fancy_regex_meta.specs.declared.strategy.Strategy.TheVariants.{Easy, Linear, Program, Regular}
+use Rattle.fancy_regex_meta.specs.declared.strategy.Strategy.TheVariants.{Easy, Linear, Program}
 
 -- what holds of the value or the error of a result
 pub if_ok : {A E : Type 0} {P Q : A → Type 0} (r : Result A E) → IfOk r P → ((x : A) → P x → Q x) → IfOk r Q
@@ -105,7 +105,6 @@ IsSearchError-prop served limit choices _ = hlevel (le_prop, Bool-set)
 pub IsStrategyError-prop : (strategy : Strategy) (o : RegexOptions) (text : List ℕ) (input : RunInput) (e : Error) → IsProp (IsStrategyError strategy o text input e)
 IsStrategyError-prop (Easy easy) o text input (told.RuntimeError error) = hlevel le_prop
 IsStrategyError-prop (Linear linear prog) o text input (told.RuntimeError error) = hlevel le_prop
-IsStrategyError-prop (Regular regular prog run) o text input (told.RuntimeError error) = hlevel le_prop
 IsStrategyError-prop (Program prog run) o text input (told.RuntimeError error) = MachinePassesLimit-prop prog text input (run_options_of o run.seek) error
 IsStrategyError-prop strategy o text input _ = hlevel le_prop
 
@@ -114,11 +113,9 @@ pub StrategyStaysInLimits-prop : (strategy : Strategy) (o : RegexOptions) (text 
 StrategyStaysInLimits-prop (Easy easy) o text input = hlevel le_prop
 StrategyStaysInLimits-prop (Linear linear prog) o text input = hlevel le_prop
 StrategyStaysInLimits-prop (Program prog run) o text input = hlevel le_prop
-StrategyStaysInLimits-prop (Regular regular prog run) o text input = hlevel le_prop
 
 -- what executes a tree runs under its options
 pub executes-under : (strategy : Strategy) (o : RegexOptions) (t : Tree) → Executes strategy o t → RunsUnder strategy o
 executes-under (Easy easy) o t does = tt
 executes-under (Linear linear prog) o t does = tt
 executes-under (Program prog run) o t does = does.5
-executes-under (Regular regular prog run) o t does = tt

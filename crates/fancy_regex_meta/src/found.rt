@@ -1,9 +1,9 @@
 //! What a search is asked for, and what it answers.
 
-ghost use Rattle.std.specs.Prelude.{◌≡◌, [], ◌∷◌, IfOk, option_map, slice_index};
+ghost use Rattle.std.specs.Prelude.{◌≡◌, [], option_map, slice_index};
 ghost use Rattle.fancy_regex_meta.specs.FoundParts.{found_parts, parts_in};
 
-use std::alloc::{AllocError, Global};
+use std::alloc::Global;
 
 /// Which byte offsets of a match a search is asked for.
 #[derive(Clone, Copy, Debug)]
@@ -38,23 +38,6 @@ pub(crate) fn found_span(alloc: Global, span: Option<(usize, usize)>) -> Option<
         }),
         None => None,
     }
-}
-
-/// The match with this span, of a pattern whose one group is the whole. The error is want of memory.
-pub(crate) fn found_whole(
-    alloc: Global,
-    span: Option<(usize, usize)>,
-) -> Result<Option<FoundMatch>, AllocError>
-    ensures { IfOk result (λ found. option_map found_parts found
-        ≡ option_map (λ s. (s.0, (s.1, s.0 ∷ s.1 ∷ []))) span) }
-{
-    let Some((start, end)) = span else {
-        return Ok(None);
-    };
-    let mut groups = Vec::new(alloc);
-    groups.push(start)?;
-    groups.push(end)?;
-    Ok(Some(FoundMatch { start, end, groups }))
 }
 
 /// The match with these offsets of its groups, which begin with its span.

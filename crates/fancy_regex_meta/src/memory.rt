@@ -2,7 +2,6 @@
 
 use fancy_regex_linear::SearchMemory;
 use fancy_regex_machine::RunMemory;
-use fancy_regex_parts::PartMemory;
 use std::alloc::Global;
 
 /// What earlier searches allocated, for later ones to use again: of the linear-time matcher, and of the backtracking machine.
@@ -23,8 +22,6 @@ pub struct MetaMemory {
     pub easy: SearchMemory,
     /// For patterns that run a program.
     pub program: RunMemory,
-    /// For patterns whose look-aheads and atomic groups are parts.
-    pub parts: PartMemory,
 }
 
 impl MetaMemory {
@@ -33,7 +30,6 @@ impl MetaMemory {
         MetaMemory {
             easy: SearchMemory::new(alloc),
             program: RunMemory::new(alloc),
-            parts: PartMemory::new(alloc),
         }
     }
 }

@@ -21,13 +21,10 @@ ghost use Rattle.fancy_regex_meta.specs.declared.options.RegexOptions.{RegexOpti
 ghost use Rattle.fancy_regex_meta.specs.Refusals.{compile_options_of, IsCompileRefusal};
 ghost use Rattle.fancy_regex_info.specs.declared.error.CompileError.TheVariants as errors;
 ghost use Rattle.fancy_regex_meta.specs.FoundParts.{found_parts, wanted_parts};
-ghost use Rattle.fancy_regex_meta.specs.Strategies.{IsMatcherFor, IsRegularFor, IsProgramFor, RunsUnder, allowed_run, hard_strategy as strategy_of, search_of};
-ghost use Rattle.fancy_regex_meta.specs.ErrorConversions.{from_runtime_error};
-ghost use Rattle.fancy_regex_meta.specs.SearchLimits.{IsSearchError, IsStrategyError, StrategyStaysInLimits, run_choices};
-ghost use Rattle.fancy_regex_meta.specs.declared.strategy.Strategy.TheVariants as strategies;
+ghost use Rattle.fancy_regex_meta.specs.Strategies.{IsMatcherFor, linear_or_program as strategy_of, search_of};
 
-use crate::error::{Error, Result};
-use crate::found::{FoundMatch, MatchDetail, found_groups, found_span, found_whole};
+use crate::error::Result;
+use crate::found::{FoundMatch, MatchDetail, found_groups, found_span};
 use crate::memory::MetaMemory;
 use crate::options::RegexOptions;
 use crate::seek::seek_table;
@@ -36,14 +33,8 @@ use fancy_regex_compiled::Prog;
 use fancy_regex_compiler::compile;
 use fancy_regex_info::{CompileError, CompileOptions, Info};
 use fancy_regex_linear::Easy;
-use fancy_regex_machine::{RunMemory, RunOptions, RuntimeError, run_in, run_spans_in};
-use fancy_regex_parts::PartMemory;
-use fancy_regex_regular::Regular;
+use fancy_regex_machine::{RunOptions, run_in, run_spans_in};
 use std::alloc::{AllocError, Global};
-
-/// How often a run of the program of a pattern with parts goes back at most, before its states answer: each time it may read the rest of
-/// the text.
-const MOST_ALLOWED: usize = 1_000_000;
 
 /// What executes a compiled pattern.
 #[derive(Drop)]
@@ -63,16 +54,6 @@ pub enum Strategy {
         prog: Prog,
         /// The options of its runs, with the seek table: for each byte, whether a match may start with it; `None` tries each start
         /// offset.
-        run_options: RunOptions,
-    },
-    /// The backtracking program of a pattern that refers to no matched text and has no groups, with the states that answer where a run of
-    /// the program meets a limit.
-    Regular {
-        /// The states.
-        regular: Regular,
-        /// The program.
-        prog: Prog,
-        /// The options of its runs, as for any other pattern, but that they go back 100 times at most.
         run_options: RunOptions,
     },
 }
@@ -116,119 +97,13 @@ fn linear_matcher(
     }
 }
 
-/// The states with parts of a tree that is not easy, where it has no groups and becomes such states. The error is `Memory`.
-fn regular_states(
-    alloc: Global,
-    info: &Info<'_>,
-    options: &RegexOptions,
-    calls: bool,
-) -> std::result::Result<Option<Regular>, CompileError>
-    ensures states { IfOk result (λ found. IfSome found (λ regular. (t : Tree) → info_of info.now ≡ analysis false t
-        → IsRegularFor regular options.now t)) }
-    ensures memory { IfErr result (λ error. error ≡ errors.Memory) }
+/// The strategy of a tree that is not easy: its matcher, if it has one, and else its program.
+fn linear_or_program(prog: Prog, run_options: RunOptions, linear: Option<Easy>) -> Strategy
+    ensures { result ≡ strategy_of prog run_options linear }
 {
-    if options.leftmost_longest || options.find_not_empty {
-        return Ok(None);
-    }
-    if info.start_group() != info.end_group() {
-        return Ok(None);
-    }
-    match Regular::if_supported(alloc, info, &compile_options(options, calls)) {
-        Ok(found) => Ok(found),
-        Err(CompileError::Memory) => Err(CompileError::Memory),
-        Err(_) => Ok(None),
-    }
-}
-
-/// The options of a run whose limit may come early, since states answer past it.
-fn allowed(run_options: RunOptions) -> RunOptions
-    ensures { result ≡ allowed_run run_options }
-{
-    RunOptions {
-        backtrack_limit: run_options.backtrack_limit.min(MOST_ALLOWED),
-        ..run_options
-    }
-}
-
-/// The strategy of a tree that is not easy: its matcher, if it has one, and else its program, with its states if it has them.
-fn hard_strategy(
-    prog: Prog,
-    run_options: RunOptions,
-    linear: Option<Easy>,
-    regular: Option<Regular>,
-) -> Strategy
-    ensures { result ≡ strategy_of prog run_options linear regular }
-{
-    match (linear, regular) {
-        (Some(linear), _) => Strategy::Linear { linear, prog },
-        (None, Some(regular)) => Strategy::Regular {
-            regular,
-            prog,
-            run_options: allowed(run_options),
-        },
-        (None, None) => Strategy::Program { prog, run_options },
-    }
-}
-
-/// The first match by the program. Errors: a limit, or `Memory`.
-#[inline(always)]
-fn run_program(
-    alloc: Global,
-    prog: &Prog,
-    run_options: &RunOptions,
-    text: &str,
-    input: &RunInput,
-    wanted: MatchDetail,
-    memory: &mut RunMemory,
-) -> std::result::Result<Option<FoundMatch>, RuntimeError>
-    requires first { IsCharBoundary text.now input.now.first }
-    requires range { input.now.range.end ≤ length text.now }
-    requires whole { prog.now.whole ≡ true }
-    ensures answer { IfOk result (λ found. (o : RegexOptions) (t : Tree) → IsProgramFor prog.now run_options.now o t
-        → option_map found_parts found ≡ option_map (wanted_parts wanted (pattern_of t))
-        (first_match (setting_for o.unicode_mode text.now input.now) (pattern_of t) (search_of o input.now))) }
-    ensures limits { IfErr result (λ e. (o : RegexOptions) (t : Tree) → IsProgramFor prog.now run_options.now o t
-        → IsSearchError false o.backtrack_limit (run_choices o text.now input.now t) (from_runtime_error e)) }
-    ensures passed { IfErr result (λ e. (o : RegexOptions) (t : Tree) → IsProgramFor prog.now run_options.now o t
-        → IsStrategyError (strategies.Program prog.now run_options.now) o text.now input.now (from_runtime_error e)) }
-    ensures stays { IfOk result (λ _. (o : RegexOptions) → RunsUnder (strategies.Program prog.now run_options.now) o
-        → StrategyStaysInLimits (strategies.Program prog.now run_options.now) o text.now input.now) }
-{
-    match wanted {
-        MatchDetail::Span => {
-            let span = run_spans_in(alloc, prog, text, input, run_options, memory)?;
-            Ok(found_span(alloc, span))
-        }
-        MatchDetail::Groups => {
-            let slots = run_in(alloc, prog, text, input, run_options, memory)?;
-            Ok(found_groups(slots))
-        }
-    }
-}
-
-/// The first match by the states with parts. The error is want of memory.
-#[inline(never)]
-fn search_regular(
-    alloc: Global,
-    regular: &Regular,
-    text: &str,
-    input: &RunInput,
-    wanted: MatchDetail,
-    memory: &mut PartMemory,
-) -> std::result::Result<Option<FoundMatch>, AllocError>
-    requires first { IsCharBoundary text.now input.now.first }
-    requires range { input.now.range.end ≤ length text.now }
-    ensures { IfOk result (λ found. (o : RegexOptions) (t : Tree) → IsRegularFor regular.now o t
-        → option_map found_parts found ≡ option_map (wanted_parts wanted (pattern_of t))
-        (first_match (setting_for o.unicode_mode text.now input.now) (pattern_of t) (search_of o input.now))) }
-{
-    let span = regular.find_span_in(text, input, memory)?;
-    match wanted {
-        MatchDetail::Span => Ok(found_span(alloc, span)),
-        MatchDetail::Groups => {
-            let found = found_whole(alloc, span)?;
-            Ok(found)
-        }
+    match linear {
+        Some(linear) => Strategy::Linear { linear, prog },
+        None => Strategy::Program { prog, run_options },
     }
 }
 
@@ -262,9 +137,9 @@ fn search_uncounted(
 
 impl Strategy {
     ghost use Rattle.fancy_regex_compiled.specs.Programs.{RefersToGroups};
-    ghost use Rattle.fancy_regex_meta.specs.Strategies.{Executes, StrategyKeepsCap, is_whole};
+    ghost use Rattle.fancy_regex_meta.specs.Strategies.{Executes, RunsUnder, StrategyKeepsCap, is_whole};
     ghost use Rattle.fancy_regex_meta.specs.EasyPatterns.{uses_easy, is_easy_strategy};
-    ghost use Rattle.fancy_regex_meta.specs.SearchLimits.{weight_of, run_tried};
+    ghost use Rattle.fancy_regex_meta.specs.SearchLimits.{IsSearchError, IsStrategyError, StrategyStaysInLimits, weight_of, run_choices, run_tried};
 
     /// Compiles an analyzed tree, all of whose references must be to existing groups: for the linear-time matcher if the
     /// tree is easy and empty matches are allowed, otherwise to a program, with its seek table if the options ask for it. A
@@ -305,8 +180,7 @@ impl Strategy {
                 seek,
             };
             let linear = linear_matcher(alloc, info, options, calls)?;
-            let regular = regular_states(alloc, info, options, calls)?;
-            return Ok(hard_strategy(prog, run_options, linear, regular));
+            return Ok(linear_or_program(prog, run_options, linear));
         }
         Ok(Strategy::Easy(Easy::new(alloc, info, &compile_options(options, calls))?))
     }
@@ -359,22 +233,14 @@ impl Strategy {
             }
             Strategy::Program { prog, run_options } => {
                 let memory = &mut memory.program;
-                let found = run_program(alloc, prog, run_options, text, input, wanted, memory)?;
-                Ok(found)
-            }
-            Strategy::Regular {
-                regular,
-                prog,
-                run_options,
-            } => {
-                let run = &mut memory.program;
-                match run_program(alloc, prog, run_options, text, input, wanted, run) {
-                    Ok(found) => Ok(found),
-                    Err(RuntimeError::Memory) => Err(Error::Memory),
-                    Err(_) => {
-                        let parts = &mut memory.parts;
-                        let found = search_regular(alloc, regular, text, input, wanted, parts)?;
-                        Ok(found)
+                match wanted {
+                    MatchDetail::Span => {
+                        let span = run_spans_in(alloc, prog, text, input, run_options, memory)?;
+                        Ok(found_span(alloc, span))
+                    }
+                    MatchDetail::Groups => {
+                        let slots = run_in(alloc, prog, text, input, run_options, memory)?;
+                        Ok(found_groups(slots))
                     }
                 }
             }
@@ -410,7 +276,7 @@ impl Strategy {
                 let answer = linear.has_match_in(text, input, &mut memory.easy)?;
                 Ok(answer)
             }
-            Strategy::Program { .. } | Strategy::Regular { .. } => {
+            Strategy::Program { .. } => {
                 let steps = &mut Steps::new();
                 let found = self.search(alloc, text, input, MatchDetail::Span, steps, memory)?;
                 Ok(found.is_some())

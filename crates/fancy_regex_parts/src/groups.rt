@@ -49,9 +49,10 @@ pub enum WalkStep {
 
 /// Follows the first way from the state `entry` at `start`, and writes the slots of the groups on it: slot 2g where the group g is
 /// entered, slot 2g + 1 where it is left. A slot that is not written keeps its value, and one that is not there is passed over. Parts are
-/// not followed, so the slots are right where parts write none. `false` where the state has no way. A step takes at most as many looks
-/// as the dearest state, and the questions that the memory does not answer yet take those that it is paid for. The error is want of
-/// memory, and what the memory remembers then is still true.
+/// not followed, so the slots are right where parts write none. The state has to have a way from there, as `ask` tells: the walk tests
+/// no assertion and no character again, and where there is no way the answer and the slots mean nothing. A step takes at most as many
+/// looks as the dearest state, and the questions that the memory does not answer yet take those that it is paid for. The error is want
+/// of memory, and what the memory remembers then is still true.
 pub fn walk(
     context: &PartContext,
     text: &mut Counted,

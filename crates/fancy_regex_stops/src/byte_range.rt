@@ -4,7 +4,7 @@ ghost use Rattle.std.specs.Prelude.{◌≡◌, ◌<◌, ℕ, map};
 ghost use Rattle.fancy_regex_stops.specs.Gaps.{gap_of, wide_gap};
 
 use crate::lanes::{all, least, minus};
-use std::simd::prelude::*;
+use std::simd::u8x16;
 
 /// The bytes from `low` on, up to `low + width`.
 #[derive(Clone, Copy)]

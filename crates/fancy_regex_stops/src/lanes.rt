@@ -5,7 +5,8 @@ ghost use Rattle.std.specs.List.{prefix_len};
 ghost use Rattle.std.specs.Simd.Lanes.{zip2, chunk, mask_l};
 ghost use Rattle.fancy_regex_stops.specs.Gaps.{wrapped, lesser, greater, is_zero, is_more};
 
-use std::simd::prelude::*;
+use std::simd::cmp::{SimdOrd, SimdPartialEq};
+use std::simd::u8x16;
 
 /// How many bytes a vector has.
 pub const LANES: usize = 16;

@@ -7,7 +7,7 @@ ghost use Rattle.fancy_regex_stops.specs.Stops.{Covers, IsMarkedAt, IsPairAt};
 
 use crate::byte_range::{ByteRange, gap_to_wide, gaps_to_wide};
 use crate::lanes::{LANES, greatest, lanes_to_zero, least, load};
-use std::simd::prelude::*;
+use std::simd::u8x16;
 
 /// Three ranges that have all ASCII characters at which a search stops. It stops at all others too.
 #[derive(Clone, Copy)]

@@ -15,8 +15,8 @@ use Rattle.fancy_regex_linear.specs.Refusals.{IsTaken, IsCause}
 use Rattle.fancy_regex_meta.specs.Refusals.{compile_options_of, IsCompileRefusal}
 use Rattle.fancy_regex_meta.specs.EasyPatterns.{uses_easy, is_easy_strategy}
 use Rattle.fancy_regex_meta.specs.SeekTables.{IsSeekTable}
-use Rattle.fancy_regex_meta.specs.Strategies.{IsCompiled, IsMatcherFor, IsRegularFor}
-use Rattle.fancy_regex_meta.proofs.StrategyLemmas.{executes_hard, some_analyzed, not_easy_hard, cap_hard}
+use Rattle.fancy_regex_meta.specs.Strategies.{IsCompiled}
+use Rattle.fancy_regex_meta.proofs.StrategyLemmas.{executes_either, some_matcher, not_easy_either, cap_either}
 use Rattle.fancy_regex_meta.proofs.AnalysisLemmas.{hard_off, not_empty_off, easy_on, analyzed_tree}
 use Rattle.fancy_regex_meta.proofs.strategy.Strategy.new.Goals as goal
 use Rattle.fancy_regex_meta.proofs.strategy.Strategy.new.Goals.{Joined-then-info, then-info-via-then-info, then-info-via-else-info+then-options}
@@ -38,16 +38,15 @@ returns-then-info-clause-runs c t is refers order =
       writable = made.written.writable refers;
       placed = made.written.placed;
     } in
-    rw c.hard_strategy.ensures
-    (executes_hard c.args.options.now t c.in_ok-prog.prog _ c.in_ok-linear.linear c.in_ok-regular.regular (
+    rw c.linear_or_program.ensures
+    (executes_either c.args.options.now t c.in_ok-prog.prog _ c.in_ok-linear.linear (
       compiled,
       c.in_ok-prog.ensures.unicode ∙ c.compile_options.ensures.unicode,
       c.in_ok-prog.ensures.longest ∙ c.compile_options.ensures.longest,
       subst (λ u. IsSeekTable c.args.options.now u c.in_ok-seek.seek) (analyzed_tree c.args.info.now t is) c.in_ok-seek.ensures.table,
       order,
       refl,
-    ) (some_analyzed (λ easy u. IsMatcherFor easy c.args.options.now u) c.args.info.now t c.in_ok-linear.linear is c.in_ok-linear.ensures.matcher)
-    (some_analyzed (λ regular u. IsRegularFor regular c.args.options.now u) c.args.info.now t c.in_ok-regular.regular is c.in_ok-regular.ensures.states))
+    ) (some_matcher c.args.options.now c.args.info.now t c.in_ok-linear.linear is c.in_ok-linear.ensures.matcher))
 
 -- on this branch the tree needs a program
 needs_program : (c : Joined-then-info) (t : Tree) → info_of c.args.info.now ≡ analysis false t → uses_easy c.args.options.now t ≡ false
@@ -63,7 +62,7 @@ returns-in_err-prog-clause-refused c =
 
 pub returns-then-info-clause-served : goal.returns-then-info-clause-served
 returns-then-info-clause-served c t is =
-    ap is_easy_strategy c.hard_strategy.ensures ∙ not_easy_hard c.in_ok-prog.prog _ c.in_ok-linear.linear c.in_ok-regular.regular
+    ap is_easy_strategy c.linear_or_program.ensures ∙ not_easy_either c.in_ok-prog.prog _ c.in_ok-linear.linear
     ∙ sym (needs_program (goal.at.returns-then-info-clause-served c).Joined-then-info t is)
 
 pub returns-then-info-clause-taken : goal.returns-then-info-clause-taken
@@ -101,8 +100,8 @@ returns-in_err-new-clause-long c =
 
 pub returns-then-info-clause-cap : goal.returns-then-info-clause-cap
 returns-then-info-clause-cap c =
-    rw c.hard_strategy.ensures
-    (cap_hard c.args.options.now.max_prog_size c.in_ok-prog.prog _ c.in_ok-linear.linear c.in_ok-regular.regular
+    rw c.linear_or_program.ensures
+    (cap_either c.args.options.now.max_prog_size c.in_ok-prog.prog _ c.in_ok-linear.linear
     (subst (λ most. KeepsCap most c.in_ok-prog.prog) c.compile_options.ensures.cap c.in_ok-prog.ensures.cap))
 
 mode_is : (k l : CompileOptions) → k ≡ l → l.bytes_mode ≡ k.bytes_mode
@@ -186,27 +185,3 @@ returns-in_err-linear-clause-reason c =
     (λ cause. (t : Tree) → info_of i ≡ analysis false t → uses_easy o t ≡ false → IsClear (pattern_of t).groups t → IsCompileRefusal (compile_options_of o c.args.calls) t cause)
     c.from_residual-in_err-linear.ensures.1
     (λ t is e clear. subst (IsCompileRefusal (compile_options_of o c.args.calls) t) (sym c.in_err-linear.ensures.memory) tt)
-
--- nor do the states
-pub returns-in_err-regular-clause-refused : goal.returns-in_err-regular-clause-refused
-returns-in_err-regular-clause-refused c =
-    MatchResult-from_err c.from_residual-in_err-regular.result _ _ c.from_residual-in_err-regular.ensures.0
-    (λ cause t is e. absurd (true≢false (sym e ∙ needs_program (goal.at.returns-in_err-regular-clause-refused c).Joined-then-info t is)))
-
-pub returns-in_err-regular-clause-long : goal.returns-in_err-regular-clause-long
-returns-in_err-regular-clause-long c =
-    let o = c.args.options.now in
-    let i = c.args.info.now in
-    gives c.from_residual-in_err-regular.result c.in_err-regular.field-0.0
-    (λ cause. (t : Tree) → info_of i ≡ analysis false t → uses_easy o t ≡ false → is_too_complex cause ≡ true → IsPastCap o.max_prog_size (16 * (program_nodes (pattern_of t) + 1)))
-    c.from_residual-in_err-regular.ensures.1
-    (λ t is e long. absurd (true≢false (sym long ∙ ap is_too_complex c.in_err-regular.ensures.memory)))
-
-pub returns-in_err-regular-clause-reason : goal.returns-in_err-regular-clause-reason
-returns-in_err-regular-clause-reason c =
-    let o = c.args.options.now in
-    let i = c.args.info.now in
-    gives c.from_residual-in_err-regular.result c.in_err-regular.field-0.0
-    (λ cause. (t : Tree) → info_of i ≡ analysis false t → uses_easy o t ≡ false → IsClear (pattern_of t).groups t → IsCompileRefusal (compile_options_of o c.args.calls) t cause)
-    c.from_residual-in_err-regular.ensures.1
-    (λ t is e clear. subst (IsCompileRefusal (compile_options_of o c.args.calls) t) (sym c.in_err-regular.ensures.memory) tt)
