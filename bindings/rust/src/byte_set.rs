@@ -35,11 +35,21 @@ impl ByteSet {
     }
 
     /// Whether the byte is in the set.
+    ///
+    /// ```
+    /// let set = proved_fancy_regex::RegexOptionsBuilder::new().required_bytes("a?bc").unwrap();
+    /// assert!(set.contains(b'c') && !set.contains(b'a'));
+    /// ```
     pub fn contains(&self, byte: u8) -> bool {
         self.table[usize::from(byte)]
     }
 
     /// The bytes of the set, in ascending order.
+    ///
+    /// ```
+    /// let set = proved_fancy_regex::RegexOptionsBuilder::new().required_bytes("a?bc").unwrap();
+    /// assert_eq!(set.iter().collect::<Vec<_>>(), [b'b', b'c']);
+    /// ```
     pub fn iter(&self) -> impl Iterator<Item = u8> + '_ {
         (0..=u8::MAX).filter(|&byte| self.contains(byte))
     }

@@ -28,21 +28,41 @@ impl<'t> Match<'t> {
     }
 
     /// The byte offset at which the match starts.
+    ///
+    /// ```
+    /// let found = proved_fancy_regex::Regex::new("b+").unwrap().find("abbc").unwrap().unwrap();
+    /// assert_eq!(found.start(), 1);
+    /// ```
     pub fn start(&self) -> usize {
         self.span.start
     }
 
     /// The byte offset at which the match ends, exclusive.
+    ///
+    /// ```
+    /// let found = proved_fancy_regex::Regex::new("b+").unwrap().find("abbc").unwrap().unwrap();
+    /// assert_eq!(found.end(), 3);
+    /// ```
     pub fn end(&self) -> usize {
         self.span.end
     }
 
     /// The byte range of the match.
+    ///
+    /// ```
+    /// let found = proved_fancy_regex::Regex::new("b+").unwrap().find("abbc").unwrap().unwrap();
+    /// assert_eq!(found.range(), 1..3);
+    /// ```
     pub fn range(&self) -> Range<usize> {
         self.span.start..self.span.end
     }
 
     /// The text that matched.
+    ///
+    /// ```
+    /// let found = proved_fancy_regex::Regex::new("b+").unwrap().find("abbc").unwrap().unwrap();
+    /// assert_eq!(found.as_str(), "bb");
+    /// ```
     pub fn as_str(&self) -> &'t str {
         &self.text[self.range()]
     }
@@ -80,21 +100,41 @@ impl<'t> MatchBytes<'t> {
     }
 
     /// The byte offset at which the match starts.
+    ///
+    /// ```
+    /// let found = proved_fancy_regex::Regex::new("b+").unwrap().find(b"abbc").unwrap().unwrap();
+    /// assert_eq!(found.start(), 1);
+    /// ```
     pub fn start(&self) -> usize {
         self.span.start
     }
 
     /// The byte offset at which the match ends, exclusive.
+    ///
+    /// ```
+    /// let found = proved_fancy_regex::Regex::new("b+").unwrap().find(b"abbc").unwrap().unwrap();
+    /// assert_eq!(found.end(), 3);
+    /// ```
     pub fn end(&self) -> usize {
         self.span.end
     }
 
     /// The byte range of the match.
+    ///
+    /// ```
+    /// let found = proved_fancy_regex::Regex::new("b+").unwrap().find(b"abbc").unwrap().unwrap();
+    /// assert_eq!(found.range(), 1..3);
+    /// ```
     pub fn range(&self) -> Range<usize> {
         self.span.start..self.span.end
     }
 
     /// The bytes that matched.
+    ///
+    /// ```
+    /// let found = proved_fancy_regex::Regex::new("b+").unwrap().find(b"abbc").unwrap().unwrap();
+    /// assert_eq!(found.as_bytes(), b"bb");
+    /// ```
     pub fn as_bytes(&self) -> &'t [u8] {
         &self.bytes[self.range()]
     }

@@ -24,29 +24,78 @@ pub trait Input {
         Self: 't;
 
     /// The length in bytes.
+    ///
+    /// ```
+    /// use proved_fancy_regex::Input;
+    ///
+    /// assert_eq!((Input::len("né"), Input::len(b"ab")), (3, 2));
+    /// ```
     fn len(&self) -> usize;
 
     /// The bytes.
+    ///
+    /// ```
+    /// use proved_fancy_regex::Input;
+    ///
+    /// assert_eq!(Input::as_bytes("ab"), b"ab");
+    /// ```
     fn as_bytes(&self) -> &[u8];
 
     /// Whether a character starts at the byte offset, or the input ends there.
+    ///
+    /// ```
+    /// use proved_fancy_regex::Input;
+    ///
+    /// assert!(Input::is_char_boundary("né", 1) && !Input::is_char_boundary("né", 2));
+    /// ```
     fn is_char_boundary(&self, index: usize) -> bool;
 
     /// Whether all characters are ASCII.
+    ///
+    /// ```
+    /// use proved_fancy_regex::Input;
+    ///
+    /// assert!(Input::is_ascii("ne") && !Input::is_ascii("né"));
+    /// ```
     fn is_ascii(&self) -> bool;
 
     /// The byte offset of the character before this offset, which is above 0.
+    ///
+    /// ```
+    /// use proved_fancy_regex::Input;
+    ///
+    /// assert_eq!("né".prev_codepoint_ix(3), 1);
+    /// ```
     fn prev_codepoint_ix(&self, index: usize) -> usize;
 
     /// Whether there are no bytes.
+    ///
+    /// ```
+    /// use proved_fancy_regex::Input;
+    ///
+    /// assert!(Input::is_empty("") && !Input::is_empty(b"a"));
+    /// ```
     fn is_empty(&self) -> bool {
         self.len() == 0
     }
 
     /// The match from one byte offset to another.
+    ///
+    /// ```
+    /// use proved_fancy_regex::Input;
+    ///
+    /// assert_eq!("abc".make_match(1, 3).as_str(), "bc");
+    /// assert_eq!(b"abc".make_match(1, 3).as_bytes(), b"bc");
+    /// ```
     fn make_match(&self, start: usize, end: usize) -> Self::Match<'_>;
 
     /// The byte offset after the character at this offset; at the end one more than the length.
+    ///
+    /// ```
+    /// use proved_fancy_regex::Input;
+    ///
+    /// assert_eq!(("né".advance_position(1), "né".advance_position(3)), (3, 4));
+    /// ```
     fn advance_position(&self, index: usize) -> usize;
 
     /// The input as a text, if it is UTF-8.

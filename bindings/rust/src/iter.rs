@@ -42,16 +42,33 @@ impl<'r, 't, S: Input + ?Sized> Matches<'r, 't, S> {
     }
 
     /// The regex.
+    ///
+    /// ```
+    /// let regex = proved_fancy_regex::Regex::new(r"\w+").unwrap();
+    /// assert_eq!(regex.find_iter("one two").regex().as_str(), r"\w+");
+    /// ```
     pub fn regex(&self) -> &'r Regex {
         self.regex
     }
 
     /// The searched input.
+    ///
+    /// ```
+    /// let regex = proved_fancy_regex::Regex::new(r"\w+").unwrap();
+    /// assert_eq!(regex.find_iter("one two").text(), "one two");
+    /// ```
     pub fn text(&self) -> &'t S {
         self.input.haystack()
     }
 
     /// The input, with the start of the next search.
+    ///
+    /// ```
+    /// let regex = proved_fancy_regex::Regex::new(r"\w+").unwrap();
+    /// let mut words = regex.find_iter("one two");
+    /// words.next();
+    /// assert_eq!(words.input().start(), 3);
+    /// ```
     pub fn input(&self) -> &RegexInput<'t, S> {
         &self.input
     }
@@ -159,11 +176,21 @@ impl<'r, 't, S: Input + ?Sized> CaptureMatches<'r, 't, S> {
     }
 
     /// The searched input.
+    ///
+    /// ```
+    /// let regex = proved_fancy_regex::Regex::new(r"\w+").unwrap();
+    /// assert_eq!(regex.captures_iter("one two").text(), "one two");
+    /// ```
     pub fn text(&self) -> &'t S {
         self.0.text()
     }
 
     /// The regex.
+    ///
+    /// ```
+    /// let regex = proved_fancy_regex::Regex::new(r"\w+").unwrap();
+    /// assert_eq!(regex.captures_iter("one two").regex().as_str(), r"\w+");
+    /// ```
     pub fn regex(&self) -> &'r Regex {
         self.0.regex()
     }

@@ -301,7 +301,7 @@ setters! {
     /// ```
     /// use proved_fancy_regex::{Error, RegexBuilder, RuntimeError};
     ///
-    /// let regex = RegexBuilder::new("(a|b|ab)*bc(?=xy)").backtrack_limit(100).build().unwrap();
+    /// let regex = RegexBuilder::new(r"(a|b|ab)*\1c").backtrack_limit(100).build().unwrap();
     /// let error = regex.find("abababababababab").unwrap_err();
     /// assert!(matches!(error, Error::RuntimeError(RuntimeError::BacktrackLimitExceeded)));
     /// ```

@@ -20,6 +20,15 @@ use std::borrow::Cow;
 /// ```
 pub trait Replacer {
     /// Appends what stands in the place of the match. Group 0 of the groups is always there.
+    ///
+    /// ```
+    /// use proved_fancy_regex::{Regex, Replacer};
+    ///
+    /// let groups = Regex::new("a(.)").unwrap().captures("ab").unwrap().unwrap();
+    /// let mut text = String::from("-");
+    /// "$1$1".replace_append(&groups, &mut text);
+    /// assert_eq!(text, "-bb");
+    /// ```
     fn replace_append(&mut self, groups: &Captures<'_, str>, to: &mut String);
 
     /// The text that stands in the place of each match, if it is the same for all of them. Then the groups are not searched for.

@@ -304,7 +304,13 @@ impl fmt::Debug for RegexSet {
 /// ```
 /// use proved_fancy_regex::{RegexSet, RegexSetOptions};
 ///
-/// let options = RegexSetOptions::new().meta_nfa_size_limit(None).delegate_size_limit(1);
+/// let options = RegexSetOptions::new()
+///     .delegate_size_limit(1)
+///     .delegate_dfa_size_limit(1)
+///     .meta_nfa_size_limit(None)
+///     .meta_hybrid_cache_capacity(1)
+///     .overlapping_dfa_cache_capacity(1)
+///     .overlapping_dfa_skip_cache_capacity_check(true);
 /// assert!(RegexSet::from_regexes([], options).unwrap().is_empty());
 /// ```
 #[derive(Clone, Debug, Default)]
@@ -343,6 +349,12 @@ set_options! {
 
 impl RegexSetOptions {
     /// The default options.
+    ///
+    /// ```
+    /// use proved_fancy_regex::{RegexSet, RegexSetOptions};
+    ///
+    /// assert!(RegexSet::from_regexes([], RegexSetOptions::new()).unwrap().is_empty());
+    /// ```
     pub fn new() -> RegexSetOptions {
         RegexSetOptions::default()
     }
@@ -366,26 +378,66 @@ pub struct RegexSetMatch<'t, S: Input + ?Sized = str> {
 
 impl<'t, S: Input + ?Sized> RegexSetMatch<'t, S> {
     /// The number of the member.
+    ///
+    /// ```
+    /// use proved_fancy_regex::{RegexInput, RegexSet};
+    ///
+    /// let set = RegexSet::new(["x", r"(\w)\w*"]).unwrap();
+    /// let word = set.find_input(RegexInput::new("-abc")).unwrap().unwrap().next().unwrap().unwrap();
+    /// assert_eq!(word.pattern(), 1);
+    /// ```
     pub fn pattern(&self) -> usize {
         self.pattern
     }
 
     /// The groups of the match.
+    ///
+    /// ```
+    /// use proved_fancy_regex::{RegexInput, RegexSet};
+    ///
+    /// let set = RegexSet::new(["x", r"(\w)\w*"]).unwrap();
+    /// let word = set.find_input(RegexInput::new("-abc")).unwrap().unwrap().next().unwrap().unwrap();
+    /// assert_eq!(&word.captures()[1], "a");
+    /// ```
     pub fn captures(&self) -> &Captures<'t, S> {
         &self.groups
     }
 
     /// The match.
+    ///
+    /// ```
+    /// use proved_fancy_regex::{RegexInput, RegexSet};
+    ///
+    /// let set = RegexSet::new(["x", r"(\w)\w*"]).unwrap();
+    /// let word = set.find_input(RegexInput::new("-abc")).unwrap().unwrap().next().unwrap().unwrap();
+    /// assert_eq!(word.get().as_str(), "abc");
+    /// ```
     pub fn get(&self) -> S::Match<'t> {
         self.groups.get(0).expect("a match has group 0")
     }
 
     /// The byte offset at which the match starts.
+    ///
+    /// ```
+    /// use proved_fancy_regex::{RegexInput, RegexSet};
+    ///
+    /// let set = RegexSet::new(["x", r"(\w)\w*"]).unwrap();
+    /// let word = set.find_input(RegexInput::new("-abc")).unwrap().unwrap().next().unwrap().unwrap();
+    /// assert_eq!(word.start(), 1);
+    /// ```
     pub fn start(&self) -> usize {
         self.groups.whole().start
     }
 
     /// The byte offset at which the match ends, exclusive.
+    ///
+    /// ```
+    /// use proved_fancy_regex::{RegexInput, RegexSet};
+    ///
+    /// let set = RegexSet::new(["x", r"(\w)\w*"]).unwrap();
+    /// let word = set.find_input(RegexInput::new("-abc")).unwrap().unwrap().next().unwrap().unwrap();
+    /// assert_eq!(word.end(), 4);
+    /// ```
     pub fn end(&self) -> usize {
         self.groups.whole().end
     }
@@ -393,6 +445,14 @@ impl<'t, S: Input + ?Sized> RegexSetMatch<'t, S> {
 
 impl<'t> RegexSetMatch<'t, str> {
     /// The text that matched.
+    ///
+    /// ```
+    /// use proved_fancy_regex::{RegexInput, RegexSet};
+    ///
+    /// let set = RegexSet::new(["x", r"(\w)\w*"]).unwrap();
+    /// let word = set.find_input(RegexInput::new("-abc")).unwrap().unwrap().next().unwrap().unwrap();
+    /// assert_eq!(word.as_str(), "abc");
+    /// ```
     pub fn as_str(&self) -> &'t str {
         self.get().as_str()
     }
@@ -434,16 +494,40 @@ pub struct RegexSetMatchesAt<'r, 't, S: Input + ?Sized = str> {
 
 impl<'r, 't, S: Input + ?Sized> RegexSetMatchesAt<'r, 't, S> {
     /// The set.
+    ///
+    /// ```
+    /// use proved_fancy_regex::{RegexInput, RegexSet};
+    ///
+    /// let set = RegexSet::new([r"a\Kb", "b"]).unwrap();
+    /// let found = set.find_input(RegexInput::new("-ab")).unwrap().unwrap();
+    /// assert_eq!(found.regex_set().len(), 2);
+    /// ```
     pub fn regex_set(&self) -> &'r RegexSet {
         self.set
     }
 
     /// The searched input.
+    ///
+    /// ```
+    /// use proved_fancy_regex::{RegexInput, RegexSet};
+    ///
+    /// let set = RegexSet::new([r"a\Kb", "b"]).unwrap();
+    /// let found = set.find_input(RegexInput::new("-ab")).unwrap().unwrap();
+    /// assert_eq!(found.haystack(), "-ab");
+    /// ```
     pub fn haystack(&self) -> &'t S {
         self.haystack
     }
 
     /// The byte offset at which the members match. By `\K` a match may start later.
+    ///
+    /// ```
+    /// use proved_fancy_regex::{RegexInput, RegexSet};
+    ///
+    /// let set = RegexSet::new([r"a\Kb", "b"]).unwrap();
+    /// let found = set.find_input(RegexInput::new("-ab")).unwrap().unwrap();
+    /// assert_eq!(found.start(), 1);
+    /// ```
     pub fn start(&self) -> usize {
         self.start
     }

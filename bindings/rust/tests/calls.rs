@@ -50,7 +50,7 @@ fn splits_and_replaces() {
 
 #[test]
 fn the_rest_comes_after_an_error() {
-    let slow = RegexBuilder::new(",|(a|b|ab)*bc(?=xy)")
+    let slow = RegexBuilder::new(r",|(a|b|ab)*\1c")
         .backtrack_limit(100)
         .build()
         .unwrap();
@@ -129,7 +129,7 @@ fn errors_are_told() {
         error.to_string(),
         "Parsing error at position 1: General parsing error: end of string not reached"
     );
-    let slow = RegexBuilder::new("(a|b|ab)*bc(?=xy)")
+    let slow = RegexBuilder::new(r"(a|b|ab)*\1c")
         .backtrack_limit(100)
         .build()
         .unwrap();
@@ -456,7 +456,7 @@ fn sets_are_searched() {
         Err(Error::ParseError(1, _))
     ));
     let slow = RegexSet::new_with_options(
-        ["(a|b|ab)*bc(?=xy)"],
+        [r"(a|b|ab)*\1c"],
         RegexOptionsBuilder::new().backtrack_limit(100),
     )
     .unwrap();

@@ -203,8 +203,8 @@ impl RegexBuilder {
         self
     }
 
-    /// How often one search by a program may backtrack before it fails with `BacktrackLimitExceeded`. A search that runs no program
-    /// has no limit. Default: 1,000,000.
+    /// How often one search by a program may backtrack before it fails with `BacktrackLimitExceeded`. A search that runs no program has
+    /// no limit, nor has one of a pattern with states that answer where its program reads too much. Default: 1,000,000.
     ///
     /// ```
     /// let mut builder = RegexBuilder::new(alloc, r"(a|aa)+\1b")?;

@@ -6,6 +6,8 @@
 #![tactic(auto)]
 
 #[cfg(test)]
+mod allowances;
+#[cfg(test)]
 mod analysis;
 #[cfg(test)]
 mod class;

@@ -1,6 +1,7 @@
 //! The memory that runs share.
 
 use crate::thread::CurrentThread;
+use fancy_regex_class::Steps;
 use fancy_regex_linear::SearchMemory;
 use fancy_regex_prefilter::cursor::Cursor;
 use fancy_regex_slots::slots::Slots;
@@ -14,7 +15,16 @@ pub struct RunMemory {
     /// The thread that runs, and the backtrack stack.
     pub(crate) thread: CurrentThread,
     /// What the searches of delegated parts need.
-    pub(crate) delegates: SearchMemory,
+    pub(crate) delegates: Delegates,
+}
+
+/// What the searches of delegated parts need, and how often those of a run have looked at the text.
+#[derive(Drop)]
+pub(crate) struct Delegates {
+    /// Their memory.
+    pub memory: SearchMemory,
+    /// Their looks.
+    pub steps: Steps,
 }
 
 impl RunMemory {
@@ -25,7 +35,10 @@ impl RunMemory {
                 cursor: Cursor { pc: 0, position: 0 },
                 slots: Slots::empty(alloc),
             },
-            delegates: SearchMemory::new(alloc),
+            delegates: Delegates {
+                memory: SearchMemory::new(alloc),
+                steps: Steps::new(),
+            },
         }
     }
 }

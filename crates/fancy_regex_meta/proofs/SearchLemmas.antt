@@ -1,6 +1,6 @@
 -- A search of the code as a search of the definitions.
 use Rattle.std.proofs.Common.{◌≡◌, ◌<◌, ℕ, Bool, true, false, not, ◌&&◌, List, Option, Some, None, Result, Ok, Err, refl, sym, ap, subst, ◌∙◌, rules, nat_lt, if◌then◌else◌}
-use Rattle.std.specs.Prelude.{◌||◌, is_some, option_map, IfOk, IfErr}
+use Rattle.std.specs.Prelude.{◌||◌, is_some, option_map, IfOk, IfErr, IsErrAnd}
 use Rattle.fancy_regex_tree.specs.Tree.{Tree}
 use Rattle.fancy_regex_meaning.specs.Groups.{Pattern, pattern_of}
 use Rattle.fancy_regex_meaning.specs.Choices.{choices}
@@ -25,7 +25,7 @@ use Rattle.std.proofs.Math.Bridge.{le_prop}
 use Rattle.std.proofs.Math.Bool.{Bool-set}
 use Rattle.fancy_regex_meta.specs.declared.options.RegexOptions.{RegexOptions}
 use Rattle.fancy_regex_meta.specs.declared.strategy.Strategy.{Strategy}
-use Rattle.fancy_regex_meta.specs.declared.strategy.Strategy.TheVariants.{Easy, Linear, Program}
+use Rattle.fancy_regex_meta.specs.declared.strategy.Strategy.TheVariants.{Easy, Linear, Program, Regular}
 
 -- what holds of the value or the error of a result
 pub if_ok : {A E : Type 0} {P Q : A → Type 0} (r : Result A E) → IfOk r P → ((x : A) → P x → Q x) → IfOk r Q
@@ -35,6 +35,11 @@ if_ok (Err e) h f = tt
 pub if_err : {A E : Type 0} {P Q R : E → Type 0} (r : Result A E) → IfErr r P → IfErr r Q → ((e : E) → P e → Q e → R e) → IfErr r R
 if_err (Ok x) h k f = tt
 if_err (Err e) h k f = f e h k
+
+-- an error that is handed on, with what is known of it
+pub handed_on : {T E : Type 0} (r : Result T E) (e : E) (P : E → Type 0) → IsErrAnd r (λ f. f ≡ e) → P e → IfErr r P
+handed_on (Ok x) e P d h = absurd d
+handed_on (Err y) e P d h = subst P (sym d) h
 
 map-some : {A B : Type 0} (f : A → B) (o : Option A) → is_some (option_map f o) ≡ is_some o
 map-some f None = refl
@@ -105,6 +110,7 @@ IsSearchError-prop served limit choices _ = hlevel (le_prop, Bool-set)
 pub IsStrategyError-prop : (strategy : Strategy) (o : RegexOptions) (text : List ℕ) (input : RunInput) (e : Error) → IsProp (IsStrategyError strategy o text input e)
 IsStrategyError-prop (Easy easy) o text input (told.RuntimeError error) = hlevel le_prop
 IsStrategyError-prop (Linear linear prog) o text input (told.RuntimeError error) = hlevel le_prop
+IsStrategyError-prop (Regular regular prog run) o text input (told.RuntimeError error) = hlevel le_prop
 IsStrategyError-prop (Program prog run) o text input (told.RuntimeError error) = MachinePassesLimit-prop prog text input (run_options_of o run.seek) error
 IsStrategyError-prop strategy o text input _ = hlevel le_prop
 
@@ -113,9 +119,11 @@ pub StrategyStaysInLimits-prop : (strategy : Strategy) (o : RegexOptions) (text 
 StrategyStaysInLimits-prop (Easy easy) o text input = hlevel le_prop
 StrategyStaysInLimits-prop (Linear linear prog) o text input = hlevel le_prop
 StrategyStaysInLimits-prop (Program prog run) o text input = hlevel le_prop
+StrategyStaysInLimits-prop (Regular regular prog run) o text input = hlevel le_prop
 
 -- what executes a tree runs under its options
 pub executes-under : (strategy : Strategy) (o : RegexOptions) (t : Tree) → Executes strategy o t → RunsUnder strategy o
 executes-under (Easy easy) o t does = tt
 executes-under (Linear linear prog) o t does = tt
 executes-under (Program prog run) o t does = does.5
+executes-under (Regular regular prog run) o t does = tt

@@ -1,39 +1,28 @@
--- The strategy of a tree that is not easy: its matcher, or else its program.
-use Rattle.std.proofs.Common.{◌≡◌, ℕ, Bool, false, Option, Some, None, IfSome, refl, ◌∙◌}
+-- The strategy of a tree that is not easy: its matcher, or else its program, with its states with parts if it has them.
+use Rattle.std.proofs.Common.{◌≡◌, ◌∙◌, Bool, false, List, Option, Some, None, IfSome, ap}
 use Rattle.fancy_regex_tree.specs.Tree.{Tree}
 use Rattle.fancy_regex_info.specs.Analysis.{analysis}
 use Rattle.fancy_regex_info.specs.Infos.{info_of}
 use Rattle.fancy_regex_info.specs.declared.info.Info.{Info}
 use Rattle.fancy_regex_info.specs.Views.{pattern_in}
 use Rattle.fancy_regex_linear.specs.EasyPatterns.{IsEasyOf}
-use Rattle.fancy_regex_compiled.specs.Programs.{KeepsCap}
 use Rattle.fancy_regex_compiled.specs.declared.prog.Prog.{Prog}
 use Rattle.fancy_regex_linear.specs.declared.easy.Easy.{Easy}
+use Rattle.fancy_regex_regular.specs.Regulars.{IsRegularOf}
+use Rattle.fancy_regex_regular.specs.declared.regular.Regular.{Regular}
 use Rattle.fancy_regex_machine.specs.declared.search.RunOptions.{RunOptions}
-use Rattle.fancy_regex_meta.specs.EasyPatterns.{is_easy_strategy}
-use Rattle.fancy_regex_meta.specs.Strategies.{Executes, IsMatcherFor, StrategyKeepsCap, linear_or_program}
+use Rattle.fancy_regex_meta.specs.SeekTables.{IsSeekTable}
+use Rattle.fancy_regex_meta.specs.Strategies.{IsMatcherFor, IsRegularFor, IsProgramFor, unlimited, unlimited_run}
 use Rattle.fancy_regex_meta.specs.declared.options.RegexOptions.{RegexOptions}
-use Rattle.fancy_regex_meta.specs.declared.strategy.Strategy.TheVariants.{Program}
 
-pub executes_either : (o : RegexOptions) (t : Tree) (prog : Prog) (run : RunOptions) (linear : Option Easy) → Executes (Program prog run) o t
-    → IfSome linear (λ easy. IsMatcherFor easy o t) → Executes (linear_or_program prog run linear) o t
-executes_either o t prog run None does matcher = does
-executes_either o t prog run (Some easy) does matcher = (matcher, does.0)
+-- the backtrack limit changes no seek table
+seek_same : (o : RegexOptions) (t : Tree) (seek : Option (List Bool)) → IsSeekTable o t seek → IsSeekTable (unlimited o) t seek
+seek_same o t None is = is
+seek_same o t (Some table) is = is
 
--- what is said of a matcher of each tree that was analyzed
-pub some_matcher : (o : RegexOptions) (i : Info) (t : Tree) (linear : Option Easy) → info_of i ≡ analysis false t
-    → IfSome linear (λ easy. (u : Tree) → info_of i ≡ analysis false u → IsMatcherFor easy o u) → IfSome linear (λ easy. IsMatcherFor easy o t)
-some_matcher o i t None is h = tt
-some_matcher o i t (Some easy) is h = h t is
-
-pub not_easy_either : (prog : Prog) (run : RunOptions) (linear : Option Easy) → is_easy_strategy (linear_or_program prog run linear) ≡ false
-not_easy_either prog run None = refl
-not_easy_either prog run (Some easy) = refl
-
-pub cap_either : (most : Option ℕ) (prog : Prog) (run : RunOptions) (linear : Option Easy) → KeepsCap most prog
-    → StrategyKeepsCap most (linear_or_program prog run linear)
-cap_either most prog run None keeps = keeps
-cap_either most prog run (Some easy) keeps = keeps
+-- with states beside it a program runs without a limit on backtracks
+pub program_unlimited : (o : RegexOptions) (t : Tree) (prog : Prog) (run : RunOptions) → IsProgramFor prog run o t → IsProgramFor prog (unlimited_run run) (unlimited o) t
+program_unlimited o t prog run is = (is.0, is.1, is.2, seek_same o t run.seek is.3, is.4, ap unlimited_run is.5)
 
 -- a matcher of the analyzed tree, made under these options
 pub matcher_is : (o : RegexOptions) (i : Info) (unicode longest : Bool) (found : Option Easy) → unicode ≡ o.unicode_mode → longest ≡ o.leftmost_longest
@@ -43,3 +32,17 @@ pub matcher_is : (o : RegexOptions) (i : Info) (unicode longest : Bool) (found :
     → IfSome found (λ easy. (t : Tree) → info_of i ≡ analysis false t → IsMatcherFor easy o t)
 matcher_is o i unicode longest None mode far some made options = tt
 matcher_is o i unicode longest (Some easy) mode far some made options = λ t is. (made false t is, options.0 ∙ mode, options.1 ∙ far, some)
+
+-- states with parts of the analyzed tree, made under these options
+pub regular_is : (o : RegexOptions) (i : Info) (unicode : Bool) (found : Option Regular) → unicode ≡ o.unicode_mode → o.leftmost_longest ≡ false
+    → o.find_not_empty ≡ false
+    → IfSome found (λ regular. (explicit : Bool) (t : Tree) → info_of i ≡ analysis explicit t → IsRegularOf regular (pattern_in explicit t))
+    → IfSome found (λ regular. regular.unicode ≡ unicode)
+    → IfSome found (λ regular. (t : Tree) → info_of i ≡ analysis false t → IsRegularFor regular o t)
+regular_is o i unicode None mode first empty made options = tt
+regular_is o i unicode (Some regular) mode first empty made options = λ t is. record {
+  of = made false t is;
+  unicode = options ∙ mode;
+  first = first;
+  empty = empty;
+}

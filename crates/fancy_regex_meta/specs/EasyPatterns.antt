@@ -7,7 +7,7 @@ use Rattle.fancy_regex_info.specs.References.{is_read}
 use Rattle.fancy_regex_meta.specs.Patterns.{tree_in}
 use Rattle.fancy_regex_meta.specs.declared.options.RegexOptions.{RegexOptions}
 use Rattle.fancy_regex_meta.specs.declared.strategy.Strategy.{Strategy}
-use Rattle.fancy_regex_meta.specs.declared.strategy.Strategy.TheVariants.{Easy, Linear, Program}
+use Rattle.fancy_regex_meta.specs.declared.strategy.Strategy.TheVariants.{Easy, Linear, Program, Regular}
 
 -- the tree, with groups numbered from 1, is easy
 abbrev pub is_easy_tree : Tree → Bool
@@ -26,3 +26,4 @@ abbrev pub is_easy_strategy : Strategy → Bool
 is_easy_strategy (Easy easy) = true
 is_easy_strategy (Linear linear prog) = false
 is_easy_strategy (Program prog run) = false
+is_easy_strategy (Regular regular prog run) = false

@@ -24,7 +24,7 @@ use Rattle.fancy_regex_meta.specs.Strategies.{search_of, run_options_of}
 use Rattle.fancy_regex_meta.specs.EasyPatterns.{pattern_uses_easy}
 use Rattle.fancy_regex_meta.specs.declared.options.RegexOptions.{RegexOptions}
 use Rattle.fancy_regex_meta.specs.declared.strategy.Strategy.{Strategy}
-use Rattle.fancy_regex_meta.specs.declared.strategy.Strategy.TheVariants.{Easy, Linear, Program}
+use Rattle.fancy_regex_meta.specs.declared.strategy.Strategy.TheVariants.{Easy, Linear, Program, Regular}
 use Rattle.fancy_regex_meta.specs.declared.error.Error.{Error}
 use Rattle.fancy_regex_meta.specs.declared.error.Error.TheVariants as told
 use Rattle.fancy_regex_meta.specs.declared.meta_regex.MetaRegex.{MetaRegex}
@@ -43,11 +43,12 @@ IsSearchError served limit choices told.Memory = Unit {0}
 IsSearchError served limit choices _ = ⊥
 
 -- A limit is the first that the machine passes when it runs the kept program on this text and input with the options'
--- limit and the kept seek table. The linear-time matcher has no limit.
+-- limit and the kept seek table. The linear-time matcher has no limit, and states with parts answer where the program meets one.
 abbrev pub StrategyPassesLimit : Strategy → RegexOptions → List ℕ → RunInput → RuntimeError → Type 0
 StrategyPassesLimit (Easy easy) o text input error = ⊥
 StrategyPassesLimit (Linear linear prog) o text input error = ⊥
 StrategyPassesLimit (Program prog run) o text input error = MachinePassesLimit prog text input (run_options_of o run.seek) error
+StrategyPassesLimit (Regular regular prog run) o text input error = ⊥
 
 -- an error of a search that reports a limit only where it is the first that the kept program passes
 abbrev pub IsStrategyError : Strategy → RegexOptions → List ℕ → RunInput → Error → Type 0
@@ -61,11 +62,12 @@ MachineStaysInLimits prog text input options = (n : ℕ) (e : Ending) → machin
     → (e.backtracks ≤ options.backtrack_limit) × (e.peak ≤ max_open_branches)
 
 -- Where a strategy answers, no limit is passed: the machine stays within the limits when it runs the kept program on this text
--- and input with the options' limit. The linear-time matcher has no limit.
+-- and input with the options' limit. The linear-time matcher has no limit, nor have states with parts.
 abbrev pub StrategyStaysInLimits : Strategy → RegexOptions → List ℕ → RunInput → Type 0
 StrategyStaysInLimits (Easy easy) o text input = Unit {0}
 StrategyStaysInLimits (Linear linear prog) o text input = Unit {0}
 StrategyStaysInLimits (Program prog run) o text input = MachineStaysInLimits prog text input (run_options_of o run.seek)
+StrategyStaysInLimits (Regular regular prog run) o text input = Unit {0}
 
 -- the weight of a tree: the looks per position that the linear-time matcher needs at most
 abbrev pub weight_of : Tree → ℕ

@@ -2,6 +2,7 @@
 
 use fancy_regex_linear::SearchMemory;
 use fancy_regex_machine::RunMemory;
+use fancy_regex_regular::RegularMemory;
 use std::alloc::Global;
 
 /// What earlier searches allocated, for later ones to use again: of the linear-time matcher, and of the backtracking machine.
@@ -22,6 +23,8 @@ pub struct MetaMemory {
     pub easy: SearchMemory,
     /// For patterns that run a program.
     pub program: RunMemory,
+    /// For patterns whose look-aheads and atomic groups are parts.
+    pub parts: RegularMemory,
 }
 
 impl MetaMemory {
@@ -30,6 +33,7 @@ impl MetaMemory {
         MetaMemory {
             easy: SearchMemory::new(alloc),
             program: RunMemory::new(alloc),
+            parts: RegularMemory::new(alloc),
         }
     }
 }

@@ -1,13 +1,14 @@
 //! What executes a compiled pattern: the linear-time matcher in bounded steps, or a backtracking program. A pattern that is easy but for
 //! look-arounds for one character keeps its program, and is searched by the matcher.
 
-ghost use Rattle.std.specs.Prelude.{◌≡◌, ◌≤◌, ◌+◌, ◌-◌, ◌*◌, ◌^◌, ◌<◌, min, true, false, not, is_some, length, IfOk, IfErr, IfSome, option_map, IsCharBoundary};
+ghost use Rattle.std.specs.Prelude.{◌≡◌, ◌≤◌, ◌+◌, ◌-◌, ◌*◌, ◌^◌, ◌<◌, ℕ, Option, min, true, false, not, is_some, length, IfOk, IfErr, IfSome, option_map, IsCharBoundary};
 ghost use Rattle.fancy_regex_tree.specs.Tree.{Tree, tree_of};
 ghost use Rattle.fancy_regex_meaning.specs.Choices.{program_nodes};
 ghost use Rattle.fancy_regex_meaning.specs.Groups.{pattern_of};
 ghost use Rattle.fancy_regex_meaning.specs.Searches.{first_match};
 ghost use Rattle.fancy_regex_meaning.specs.SizeLaws.{IsInOrder};
 ghost use Rattle.fancy_regex_program.specs.Caps.{IsPastCap};
+ghost use Rattle.fancy_regex_compiled.specs.Programs.{KeepsCap};
 ghost use Rattle.fancy_regex_compiler.specs.Refusals.{IsClear, ReadsClasses};
 ghost use Rattle.fancy_regex_info.specs.Analysis.{analysis};
 ghost use Rattle.fancy_regex_analysis.specs.AnalysisErrors.{is_too_complex};
@@ -20,10 +21,15 @@ ghost use Rattle.fancy_regex_linear.specs.EasyPatterns.{IsEasyOf};
 ghost use Rattle.fancy_regex_meta.specs.declared.options.RegexOptions.{RegexOptions};
 ghost use Rattle.fancy_regex_meta.specs.Refusals.{compile_options_of, IsCompileRefusal};
 ghost use Rattle.fancy_regex_info.specs.declared.error.CompileError.TheVariants as errors;
+ghost use Rattle.fancy_regex_meta.specs.EasyPatterns.{is_easy_strategy};
 ghost use Rattle.fancy_regex_meta.specs.FoundParts.{found_parts, wanted_parts};
-ghost use Rattle.fancy_regex_meta.specs.Strategies.{IsMatcherFor, linear_or_program as strategy_of, search_of};
+ghost use Rattle.fancy_regex_meta.specs.Strategies.{IsMatcherFor, IsRegularFor, IsProgramFor, Executes, RunsUnder, StrategyKeepsCap};
+ghost use Rattle.fancy_regex_meta.specs.Strategies.{unlimited_run, search_of};
+ghost use Rattle.fancy_regex_meta.specs.ErrorConversions.{from_runtime_error};
+ghost use Rattle.fancy_regex_meta.specs.SearchLimits.{IsSearchError, IsStrategyError, StrategyStaysInLimits, run_choices};
+ghost use Rattle.fancy_regex_meta.specs.declared.strategy.Strategy.TheVariants as strategies;
 
-use crate::error::Result;
+use crate::error::{Error, Result};
 use crate::found::{FoundMatch, MatchDetail, found_groups, found_span};
 use crate::memory::MetaMemory;
 use crate::options::RegexOptions;
@@ -33,8 +39,21 @@ use fancy_regex_compiled::Prog;
 use fancy_regex_compiler::compile;
 use fancy_regex_info::{CompileError, CompileOptions, Info};
 use fancy_regex_linear::Easy;
-use fancy_regex_machine::{RunOptions, run_in, run_spans_in};
+use fancy_regex_machine::{
+    Allowance, Exhausted, RunMemory, RunOptions, RuntimeError, run_in, run_spans_in,
+    run_spans_within, run_within,
+};
+use fancy_regex_regular::{Regular, RegularMemory};
 use std::alloc::{AllocError, Global};
+
+/// What a run of the program of a pattern with parts may do at least, before its states answer.
+const FIRST_WORK: u64 = 100_000;
+
+/// What it may do besides for each byte from its first start to the end of the text: a look-ahead may read all of them once or twice.
+const WORK_PER_TEXT_BYTE: u64 = 4;
+
+/// What it may do besides for each byte that its start goes on by: as measured, states take the time of about so much work.
+const WORK_PER_START_BYTE: u64 = 64;
 
 /// What executes a compiled pattern.
 #[derive(Drop)]
@@ -54,6 +73,16 @@ pub enum Strategy {
         prog: Prog,
         /// The options of its runs, with the seek table: for each byte, whether a match may start with it; `None` tries each start
         /// offset.
+        run_options: RunOptions,
+    },
+    /// The backtracking program of a pattern that refers to no matched text and has no groups in look-aheads and atomic groups, with the
+    /// states that answer where a run of the program exhausts its allowance or meets a limit.
+    Regular {
+        /// The states.
+        regular: Regular,
+        /// The program.
+        prog: Prog,
+        /// The options of its runs, as for any other pattern, but without a limit on backtracks.
         run_options: RunOptions,
     },
 }
@@ -97,13 +126,175 @@ fn linear_matcher(
     }
 }
 
-/// The strategy of a tree that is not easy: its matcher, if it has one, and else its program.
-fn linear_or_program(prog: Prog, run_options: RunOptions, linear: Option<Easy>) -> Strategy
-    ensures { result ≡ strategy_of prog run_options linear }
+/// The states with parts of a tree that is not easy, where it becomes such states. The error is `Memory`.
+fn regular_states(
+    alloc: Global,
+    info: &Info<'_>,
+    options: &RegexOptions,
+    calls: bool,
+) -> std::result::Result<Option<Regular>, CompileError>
+    ensures states { IfOk result (λ found. IfSome found (λ regular. (t : Tree) → info_of info.now ≡ analysis false t
+        → IsRegularFor regular options.now t)) }
+    ensures memory { IfErr result (λ error. error ≡ errors.Memory) }
 {
-    match linear {
-        Some(linear) => Strategy::Linear { linear, prog },
-        None => Strategy::Program { prog, run_options },
+    if options.leftmost_longest || options.find_not_empty {
+        return Ok(None);
+    }
+    match Regular::if_supported(alloc, info, &compile_options(options, calls)) {
+        Ok(found) => Ok(found),
+        Err(CompileError::Memory) => Err(CompileError::Memory),
+        Err(_) => Ok(None),
+    }
+}
+
+/// The options of a run that its allowance bounds in place of the limit on backtracks.
+fn unlimited(run_options: RunOptions) -> RunOptions
+    ensures { result ≡ unlimited_run run_options }
+{
+    RunOptions {
+        backtrack_limit: usize::MAX,
+        ..run_options
+    }
+}
+
+/// The strategy of a tree that is not easy: its matcher, if it has one, and else its program, with its states if it has them. The error is
+/// `Memory`.
+fn hard_strategy(
+    alloc: Global,
+    info: &Info<'_>,
+    options: &RegexOptions,
+    calls: bool,
+    prog: Prog,
+    run_options: RunOptions,
+) -> std::result::Result<Strategy, CompileError>
+    ensures runs { IfOk result (λ strategy. (t : Tree) → info_of info.now ≡ analysis false t → IsProgramFor prog run_options options.now t
+        → Executes strategy options.now t) }
+    ensures served { IfOk result (λ strategy. is_easy_strategy strategy ≡ false) }
+    ensures cap { IfOk result (λ strategy. (most : Option ℕ) → KeepsCap most prog → StrategyKeepsCap most strategy) }
+    ensures memory { IfErr result (λ error. error ≡ errors.Memory) }
+{
+    let matcher = linear_matcher(alloc, info, options, calls)?;
+    if let Some(linear) = matcher {
+        return Ok(Strategy::Linear { linear, prog });
+    }
+    let states = regular_states(alloc, info, options, calls)?;
+    match states {
+        Some(regular) => Ok(Strategy::Regular {
+            regular,
+            prog,
+            run_options: unlimited(run_options),
+        }),
+        None => Ok(Strategy::Program { prog, run_options }),
+    }
+}
+
+/// The first match by the program. Errors: a limit, or `Memory`.
+#[inline(always)]
+fn run_program(
+    alloc: Global,
+    prog: &Prog,
+    run_options: &RunOptions,
+    text: &str,
+    input: &RunInput,
+    wanted: MatchDetail,
+    memory: &mut RunMemory,
+) -> std::result::Result<Option<FoundMatch>, RuntimeError>
+    requires first { IsCharBoundary text.now input.now.first }
+    requires range { input.now.range.end ≤ length text.now }
+    requires whole { prog.now.whole ≡ true }
+    ensures answer { IfOk result (λ found. (o : RegexOptions) (t : Tree) → IsProgramFor prog.now run_options.now o t
+        → option_map found_parts found ≡ option_map (wanted_parts wanted (pattern_of t))
+        (first_match (setting_for o.unicode_mode text.now input.now) (pattern_of t) (search_of o input.now))) }
+    ensures limits { IfErr result (λ e. (o : RegexOptions) (t : Tree) → IsProgramFor prog.now run_options.now o t
+        → IsSearchError false o.backtrack_limit (run_choices o text.now input.now t) (from_runtime_error e)) }
+    ensures passed { IfErr result (λ e. (o : RegexOptions) (t : Tree) → IsProgramFor prog.now run_options.now o t
+        → IsStrategyError (strategies.Program prog.now run_options.now) o text.now input.now (from_runtime_error e)) }
+    ensures stays { IfOk result (λ _. (o : RegexOptions) → RunsUnder (strategies.Program prog.now run_options.now) o
+        → StrategyStaysInLimits (strategies.Program prog.now run_options.now) o text.now input.now) }
+{
+    match wanted {
+        MatchDetail::Span => {
+            let span = run_spans_in(alloc, prog, text, input, run_options, memory)?;
+            Ok(found_span(alloc, span))
+        }
+        MatchDetail::Groups => {
+            let slots = run_in(alloc, prog, text, input, run_options, memory)?;
+            Ok(found_groups(slots))
+        }
+    }
+}
+
+/// What a run of a program from this byte offset on may do, where states answer in its place.
+fn allowance_from(text: &str, first: usize) -> Allowance {
+    let rest = text.len().saturating_sub(first) as u64;
+    Allowance {
+        first: FIRST_WORK.saturating_add(rest.saturating_mul(WORK_PER_TEXT_BYTE)),
+        per_byte: WORK_PER_START_BYTE,
+    }
+}
+
+/// The first match by the program, as long as its work stays within the allowance. The errors inside are a limit, or `Memory`.
+#[inline(always)]
+fn run_allowed(
+    alloc: Global,
+    prog: &Prog,
+    run_options: &RunOptions,
+    text: &str,
+    input: &RunInput,
+    wanted: MatchDetail,
+    memory: &mut RunMemory,
+) -> std::result::Result<std::result::Result<Option<FoundMatch>, RuntimeError>, Exhausted>
+    requires first { IsCharBoundary text.now input.now.first }
+    requires range { input.now.range.end ≤ length text.now }
+    requires whole { prog.now.whole ≡ true }
+    ensures { IfOk result (λ told. IfOk told (λ found. (o : RegexOptions) (t : Tree) → IsProgramFor prog.now run_options.now o t
+        → option_map found_parts found ≡ option_map (wanted_parts wanted (pattern_of t))
+        (first_match (setting_for o.unicode_mode text.now input.now) (pattern_of t) (search_of o input.now)))) }
+{
+    let allowance = allowance_from(text, input.first);
+    match wanted {
+        MatchDetail::Span => {
+            let told = run_spans_within(alloc, prog, text, input, run_options, allowance, memory)?;
+            match told {
+                Ok(span) => Ok(Ok(found_span(alloc, span))),
+                Err(error) => Ok(Err(error)),
+            }
+        }
+        MatchDetail::Groups => {
+            let told = run_within(alloc, prog, text, input, run_options, allowance, memory)?;
+            match told {
+                Ok(slots) => Ok(Ok(found_groups(slots))),
+                Err(error) => Ok(Err(error)),
+            }
+        }
+    }
+}
+
+/// The first match by the states with parts. The error is want of memory.
+#[inline(never)]
+fn search_regular(
+    alloc: Global,
+    regular: &Regular,
+    text: &str,
+    input: &RunInput,
+    wanted: MatchDetail,
+    memory: &mut RegularMemory,
+) -> std::result::Result<Option<FoundMatch>, AllocError>
+    requires first { IsCharBoundary text.now input.now.first }
+    requires range { input.now.range.end ≤ length text.now }
+    ensures { IfOk result (λ found. (o : RegexOptions) (t : Tree) → IsRegularFor regular.now o t
+        → option_map found_parts found ≡ option_map (wanted_parts wanted (pattern_of t))
+        (first_match (setting_for o.unicode_mode text.now input.now) (pattern_of t) (search_of o input.now))) }
+{
+    match wanted {
+        MatchDetail::Span => {
+            let span = regular.find_span_in(text, input, memory)?;
+            Ok(found_span(alloc, span))
+        }
+        MatchDetail::Groups => {
+            let slots = regular.search_in(alloc, text, input, memory)?;
+            Ok(found_groups(slots))
+        }
     }
 }
 
@@ -137,9 +328,9 @@ fn search_uncounted(
 
 impl Strategy {
     ghost use Rattle.fancy_regex_compiled.specs.Programs.{RefersToGroups};
-    ghost use Rattle.fancy_regex_meta.specs.Strategies.{Executes, RunsUnder, StrategyKeepsCap, is_whole};
-    ghost use Rattle.fancy_regex_meta.specs.EasyPatterns.{uses_easy, is_easy_strategy};
-    ghost use Rattle.fancy_regex_meta.specs.SearchLimits.{IsSearchError, IsStrategyError, StrategyStaysInLimits, weight_of, run_choices, run_tried};
+    ghost use Rattle.fancy_regex_meta.specs.Strategies.{is_whole};
+    ghost use Rattle.fancy_regex_meta.specs.EasyPatterns.{uses_easy};
+    ghost use Rattle.fancy_regex_meta.specs.SearchLimits.{weight_of, run_tried};
 
     /// Compiles an analyzed tree, all of whose references must be to existing groups: for the linear-time matcher if the
     /// tree is easy and empty matches are allowed, otherwise to a program, with its seek table if the options ask for it. A
@@ -179,8 +370,7 @@ impl Strategy {
                 find_not_empty: options.find_not_empty,
                 seek,
             };
-            let linear = linear_matcher(alloc, info, options, calls)?;
-            return Ok(linear_or_program(prog, run_options, linear));
+            return hard_strategy(alloc, info, options, calls, prog, run_options);
         }
         Ok(Strategy::Easy(Easy::new(alloc, info, &compile_options(options, calls))?))
     }
@@ -233,14 +423,22 @@ impl Strategy {
             }
             Strategy::Program { prog, run_options } => {
                 let memory = &mut memory.program;
-                match wanted {
-                    MatchDetail::Span => {
-                        let span = run_spans_in(alloc, prog, text, input, run_options, memory)?;
-                        Ok(found_span(alloc, span))
-                    }
-                    MatchDetail::Groups => {
-                        let slots = run_in(alloc, prog, text, input, run_options, memory)?;
-                        Ok(found_groups(slots))
+                let found = run_program(alloc, prog, run_options, text, input, wanted, memory)?;
+                Ok(found)
+            }
+            Strategy::Regular {
+                regular,
+                prog,
+                run_options,
+            } => {
+                let run = &mut memory.program;
+                match run_allowed(alloc, prog, run_options, text, input, wanted, run) {
+                    Ok(Ok(found)) => Ok(found),
+                    Ok(Err(RuntimeError::Memory)) => Err(Error::Memory),
+                    Ok(Err(_)) | Err(Exhausted) => {
+                        let parts = &mut memory.parts;
+                        let found = search_regular(alloc, regular, text, input, wanted, parts)?;
+                        Ok(found)
                     }
                 }
             }
@@ -276,7 +474,7 @@ impl Strategy {
                 let answer = linear.has_match_in(text, input, &mut memory.easy)?;
                 Ok(answer)
             }
-            Strategy::Program { .. } => {
+            Strategy::Program { .. } | Strategy::Regular { .. } => {
                 let steps = &mut Steps::new();
                 let found = self.search(alloc, text, input, MatchDetail::Span, steps, memory)?;
                 Ok(found.is_some())

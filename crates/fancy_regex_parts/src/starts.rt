@@ -1,6 +1,6 @@
 //! A search over starts.
 
-ghost use Rattle.std.specs.Prelude.{◌≡◌, ◌+◌, ◌-◌, ◌*◌, ◌^◌, ◌<◌, ◌≤◌, length, vec_len, IfOk, OnOk, IsCharBoundary, IsUtf8};
+ghost use Rattle.std.specs.Prelude.{◌≡◌, ◌+◌, ◌-◌, ◌*◌, ◌^◌, ◌<◌, ◌≤◌, length, vec_len, IfOk, IfSome, OnOk, IsCharBoundary, IsUtf8};
 ghost use Rattle.fancy_regex_class.specs.Looks.{looked_text, look_count};
 ghost use Rattle.fancy_regex_meaning.specs.Positions.{boundaries};
 ghost use Rattle.fancy_regex_states.specs.Attempts.{View};
@@ -37,6 +37,7 @@ pub fn find(
     requires stack { vec_len memory.old.stack ≡ 0 }
     ensures found { IfOk result (λ found. (view : View) (ways : Ways) → HasWays context.now (looked_text text.old) view ways
         → IsTrueOf context.now ways memory.old.recall → found ≡ earliest (ways.end entry) (boundaries (looked_text text.old) from last)) }
+    ensures place { IfOk result (λ found. IfSome found (λ span. IsPlace (looked_text text.old) memory.old.recall.base span.0)) }
     ensures remembers { (view : View) (ways : Ways) → HasWays context.now (looked_text text.old) view ways
         → IsTrueOf context.now ways memory.old.recall → IsTrueOf context.now ways memory.new.recall }
     ensures memory { IsOfText context.now (looked_text text.old) memory.new.recall }

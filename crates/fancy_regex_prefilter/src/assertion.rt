@@ -1,6 +1,7 @@
 //! Evaluation of the zero-width assertions.
 
-ghost use Rattle.std.specs.Prelude.{◌≡◌, drop};
+ghost use Rattle.std.specs.Prelude.{◌≡◌, codes, drop, false};
+ghost use Rattle.fancy_regex_class.specs.Classes.{in_class};
 ghost use Rattle.fancy_regex_meaning.specs.Positions as places;
 ghost use Rattle.fancy_regex_meaning.specs.Ways as ways;
 ghost use Rattle.fancy_regex_prefilter.specs.RunContexts.{setting_of_run};
@@ -9,6 +10,7 @@ use crate::matching::{char_at, char_before};
 use crate::run_context::RunContext;
 use fancy_regex_class::is_word;
 use fancy_regex_tree::Assertion;
+use ucd_perl::is_word_code;
 
 /// Whether the assertion holds at the byte offset `position`.
 pub fn holds(run: &RunContext<'_>, assertion: Assertion, position: usize) -> bool
@@ -105,7 +107,7 @@ fn is_after_word(run: &RunContext<'_>, position: usize) -> bool
     ensures { result ≡ ways.is_after_word (setting_of_run run.now) position }
 {
     match char_before(run.text, position) {
-        Some(c) => is_word(c, run.unicode),
+        Some(c) => is_word_here(c, run.unicode),
         None => false,
     }
 }
@@ -116,7 +118,19 @@ fn is_before_word(run: &RunContext<'_>, position: usize) -> bool
     ensures { result ≡ ways.is_before_word (setting_of_run run.now) position }
 {
     match char_at(run.text, position) {
-        Some(c) => is_word(c, run.unicode),
+        Some(c) => is_word_here(c, run.unicode),
         None => false,
+    }
+}
+
+/// Whether `\w` matches the character; without `unicode` these are the ASCII letters, digits and `_`.
+#[inline(always)]
+fn is_word_here(c: char, unicode: bool) -> bool
+    ensures { result ≡ in_class unicode (codes "\\w") false c }
+{
+    if unicode {
+        is_word_code(c as u32)
+    } else {
+        is_word(c, false)
     }
 }

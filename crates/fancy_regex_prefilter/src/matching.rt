@@ -16,7 +16,19 @@ use crate::run_context::RunContext;
 use fancy_regex_class::{CaseiLiteral, CharClassMatcher};
 
 /// The character that begins at the byte offset `position`, if there is one.
+#[inline(always)]
 pub(crate) fn char_at(text: &str, position: usize) -> Option<char>
+    ensures char { result ≡ hir_text.char_at text.now position }
+    ensures room { IfSome result (λ c. position + len_utf8 c < 2 ^ 64) }
+{
+    match ascii_at(text, position) {
+        Some(c) => Some(c),
+        None => wide_at(text, position),
+    }
+}
+
+/// The character that begins at the byte offset `position`, if there is one.
+fn wide_at(text: &str, position: usize) -> Option<char>
     ensures char { result ≡ hir_text.char_at text.now position }
     ensures room { IfSome result (λ c. position + len_utf8 c < 2 ^ 64) }
 {
@@ -29,6 +41,7 @@ pub(crate) fn char_at(text: &str, position: usize) -> Option<char>
 pub fn ascii_at(text: &str, position: usize) -> Option<char>
     ensures char { IfSome result (λ c. hir_text.char_at text.now position ≡ Some c) }
     ensures ascii { IfSome result (λ c. c < 128) }
+    ensures inside { IfSome result (λ _. position < length text.now) }
 {
     let byte = *text.as_bytes().get(position)?;
     if byte >= 128 {

@@ -83,12 +83,13 @@ impl Delegate {
 
     /// The byte offset at which the first match of the part from `input.first` on ends, whatever ends it; `None` if it does not match
     /// there. Where `for_any` says that only a match matters, it is the first one with each quantifier lazy. The input is to be
-    /// anchored, and to range over the whole text. What earlier searches left in the memory changes no answer, and nothing is
-    /// allocated where it has the room. The error is want of memory; the memory may be used again.
+    /// anchored, and to range over the whole text. `steps` grows by one for each look. What earlier searches left in the memory changes no
+    /// answer, and nothing is allocated where it has the room. The error is want of memory; the memory may be used again.
     pub fn end(
         &self,
         text: &str,
         input: &RunInput,
+        steps: &mut Steps,
         memory: &mut SearchMemory,
     ) -> Result<Option<usize>, AllocError>
         requires first { IsCharBoundary text.now input.now.first }
@@ -97,15 +98,16 @@ impl Delegate {
         ensures { IfOk result (λ found. found ≡ first_end (setting_for self.now.easy.unicode text.now input.now)
             (searched self.now.for_any (tree_of self.now.part)) input.now.first) }
     {
-        self.end_until(text, input, memory)
+        self.end_until(text, input, steps, memory)
     }
 
     /// The byte offset at which the first match of the part from `input.first` on that ends in range ends; `None` if there is none. The
-    /// input is to be anchored. The memory and the error are as of `end`.
+    /// input is to be anchored. `steps`, the memory and the error are as of `end`.
     pub fn end_until(
         &self,
         text: &str,
         input: &RunInput,
+        steps: &mut Steps,
         memory: &mut SearchMemory,
     ) -> Result<Option<usize>, AllocError>
         requires first { IsCharBoundary text.now input.now.first }
@@ -114,10 +116,7 @@ impl Delegate {
         ensures { IfOk result (λ found. found ≡ first_end_until (setting_for self.now.easy.unicode text.now input.now)
             (searched self.now.for_any (tree_of self.now.part)) input.now.range.end input.now.first) }
     {
-        let mut steps = Steps::new();
-        let found = self
-            .easy
-            .search_in(self.alloc, text, input, &mut steps, memory)?;
+        let found = self.easy.search_in(self.alloc, text, input, steps, memory)?;
         match found {
             Some(places) => {
                 let end = place_at(&places, 1);

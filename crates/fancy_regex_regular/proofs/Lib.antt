@@ -1,1 +1,3 @@
 pub mod RegularSpanLemmas
+pub mod RegularGroupLemmas
+pub mod BuildLemmas

@@ -8,18 +8,19 @@ use Rattle.fancy_regex_meaning.proofs.NextBoundaryLemmas.{from_here}
 use Rattle.fancy_regex_class.specs.RunInputs.{setting_for, search_for}
 use Rattle.fancy_regex_class.specs.declared.class.CharClassMatcher.{CharClassMatcher}
 use Rattle.fancy_regex_class.specs.declared.input.RunInput.{RunInput}
-use Rattle.fancy_regex_states.specs.Attempts.{View}
+use Rattle.fancy_regex_states.specs.Attempts.{View, Continuation, ShowsAll}
 use Rattle.fancy_regex_states.specs.declared.state.State.{State}
 use Rattle.fancy_regex_parts.specs.Find.{earliest}
-use Rattle.fancy_regex_parts.specs.Ways.{Ways, Explains, answer_end, ways_of, text_view}
+use Rattle.fancy_regex_parts.specs.Silent.{DoWhat}
+use Rattle.fancy_regex_parts.specs.Ways.{Explains, answer_end, ways_of, text_view}
 use Rattle.fancy_regex_parts.proofs.EmittedLemmas.{explains_of}
 use Rattle.fancy_regex_linear.specs.Easy.{rules_for}
 use Rattle.fancy_regex_linear.specs.EasyPatterns.{span_of_match}
-use Rattle.fancy_regex_linear.specs.Plain.{classes, re_of}
+use Rattle.fancy_regex_linear.specs.Plain.{IsRegular, classes, re_of}
 use Rattle.fancy_regex_linear.specs.RegularStates.{AreRegularStates}
 use Rattle.fancy_regex_linear.proofs.CharTestLemmas.{shows_all}
 use Rattle.fancy_regex_linear.proofs.RegularLemmas.{asking_view}
-use Rattle.fancy_regex_linear.proofs.RegularAnswerLemmas.{first_span_by_ends}
+use Rattle.fancy_regex_linear.proofs.RegularAnswerLemmas.{tried, first_span_by_ends}
 use Rattle.fancy_regex_linear.proofs.RegularStateLemmas.{first_is_final, does_by}
 use Rattle.fancy_regex_regular.specs.Starts.{last_start}
 
@@ -53,17 +54,22 @@ module _ (text : List ℕ) (input : RunInput) where
   all_starts true b = sym (one_start text input.first b)
   all_starts false b = refl
 
-  starts_are : (unicode : Bool) (pattern : Pattern) → IsCharBoundary text input.first → input.first ≤ input.range.end
+  pub starts_are : (unicode : Bool) (pattern : Pattern) → IsCharBoundary text input.first → input.first ≤ input.range.end
       → starts (setting_for unicode text input) pattern (search_for false input) ≡ boundaries text input.first (last_start input)
   starts_are unicode pattern b below = rw (le-ltb input.range.end input.first below) (all_starts input.anchored b)
 
--- The ways of the states of a pattern in a text: where the first start that has one begins and ends is the match.
+-- What the states of a pattern do in a text: where the first start that has a way begins and ends is the match.
 pub record IsSearched (unicode : Bool) (states : List State) (entry : ℕ) (matchers : List CharClassMatcher) (pattern : Pattern)
     (text : List ℕ) (input : RunInput) : Type 0 where
   pub view : View
-  pub ways : Ways
-  pub explains : Explains matchers (rules_for unicode false input) input.range.end states text view ways
-  pub first_is : earliest (ways.end entry) (boundaries text input.first (last_start input))
+  pub go : ℕ → Continuation
+  pub does : DoWhat view (length text) input.range.end states go
+  pub shows : ShowsAll matchers (rules_for unicode false input) text (text_view view)
+  pub first : view.longest ≡ false
+  pub explains : Explains matchers (rules_for unicode false input) input.range.end states text (text_view view) (ways_of go)
+  pub means : (regular : IsRegular pattern.tree) (p : ℕ) → p ≤ length text
+      → (go entry p).answer ≡ tried unicode text input pattern regular p
+  pub first_is : earliest ((ways_of go).end entry) (boundaries text input.first (last_start input))
       ≡ option_map span_of_match (first_match (setting_for unicode text input) pattern (search_for false input))
 
 module _ (unicode : Bool) (states : List State) (entry : ℕ) (matchers : List CharClassMatcher) (pattern : Pattern)
@@ -78,8 +84,12 @@ module _ (unicode : Bool) (states : List State) (entry : ℕ) (matchers : List C
       let final = first_is_final states entry re is.sound is.program in
       let shows = shows_all unicode false text input matchers (classes pattern.tree) is.matchers_are u in
       record {
-        view = text_view view;
-        ways = ways_of d.go;
+        view = view;
+        go = d.go;
+        does = record { zero = d.zero_is; final = final; agree = d.agree };
+        shows = shows;
+        first = refl;
+        means = λ regular p h. ap (λ r. r.answer) (d.means p h);
         explains = explains_of matchers (rules_for unicode false input) stop text view d.go refl shows states d.zero_is final d.agree;
         first_is =
             earliest_is ((ways_of d.go).end entry) (boundaries text input.first (last_start input))

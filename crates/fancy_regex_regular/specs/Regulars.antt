@@ -1,8 +1,8 @@
 -- Which pattern a regular one is of, and what its searches answer.
-use Rattle.std.specs.Prelude.{◌≡◌, ℕ, false, List, Option, option_map}
+use Rattle.std.specs.Prelude.{◌≡◌, ℕ, false, not, List, length, Option, option_map, ◌==◌}
 use Rattle.fancy_regex_meaning.specs.Groups.{Pattern}
 use Rattle.fancy_regex_meaning.specs.Searches.{first_match}
-use Rattle.fancy_regex_class.specs.RunInputs.{setting_for, search_for}
+use Rattle.fancy_regex_class.specs.RunInputs.{setting_for, search_for, match_slots}
 use Rattle.fancy_regex_class.specs.declared.input.RunInput.{RunInput}
 use Rattle.fancy_regex_parts.specs.declared.step.PartContext.{PartContext}
 use Rattle.fancy_regex_linear.specs.Easy.{rules_for}
@@ -10,10 +10,11 @@ use Rattle.fancy_regex_linear.specs.EasyPatterns.{span_of_match}
 use Rattle.fancy_regex_linear.specs.RegularStates.{AreRegularStates}
 use Rattle.fancy_regex_regular.specs.declared.regular.Regular.{Regular}
 
--- it has the states and matchers of the pattern
-abbrev pub IsRegularOf : Regular → Pattern → Type 0
-IsRegularOf regular pattern =
-    AreRegularStates regular.unicode regular.table.states.items regular.entry regular.matchers.items pattern
+-- it has the states and matchers of the pattern, and slots for its groups
+pub record IsRegularOf (regular : Regular) (pattern : Pattern) : Type 0 where
+  pub states : AreRegularStates regular.unicode regular.table.states.items regular.entry regular.matchers.items pattern
+  pub groups : regular.groups ≡ length pattern.groups
+  pub whole : regular.whole ≡ not (pattern.first_group == 0)
 
 -- what a search of this pattern reads and does not change
 pub record IsContextOf (regular : Regular) (input : RunInput) (context : PartContext) : Type 0 where
@@ -26,3 +27,8 @@ pub record IsContextOf (regular : Regular) (input : RunInput) (context : PartCon
 abbrev pub IsSpan : Regular → List ℕ → RunInput → Option (ℕ × ℕ) → Type 0
 IsSpan regular text input found = (pattern : Pattern) → IsRegularOf regular pattern
     → found ≡ option_map span_of_match (first_match (setting_for regular.unicode text input) pattern (search_for false input))
+
+-- the slots that were found are those of that match
+abbrev pub IsSlots : Regular → List ℕ → RunInput → Option (List ℕ) → Type 0
+IsSlots regular text input found = (pattern : Pattern) → IsRegularOf regular pattern
+    → found ≡ option_map (match_slots pattern) (first_match (setting_for regular.unicode text input) pattern (search_for false input))

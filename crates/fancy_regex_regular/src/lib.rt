@@ -3,6 +3,8 @@
 //! memory alone.
 #![tactic(auto)]
 
+mod memory;
 mod regular;
 
+pub use memory::RegularMemory;
 pub use regular::Regular;

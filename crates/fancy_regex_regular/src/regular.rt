@@ -1,15 +1,18 @@
 //! Compiled regular patterns, and their searches.
 
-ghost use Rattle.std.specs.Prelude.{◌≡◌, ◌<◌, ◌≤◌, Bool, length, IfOk, IfSome, IsCharBoundary};
+ghost use Rattle.std.specs.Prelude.{◌≡◌, ◌-◌, ◌*◌, ◌^◌, ◌<◌, ◌≤◌, Bool, length, replicate, IfOk, IfSome, IsCharBoundary, option_map, slice_set};
 ghost use Rattle.fancy_regex_tree.specs.Tree.{Tree};
+ghost use Rattle.fancy_regex_linear.specs.Easy.{found_slots, found_at};
+ghost use Rattle.fancy_regex_parts.specs.Silent.{PartsAreSilent};
 ghost use Rattle.fancy_regex_parts.specs.Tables.{IsTable};
-ghost use Rattle.fancy_regex_regular.specs.TableProps.{table_prop};
+ghost use Rattle.fancy_regex_regular.specs.TableProps.{table_prop, silent_prop};
 ghost use Rattle.fancy_regex_regular.specs.Starts.{last_start as last_start_of};
 
+use crate::memory::RegularMemory;
 use fancy_regex_class::{CharClassMatcher, Counted, RunInput, Steps};
 use fancy_regex_info::{CompileError, CompileOptions, Info};
 use fancy_regex_linear::RegularStates;
-use fancy_regex_parts::{PartContext, PartMemory, PartTable, find};
+use fancy_regex_parts::{PartContext, PartTable, find, parts_are_silent, walk};
 use fancy_regex_states::Rules;
 use std::alloc::{AllocError, Global};
 
@@ -21,21 +24,26 @@ pub struct Regular {
     /// The state at which an attempt begins.
     entry: usize,
     matchers: Vec<CharClassMatcher>,
+    /// The number of capture groups in an answer.
+    groups: usize,
+    /// Whether group 0 is the whole match.
+    whole: bool,
     unicode: bool,
     ghost right: { IsTable table } by { table_prop table },
     ghost inside: { entry < length table.states.items },
+    ghost silent: { PartsAreSilent table.states.items } by { silent_prop table.states.items },
 }
 
 impl Regular {
-    ghost use Rattle.fancy_regex_regular.specs.Regulars.{IsRegularOf, IsContextOf, IsSpan};
+    ghost use Rattle.fancy_regex_regular.specs.Regulars.{IsRegularOf, IsContextOf, IsSpan, IsSlots};
     ghost use Rattle.fancy_regex_info.specs.Analysis.{analysis};
     ghost use Rattle.fancy_regex_info.specs.Infos.{info_of};
     ghost use Rattle.fancy_regex_info.specs.Views.{pattern_in};
 
     /// Compiles an analyzed pattern; `None` where the longest match is wanted, or where the pattern does not become states with parts:
     /// where its weight is above 4,000, or it has more than characters, assertions, look-behinds for one character, look-aheads, groups,
-    /// atomic groups, alternations and repeats of these. The error is `InnerError` with the text of a class that `regex` refuses, or
-    /// `Memory`.
+    /// atomic groups, alternations and repeats of these, or a capture group in a look-ahead or in an atomic group. The error is
+    /// `InnerError` with the text of a class that `regex` refuses, or `Memory`.
     pub fn if_supported(
         alloc: Global,
         info: &Info<'_>,
@@ -48,7 +56,8 @@ impl Regular {
         if options.leftmost_longest {
             return Ok(None);
         }
-        let Some(made) = RegularStates::new(alloc, info, options)? else {
+        let found = RegularStates::new(alloc, info, options)?;
+        let Some(made) = found else {
             return Ok(None);
         };
         let RegularStates {
@@ -59,15 +68,69 @@ impl Regular {
         if entry >= states.len() {
             return Ok(None);
         }
-        match PartTable::new(alloc, states)? {
+        let silent = parts_are_silent(alloc, &states)?;
+        if !silent {
+            return Ok(None);
+        }
+        let built = PartTable::new(alloc, states)?;
+        match built {
             Some(table) => Ok(Some(Regular {
                 table,
                 entry,
                 matchers,
+                groups: info.end_group(),
+                whole: info.start_group() != 0,
                 unicode: options.unicode,
             })),
             None => Ok(None),
         }
+    }
+
+    /// Searches the text, and answers the capture groups of the first match: two byte offsets for each group, both `usize::MAX` if the
+    /// group is unset; `None` if there is no match. The memory may have been used by other searches before, of this pattern or another:
+    /// the answer is the same. Where it has the room, only the answer is allocated. The error is want of memory; the memory may be used
+    /// again.
+    pub fn search_in(
+        &self,
+        alloc: Global,
+        text: &str,
+        input: &RunInput,
+        memory: &mut RegularMemory,
+    ) -> Result<Option<Vec<usize>>, AllocError>
+        requires first { IsCharBoundary text.now input.now.first }
+        requires range { input.now.range.end ≤ length text.now }
+        ensures { IfOk result (λ found. IsSlots self.now text.now input.now (option_map (λ v. v.items) found)) }
+    {
+        if input.first > input.range.end {
+            return Ok(None);
+        }
+        let context = self.context(input);
+        memory.parts.restart(&context, input.first);
+        let mut steps = Steps::new();
+        let mut counted = Counted::new(text, &mut steps);
+        let last = last_start(input);
+        let found = find(
+            &context,
+            &mut counted,
+            &mut memory.parts,
+            self.entry,
+            input.first,
+            last,
+        )?;
+        let Some((start, end)) = found else {
+            return Ok(None);
+        };
+        let mut slots = unset_slots(alloc, self.groups)?;
+        walk(
+            &context,
+            &mut counted,
+            &mut memory.parts,
+            &mut memory.walked,
+            self.entry,
+            start,
+            &mut slots,
+        )?;
+        Ok(Some(self.places(slots, start, end)))
     }
 
     /// Where the first match of a search starts and ends, as byte offsets; `None` if there is none. The memory may have been used by
@@ -76,7 +139,7 @@ impl Regular {
         &self,
         text: &str,
         input: &RunInput,
-        memory: &mut PartMemory,
+        memory: &mut RegularMemory,
     ) -> Result<Option<(usize, usize)>, AllocError>
         requires first { IsCharBoundary text.now input.now.first }
         requires range { input.now.range.end ≤ length text.now }
@@ -86,17 +149,17 @@ impl Regular {
             return Ok(None);
         }
         let context = self.context(input);
-        memory.restart(&context, input.first);
+        let parts = &mut memory.parts;
+        parts.restart(&context, input.first);
         let mut steps = Steps::new();
         let mut counted = Counted::new(text, &mut steps);
-        let last = last_start(input);
         let span = find(
             &context,
             &mut counted,
-            memory,
+            parts,
             self.entry,
             input.first,
-            last,
+            last_start(input),
         )?;
         Ok(span)
     }
@@ -116,6 +179,36 @@ impl Regular {
             },
             stop: input.range.end,
         }
+    }
+
+    /// The byte offsets of the groups of a match with these slots.
+    fn places(&self, mut slots: Vec<usize>, start: usize, end: usize) -> Vec<usize>
+        ensures { result.items ≡ found_slots self.now.whole (found_at start end slots.items) }
+    {
+        if self.whole {
+            put(&mut slots, 0, start);
+            put(&mut slots, 1, end);
+        }
+        slots
+    }
+}
+
+/// The slots of so many groups that are all unset. The error is want of memory.
+fn unset_slots(alloc: Global, groups: usize) -> Result<Vec<usize>, AllocError>
+    ensures { IfOk result (λ slots. slots.items ≡ replicate (2 * groups) (2 ^ 64 - 1)) }
+{
+    let mut slots = Vec::new(alloc);
+    slots.resize(groups.saturating_mul(2), usize::MAX)?;
+    Ok(slots)
+}
+
+/// Writes to a slot, if it exists.
+#[tactic(auto, using(std::proofs::lemmas::List::set_past))]
+fn put(slots: &mut Vec<usize>, slot: usize, value: usize)
+    ensures { slots.new.items ≡ slice_set slots.old.items slot value }
+{
+    if slot < slots.len() {
+        slots[slot] = value;
     }
 }
 

@@ -74,6 +74,7 @@ enum Replacement {
     Replacen(usize),
     ReplaceAll,
     TryReplacen(usize),
+    ReplacenBy(usize),
 }
 
 /// A replacement of matches by `o`: the call, the text, for how many matches it calls its function, and what it makes of the text.
@@ -81,24 +82,26 @@ enum Replacement {
 pub struct ReplacementRow(Replacement, &'static str, u8, &'static str);
 
 /// Replacements of `a`.
-pub static OF_A: [ReplacementRow; 8] = [
+pub static OF_A: [ReplacementRow; 9] = [
     ReplacementRow(Replacement::Replace, "banana", 1, "bonana"),
     ReplacementRow(Replacement::Replacen(1), "banana", 1, "bonana"),
     ReplacementRow(Replacement::Replacen(2), "banana", 2, "bonona"),
     ReplacementRow(Replacement::ReplaceAll, "banana", 3, "bonono"),
     ReplacementRow(Replacement::TryReplacen(1), "banana", 1, "bonana"),
     ReplacementRow(Replacement::TryReplacen(2), "banana", 2, "bonona"),
+    ReplacementRow(Replacement::ReplacenBy(2), "banana", 2, "bonona"),
     ReplacementRow(Replacement::ReplaceAll, "been", 0, "been"),
     ReplacementRow(Replacement::TryReplacen(2), "", 0, ""),
 ];
 
 /// Replacements of `a*`, which also matches no character, but not where the match before ended.
-pub static OF_ANY_A: [ReplacementRow; 6] = [
+pub static OF_ANY_A: [ReplacementRow; 7] = [
     ReplacementRow(Replacement::Replace, "baac", 1, "obaac"),
     ReplacementRow(Replacement::Replacen(2), "baac", 2, "oboc"),
     ReplacementRow(Replacement::ReplaceAll, "baac", 3, "oboco"),
     ReplacementRow(Replacement::TryReplacen(3), "baac", 3, "oboco"),
     ReplacementRow(Replacement::TryReplacen(1), "aa", 1, "o"),
+    ReplacementRow(Replacement::ReplacenBy(2), "baac", 2, "oboc"),
     ReplacementRow(Replacement::ReplaceAll, "", 1, "o"),
 ];
 
@@ -108,7 +111,7 @@ fn replaced<'t, R: Replacer>(
     regex: &Regex,
     text: &'t str,
     replacement: Replacement,
-    replacer: R,
+    mut replacer: R,
 ) -> Result<CowStr<'t>>
     requires { R.is_ready replacer }
 {
@@ -117,6 +120,7 @@ fn replaced<'t, R: Replacer>(
         Replacement::Replacen(limit) => regex.replacen(alloc, text, limit, replacer),
         Replacement::ReplaceAll => regex.replace_all(alloc, text, replacer),
         Replacement::TryReplacen(limit) => regex.try_replacen(alloc, text, limit, replacer),
+        Replacement::ReplacenBy(limit) => regex.replacen_by(alloc, text, limit, &mut replacer),
     }
 }
 
@@ -142,11 +146,14 @@ pub fn calls_for_the_replaced(alloc: Global, regex: &Regex, rows: &[ReplacementR
     true
 }
 
-/// A replacer that has the text `o`, and notes how often it is asked for it and how often it is called.
+/// A replacer by `o` that tells this text, or has a call made for each match. It notes how often it is asked for its text, how often it
+/// is called, and whether it is called before it is asked.
 #[derive(Drop)]
 struct Noting<'n> {
+    tells: bool,
     asked: &'n Cell<u8>,
     called: &'n Cell<u8>,
+    is_called_first: &'n Cell<bool>,
 }
 
 impl Replacer for Noting<'_> {
@@ -163,33 +170,80 @@ impl Replacer for Noting<'_> {
         dst: &mut String,
     ) -> Result<()> {
         self.called.set(self.called.get().wrapping_add(1));
+        if self.asked.get() == 0 {
+            self.is_called_first.set(true);
+        }
         dst.push_str("o")?;
         Ok(())
     }
 
     fn no_expansion(&self) -> Option<CowStr<'_>> {
         self.asked.set(self.asked.get().wrapping_add(1));
-        Some(CowStr::Borrowed("o"))
+        if self.tells {
+            Some(CowStr::Borrowed("o"))
+        } else {
+            None
+        }
     }
 }
 
-/// Whether each replacement by a replacer that has a text asks for it once and calls nothing, also where it is lent.
+/// How a replacer is handed over.
+#[derive(Clone, Copy)]
+struct Handing {
+    /// Whether it tells its text.
+    tells: bool,
+    /// Whether it is lent by `by_ref`.
+    is_lent: bool,
+}
+
+static HANDINGS: [Handing; 4] = [
+    Handing {
+        tells: true,
+        is_lent: false,
+    },
+    Handing {
+        tells: true,
+        is_lent: true,
+    },
+    Handing {
+        tells: false,
+        is_lent: false,
+    },
+    Handing {
+        tells: false,
+        is_lent: true,
+    },
+];
+
+/// Whether a replacement asks its replacer for a text once, before it calls it, and calls it for each match that it replaces, or for
+/// none where it tells its text.
+fn asks_first(alloc: Global, regex: &Regex, row: ReplacementRow, handing: Handing) -> bool {
+    let ReplacementRow(replacement, text, matches, whole) = row;
+    let asked = Cell::new(0u8);
+    let called = Cell::new(0u8);
+    let is_called_first = Cell::new(false);
+    let mut noting = Noting {
+        tells: handing.tells,
+        asked: &asked,
+        called: &called,
+        is_called_first: &is_called_first,
+    };
+    let made = if handing.is_lent {
+        replaced(alloc, regex, text, replacement, noting.by_ref())
+    } else {
+        replaced(alloc, regex, text, replacement, noting)
+    };
+    let calls = if handing.tells { 0 } else { matches };
+    is_made(made, whole) && asked.get() == 1 && called.get() == calls && !is_called_first.get()
+}
+
+/// Whether each replacement asks its replacer once, first, and calls it only where it tells no text, also where it is lent.
 pub fn asks_once(alloc: Global, regex: &Regex, rows: &[ReplacementRow]) -> bool {
     for row in rows {
-        let ReplacementRow(replacement, text, _, whole) = *row;
-        let asked = Cell::new(0u8);
-        let called = Cell::new(0u8);
-        let mut noting = Noting {
-            asked: &asked,
-            called: &called,
-        };
-        let lent = replaced(alloc, regex, text, replacement, noting.by_ref());
-        let by_reference = is_made(lent, whole);
-        let is_asked = asked.get() == 1;
-        let given = replaced(alloc, regex, text, replacement, noting);
-        let by_value = is_made(given, whole);
-        if !by_reference || !by_value || !is_asked || asked.get() != 2 || called.get() != 0 {
-            return false;
+        for handing in HANDINGS.iter() {
+            if !asks_first(alloc, regex, *row, *handing) {
+                return false;
+            }
         }
     }
     true

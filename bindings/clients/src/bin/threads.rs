@@ -44,7 +44,17 @@ impl Shared {
         let anchored = self.pair.find_input(input.anchored(true))?;
         assert!(anchored.is_none());
         self.search_slowly(thread, round)?;
-        Ok(5)
+        self.search_all(thread, round)?;
+        Ok(6)
+    }
+
+    /// A search for all matches.
+    fn search_all(&self, thread: usize, round: usize) -> Result<(), Error> {
+        let text = format!("a={thread} b={round} c=0");
+        let pairs = self.pair.find_iter(&text).map(|pair| Ok(pair?.as_str()));
+        let pairs: Vec<&str> = pairs.collect::<Result<_, Error>>()?;
+        assert_eq!(pairs, text.split(' ').collect::<Vec<_>>());
+        Ok(())
     }
 
     /// A search that passes the limit in every second round.

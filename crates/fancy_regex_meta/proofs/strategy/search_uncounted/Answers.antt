@@ -1,13 +1,11 @@
-use Rattle.std.proofs.Common.{◌≡◌, ◌∙◌, ap, ℕ, []}
+use Rattle.std.proofs.Common.{◌≡◌, ◌∙◌, ap}
 use Rattle.std.specs.Prelude.{option_map}
 use Rattle.fancy_regex_meaning.specs.Groups.{pattern_of}
 use Rattle.fancy_regex_meaning.specs.Searches.{first_match}
 use Rattle.fancy_regex_class.specs.RunInputs.{setting_for, match_slots}
 use Rattle.fancy_regex_meta.specs.FoundParts.{parts_in}
 use Rattle.fancy_regex_meta.specs.Strategies.{search_of}
-use Rattle.fancy_regex_linear.specs.EasyPatterns.{span_of_match}
 use Rattle.fancy_regex_meta.proofs.MatchOffsetLemmas.{first-parts}
-use Rattle.fancy_regex_meta.proofs.ProgramLemmas.{span-parts}
 use Rattle.fancy_regex_meta.proofs.strategy.search_uncounted.Goals as goal
 
 pub returns-in_ok-found-in-Groups : goal.returns-in_ok-found-in-Groups

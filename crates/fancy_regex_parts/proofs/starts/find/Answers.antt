@@ -44,6 +44,9 @@ returns-in-Some-clause-found c view ways has true_of =
     sym (invariant.left view ways has true_of
     ∙ (found_here (ways.end c.args.entry) c.starts.at (looked_text c.args.text.now) c.args.last c.in-Some.end invariant.place.boundary invariant.range (sym answer ∙ c.in-Some.is)).0)
 
+pub returns-in-Some-clause-place : goal.returns-in-Some-clause-place
+returns-in-Some-clause-place c = c.starts.invariant.place
+
 pub returns-in-None-clause-found : goal.returns-in-None-clause-found
 returns-in-None-clause-found c view ways has true_of =
     let invariant = c.starts.invariant in

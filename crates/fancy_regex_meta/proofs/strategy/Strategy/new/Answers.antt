@@ -1,5 +1,5 @@
 use Rattle.std.proofs.Common.{◌≡◌, refl, ◌+◌, ◌*◌, ◌∙◌, true, false, sym, ap, subst, true≢false}
-use Rattle.std.proofs.lemmas.Result.{MatchResult-from_err}
+use Rattle.std.proofs.lemmas.Result.{MatchResult-from_err, IfOk-weaker, IfErr-weaker}
 use Rattle.fancy_regex_tree.specs.Tree.{Tree}
 use Rattle.fancy_regex_meaning.specs.Choices.{program_nodes}
 use Rattle.fancy_regex_meaning.specs.Groups.{pattern_of}
@@ -13,10 +13,9 @@ use Rattle.fancy_regex_info.specs.declared.options.CompileOptions.{CompileOption
 use Rattle.fancy_regex_analysis.proofs.PartErrorLemmas.{gives}
 use Rattle.fancy_regex_linear.specs.Refusals.{IsTaken, IsCause}
 use Rattle.fancy_regex_meta.specs.Refusals.{compile_options_of, IsCompileRefusal}
-use Rattle.fancy_regex_meta.specs.EasyPatterns.{uses_easy, is_easy_strategy}
+use Rattle.fancy_regex_meta.specs.EasyPatterns.{uses_easy}
 use Rattle.fancy_regex_meta.specs.SeekTables.{IsSeekTable}
 use Rattle.fancy_regex_meta.specs.Strategies.{IsCompiled}
-use Rattle.fancy_regex_meta.proofs.StrategyLemmas.{executes_either, some_matcher, not_easy_either, cap_either}
 use Rattle.fancy_regex_meta.proofs.AnalysisLemmas.{hard_off, not_empty_off, easy_on, analyzed_tree}
 use Rattle.fancy_regex_meta.proofs.strategy.Strategy.new.Goals as goal
 use Rattle.fancy_regex_meta.proofs.strategy.Strategy.new.Goals.{Joined-then-info, then-info-via-then-info, then-info-via-else-info+then-options}
@@ -30,7 +29,9 @@ returns-clause-runs c t is refers order = (
 )
 
 pub returns-then-info-clause-runs : goal.returns-then-info-clause-runs
-returns-then-info-clause-runs c t is refers order =
+returns-then-info-clause-runs c =
+    IfOk-weaker c.hard_strategy.result _ _
+    (λ strategy runs t is refers order.
     let made = c.in_ok-prog.ensures.tree false t is in
     let compiled : IsCompiled c.in_ok-prog.prog t = record {
       program = rw (c.compile_options.ensures.anchored) at made.program;
@@ -38,15 +39,15 @@ returns-then-info-clause-runs c t is refers order =
       writable = made.written.writable refers;
       placed = made.written.placed;
     } in
-    rw c.linear_or_program.ensures
-    (executes_either c.args.options.now t c.in_ok-prog.prog _ c.in_ok-linear.linear (
+    runs t is (
       compiled,
       c.in_ok-prog.ensures.unicode ∙ c.compile_options.ensures.unicode,
       c.in_ok-prog.ensures.longest ∙ c.compile_options.ensures.longest,
       subst (λ u. IsSeekTable c.args.options.now u c.in_ok-seek.seek) (analyzed_tree c.args.info.now t is) c.in_ok-seek.ensures.table,
       order,
       refl,
-    ) (some_matcher c.args.options.now c.args.info.now t c.in_ok-linear.linear is c.in_ok-linear.ensures.matcher))
+    ))
+    c.hard_strategy.ensures.runs
 
 -- on this branch the tree needs a program
 needs_program : (c : Joined-then-info) (t : Tree) → info_of c.args.info.now ≡ analysis false t → uses_easy c.args.options.now t ≡ false
@@ -61,12 +62,16 @@ returns-in_err-prog-clause-refused c =
     (λ cause t is e. absurd (true≢false (sym e ∙ needs_program (goal.at.returns-in_err-prog-clause-refused c).Joined-then-info t is)))
 
 pub returns-then-info-clause-served : goal.returns-then-info-clause-served
-returns-then-info-clause-served c t is =
-    ap is_easy_strategy c.linear_or_program.ensures ∙ not_easy_either c.in_ok-prog.prog _ c.in_ok-linear.linear
-    ∙ sym (needs_program (goal.at.returns-then-info-clause-served c).Joined-then-info t is)
+returns-then-info-clause-served c =
+    IfOk-weaker c.hard_strategy.result _ _
+    (λ strategy served t is. served ∙ sym (needs_program (goal.at.returns-then-info-clause-served c).Joined-then-info t is))
+    c.hard_strategy.ensures.served
 
 pub returns-then-info-clause-taken : goal.returns-then-info-clause-taken
-returns-then-info-clause-taken c t is e = absurd (true≢false (sym e ∙ needs_program (goal.at.returns-then-info-clause-taken c).Joined-then-info t is))
+returns-then-info-clause-taken c =
+    IfOk-weaker c.hard_strategy.result _ _
+    (λ strategy served t is e. absurd (true≢false (sym e ∙ needs_program (goal.at.returns-then-info-clause-taken c).Joined-then-info t is)))
+    c.hard_strategy.ensures.served
 
 pub returns-in_err-new-clause-refused : goal.returns-in_err-new-clause-refused
 returns-in_err-new-clause-refused c =
@@ -100,16 +105,19 @@ returns-in_err-new-clause-long c =
 
 pub returns-then-info-clause-cap : goal.returns-then-info-clause-cap
 returns-then-info-clause-cap c =
-    rw c.linear_or_program.ensures
-    (cap_either c.args.options.now.max_prog_size c.in_ok-prog.prog _ c.in_ok-linear.linear
+    IfOk-weaker c.hard_strategy.result _ _
+    (λ strategy keeps. keeps c.args.options.now.max_prog_size
     (subst (λ most. KeepsCap most c.in_ok-prog.prog) c.compile_options.ensures.cap c.in_ok-prog.ensures.cap))
+    c.hard_strategy.ensures.cap
 
 mode_is : (k l : CompileOptions) → k ≡ l → l.bytes_mode ≡ k.bytes_mode
 mode_is k l e = ap (λ (o : CompileOptions). o.bytes_mode) (sym e)
 
 pub returns-then-info-clause-mode : goal.returns-then-info-clause-mode
-returns-then-info-clause-mode c t is =
-    mode_is c.compile_options.result (compile_options_of c.args.options.now c.args.calls) c.compile_options.ensures.all ∙ c.in_ok-prog.ensures.mode
+returns-then-info-clause-mode c =
+    IfOk-weaker c.hard_strategy.result _ _
+    (λ strategy served t is. mode_is c.compile_options.result (compile_options_of c.args.options.now c.args.calls) c.compile_options.ensures.all ∙ c.in_ok-prog.ensures.mode)
+    c.hard_strategy.ensures.served
 
 pub returns-clause-mode : goal.returns-clause-mode
 returns-clause-mode c t is =
@@ -131,8 +139,10 @@ returns-in_err-new-clause-reason c =
     (λ cause t is e. absurd (true≢false (sym (easy_on c.args.options.now c.args.info.now t is c.if-info.false c.if-options.false) ∙ e)))
 
 pub returns-then-info-clause-classes : goal.returns-then-info-clause-classes
-returns-then-info-clause-classes c t is e clear =
-    subst (λ u. ReadsClasses u (pattern_of t).groups t) c.compile_options.ensures.unicode (c.in_ok-prog.ensures.classes false t is clear)
+returns-then-info-clause-classes c =
+    IfOk-weaker c.hard_strategy.result _ _
+    (λ strategy served t is e clear. subst (λ u. ReadsClasses u (pattern_of t).groups t) c.compile_options.ensures.unicode (c.in_ok-prog.ensures.classes false t is clear))
+    c.hard_strategy.ensures.served
 
 pub returns-clause-classes : goal.returns-clause-classes
 returns-clause-classes c t is e =
@@ -162,26 +172,21 @@ returns-in_err-seek-clause-reason c =
     c.from_residual-in_err-seek.ensures.1
     (λ t is e clear. subst (IsCompileRefusal (compile_options_of o c.args.calls) t) (sym c.in_err-seek.ensures.memory) tt)
 
--- nor does the matcher fail for anything else
-pub returns-in_err-linear-clause-refused : goal.returns-in_err-linear-clause-refused
-returns-in_err-linear-clause-refused c =
-    MatchResult-from_err c.from_residual-in_err-linear.result _ _ c.from_residual-in_err-linear.ensures.0
-    (λ cause t is e. absurd (true≢false (sym e ∙ needs_program (goal.at.returns-in_err-linear-clause-refused c).Joined-then-info t is)))
+-- nor does what is made beside the program
+pub returns-then-info-clause-refused : goal.returns-then-info-clause-refused
+returns-then-info-clause-refused c =
+    IfErr-weaker c.hard_strategy.result _ _
+    (λ cause memory t is e. absurd (true≢false (sym e ∙ needs_program (goal.at.returns-then-info-clause-refused c).Joined-then-info t is)))
+    c.hard_strategy.ensures.memory
 
-pub returns-in_err-linear-clause-long : goal.returns-in_err-linear-clause-long
-returns-in_err-linear-clause-long c =
-    let o = c.args.options.now in
-    let i = c.args.info.now in
-    gives c.from_residual-in_err-linear.result c.in_err-linear.field-0.0
-    (λ cause. (t : Tree) → info_of i ≡ analysis false t → uses_easy o t ≡ false → is_too_complex cause ≡ true → IsPastCap o.max_prog_size (16 * (program_nodes (pattern_of t) + 1)))
-    c.from_residual-in_err-linear.ensures.1
-    (λ t is e long. absurd (true≢false (sym long ∙ ap is_too_complex c.in_err-linear.ensures.memory)))
+pub returns-then-info-clause-long : goal.returns-then-info-clause-long
+returns-then-info-clause-long c =
+    IfErr-weaker c.hard_strategy.result _ _
+    (λ cause memory t is e long. absurd (true≢false (sym long ∙ ap is_too_complex memory)))
+    c.hard_strategy.ensures.memory
 
-pub returns-in_err-linear-clause-reason : goal.returns-in_err-linear-clause-reason
-returns-in_err-linear-clause-reason c =
-    let o = c.args.options.now in
-    let i = c.args.info.now in
-    gives c.from_residual-in_err-linear.result c.in_err-linear.field-0.0
-    (λ cause. (t : Tree) → info_of i ≡ analysis false t → uses_easy o t ≡ false → IsClear (pattern_of t).groups t → IsCompileRefusal (compile_options_of o c.args.calls) t cause)
-    c.from_residual-in_err-linear.ensures.1
-    (λ t is e clear. subst (IsCompileRefusal (compile_options_of o c.args.calls) t) (sym c.in_err-linear.ensures.memory) tt)
+pub returns-then-info-clause-reason : goal.returns-then-info-clause-reason
+returns-then-info-clause-reason c =
+    IfErr-weaker c.hard_strategy.result _ _
+    (λ cause memory t is e clear. subst (IsCompileRefusal (compile_options_of c.args.options.now c.args.calls) t) (sym memory) tt)
+    c.hard_strategy.ensures.memory

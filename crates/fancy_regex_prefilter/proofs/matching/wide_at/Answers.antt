@@ -3,7 +3,7 @@ use Rattle.std.specs.Char.{IsScalar}
 use Rattle.std.proofs.lemmas.Bool.{false≢true}
 use Rattle.fancy_regex_class.proofs.AdjacentCharLemmas.{is_char_at}
 use Rattle.fancy_regex_prefilter.proofs.BoundaryLemmas.{none_at}
-use Rattle.fancy_regex_prefilter.proofs.matching.char_at.Goals as goal
+use Rattle.fancy_regex_prefilter.proofs.matching.wide_at.Goals as goal
 
 pub returns-in_err-rest-clause-char : goal.returns-in_err-rest-clause-char
 returns-in_err-rest-clause-char c =

@@ -1,0 +1,91 @@
+//! How much work a run may do.
+
+use fancy_regex_class::Steps;
+use fancy_regex_prefilter::cursor::Cursor;
+
+/// How much work a run may do, so that its time grows no faster than its text. Each time that the run goes back counts one, and one
+/// more for each byte that it goes back by, since it reads a byte again only after it has gone back over it. Each look of a delegated part
+/// at the text counts one.
+#[derive(Clone, Copy, Debug)]
+pub struct Allowance {
+    /// The work that may be done before the start goes on.
+    pub first: u64,
+    /// The work that may be done besides for each byte that the start goes on by.
+    pub per_byte: u64,
+}
+
+impl Allowance {
+    /// More work than any run does.
+    pub const UNBOUNDED: Allowance = Allowance {
+        first: u64::MAX,
+        per_byte: 0,
+    };
+}
+
+/// What is left of the work that a run may do.
+#[derive(Clone, Copy)]
+pub(crate) struct Work {
+    /// The rest; 0 where the allowance is exhausted.
+    left: u64,
+    /// What it grows by for each byte that the start goes on by.
+    per_byte: u64,
+    /// The last start so far, a byte offset.
+    start: usize,
+    /// The looks of delegated parts so far.
+    looks: u64,
+}
+
+impl Work {
+    /// What a run that begins at this start may do.
+    pub fn new(allowance: Allowance, start: usize) -> Work {
+        Work {
+            left: allowance.first,
+            per_byte: allowance.per_byte,
+            start,
+            looks: 0,
+        }
+    }
+
+    /// Whether no work is left.
+    #[inline(always)]
+    pub fn is_exhausted(&self) -> bool {
+        self.left == 0
+    }
+
+    /// Counts a step, from the byte offset `before` to the cursor, if it led back.
+    #[inline(always)]
+    pub fn step(&mut self, before: usize, cursor: &Cursor, looks: &Steps) {
+        if cursor.position < before {
+            self.go_back(before, cursor, looks);
+        }
+    }
+
+    /// Counts that the run has gone back from the byte offset `reached` to the cursor, and the looks that delegated parts have made since
+    /// it was asked last.
+    #[inline(always)]
+    pub fn go_back(&mut self, reached: usize, cursor: &Cursor, looks: &Steps) {
+        if cursor.pc == 0 {
+            self.go_on(cursor.position);
+        }
+        let distance = reached.saturating_sub(cursor.position) as u64;
+        let looks = looks.count();
+        let work = distance
+            .saturating_add(1)
+            .saturating_add(looks.saturating_sub(self.looks));
+        self.left = self.left.saturating_sub(work);
+        self.looks = looks;
+    }
+
+    /// Adds what may be done since the start went on to this one, if it did.
+    #[inline(always)]
+    fn go_on(&mut self, start: usize) {
+        if start <= self.start {
+            return;
+        }
+        let distance = (start - self.start) as u64;
+        self.left = self
+            .left
+            .saturating_add(distance.saturating_mul(self.per_byte));
+        self.start = start;
+    }
+}
