@@ -6,3 +6,4 @@ pub mod WordLemmas
 pub mod OneCharLemmas
 pub mod SkipLemmas
 pub mod RangeBitLemmas
+pub mod FoldLemmas

@@ -1,5 +1,5 @@
 -- The members of a class, by the meaning that `regex` gives its text; the folding of characters; and the setting of both.
-use Rattle.std.specs.Prelude.{List, None, false, ◌≡◌, ℕ, ◌+◌, ◌&&◌, Bool, ◌++◌, Option, option_map, is_some, codes, chars, encode_utf8, nat_le, if◌then◌else◌}
+use Rattle.std.specs.Prelude.{List, None, false, ◌≡◌, ℕ, ◌+◌, ◌&&◌, ◌||◌, ◌==◌, not, nat_lt, Bool, ◌++◌, Option, option_map, is_some, codes, chars, encode_utf8, nat_le, if◌then◌else◌}
 use Rattle.std.specs.Char.{IsScalar}
 use Rattle.regex_hir.specs.Text.{is_some_and}
 use Rattle.regex_hir.specs.Re.{Re}
@@ -48,6 +48,10 @@ ascii_lower c = if nat_le 65 c && nat_le c 90 then c + 32 else c
 -- what two characters share that differ in case alone; outside Unicode mode only ASCII letters have case
 abbrev pub folded : Bool → ℕ → ℕ
 folded unicode c = if unicode then simple_fold c else ascii_lower c
+
+-- no character that is not ASCII has this folding: in Unicode mode the long s and the Kelvin sign fold to two ASCII letters
+abbrev pub folds_ascii : Bool → ℕ → Bool
+folds_ascii unicode folding = if folding == 115 || folding == 107 then not unicode else nat_lt folding 128
 
 -- A regex that is read from the text of a class matches the text of a character exactly where the class has it.
 abbrev pub RegexMatchesMembers : Type 0

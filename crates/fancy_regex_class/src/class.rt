@@ -1,7 +1,7 @@
 //! Matchers for character classes. Membership is decided once by `regex`'s parser, and is then looked up: in a table of the ASCII
 //! characters, in a bitmap of those below U+10000 where the class has many ranges, or by a search in the sorted ranges.
 
-ghost use Rattle.std.specs.Prelude.{◌≡◌, ℕ, ◌<◌, false, [], ◌∷◌, ◌++◌, chars, string_bytes, IfOk, IfErr, IfSome, IsTrue, slice_index_or};
+ghost use Rattle.std.specs.Prelude.{◌≡◌, ℕ, ◌<◌, ◌≤◌, true, false, [], ◌∷◌, ◌++◌, chars, string_bytes, IfOk, IfErr, IfSome, IsTrue, slice_index_or};
 ghost use Rattle.std.specs.Char.{IsScalar};
 ghost use Rattle.std.proofs.Props.{props};
 ghost use Rattle.regex_class.specs.Ranges.{in_ranges};
@@ -114,6 +114,13 @@ impl CharClassMatcher {
             }
         }
         self.class.contains(code)
+    }
+
+    /// Whether all members are ASCII characters.
+    pub fn is_ascii(&self) -> bool
+        ensures { result ≡ true → (c : ℕ) → 128 ≤ c → has self.now c ≡ false }
+    {
+        self.class.is_within(127)
     }
 
     /// For each ASCII character, by its code, whether the class contains it.

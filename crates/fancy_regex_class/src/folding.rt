@@ -1,7 +1,7 @@
 //! Simple case folding, word characters, and literals that ignore case. Nothing here allocates.
 
 ghost use Rattle.std.specs.Prelude.{◌≡◌, ℕ, ◌==◌, codes, false};
-ghost use Rattle.fancy_regex_class.specs.Classes.{in_class, folded};
+ghost use Rattle.fancy_regex_class.specs.Classes.{in_class, folded, folds_ascii};
 
 use ucd_case::simple_fold;
 use ucd_perl::is_word_character;
@@ -15,6 +15,17 @@ pub fn fold(c: char, unicode: bool) -> char
         simple_fold(c)
     } else {
         c.to_ascii_lowercase()
+    }
+}
+
+/// Whether all characters that have this folding are ASCII characters.
+pub fn is_ascii_folding(folding: char, unicode: bool) -> bool
+    ensures { result ≡ folds_ascii unicode folding }
+{
+    match folding {
+        // The long s and the Kelvin sign fold to these.
+        's' | 'k' => !unicode,
+        _ => (folding as u32) < 128,
     }
 }
 

@@ -16,7 +16,7 @@ mod skip;
 
 pub use class::{CharClassMatcher, ClassError};
 pub use counted::{Counted, Steps};
-pub use folding::{CaseiLiteral, fold, is_word};
+pub use folding::{CaseiLiteral, fold, is_ascii_folding, is_word};
 pub use input::{RunInput, Span};
 pub use skip::skip_ascii;
 

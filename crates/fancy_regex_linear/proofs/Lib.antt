@@ -17,6 +17,7 @@ pub mod PlainLemmas
 pub mod LookLemmas
 pub mod MeaningLemmas
 pub mod PassingLemmas
+pub mod SkippedLemmas
 pub mod SameStartLemmas
 pub mod EndLemmas
 pub mod RegularLemmas

@@ -18,9 +18,11 @@ use Rattle.fancy_regex_states.specs.declared.state.State.{State}
 use Rattle.fancy_regex_states.specs.declared.state.State.TheVariants.{Split, Enter, Leave, Ask, Atomic, Match}
 use Rattle.fancy_regex_states.specs.declared.state.State.TheVariants as S
 use Rattle.fancy_regex_states.specs.Attempts.{View, reads, Continuation, Trace, write, better_trace, asked_answer, passed_answer, passed_depth, pick, Shows, NamesBelow, visit, AllAgree}
-use Rattle.fancy_regex_linear.specs.Search.{Explains, RefusesAscii}
+use Rattle.fancy_regex_linear.specs.Search.{Explains, HasMarks, RefusesAscii}
+use Rattle.regex_hir.proofs.Utf8Lemmas.{char_at_cases}
 use Rattle.fancy_regex_class.proofs.AdjacentCharLemmas.{boundary_past_ascii}
-use Rattle.fancy_regex_linear.specs.Starts.{HasRefusedPair}
+use Rattle.fancy_regex_linear.specs.Passing.{RefusesWideIf}
+use Rattle.fancy_regex_linear.specs.Starts.{HasRefusedPair, IsRefusedAt, IsSkippedAt, IsWideAt}
 use Rattle.fancy_regex_linear.specs.declared.search.SearchContext.{SearchContext}
 use Rattle.fancy_regex_linear.proofs.CharTestLemmas.{before_some}
 use Rattle.fancy_regex_linear.proofs.DfsLemmas.{guard_yes, guard_no}
@@ -226,3 +228,38 @@ pair_fails context text view go explains u at b some low pair =
     (ap is_none before.1) (explains.shows at b) (char_before text (at + 1)) (char_at text (at + 1)) (ap is_none two.1) further explains.agree
     (subst (λ (j : ℕ). j ≤ context.stop) (sym next_is) (omega (arith, pair.inside))) q (state_at context.states.now q) (explains.agree q lt).names
     ((explains.agree q lt).does at high) (cannot q from))
+
+-- what is said of characters that are not ASCII holds
+pub wide_says : (wide unicode : Bool) (matchers : List CharClassMatcher) (states : List State) (entry : ℕ) → ∥ RefusesWideIf wide unicode matchers states entry ∥₁
+    → RefusesWideIf wide unicode matchers states entry
+wide_says wide unicode matchers states entry is =
+    ∥∥₁_elim is (Π_prop λ _. Π_prop λ after. Π_prop λ _. CannotBegin-prop unicode matchers states entry after) (λ says. says)
+
+-- no ASCII character begins with a byte that is not ASCII
+wide_char : (text : List ℕ) (i : ℕ) → 128 ≤ slice_index_or text i 0 → (o : Option ℕ) → char_at text i ≡ o → IfSome o (λ c. 128 ≤ c)
+wide_char text i byte None e = tt
+wide_char text i byte (Some c) e = let cases = char_at_cases text i c e in omega (arith, byte, cases)
+
+-- no match starts that is passed over
+module _ (context : SearchContext) (text : List ℕ) (view : View) (go : ℕ → Continuation) (explains : Explains context text view go) (utf8 : IsUtf8 text)
+    (below : context.entry < length context.states.now) (marks : HasMarks context) (i : ℕ) (boundary : IsCharBoundary text i) (some : 0 < i) (high : i ≤ context.stop) where
+  wide_fails : IsWideAt context text i → (go context.entry i).answer ≡ None
+  wide_fails wide =
+      start_fails context text view go explains utf8 i (char_at text i) boundary some high below refl
+      (wide.none (char_at text i) (wide_char text i wide.byte (char_at text i) refl))
+
+  refused_start_fails : IsRefusedAt context text i → (go context.entry i).answer ≡ None
+  refused_start_fails is =
+      elim is [
+        | inl a ↦
+            start_fails context text view go explains utf8 i (Some a.0) boundary some high below a.2
+            (marks_say context.rules.unicode context.matchers.now context.states.now context.entry context.refused.now marks a.0 a.1 a.3)
+        | inr pair ↦ pair_fails context text view go explains utf8 i boundary some below pair
+      ]
+
+  pub skipped_fails : IsSkippedAt context text i → (go context.entry i).answer ≡ None
+  skipped_fails is =
+      elim is [
+        | inl refused ↦ refused_start_fails refused
+        | inr wide ↦ wide_fails wide
+      ]

@@ -1,5 +1,5 @@
 -- Starts that are settled.
-use Rattle.std.proofs.Common.{◌≡◌, ℕ, zero, suc, ◌+◌, ◌-◌, ◌<◌, ◌≤◌, ◌⊎◌, Bool, true, false, List, ◌∷◌, Option, Some, None, length, inl, inr, refl, sym, ap, ap₂, subst, ◌∙◌, arith, IsUtf8, IsCharBoundary, true≢false}
+use Rattle.std.proofs.Common.{◌≡◌, ℕ, zero, suc, ◌+◌, ◌-◌, ◌<◌, ◌≤◌, ◌⊎◌, Bool, true, false, List, ◌∷◌, Option, Some, None, length, inl, inr, refl, sym, ap, ap₂, subst, ◌∙◌, arith, IsUtf8, IsCharBoundary, true≢false, ⊎_elim}
 use Rattle.std.specs.Prelude.{is_some, IfSome}
 use Rattle.std.specs.List.{filter}
 use Rattle.std.proofs.Math.Bool.{Bool-set}
@@ -166,6 +166,24 @@ skip_to f text at to stop le high none inside =
     × (attempted f (places text false at stop) ≤ to - at + attempted f (filter (is_boundary text) (numbers_from (stop + 1 - to) k)))) there
     (skip_among f text (to - at) (stop + 1 - to) at (stop + 1 - at) (omega arith)
     (λ j low less is. none j low (omega arith) (IsCharBoundary-of_test text j (omega arith) is)))
+
+-- the same of a search that may have one start
+pub skip_on : (f : ℕ → Option Spot) (text : List ℕ) (anchored : Bool) (at to stop : ℕ) → at ≤ to → to ≤ stop → (at < to → anchored ≡ false)
+    → ((p : ℕ) → at ≤ p → p < to → IsCharBoundary text p → f p ≡ None) → stop ≤ length text
+    → (earliest f (places text anchored at stop) ≡ earliest f (places text anchored to stop))
+    × (attempted f (places text anchored at stop) ≤ to - at + attempted f (places text anchored to stop))
+skip_on f text anchored at to stop le high many none inside =
+    ⊎_elim
+    (λ (more : at < to).
+    subst
+    (λ (b : Bool). (earliest f (places text b at stop) ≡ earliest f (places text b to stop))
+    × (attempted f (places text b at stop) ≤ to - at + attempted f (places text b to stop)))
+    (sym (many more)) (skip_to f text at to stop le high none inside))
+    (λ (less : to ≤ at).
+    let same : at ≡ to = omega (arith, le, less) in
+    let tried = ap (λ (k : ℕ). attempted f (places text anchored k stop)) same in
+    (ap (λ (k : ℕ). earliest f (places text anchored k stop)) same, omega (arith, tried)))
+    (cases_lt at to)
 
 -- a later start is after an earlier one too
 pub after_earlier : (text : List ℕ) (stop at to : ℕ) (next : Option ℕ) → at ≤ to → IfSome next (IsAfter text stop to) → IfSome next (IsAfter text stop at)

@@ -19,7 +19,7 @@ use Rattle.fancy_regex_linear.specs.Attempt.{trace_end}
 use Rattle.fancy_regex_linear.specs.Find.{earliest, places}
 use Rattle.fancy_regex_linear.specs.Search.{Explains, HasMarks}
 use Rattle.fancy_regex_linear.specs.Settled.{FailBetween, IsTableSearch, parts_of}
-use Rattle.fancy_regex_linear.specs.Starts.{IsRefusedAt, spot_from}
+use Rattle.fancy_regex_linear.specs.Starts.{IsSkippedAt, spot_from}
 use Rattle.fancy_regex_linear.specs.Tellings.{GoesOnIn, IsToldFor, IsToldAt, IsToldInRange, has_match}
 use Rattle.fancy_regex_linear.specs.declared.by_table.TableSearch.{TableSearch}
 use Rattle.fancy_regex_linear.specs.declared.easy.Easy.{Easy}
@@ -27,7 +27,7 @@ use Rattle.fancy_regex_linear.specs.declared.search.SearchContext.{SearchContext
 use Rattle.fancy_regex_linear.specs.declared.told.Told.{Told}
 use Rattle.fancy_regex_linear.specs.declared.told.Told.TheVariants.{Match, NoMatch, NoneBefore}
 use Rattle.fancy_regex_linear.proofs.DfsLemmas.{trace_end_none}
-use Rattle.fancy_regex_linear.proofs.RefusalLemmas.{start_fails, marks_say, pair_fails}
+use Rattle.fancy_regex_linear.proofs.RefusalLemmas.{skipped_fails}
 use Rattle.fancy_regex_linear.proofs.SettleLemmas.{search_of, skip_to}
 use Rattle.fancy_regex_linear.proofs.StartLemmas.{earliest_here, earliest_next, none_from}
 
@@ -108,14 +108,9 @@ module _ (context : SearchContext) (text : List ℕ) (it : TableSearch) (by : Is
 -- starts that are refused fail
 pub refused_between : (context : SearchContext) (text : List ℕ) (view : View) (go : ℕ → Continuation) → Explains context text view go → IsUtf8 text
     → context.entry < length context.states.now → HasMarks context → (from to : ℕ) → 0 < from → to ≤ context.stop
-    → ((i : ℕ) → from ≤ i → i < to → IsRefusedAt context text i) → FailBetween context text go from to
-refused_between context text view go explains utf8 below marks from to some high refused i low less boundary =
-    elim (refused i low less) [
-      | inl a ↦
-          start_fails context text view go explains utf8 i (Some a.0) boundary (omega arith) (omega arith) below a.2
-          (marks_say context.rules.unicode context.matchers.now context.states.now context.entry context.refused.now marks a.0 a.1 a.3)
-      | inr pair ↦ pair_fails context text view go explains utf8 i boundary (omega arith) below pair
-    ]
+    → ((i : ℕ) → from ≤ i → i < to → IsSkippedAt context text i) → FailBetween context text go from to
+refused_between context text view go explains utf8 below marks from to some high skipped i low less boundary =
+    skipped_fails context text view go explains utf8 below marks i boundary (omega (arith, some, low)) (omega (arith, less, high)) (skipped i low less)
 
 -- what is made of a value is there where the value is
 pub map_some : {A B : Type 0} (f : A → B) (o : Option A) → is_some (option_map f o) ≡ is_some o

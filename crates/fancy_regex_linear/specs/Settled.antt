@@ -11,6 +11,7 @@ use Rattle.fancy_regex_table.specs.declared.table.Passed.{Passed}
 use Rattle.fancy_regex_table.specs.declared.table.Passed.TheVariants as P
 use Rattle.fancy_regex_linear.specs.Attempt.{trace_end}
 use Rattle.fancy_regex_linear.specs.Find.{FoundMatch, earliest, attempted, places, places_from, found_of_span}
+use Rattle.fancy_regex_linear.specs.Passing.{RefusesWideIf}
 use Rattle.fancy_regex_linear.specs.Layers.{IsBetweenAttempts, IsOnlyLookedAt}
 use Rattle.fancy_regex_linear.specs.Search.{AllFail, Explains, end_spot}
 use Rattle.fancy_regex_linear.specs.Starts.{IsStart, IsAfter, spot_from}
@@ -32,6 +33,7 @@ pub record IsTableSearch (context : SearchContext) (text : List ℕ) (it : Table
   pub text_is : it.text.now ≡ text
   pub passing : it.passing.now.first ≡ context.refused.now
   pub seconds : ∥ RefusesSecond context.rules.unicode context.matchers.now context.states.now context.entry it.passing.now.second ∥₁
+  pub wide : ∥ RefusesWideIf it.passing.now.wide context.rules.unicode context.matchers.now context.states.now context.entry ∥₁
   pub first : context.rules.longest ≡ false
   pub start_shown : context.rules.no_start_text ≡ false
   pub end_shown : context.rules.no_end_text ≡ false

@@ -1,10 +1,10 @@
 -- The starts of a search that are to be attempted.
-use Rattle.std.specs.Prelude.{◌≡◌, ◌⊎◌, ◌+◌, ◌-◌, ◌^◌, ◌<◌, ◌≤◌, min, ℕ, Bool, false, List, [], ◌∷◌, Option, Some, None, IfSome, IsCharBoundary, length}
+use Rattle.std.specs.Prelude.{◌≡◌, ◌⊎◌, ◌+◌, ◌-◌, ◌^◌, ◌<◌, ◌≤◌, min, ℕ, Bool, false, List, [], ◌∷◌, Option, Some, None, IfSome, IsCharBoundary, length, slice_index_or}
 use Rattle.std.specs.Char.{len_utf8}
 use Rattle.regex_hir.specs.Text.{char_at}
 use Rattle.fancy_regex_class.specs.Looks.{looked_text, look_count, SameCounter, HasMarkedAscii}
 use Rattle.fancy_regex_class.specs.declared.counted.Counted.{Counted}
-use Rattle.fancy_regex_states.specs.First.{CannotFollow}
+use Rattle.fancy_regex_states.specs.First.{CannotFollow, RefusesWide}
 use Rattle.fancy_regex_states.specs.Attempts.{View, Continuation}
 use Rattle.fancy_regex_linear.specs.Meaning.{Spot}
 use Rattle.fancy_regex_linear.specs.Attempt.{trace_end}
@@ -53,11 +53,20 @@ pub record HasRefusedPair (context : SearchContext) (text : List ℕ) (i : ℕ) 
 abbrev pub IsRefusedAt : SearchContext → List ℕ → ℕ → Type 0
 IsRefusedAt context text i = HasMarkedAscii text context.refused.now i ⊎ HasRefusedPair context text i
 
--- the start at i is passed over for an ASCII character that is refused there, or after it
+-- a byte stands at i that is not ASCII, and no match begins with a character that is not
+pub record IsWideAt (context : SearchContext) (text : List ℕ) (i : ℕ) : Type 0 where
+  pub byte : 128 ≤ slice_index_or text i 0
+  pub none : RefusesWide context.rules.unicode context.matchers.now context.states.now context.entry
+
+-- no match starts at i, by what stands there, or after it
+abbrev pub IsSkippedAt : SearchContext → List ℕ → ℕ → Type 0
+IsSkippedAt context text i = IsRefusedAt context text i ⊎ IsWideAt context text i
+
+-- the start at i is passed over for what stands there, or after it
 pub record IsPassed (context : SearchContext) (text : List ℕ) (anchored : Bool) (i : ℕ) : Type 0 where
   pub many : anchored ≡ false
   pub not_first : 0 < i
-  pub refused : IsRefusedAt context text i
+  pub refused : IsSkippedAt context text i
 
 -- a place of the text, from `from` on, and the character there
 pub record IsPlaceFrom (old new : Counted) (from stop : ℕ) (place : ℕ × Option ℕ) : Type 0 where

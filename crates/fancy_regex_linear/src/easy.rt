@@ -7,6 +7,7 @@ ghost use Rattle.fancy_regex_tree.specs.Tree.{Tree};
 ghost use Rattle.fancy_regex_states.specs.First.{IsTableOf, RefusesSecond};
 ghost use Rattle.fancy_regex_states.specs.declared.state.State.{State as StateValue};
 ghost use Rattle.fancy_regex_linear.specs.Search.{RefusesAscii};
+ghost use Rattle.fancy_regex_linear.specs.Passing.{RefusesWideIf};
 ghost use Rattle.fancy_regex_table.specs.Tables.{IsTable};
 
 use crate::build::{Translator, is_supported};
@@ -53,6 +54,7 @@ pub struct Easy {
     ghost table: { ∥ IfSome first (IsTableOf unicode matchers.items states.items entry) ∥₁ },
     ghost marks: { ∥ RefusesAscii unicode matchers.items states.items entry passing.first ∥₁ },
     ghost seconds: { ∥ RefusesSecond unicode matchers.items states.items entry passing.second ∥₁ },
+    ghost wides: { ∥ RefusesWideIf passing.wide unicode matchers.items states.items entry ∥₁ },
     ghost cells: { ∥ IfSome rows (IsTable (record {
       states = states.items;
       entry = entry;
@@ -179,7 +181,7 @@ impl Easy {
         let entry = emit(&translated.node, &mut states, 0)?;
         let first = FirstChars::new(alloc, &states, entry, &translator.matchers, options.unicode)?;
         let refused = refused_ascii(&first, &translator.matchers, options.unicode);
-        let passing = passing_of(&first, &refused);
+        let passing = passing_of(&first, &refused, &translator.matchers, options.unicode);
         let rows = table_of(
             alloc,
             &states,
@@ -486,14 +488,24 @@ impl Easy {
 }
 
 /// The characters at which starts are passed over, by these tables.
-fn passing_of(first: &Option<FirstChars>, refused: &[bool; 128]) -> Passing
+fn passing_of(
+    first: &Option<FirstChars>,
+    refused: &[bool; 128],
+    matchers: &[CharClassMatcher],
+    unicode: bool,
+) -> Passing
     ensures first { result.first ≡ refused.now }
+    ensures wide { (states : List State) (entry : ℕ) → ∥ IfSome first.now (IsTableOf unicode matchers.now states entry) ∥₁
+        → ∥ RefusesWideIf result.wide unicode matchers.now states entry ∥₁ }
     ensures second { (unicode : Bool) (matchers : List CharClassMatcher) (states : List StateValue) (entry : ℕ)
         → ∥ IfSome first.now (IsTableOf unicode matchers states entry) ∥₁ → ∥ RefusesSecond unicode matchers states entry result.second ∥₁ }
 {
     match first {
-        Some(first) => Passing::new(refused, first.refused_second()),
-        None => Passing::new(refused, &None),
+        Some(first) => {
+            let wide = first.refuses_wide(matchers, unicode);
+            Passing::new(refused, wide, first.refused_second())
+        }
+        None => Passing::new(refused, false, &None),
     }
 }
 

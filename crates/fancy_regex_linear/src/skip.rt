@@ -3,18 +3,16 @@
 ghost use Rattle.std.specs.Prelude.{min, ◌≡◌, ◌^◌, ◌*◌, ℕ, ◌+◌, ◌-◌, ◌<◌, ◌≤◌, IfSome, IsCharBoundary, IsUtf8};
 ghost use Rattle.std.specs.Char.{len_utf8};
 ghost use Rattle.regex_hir.specs.Text.{char_at};
-ghost use Rattle.fancy_regex_class.specs.Looks.{looked_text, look_count, SameCounter, HasMarkedAscii};
+ghost use Rattle.fancy_regex_class.specs.Looks.{looked_text, look_count, SameCounter};
 ghost use Rattle.fancy_regex_states.specs.First.{RefusesSecond};
 ghost use Rattle.fancy_regex_linear.specs.Settled.{IsTableSearch};
-ghost use Rattle.fancy_regex_linear.specs.Starts.{IsPlaceFrom, IsRefusedAt};
+ghost use Rattle.fancy_regex_linear.specs.Starts.{IsPlaceFrom, IsSkippedAt};
 
 use crate::by_table::TableSearch;
+use crate::passing::TOGETHER;
 use crate::search::SearchContext;
 use crate::starts::pass_pairs;
 use fancy_regex_class::{Counted, skip_ascii};
-
-/// How many bytes are tested together.
-const TOGETHER: usize = 16;
 
 /// The first byte offset from `from` on whose character is not known to begin no match, and the character there. Each character up to
 /// that one costs a look.
@@ -29,24 +27,14 @@ pub fn skip_refused(
     requires text { IsUtf8 (looked_text text.old) }
     requires range { from ≤ context.now.stop }
     requires boundary { IsCharBoundary (looked_text text.old) from }
-    ensures range { (from ≤ result.0) × (result.0 ≤ context.now.stop) }
-    ensures boundary { IsCharBoundary (looked_text text.old) result.0 }
-    ensures passed { (i : ℕ) → from ≤ i → i < result.0 → HasMarkedAscii (looked_text text.old) context.now.refused.now i }
-    ensures after { result.1 ≡ char_at (looked_text text.old) result.0 }
-    ensures next { IfSome result.1 (λ c. IsCharBoundary (looked_text text.old) (result.0 + len_utf8 c)) }
+    ensures place { IsPlaceFrom text.old text.new from context.now.stop result }
+    ensures passed { (i : ℕ) → from ≤ i → i < result.0 → IsSkippedAt context.now (looked_text text.old) i }
     ensures ticked { look_count text.new ≡ min (look_count text.old + (result.0 - from + 1)) (2 ^ 64 - 1) }
-    ensures text { looked_text text.new ≡ looked_text text.old }
-    ensures same_counter { SameCounter text.old text.new }
 {
-    let Some(stops) = it.passing.first_stops else {
+    let Some(at) = it.passing.first_until(it.text.as_bytes(), from) else {
         return skip_ascii(text, from, context.stop, context.refused);
     };
-    let bytes = it.text.as_bytes();
-    let at = stops.until(bytes, from);
     text.count_places(from, at);
-    if bytes.len() - at < TOGETHER {
-        return skip_ascii(text, at, context.stop, context.refused);
-    }
     let (_, after) = text.look(at);
     (at, after)
 }
@@ -69,16 +57,12 @@ pub fn skip_pairs(
     ensures place { IsPlaceFrom text.old text.new from context.now.stop result }
     ensures at_least { min (look_count text.old + (result.0 - from + 1)) (2 ^ 64 - 1) ≤ look_count text.new }
     ensures at_most { look_count text.new ≤ look_count text.old + 2 * (result.0 - from) + 1 }
-    ensures passed { (i : ℕ) → from ≤ i → i < result.0 → IsRefusedAt context.now (looked_text text.old) i }
+    ensures passed { (i : ℕ) → from ≤ i → i < result.0 → IsSkippedAt context.now (looked_text text.old) i }
 {
-    let Some(first_stops) = it.passing.first_stops else {
-        return pass_pairs(context, text, from, second);
-    };
-    let Some(second_stops) = it.passing.second_stops else {
-        return pass_pairs(context, text, from, second);
-    };
     let bytes = it.text.as_bytes();
-    let at = first_stops.pairs_until(&second_stops, bytes, from);
+    let Some(at) = it.passing.pairs_until(bytes, from) else {
+        return pass_pairs(context, text, from, second);
+    };
     text.count_places(from, at);
     text.count_places(from, at);
     if bytes.len() - at <= TOGETHER {
@@ -86,4 +70,56 @@ pub fn skip_pairs(
     }
     let (_, after) = text.look(at);
     (at, after)
+}
+
+/// The place to which `skip_refused` goes from `from` on, also where the search has no table. Where a match may begin with a character
+/// that is not ASCII, starts are passed over one after another: then few bytes are left to pass over together.
+#[inline(always)]
+pub fn skip_firsts(
+    context: &SearchContext,
+    text: &mut Counted,
+    table: Option<TableSearch>,
+    from: usize,
+) -> (usize, Option<char>)
+    requires table { IfSome table (IsTableSearch context.now (looked_text text.old)) }
+    requires text { IsUtf8 (looked_text text.old) }
+    requires range { from ≤ context.now.stop }
+    requires boundary { IsCharBoundary (looked_text text.old) from }
+    ensures place { IsPlaceFrom text.old text.new from context.now.stop result }
+    ensures passed { (i : ℕ) → from ≤ i → i < result.0 → IsSkippedAt context.now (looked_text text.old) i }
+    ensures ticked { look_count text.new ≡ min (look_count text.old + (result.0 - from + 1)) (2 ^ 64 - 1) }
+{
+    if let Some(it) = table {
+        if it.passing.wide {
+            return skip_refused(context, text, it, from);
+        }
+    }
+    skip_ascii(text, from, context.stop, context.refused)
+}
+
+/// The place to which `skip_pairs` goes from `from` on, also where the search has no table, as for `skip_firsts`.
+#[inline(always)]
+pub fn skip_places(
+    context: &SearchContext,
+    text: &mut Counted,
+    table: Option<TableSearch>,
+    from: usize,
+    second: &[bool; 128],
+) -> (usize, Option<char>)
+    requires table { IfSome table (IsTableSearch context.now (looked_text text.old)) }
+    requires second { RefusesSecond context.now.rules.unicode context.now.matchers.now context.now.states.now context.now.entry second.now }
+    requires text { IsUtf8 (looked_text text.old) }
+    requires range { from ≤ context.now.stop }
+    requires boundary { IsCharBoundary (looked_text text.old) from }
+    ensures place { IsPlaceFrom text.old text.new from context.now.stop result }
+    ensures at_least { min (look_count text.old + (result.0 - from + 1)) (2 ^ 64 - 1) ≤ look_count text.new }
+    ensures at_most { look_count text.new ≤ look_count text.old + 2 * (result.0 - from) + 1 }
+    ensures passed { (i : ℕ) → from ≤ i → i < result.0 → IsSkippedAt context.now (looked_text text.old) i }
+{
+    if let Some(it) = table {
+        if it.passing.wide {
+            return skip_pairs(context, text, it, from, second);
+        }
+    }
+    pass_pairs(context, text, from, second)
 }

@@ -8,8 +8,9 @@ ghost use Rattle.fancy_regex_linear.specs.Tellings.{IsPassedOver, IsTold, IsTold
 
 use crate::by_table::{TableSearch, char_before};
 use crate::search::SearchContext;
-use crate::starts::{pass_pairs, refuses_all, second_chars};
-use fancy_regex_class::{Counted, skip_ascii};
+use crate::skip::{skip_pairs, skip_refused};
+use crate::starts::{refuses_all, second_chars};
+use fancy_regex_class::Counted;
 use fancy_regex_table::Sign;
 
 /// What a table tells of the matches of a search.
@@ -24,7 +25,13 @@ pub enum Told {
 }
 
 /// The first start from `at` on at which the characters there do not show that no match begins; `None` where they show it for all.
-fn pass_starts(context: &SearchContext, text: &mut Counted, at: usize) -> Option<usize>
+fn pass_starts(
+    context: &SearchContext,
+    text: &mut Counted,
+    it: TableSearch,
+    at: usize,
+) -> Option<usize>
+    requires table { IsTableSearch context.now (looked_text text.old) it }
     requires context { IsSearchContext context.now }
     requires range { at ≤ context.now.stop }
     requires text { IsUtf8 (looked_text text.old) }
@@ -40,9 +47,9 @@ fn pass_starts(context: &SearchContext, text: &mut Counted, at: usize) -> Option
         return None;
     }
     let Some(second) = second_chars(context) else {
-        return Some(skip_ascii(text, at, context.stop, context.refused).0);
+        return Some(skip_refused(context, text, it, at).0);
     };
-    Some(pass_pairs(context, text, at, second).0)
+    Some(skip_pairs(context, text, it, at, second).0)
 }
 
 /// Whether a character that is not ASCII stands at the byte offset `at`: the table does not know it.
@@ -69,7 +76,7 @@ pub fn told_by_table(
 {
     let mut at = from;
     'starts: loop {
-        let Some(start) = pass_starts(context, text, at) else {
+        let Some(start) = pass_starts(context, text, it, at) else {
             return Told::NoMatch;
         };
         if is_wide(it.text, start) {

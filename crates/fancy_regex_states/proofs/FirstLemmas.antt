@@ -2,8 +2,10 @@
 use Rattle.std.proofs.Common.{◌≡◌, ℕ, ◌+◌, ◌<◌, ◌≤◌, List, [], ◌∷◌, ◌++◌, length, refl, sym, ap, subst, ◌∙◌, inl, inr, arith, get_or, length-append}
 use Rattle.std.proofs.lemmas.List.{get_or_append_left, get_or_default}
 use Rattle.std.proofs.lemmas.Bool.{cases_lt}
-use Rattle.std.specs.Prelude.{Contains}
-use Rattle.fancy_regex_states.specs.First.{state_at, Leads, Reaches, here, onward, IsClosed, IsAmong, Extends}
+use Rattle.std.specs.Prelude.{Bool, false, Option, Some, None, IfSome, Contains}
+use Rattle.fancy_regex_class.specs.declared.class.CharClassMatcher.{CharClassMatcher}
+use Rattle.fancy_regex_states.specs.CharTests.{IsAsciiLeaf, leaf_matches_char}
+use Rattle.fancy_regex_states.specs.First.{state_at, Leads, Reaches, here, onward, IsClosed, IsAmong, CannotRead, Extends}
 use Rattle.fancy_regex_states.specs.declared.atom.Leaf.{Leaf}
 use Rattle.fancy_regex_states.specs.declared.state.State.{State}
 use Rattle.fancy_regex_states.specs.declared.state.State.TheVariants.{Split, Enter, Leave, Ask, Atomic, Match}
@@ -81,3 +83,18 @@ pub among_all : (states : List State) (numbers : List ℕ) (leaves : List Leaf) 
     → (q : ℕ) → Contains numbers q → IsAmong leaves (state_at states q)
 among_all states numbers leaves done all among q (k, lt, is) =
     subst (λ (m : ℕ). IsAmong leaves (state_at states m)) (get_or_default numbers k 0 q lt ∙ is) (among k (omega arith))
+
+-- a state that reads by leaves of ASCII characters reads no other character
+pub wide_refused : (unicode : Bool) (matchers : List CharClassMatcher) (leaves : List Leaf)
+    → ((k : ℕ) (d : Leaf) → k < length leaves → IsAsciiLeaf unicode matchers (get_or leaves k d))
+    → (after : Option ℕ) → IfSome after (λ c. 128 ≤ c) → (state : State) → IsAmong leaves state → CannotRead unicode matchers after state
+wide_refused unicode matchers leaves ascii None wide (S.Read leaf next) among = refl
+wide_refused unicode matchers leaves ascii (Some c) wide (S.Read leaf next) (k, lt, is) =
+    subst (λ (l : Leaf). leaf_matches_char unicode matchers l c ≡ false) is (ascii k leaf lt c wide)
+wide_refused unicode matchers leaves ascii after wide (S.Look check next) among = tt
+wide_refused unicode matchers leaves ascii after wide (Split first second) among = tt
+wide_refused unicode matchers leaves ascii after wide (Enter g next) among = tt
+wide_refused unicode matchers leaves ascii after wide (Leave g next) among = tt
+wide_refused unicode matchers leaves ascii after wide (Ask part negated next) among = tt
+wide_refused unicode matchers leaves ascii after wide (Atomic part same moved) among = tt
+wide_refused unicode matchers leaves ascii after wide Match among = among

@@ -1,5 +1,5 @@
 -- Which characters a leaf matches, and between which characters an assertion holds.
-use Rattle.std.specs.Prelude.{ℕ, Bool, false, true, not, ◌&&◌, ◌||◌, List, Option, ◌==◌, is_none, slice_get, codes}
+use Rattle.std.specs.Prelude.{◌≡◌, ◌≤◌, ℕ, Bool, false, true, not, ◌&&◌, ◌||◌, List, Option, ◌==◌, is_none, slice_get, codes}
 use Rattle.regex_hir.specs.Text.{is_some_and}
 use Rattle.fancy_regex_class.specs.Matchers.{has}
 use Rattle.fancy_regex_class.specs.Classes.{in_class, folded}
@@ -16,6 +16,10 @@ leaf_matches_char unicode matchers (Any newline crlf) c = newline || not (c == 1
 leaf_matches_char unicode matchers (Char d) c = c == d
 leaf_matches_char unicode matchers (Folded d) c = folded unicode c == d
 leaf_matches_char unicode matchers (Class k) c = is_some_and (slice_get matchers k) (λ m. has m c)
+
+-- all characters that the leaf matches are ASCII characters
+abbrev pub IsAsciiLeaf : Bool → List CharClassMatcher → Leaf → Type 0
+IsAsciiLeaf unicode matchers leaf = (c : ℕ) → 128 ≤ c → leaf_matches_char unicode matchers leaf c ≡ false
 
 -- `\w` has the character
 abbrev pub is_word_char : Bool → ℕ → Bool

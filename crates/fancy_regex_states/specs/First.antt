@@ -61,6 +61,10 @@ CannotFollow unicode matchers states entry after = (q : ℕ) → Reaches states 
 abbrev pub RefusesSecond : Bool → List CharClassMatcher → List State → ℕ → List Bool → Type 0
 RefusesSecond unicode matchers states entry marks = (c : ℕ) → c < 128 → slice_index_or marks c false ≡ true → CannotFollow unicode matchers states entry (Some c)
 
+-- no match begins with a character that is not ASCII, nor is one empty at the end of the text, where a character stands before
+abbrev pub RefusesWide : Bool → List CharClassMatcher → List State → ℕ → Type 0
+RefusesWide unicode matchers states entry = (after : Option ℕ) → IfSome after (λ c. 128 ≤ c) → CannotBegin unicode matchers states entry after
+
 -- what is marked was marked before
 abbrev pub HasNoNewMarks : List Bool → List Bool → Type 0
 HasNoNewMarks before after = (c : ℕ) → slice_index_or after c false ≡ true → slice_index_or before c false ≡ true

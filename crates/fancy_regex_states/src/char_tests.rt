@@ -1,12 +1,12 @@
 //! Tests of single characters and of zero-width assertions.
 
-ghost use Rattle.std.specs.Prelude.{◌≡◌};
+ghost use Rattle.std.specs.Prelude.{◌≡◌, true};
 ghost use Rattle.regex_hir.specs.Text.{is_some_and};
-ghost use Rattle.fancy_regex_states.specs.CharTests.{leaf_matches_char, passes, is_word_char, is_char as is_char_of};
+ghost use Rattle.fancy_regex_states.specs.CharTests.{IsAsciiLeaf, leaf_matches_char, passes, is_word_char, is_char as is_char_of};
 
 use crate::atom::{Leaf, Test};
 use crate::rules::Rules;
-use fancy_regex_class::{CharClassMatcher, fold, is_word};
+use fancy_regex_class::{CharClassMatcher, fold, is_ascii_folding, is_word};
 
 /// Whether the leaf matches the character.
 #[inline(always)]
@@ -20,6 +20,21 @@ pub fn leaf_matches(matchers: &[CharClassMatcher], unicode: bool, leaf: Leaf, c:
         Leaf::Class(number) => match matchers.get(number) {
             Some(matcher) => matcher.contains(c),
             None => false,
+        },
+    }
+}
+
+/// Whether all characters that the leaf matches are ASCII characters.
+pub fn is_ascii_leaf(matchers: &[CharClassMatcher], unicode: bool, leaf: Leaf) -> bool
+    ensures { result ≡ true → IsAsciiLeaf unicode matchers.now leaf }
+{
+    match leaf {
+        Leaf::Any { .. } => false,
+        Leaf::Char(wanted) => (wanted as u32) < 128,
+        Leaf::Folded(wanted) => is_ascii_folding(wanted, unicode),
+        Leaf::Class(number) => match matchers.get(number) {
+            Some(matcher) => matcher.is_ascii(),
+            None => true,
         },
     }
 }

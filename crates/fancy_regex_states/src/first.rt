@@ -1,10 +1,12 @@
 //! The characters that a match can begin with.
 
-ghost use Rattle.std.specs.Prelude.{◌≡◌, ◌<◌, ℕ, true, false, Contains, IfOk, IfSome, OnOk, slice_index_or};
+ghost use Rattle.std.specs.Prelude.{◌≡◌, ◌<◌, ℕ, true, false, Contains, IfOk, IfSome, OnOk, length, slice_index_or};
+ghost use Rattle.fancy_regex_states.specs.CharTests.{IsAsciiLeaf};
+ghost use Rattle.fancy_regex_states.specs.declared.atom.Leaf.{Leaf as LeafValue};
 ghost use Rattle.fancy_regex_states.specs.First.{state_at, Leads, IsClosed, Extends, IsAmong, one_matches};
 
 use crate::atom::{Leaf, Test};
-use crate::char_tests::leaf_matches;
+use crate::char_tests::{is_ascii_leaf, leaf_matches};
 use crate::second::refused_second;
 use crate::state::State;
 use fancy_regex_class::CharClassMatcher;
@@ -27,7 +29,7 @@ pub struct FirstChars {
 
 impl FirstChars {
     ghost use Rattle.std.specs.Prelude.{Bool, List, Option};
-    ghost use Rattle.fancy_regex_states.specs.First.{IsTableOf, CannotBegin};
+    ghost use Rattle.fancy_regex_states.specs.First.{IsTableOf, CannotBegin, RefusesWide};
     ghost use Rattle.fancy_regex_states.specs.declared.state.State.{State as StateValue};
 
     /// The table of these states, from the number of the entry; `None` where a match can be empty, or where more than 256
@@ -93,6 +95,14 @@ impl FirstChars {
                 }
             }
         }
+    }
+
+    /// Whether no match that begins after another character begins with one that is not ASCII.
+    pub fn refuses_wide(&self, matchers: &[CharClassMatcher], unicode: bool) -> bool
+        ensures { result ≡ true → (states : List State) (entry : ℕ) → IsTableOf unicode matchers.now states entry self.now
+            → RefusesWide unicode matchers.now states entry }
+    {
+        are_ascii(&self.leaves, matchers, unicode)
     }
 
     /// For each ASCII character whether no match that begins after another character has it second, if that is known.
@@ -221,6 +231,19 @@ fn ascii_of(leaves: &[Leaf], matchers: &[CharClassMatcher], unicode: bool) -> [b
         ascii[code as usize] = matches_one(leaves, matchers, unicode, code as char);
     }
     ascii
+}
+
+/// Whether all characters that the leaves match are ASCII characters.
+fn are_ascii(leaves: &[Leaf], matchers: &[CharClassMatcher], unicode: bool) -> bool
+    ensures { result ≡ true → (k : ℕ) (d : LeafValue) → k < length leaves.now
+        → IsAsciiLeaf unicode matchers.now (slice_index_or leaves.now k d) }
+{
+    for i in 0..leaves.len() {
+        if !is_ascii_leaf(matchers, unicode, leaves[i]) {
+            return false;
+        }
+    }
+    true
 }
 
 /// Whether one of the leaves matches the character.

@@ -6,8 +6,8 @@ use lib.Count.{count_trailing_zeros}
 use Rattle.std.proofs.lemmas.Bool.{ltb-true, ltb-false, cases_lt, false≢true}
 use Rattle.std.proofs.lemmas.List.Sums.{prefix_len_passes, prefix_len-le-length}
 use Rattle.std.proofs.lemmas.Simd.{trailing_mask_l, get_or-chunk, length-chunk, length-zip2, get_or-zip2}
-use Rattle.fancy_regex_stops.specs.Gaps.{is_zero, is_more, lesser, greater, wide_gap, gap_in, pair_gap, wrapped}
-use Rattle.fancy_regex_stops.specs.Stops.{Covers, IsPairAt}
+use Rattle.fancy_regex_stops.specs.Gaps.{is_zero, is_more, lesser, greater, limit_gap, gap_in, pair_gap, wrapped}
+use Rattle.fancy_regex_stops.specs.Stops.{Covers, IsMarked, IsPairAt, IsBeforeMarked}
 use Rattle.fancy_regex_stops.specs.declared.stops.Stops.{Stops}
 
 -- a choice of each lane by a comparison
@@ -47,19 +47,21 @@ both_more a b more = by_cases (ltb a b) refl more where
   by_cases true e m = (m, omega (arith, ltb-true a b e, m))
   by_cases false e m = (omega (arith, ltb-false a b e, m), m)
 
-wide_more : (c : ℕ) → 0 < wide_gap c → c < 128
-wide_more c more = by_cases (ltb c 128) refl more where
-  by_cases : (t : Bool) → ltb c 128 ≡ t → 0 < wrapped 128 (cond t c 128) → c < 128
-  by_cases true e m = ltb-true c 128 e
-  by_cases false e m = absurd (omega (arith, m))
+-- a byte that has a gap to the limit is below it
+limit_more : (limit c : ℕ) → limit < 256 → 0 < limit_gap limit c → c < limit
+limit_more limit c byte more = by_cases (ltb c limit) refl more where
+  by_cases : (t : Bool) → ltb c limit ≡ t → 0 < wrapped limit (cond t c limit) → c < limit
+  by_cases true e m = ltb-true c limit e
+  by_cases false e m = absurd (omega (arith, byte, m))
 
--- a byte with a gap is ASCII
-pub ascii_of : (stops : Stops) (c : ℕ) → 0 < gap_in stops c → c < 128
-ascii_of stops c more =
-    wide_more c (both_more _ _ (both_more _ _ (both_more _ _ more).0).0).0
-
-pub ascii_of_pair : (stops others : Stops) (c d : ℕ) → 0 < pair_gap stops others c d → c < 128
-ascii_of_pair stops others c d more = wide_more c (both_more _ _ more).0
+-- a byte with a gap is passed over
+pub mark_says : (stops : Stops) (marks : List Bool) (wide : Bool) → Covers stops marks wide → (c : ℕ) → 0 < gap_in stops c → IsMarked marks wide c
+mark_says stops marks wide covers c more =
+    let below : c < stops.limit = limit_more stops.limit c covers.byte (both_more _ _ (both_more _ _ (both_more _ _ more).0).0).0 in
+    ⊎_elim
+    (λ (ascii : c < 128). inl (ascii, covers.ascii c ascii more))
+    (λ (other : 128 ≤ c). inr (other, covers.others (omega (arith, other, below))))
+    (cases_lt c 128)
 
 -- where the greater of two is more than 0, one of them is
 pub one_more : (a b : ℕ) → 0 < greater a b → (0 < a) ⊎ (0 < b)
@@ -115,21 +117,25 @@ and_on P from at to below here i low high =
     ⊎_elim (λ (less : i < at). below i low less) (λ (over : at ≤ i). here i over high) (cases_lt i at)
 
 -- a pair with a gap is passed over
-pub pair_says : (stops others : Stops) (marks other_marks : List Bool) (bytes : List ℕ) (i : ℕ) → Covers stops marks → Covers others other_marks → i + 1 < length bytes
-    → 0 < pair_gap stops others (slice_index_or bytes i 0) (slice_index_or bytes (i + 1) 0) → IsPairAt bytes marks other_marks i
-pair_says stops others marks other_marks bytes i covers covers_others inside more =
+pub pair_says : (stops others : Stops) (marks : List Bool) (wide : Bool) (other_marks : List Bool) (bytes : List ℕ) (i : ℕ) → Covers stops marks wide
+    → Covers others other_marks false → i + 1 < length bytes
+    → 0 < pair_gap stops others (slice_index_or bytes i 0) (slice_index_or bytes (i + 1) 0) → IsPairAt bytes marks wide other_marks i
+pair_says stops others marks wide other_marks bytes i covers covers_others inside more =
     let byte : ℕ = slice_index_or bytes i 0 in
     let next : ℕ = slice_index_or bytes (i + 1) 0 in
-    let ascii : byte < 128 = ascii_of_pair stops others byte next more in
-    record {
-      inside = inside;
-      ascii = ascii;
-      either =
-          ⊎_elim
-          (λ (first : 0 < gap_in stops byte). inl (covers byte ascii first))
-          (λ (second : 0 < gap_in others next). let small = ascii_of others next second in inr (small, covers_others next small second))
-          (one_more (gap_in stops byte) (gap_in others next) (both_more _ _ more).1);
-    }
+    let below : byte < stops.limit = limit_more stops.limit byte covers.byte (both_more _ _ more).0 in
+    ⊎_elim
+    (λ (ascii : byte < 128).
+    ⊎_elim
+    (λ (first : 0 < gap_in stops byte). inl (inl (ascii, covers.ascii byte ascii first)))
+    (λ (second : 0 < gap_in others next).
+    ⊎_elim
+    (λ (marked : (next < 128) × (slice_index_or other_marks next false ≡ true)). inr (record { inside = inside; ascii = ascii; next = marked }))
+    (λ (wide_next : (128 ≤ next) × (false ≡ true)). absurd (false≢true wide_next.1))
+    (mark_says others other_marks false covers_others next second))
+    (one_more (gap_in stops byte) (gap_in others next) (both_more _ _ more).1))
+    (λ (other : 128 ≤ byte). inl (inr (other, covers.others (omega (arith, other, below)))))
+    (cases_lt byte 128)
 
 lesser_more : (a b : ℕ) → 0 < a → 0 < b → 0 < lesser a b
 lesser_more a b one two = by_cases (ltb a b) where
@@ -146,5 +152,5 @@ greater_more a b one = by_cases (ltb a b) refl where
 -- a byte with a gap makes a pair with a gap
 pub pair_of : (stops others : Stops) (c d : ℕ) → 0 < gap_in stops c → 0 < pair_gap stops others c d
 pair_of stops others c d more =
-    lesser_more (wide_gap c) (greater (gap_in stops c) (gap_in others d)) (both_more _ _ (both_more _ _ (both_more _ _ more).0).0).0
+    lesser_more (limit_gap stops.limit c) (greater (gap_in stops c) (gap_in others d)) (both_more _ _ (both_more _ _ (both_more _ _ more).0).0).0
     (greater_more (gap_in stops c) (gap_in others d) more)

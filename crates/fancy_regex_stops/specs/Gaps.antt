@@ -23,14 +23,14 @@ is_more a = not (is_zero a)
 abbrev pub gap_of : ByteRange → ℕ → ℕ
 gap_of range byte = wrapped (wrapped byte range.low) (lesser (wrapped byte range.low) range.width)
 
--- 0 for a byte that is not ASCII
-abbrev pub wide_gap : ℕ → ℕ
-wide_gap byte = wrapped 128 (lesser byte 128)
+-- how far the byte is below the limit: 0 from there on
+abbrev pub limit_gap : ℕ → ℕ → ℕ
+limit_gap limit byte = wrapped limit (lesser byte limit)
 
--- 0 for a byte of one of the ranges, and for one that is not ASCII
+-- 0 for a byte of one of the ranges, and from the limit on
 abbrev pub gap_in : Stops → ℕ → ℕ
-gap_in stops byte = lesser (lesser (lesser (wide_gap byte) (gap_of stops.first byte)) (gap_of stops.second byte)) (gap_of stops.third byte)
+gap_in stops byte = lesser (lesser (lesser (limit_gap stops.limit byte) (gap_of stops.first byte)) (gap_of stops.second byte)) (gap_of stops.third byte)
 
--- 0 for a byte that is not ASCII, and for one of the ranges before one of the others or before one that is not ASCII
+-- 0 from the limit on, and for a byte of one of the ranges before one of the others or from their limit on
 abbrev pub pair_gap : Stops → Stops → ℕ → ℕ → ℕ
-pair_gap stops others byte next = lesser (wide_gap byte) (greater (gap_in stops byte) (gap_in others next))
+pair_gap stops others byte next = lesser (limit_gap stops.limit byte) (greater (gap_in stops byte) (gap_in others next))

@@ -1,22 +1,28 @@
 -- Bytes that a search passes over.
-use Rattle.std.specs.Prelude.{◌≡◌, ◌<◌, ◌+◌, ◌⊎◌, ℕ, List, Bool, true, false, length, slice_index_or}
+use Rattle.std.specs.Prelude.{◌≡◌, ◌<◌, ◌≤◌, ◌+◌, ◌⊎◌, ℕ, List, Bool, true, false, length, slice_index_or}
 use Rattle.fancy_regex_stops.specs.Gaps.{gap_in}
 use Rattle.fancy_regex_stops.specs.declared.stops.Stops.{Stops}
 
--- each ASCII character that has a gap is marked
-abbrev pub Covers : Stops → List Bool → Type 0
-Covers stops marks = (c : ℕ) → c < 128 → 0 < gap_in stops c → slice_index_or marks c false ≡ true
+-- each ASCII character that has a gap is marked, and the limit is a byte above 128 only if all other characters are passed over
+pub record Covers (stops : Stops) (marks : List Bool) (wide : Bool) : Type 0 where
+  pub byte : stops.limit < 256
+  pub ascii : (c : ℕ) → c < 128 → 0 < gap_in stops c → slice_index_or marks c false ≡ true
+  pub others : 128 < stops.limit → wide ≡ true
 
--- the byte of an ASCII character that is marked
-abbrev pub IsMarked : List Bool → ℕ → Type 0
-IsMarked marks c = (c < 128) × (slice_index_or marks c false ≡ true)
+-- the byte of an ASCII character that is marked, or of another character, if these are passed over
+abbrev pub IsMarked : List Bool → Bool → ℕ → Type 0
+IsMarked marks wide c = ((c < 128) × (slice_index_or marks c false ≡ true)) ⊎ ((128 ≤ c) × (wide ≡ true))
 
--- the byte of a marked ASCII character stands at i
-abbrev pub IsMarkedAt : List ℕ → List Bool → ℕ → Type 0
-IsMarkedAt bytes marks i = IsMarked marks (slice_index_or bytes i 0)
+-- such a byte stands at i
+abbrev pub IsMarkedAt : List ℕ → List Bool → Bool → ℕ → Type 0
+IsMarkedAt bytes marks wide i = IsMarked marks wide (slice_index_or bytes i 0)
 
--- the byte of an ASCII character stands at i that is marked, or is before one that is marked by the others
-pub record IsPairAt (bytes : List ℕ) (marks others : List Bool) (i : ℕ) : Type 0 where
+-- the byte of an ASCII character stands at i that is before one that is marked by the others
+pub record IsBeforeMarked (bytes : List ℕ) (others : List Bool) (i : ℕ) : Type 0 where
   pub inside : i + 1 < length bytes
   pub ascii : slice_index_or bytes i 0 < 128
-  pub either : (slice_index_or marks (slice_index_or bytes i 0) false ≡ true) ⊎ IsMarkedAt bytes others (i + 1)
+  pub next : (slice_index_or bytes (i + 1) 0 < 128) × (slice_index_or others (slice_index_or bytes (i + 1) 0) false ≡ true)
+
+-- a byte stands at i that is marked, or is before one that is marked by the others
+abbrev pub IsPairAt : List ℕ → List Bool → Bool → List Bool → ℕ → Type 0
+IsPairAt bytes marks wide others i = IsMarkedAt bytes marks wide i ⊎ IsBeforeMarked bytes others i

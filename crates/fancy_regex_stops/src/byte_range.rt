@@ -1,7 +1,7 @@
 //! A range of bytes.
 
 ghost use Rattle.std.specs.Prelude.{◌≡◌, ◌<◌, ℕ, map};
-ghost use Rattle.fancy_regex_stops.specs.Gaps.{gap_of, wide_gap};
+ghost use Rattle.fancy_regex_stops.specs.Gaps.{gap_of, limit_gap};
 
 use crate::lanes::{all, least, minus};
 use std::simd::u8x16;
@@ -32,17 +32,17 @@ impl ByteRange {
     }
 }
 
-/// 0 for a byte that is not ASCII.
-pub fn gap_to_wide(byte: u8) -> u8
-    ensures { result ≡ wide_gap byte }
+/// How far the byte is below the limit: 0 from there on.
+pub fn gap_below(limit: u8, byte: u8) -> u8
+    ensures { result ≡ limit_gap limit byte }
 {
-    128u8.wrapping_sub(byte.min(128))
+    limit.wrapping_sub(byte.min(limit))
 }
 
 /// The same for each lane.
 #[inline(always)]
-pub fn gaps_to_wide(lanes: u8x16) -> u8x16
-    ensures { result ≡ map wide_gap lanes }
+pub fn gaps_below(limit: u8, lanes: u8x16) -> u8x16
+    ensures { result ≡ map (limit_gap limit) lanes }
 {
-    minus(all(128), least(lanes, all(128)))
+    minus(all(limit), least(lanes, all(limit)))
 }

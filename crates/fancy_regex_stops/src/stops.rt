@@ -1,28 +1,43 @@
 //! The bytes at which a search for a start may stop.
 
-ghost use Rattle.std.specs.Prelude.{◌≡◌, ◌≤◌, ◌<◌, ◌+◌, ℕ, List, Bool, true, IfSome, length, map, slice_index_or};
+ghost use Rattle.std.specs.Prelude.{◌≡◌, ◌≤◌, ◌<◌, ◌+◌, ℕ, List, Bool, true, false, IfSome, length, map, slice_index_or};
 ghost use Rattle.std.specs.Simd.Lanes.{zip2};
 ghost use Rattle.fancy_regex_stops.specs.Gaps.{gap_in, pair_gap};
 ghost use Rattle.fancy_regex_stops.specs.Stops.{Covers, IsMarkedAt, IsPairAt};
 
-use crate::byte_range::{ByteRange, gap_to_wide, gaps_to_wide};
+use crate::byte_range::{ByteRange, gap_below, gaps_below};
 use crate::lanes::{LANES, greatest, lanes_to_zero, least, load};
 use std::simd::u8x16;
 
-/// Three ranges that have all ASCII characters at which a search stops. It stops at all others too.
+/// The least byte that is not ASCII.
+const FIRST_WIDE: u8 = 128;
+
+/// A byte that no text has.
+const NO_BYTE: u8 = 255;
+
+/// Three ranges that have all ASCII characters at which a search stops, and the first of the other bytes at which it does.
 #[derive(Clone, Copy)]
 pub struct Stops {
     first: ByteRange,
     second: ByteRange,
     third: ByteRange,
+    /// 128, or where no byte stops the search that is not ASCII, one that no text has.
+    limit: u8,
 }
 
 impl Stops {
-    /// The ranges of the ASCII characters that are not marked; `None` where they are more than three.
-    pub fn of(marked: &[bool; 128]) -> Option<Stops>
-        ensures { IfSome result (λ stops. Covers stops marked.now) }
+    /// The ranges of the ASCII characters that are not marked; `None` where they are none, or more than three. All other characters
+    /// are passed over if `passes_wide`, and else none of them is.
+    pub fn of(marked: &[bool; 128], passes_wide: bool) -> Option<Stops>
+        ensures { IfSome result (λ stops. Covers stops marked.now passes_wide) }
     {
-        let stops = ranges_of(marked)?;
+        let [first, second, third] = ranges_of(marked)?;
+        let stops = Stops {
+            first,
+            second,
+            third,
+            limit: limit_for(passes_wide),
+        };
         if stops.covers(marked) {
             return Some(stops);
         }
@@ -35,7 +50,8 @@ impl Stops {
     pub fn until(&self, bytes: &[u8], from: usize) -> usize
         requires { from ≤ length bytes.now }
         ensures range { (from ≤ result) × (result ≤ length bytes.now) }
-        ensures passed { (marks : List Bool) → Covers self.now marks → (i : ℕ) → from ≤ i → i < result → IsMarkedAt bytes.now marks i }
+        ensures passed { (marks : List Bool) (wide : Bool) → Covers self.now marks wide
+            → (i : ℕ) → from ≤ i → i < result → IsMarkedAt bytes.now marks wide i }
     {
         let mut at = from;
         'blocks: while bytes.len() - at >= LANES {
@@ -54,8 +70,8 @@ impl Stops {
     pub fn pairs_until(&self, second: &Stops, bytes: &[u8], from: usize) -> usize
         requires { from ≤ length bytes.now }
         ensures range { (from ≤ result) × (result ≤ length bytes.now) }
-        ensures passed { (marks others : List Bool) → Covers self.now marks → Covers second.now others
-            → (i : ℕ) → from ≤ i → i < result → IsPairAt bytes.now marks others i }
+        ensures passed { (marks others : List Bool) (wide : Bool) → Covers self.now marks wide → Covers second.now others false
+            → (i : ℕ) → from ≤ i → i < result → IsPairAt bytes.now marks wide others i }
     {
         let mut at = from;
         'blocks: while bytes.len() - at > LANES {
@@ -93,12 +109,12 @@ impl Stops {
         lanes_to_zero(self.pair_gaps(second, load(bytes, at), load(bytes, at + 1)))
     }
 
-    /// 0 for a byte of one of the ranges, and for one that is not ASCII.
+    /// 0 for a byte of one of the ranges, and from the limit on.
     fn gap(&self, byte: u8) -> u8
         ensures { result ≡ gap_in self.now byte }
     {
-        let wide = gap_to_wide(byte);
-        let first = wide.min(self.first.gap(byte));
+        let below = gap_below(self.limit, byte);
+        let first = below.min(self.first.gap(byte));
         let second = first.min(self.second.gap(byte));
         second.min(self.third.gap(byte))
     }
@@ -108,24 +124,24 @@ impl Stops {
     fn gaps(&self, lanes: u8x16) -> u8x16
         ensures { result ≡ map (gap_in self.now) lanes }
     {
-        let wide = gaps_to_wide(lanes);
-        let first = least(wide, self.first.gaps(lanes));
+        let below = gaps_below(self.limit, lanes);
+        let first = least(below, self.first.gaps(lanes));
         let second = least(first, self.second.gaps(lanes));
         least(second, self.third.gaps(lanes))
     }
 
-    /// 0 for a byte that is not ASCII, and where both bytes have no gap.
+    /// 0 from the limit on, and where both bytes have no gap.
     #[inline(always)]
     fn pair_gaps(&self, second: &Stops, lanes: u8x16, nexts: u8x16) -> u8x16
         ensures { result ≡ zip2 (pair_gap self.now second.now) lanes nexts }
     {
         let either = greatest(self.gaps(lanes), second.gaps(nexts));
-        least(gaps_to_wide(lanes), either)
+        least(gaps_below(self.limit, lanes), either)
     }
 
     /// Whether each ASCII character that is not marked is in one of the ranges.
     fn covers(&self, marked: &[bool; 128]) -> bool
-        ensures { result ≡ true → Covers self.now marked.now }
+        ensures { result ≡ true → (c : ℕ) → c < 128 → 0 < gap_in self.now c → slice_index_or marked.now c false ≡ true }
     {
         for code in 0..128u8 {
             if self.gap(code) > 0 && !marked[code as usize] {
@@ -136,31 +152,27 @@ impl Stops {
     }
 }
 
+/// The first byte at which a search stops that is not ASCII.
+fn limit_for(passes_wide: bool) -> u8
+    ensures byte { result < 256 }
+    ensures stops { 128 < result → passes_wide ≡ true }
+{
+    if passes_wide { NO_BYTE } else { FIRST_WIDE }
+}
+
 /// The ranges of the ASCII characters that are not marked; `None` where they are none, or more than three.
-fn ranges_of(marked: &[bool; 128]) -> Option<Stops> {
+fn ranges_of(marked: &[bool; 128]) -> Option<[ByteRange; 3]> {
     let (first, end) = range_from(marked, 0)?;
     let Some((second, end)) = range_from(marked, end) else {
-        return Some(Stops {
-            first,
-            second: first,
-            third: first,
-        });
+        return Some([first, first, first]);
     };
     let Some((third, end)) = range_from(marked, end) else {
-        return Some(Stops {
-            first,
-            second,
-            third: second,
-        });
+        return Some([first, second, second]);
     };
     if range_from(marked, end).is_some() {
         return None;
     }
-    Some(Stops {
-        first,
-        second,
-        third,
-    })
+    Some([first, second, third])
 }
 
 /// The first range from this code on of ASCII characters that are not marked, and the code behind it.

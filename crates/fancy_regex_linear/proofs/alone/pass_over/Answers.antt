@@ -39,19 +39,20 @@ returns-then-refuses_all c =
 pub returns-in_default : goal.returns-in_default
 returns-in_default c =
     let is = c.skip_refused.ensures in
+    let place = is.place in
     record {
-      range = is.range;
-      boundary = is.boundary;
-      after = is.after;
-      next = is.next;
+      range = place.range;
+      boundary = place.boundary;
+      after = place.after;
+      next = place.next;
       fails = λ view go explains.
           refused_between c.args.context.now (looked_text c.args.text.now) view go explains c.requires.text c.requires.context.entry c.requires.context.marks
-          c.args.at c.skip_refused.result.0 (omega (arith, c.if-at-eq0.false)) is.range.1 (λ i low less. inl (is.passed i low less));
+          c.args.at c.skip_refused.result.0 (omega (arith, c.if-at-eq0.false)) place.range.1 is.passed;
       looked = record {
         at_least = omega (arith, is.ticked);
         at_most = omega (arith, is.ticked);
-        text = is.text;
-        same_counter = is.same_counter;
+        text = place.text;
+        same_counter = place.same_counter;
       };
     }
 

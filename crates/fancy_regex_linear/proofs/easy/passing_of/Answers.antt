@@ -1,4 +1,5 @@
 use Rattle.std.proofs.Common.{◌∙◌, Option, Some, None, ap, subst, sym, List, Bool}
+use Rattle.std.proofs.lemmas.Bool.{false≢true}
 use mathlib.Core.Logic.{∥∥₁_map, ∥∥₁_elim}
 use Rattle.std.specs.Prelude.{IfSome}
 use Rattle.fancy_regex_states.specs.First.{IsTableOf, RefusesSecond}
@@ -17,3 +18,11 @@ returns-in-Some-clause-second c unicode matchers states entry is =
 pub returns-in-None-clause-second : goal.returns-in-None-clause-second
 returns-in-None-clause-second c unicode matchers states entry is =
     ∣ seconds_of unicode matchers states entry None c.new-in-None.result.second c.new-in-None.ensures.second tt ∣₁
+
+pub returns-in-Some-clause-wide : goal.returns-in-Some-clause-wide
+returns-in-Some-clause-wide c states entry is =
+    ∥∥₁_map (subst (λ (o : Option FirstChars). ∥ IfSome o (IsTableOf c.args.unicode c.args.matchers.now states entry) ∥₁) c.in-Some.is is)
+    (λ table said. c.refuses_wide-wide.ensures (sym c.new.ensures.wide ∙ said) states entry table)
+
+pub returns-in-None-clause-wide : goal.returns-in-None-clause-wide
+returns-in-None-clause-wide c states entry is = ∣ (λ said. absurd (false≢true (sym c.new-in-None.ensures.wide ∙ said))) ∣₁

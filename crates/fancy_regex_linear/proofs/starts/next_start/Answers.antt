@@ -10,8 +10,9 @@ use Rattle.fancy_regex_linear.specs.Find.{earliest, attempted, places, places_fr
 use Rattle.fancy_regex_linear.specs.Search.{Explains}
 use Rattle.fancy_regex_linear.specs.Starts.{spot_from}
 use Rattle.fancy_regex_linear.proofs.DfsLemmas.{trace_end_none}
-use Rattle.fancy_regex_linear.proofs.RefusalLemmas.{start_fails, marks_say, pair_fails}
-use Rattle.fancy_regex_linear.proofs.StartLemmas.{dropped_on, passed_over, earliest_none, tried_none, tried_some, failed_next, failed_last, none_from}
+use Rattle.fancy_regex_linear.proofs.RefusalLemmas.{start_fails, skipped_fails}
+use Rattle.fancy_regex_linear.proofs.StartLemmas.{dropped_on, earliest_none, tried_none, tried_some, failed_next, failed_last, none_from}
+use Rattle.fancy_regex_linear.proofs.SettleLemmas.{skip_on}
 use Rattle.fancy_regex_linear.proofs.starts.next_start.Goals as goal
 use Rattle.fancy_regex_linear.proofs.starts.next_start.Goals.{After-is_refused, After-refuses_all}
 
@@ -84,20 +85,17 @@ passed : (c : After-is_refused) (view : View) (go : ℕ → Continuation) → Ex
 passed c view go explains slots =
     let inv = c.starts.invariant.passed view go explains slots in
     let context = c.args.context.now in
-    let low = c.next_candidate-candidate.ensures.candidate.place.range.0 in
-    let over = passed_over (spots c go slots) (text_of c) c.args.anchored context.stop (c.next_candidate-candidate.result.at - c.starts.at) c.starts.at c.next_candidate-candidate.result.at (omega (arith, low))
-    c.requires.text c.starts.invariant.at.2 c.next_candidate-candidate.ensures.candidate.place.range.1
-    (λ i b from to.
-    let is = rw c.starts.invariant.text at (c.next_candidate-candidate.ensures.passed i from to) in
-    let high : i ≤ context.stop = omega (arith, to, c.next_candidate-candidate.ensures.candidate.place.range.1) in
-    elim is.refused [
-      | inl a ↦
-          let cannot = marks_say context.rules.unicode context.matchers.now context.states.now context.entry context.refused.now c.requires.context.marks a.0 a.1 a.3 in
-          (is.many, no_spot c i (Some a.0) b is.not_first high a.2 cannot view go explains slots, (a.0, a.1, a.2))
-      | inr pair ↦
-          let none = pair_fails context (text_of c) view go explains c.requires.text i b is.not_first c.requires.context.entry pair in
-          (is.many, ap (trace_end slots) none ∙ trace_end_none slots, (pair.first.0, pair.first.1, pair.first.2))
-    ]) in
+    let at : ℕ = c.starts.at in
+    let to : ℕ = c.next_candidate-candidate.result.at in
+    let place = c.next_candidate-candidate.ensures.candidate.place in
+    let says = rw c.starts.invariant.text at c.next_candidate-candidate.ensures.passed in
+    let over = skip_on (spots c go slots) (text_of c) c.args.anchored at to context.stop place.range.0 place.range.1
+    (λ more. (says at (omega arith) more).many)
+    (λ i from less b.
+    let is = says i from less in
+    let none = skipped_fails context (text_of c) view go explains c.requires.text c.requires.context.entry c.requires.context.marks i b is.not_first (omega (arith, less, place.range.1)) is.refused in
+    ap (trace_end slots) none ∙ trace_end_none slots)
+    c.requires.range.1 in
     record { found = inv.0 ∙ over.0; tried = omega (arith, inv.1, over.1) }
 
 pub returns-then-not-is_refused-clause-passed : goal.returns-then-not-is_refused-clause-passed

@@ -17,9 +17,9 @@ returns-then-refuses_all-clause-passed c view go explains p low less boundary =
 pub returns-in_default-clause-passed : goal.returns-in_default-clause-passed
 returns-in_default-clause-passed c view go explains =
     refused_between c.args.context.now (looked_text c.args.text.now) view go explains c.requires.text c.requires.context.entry c.requires.context.marks
-    c.args.at c.skip_ascii.result.0 (omega (arith, c.if-at-eq0.false)) c.skip_ascii.ensures.range.1 (λ i low high. inl (c.skip_ascii.ensures.passed i low high))
+    c.args.at c.skip_refused.result.0 (omega (arith, c.if-at-eq0.false)) c.skip_refused.ensures.place.range.1 c.skip_refused.ensures.passed
 
 pub returns-clause-passed : goal.returns-clause-passed
 returns-clause-passed c view go explains =
     refused_between c.args.context.now (looked_text c.args.text.now) view go explains c.requires.text c.requires.context.entry c.requires.context.marks
-    c.args.at c.pass_pairs.result.0 (omega (arith, c.if-at-eq0.false)) c.pass_pairs.ensures.place.range.1 c.pass_pairs.ensures.passed
+    c.args.at c.skip_pairs.result.0 (omega (arith, c.if-at-eq0.false)) c.skip_pairs.ensures.place.range.1 c.skip_pairs.ensures.passed

@@ -32,7 +32,8 @@ invariant_of-result c = record {
   marks = ∣ rw c.passing_of-passing.ensures.first (rw c.deref-3.ensures.value at c.refused_ascii-refused.ensures c.emit.new.states.items c.in_ok-entry.entry ∣ rw (c.deref.ensures.value, c.deref-2.ensures.value) at c.in_ok-first.ensures ∣₁) ∣₁;
   seconds = c.passing_of-passing.ensures.second c.args.options.now.unicode c.translated.new.self.matchers.items c.emit.new.states.items c.in_ok-entry.entry
       ∣ rw (c.deref.ensures.value, c.deref-2.ensures.value) at c.in_ok-first.ensures ∣₁;
-  cells = ∣ rw (c.deref-4.ensures.value, c.deref-5.ensures.value) at c.in_ok-rows.ensures ∣₁;
+  wides = rw c.deref-4.ensures.value at c.passing_of-passing.ensures.wide c.emit.new.states.items c.in_ok-entry.entry ∣ rw (c.deref.ensures.value, c.deref-2.ensures.value) at c.in_ok-first.ensures ∣₁;
+  cells = ∣ rw (c.deref-5.ensures.value, c.deref-6.ensures.value) at c.in_ok-rows.ensures ∣₁;
 }
 
 pub returns-clause-made : goal.returns-clause-made

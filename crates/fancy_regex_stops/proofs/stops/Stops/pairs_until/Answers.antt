@@ -15,9 +15,9 @@ passed c =
     (λ i low high. (omega (arith, high, is.most, c.blocks-2-test.true, c.blocks-2.invariant.range), is.passed i low high))
 
 pub returns-then-passed-lt-LANES-clause-passed : goal.returns-then-passed-lt-LANES-clause-passed
-returns-then-passed-lt-LANES-clause-passed c marks others covers covers_others i low high =
+returns-then-passed-lt-LANES-clause-passed c marks others wide covers covers_others i low high =
     let is = passed (goal.at.returns-then-passed-lt-LANES-clause-passed c).After-pairs_at-passed i low high in
-    pair_says c.args.self.now c.args.second.now marks others c.args.bytes.now i covers covers_others is.0 is.1
+    pair_says c.args.self.now c.args.second.now marks wide others c.args.bytes.now i covers covers_others is.0 is.1
 
 pub blocks-2-preserved : goal.blocks-2-preserved
 blocks-2-preserved c = record {
@@ -26,6 +26,6 @@ blocks-2-preserved c = record {
 }
 
 pub returns-clause-passed : goal.returns-clause-passed
-returns-clause-passed c marks others covers covers_others i low high =
+returns-clause-passed c marks others wide covers covers_others i low high =
     let is = c.blocks-2.invariant.passed i low high in
-    pair_says c.args.self.now c.args.second.now marks others c.args.bytes.now i covers covers_others is.0 is.1
+    pair_says c.args.self.now c.args.second.now marks wide others c.args.bytes.now i covers covers_others is.0 is.1
