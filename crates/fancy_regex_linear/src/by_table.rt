@@ -1,7 +1,8 @@
 //! Starts that are settled by the table of the pattern, which goes through the text once.
 
 ghost use Rattle.std.specs.Prelude.{◌≡◌, ◌-◌, ◌+◌, ◌<◌, ◌≤◌, ◌^◌, ℕ, Bool, false, Option, Some, None, length, min, IfOk, OnOk, IfSome, IsCharBoundary};
-ghost use Rattle.regex_hir.specs.Text.{char_before as char_before_of};
+ghost use Rattle.std.specs.Char.{len_utf8};
+ghost use Rattle.regex_hir.specs.Text.{char_at, char_before as char_before_of};
 ghost use Rattle.fancy_regex_class.specs.Looks.{looked_text, look_count, SameCounter};
 ghost use Rattle.fancy_regex_states.specs.Attempts.{View, Continuation};
 ghost use Rattle.fancy_regex_states.specs.declared.rules.Rules.{Rules};
@@ -155,13 +156,29 @@ pub fn by_attempts(
         (look_count text.new) span_only place from memory.old memory.new settled) }
     ensures settling { IsSettling context.now text.old text.new place memory.old memory.new }
 {
-    text.count_places(place.at + 1, read);
-    let (_, after) = text.look(read);
+    let after = end_pass(text, place.at, read);
     let next = start_after(read, after, false, context.stop);
     match first_tried(context, text, from, read, memory)? {
         Some((start, end)) => Ok(Settled::Found { start, end }),
         None => Ok(Settled::On { next }),
     }
+}
+
+/// Ends a pass of the table from `start` that told no more than where it stopped: the character at that place, `read`. Each place behind
+/// the first at which the table has tested a row costs one look: the last is looked at here.
+#[inline(always)]
+fn end_pass(text: &mut Counted, start: usize, read: usize) -> Option<char>
+    requires range { (start < read) × (read ≤ length (looked_text text.old)) }
+    requires boundary { IsCharBoundary (looked_text text.old) read }
+    ensures after { result ≡ char_at (looked_text text.old) read }
+    ensures next { IfSome result (λ c. IsCharBoundary (looked_text text.old) (read + len_utf8 c)) }
+    ensures looks { look_count text.new ≡ min (look_count text.old + (read - start)) (2 ^ 64 - 1) }
+    ensures text { looked_text text.new ≡ looked_text text.old }
+    ensures same_counter { SameCounter text.old text.new }
+{
+    text.count_places(start + 1, read);
+    let (_, after) = text.look(read);
+    after
 }
 
 /// The first start from `from` up to `last` that matches, and where the match ends, with its slots in the memory. The starts are a

@@ -8,13 +8,13 @@ use Rattle.fancy_regex_linear.proofs.by_table.by_attempts.Goals as goal
 use Rattle.fancy_regex_linear.proofs.by_table.by_attempts.Goals.{After-first_tried}
 
 -- the text that the attempts look at
-text_is : (c : After-first_tried) → looked_text c.look-after.new.self ≡ looked_text c.args.text.now
-text_is c = c.look-after.ensures.text ∙ c.count_places.ensures.text
+text_is : (c : After-first_tried) → looked_text c.end_pass-after.new.text ≡ looked_text c.args.text.now
+text_is c = c.end_pass-after.ensures.text
 
 -- the looks of the table and at the last character
-looks : (c : After-first_tried) → (look_count c.look-after.new.self ≤ look_count c.args.text.now + (c.args.read - c.args.place.at))
-    × (min (look_count c.args.text.now + (c.args.read - c.args.place.at)) (2 ^ 64 - 1) ≤ look_count c.look-after.new.self)
-looks c = (omega (arith, c.look-after.ensures.ticked, c.count_places.ensures.ticked, c.requires.range), omega (arith, c.look-after.ensures.ticked, c.count_places.ensures.ticked, c.requires.range))
+looks : (c : After-first_tried) → (look_count c.end_pass-after.new.text ≤ look_count c.args.text.now + (c.args.read - c.args.place.at))
+    × (min (look_count c.args.text.now + (c.args.read - c.args.place.at)) (2 ^ 64 - 1) ≤ look_count c.end_pass-after.new.text)
+looks c = (omega (arith, c.end_pass-after.ensures.looks), omega (arith, c.end_pass-after.ensures.looks))
 
 pub returns-in-Some-clause-settled : goal.returns-in-Some-clause-settled
 returns-in-Some-clause-settled c span_only =
@@ -57,10 +57,10 @@ returns-in-None-clause-settled c span_only =
     let attempt = c.first_tried.ensures.attempt in
     let tried = rw (text_is d, c.in-None.is) at c.in_ok-start.ensures.tried in
     let counts = looks d in
-    let after : IfSome next (IsAfter text stop read) = c.start_after-next.ensures.next text (rw c.count_places.ensures.text at c.look-after.ensures.next) in
+    let after : IfSome next (IsAfter text stop read) = c.start_after-next.ensures.next text c.end_pass-after.ensures.next in
     let split : places text false read stop ≡ read ∷ places_from text false next stop =
     c.start_after-next.ensures.left text c.requires.start.utf8 boundary c.requires.start.inside
-    (sym (rw c.count_places.ensures.text at c.look-after.ensures.after)) in
+    (sym c.end_pass-after.ensures.after) in
     record {
       says = λ view go explains failed early.
           let found = tried.says view go explains failed in
