@@ -72,6 +72,27 @@ static int iteration(void) {
     return 0;
 }
 
+static int rows(void) {
+    fancy_regex regex = FANCY_REGEX_EMPTY;
+    fancy_regex_query query = {1, false, true};
+    fancy_regex_span spans[3];
+    size_t count = 9;
+    WANT(fancy_regex_find_row(&regex, "a", 1, &query, spans, 3, &count) == FANCY_REGEX_EMPTY_HANDLE && count == 0);
+    WANT(fancy_regex_build(&regex, "a+|(?=c)", 8, NULL) == FANCY_REGEX_DONE);
+    WANT(fancy_regex_find_row(&regex, "abaabca", 7, &query, spans, 3, &count) == FANCY_REGEX_DONE && count == 2);
+    WANT(spans[0].start == 2 && spans[0].end == 4 && spans[1].start == 5 && spans[1].end == 5);
+    WANT(fancy_regex_find_row(&regex, "abababa", 7, &query, spans, 2, &count) == FANCY_REGEX_DONE && count == 2);
+    WANT(spans[0].start == 2 && spans[0].end == 3 && spans[1].start == 4 && spans[1].end == 5);
+    WANT(fancy_regex_find_row(&regex, "abab", 4, &query, spans, 3, &count) == FANCY_REGEX_DONE && count == 1 && spans[0].start == 2);
+    WANT(fancy_regex_find_row(&regex, "abb", 3, &query, spans, 3, &count) == FANCY_REGEX_NO_MATCH && count == 0);
+    WANT(fancy_regex_find_row(&regex, "\xc3\xa9", 2, &query, spans, 3, &count) == FANCY_REGEX_OFF_BOUNDARY && count == 0);
+    WANT(fancy_regex_find_row(&regex, "", 0, &query, spans, 3, &count) == FANCY_REGEX_PAST_END && count == 0);
+    WANT(fancy_regex_find_row(&regex, "a", 1, &query, spans, 0, &count) == FANCY_REGEX_NULL_POINTER);
+    WANT(fancy_regex_find_row(&regex, "a", 1, &query, NULL, 3, &count) == FANCY_REGEX_NULL_POINTER);
+    fancy_regex_free(&regex);
+    return 0;
+}
+
 static int lists(void) {
     fancy_regex regex = FANCY_REGEX_EMPTY;
     fancy_regex_span spans[4];
@@ -277,7 +298,7 @@ static int wrong_calls(void) {
 }
 
 int main(void) {
-    if (right_calls() != 0 || iteration() != 0 || lists() != 0 || sets() != 0 || set_groups() != 0 || mixed_sets() != 0 || questions() != 0 || options() != 0 || wrong_calls() != 0) return 1;
+    if (right_calls() != 0 || iteration() != 0 || rows() != 0 || lists() != 0 || sets() != 0 || set_groups() != 0 || mixed_sets() != 0 || questions() != 0 || options() != 0 || wrong_calls() != 0) return 1;
     printf("calls: done\n");
     return 0;
 }

@@ -121,6 +121,7 @@ void fancy_regex_raw_free(fancy_regex *regex);
 int32_t fancy_regex_raw_is_match(fancy_regex *regex, const uint8_t *text, size_t length, const fancy_regex_query *query);
 int32_t fancy_regex_raw_find(fancy_regex *regex, const uint8_t *text, size_t length, const fancy_regex_query *query, fancy_regex_span *span);
 int32_t fancy_regex_raw_find_counted(fancy_regex *regex, const uint8_t *text, size_t length, const fancy_regex_query *query, fancy_regex_span *span, uint64_t *looks);
+int32_t fancy_regex_raw_find_row(fancy_regex *regex, const uint8_t *text, size_t length, const fancy_regex_query *query, fancy_regex_span *spans, size_t room, size_t *count);
 int32_t fancy_regex_raw_captures(fancy_regex *regex, const uint8_t *text, size_t length, const fancy_regex_query *query, fancy_regex_span *spans, size_t room);
 int32_t fancy_regex_raw_find_all(fancy_regex *regex, const uint8_t *text, size_t length, bool is_utf8, fancy_regex_span *spans, size_t room, size_t *count);
 int32_t fancy_regex_raw_split(fancy_regex *regex, const uint8_t *text, size_t length, bool is_utf8, fancy_regex_span *pieces, size_t room, size_t *count);
@@ -179,6 +180,20 @@ static inline int32_t fancy_regex_find_by(fancy_regex *regex, const char *text, 
     if (regex == NULL || query == NULL) return FANCY_REGEX_NULL_POINTER;
     if (tested != FANCY_REGEX_DONE) return tested;
     return fancy_regex_raw_find(regex, fancy_regex_bytes(text), length, query, span != NULL ? span : &ignored);
+}
+
+/* A row of matches: the first match of the search that the query describes, and those of searches that begin where the match before them
+ * ended, and else are as the query says. Writes their spans into `spans`, as many as its `room`, which is 1 or more, has place for, and how
+ * many there are into `count`. An empty match is the last one of its row, and a row may end before the matches do. The answers are those
+ * of fancy_regex_find for the first match; without one the count is 0. Null `spans` and no room are FANCY_REGEX_NULL_POINTER. */
+static inline int32_t fancy_regex_find_row(fancy_regex *regex, const char *text, size_t length, const fancy_regex_query *query, fancy_regex_span *spans, size_t room, size_t *count) {
+    int32_t tested = fancy_regex_test(text, length, 1);
+    int32_t roomy = fancy_regex_test(spans, room, sizeof(fancy_regex_span));
+    if (count != NULL) *count = 0;
+    if (regex == NULL || query == NULL || count == NULL || spans == NULL || room == 0) return FANCY_REGEX_NULL_POINTER;
+    if (tested != FANCY_REGEX_DONE) return tested;
+    if (roomy != FANCY_REGEX_DONE) return roomy;
+    return fancy_regex_raw_find_row(regex, fancy_regex_bytes(text), length, query, spans, room, count);
 }
 
 /* Whether the search that the query describes has a match; the answers are those of fancy_regex_is_match. */

@@ -125,6 +125,39 @@ static void want_walk(fancy_regex *regex, const char *text, size_t length, const
     if (walked != count) wrong(__LINE__);
 }
 
+/* Whether searches one after another, each of which begins where the match before it ended, find just the spans of a row. A row ends with
+ * an empty match, where there is no more room, and where the next search has no match. */
+static void want_row(fancy_regex *regex, const char *text, size_t length, fancy_regex_query query, const fancy_regex_span *spans, size_t room, size_t count, int32_t answer) {
+    fancy_regex_span found;
+    for (size_t i = 0; i < count; i++) {
+        if (fancy_regex_find_by(regex, text, length, &query, &found) != FANCY_REGEX_DONE) wrong(__LINE__);
+        if (!is_span(found, length) || found.start != spans[i].start || found.end != spans[i].end) wrong(__LINE__);
+        if (found.start >= found.end) {
+            if (i + 1 != count) wrong(__LINE__);
+            return;
+        }
+        query.position = found.end;
+    }
+    if (count == room) return;
+    int32_t next = fancy_regex_find_by(regex, text, length, &query, &found);
+    if (count == 0 ? next != answer : next == FANCY_REGEX_DONE) wrong(__LINE__);
+}
+
+static int32_t any_row(fancy_regex *regex) {
+    char text[LONGEST];
+    size_t length = any_haystack(text), claimed = below(32) == 0 ? SIZE_MAX - below(9) : length;
+    const char *at = below(32) == 0 ? NULL : text;
+    fancy_regex_query query = {below(length + 2), false, below(4) != 0};
+    fancy_regex_span spans[8];
+    size_t room = below(9), count = 77;
+    marked(spans, sizeof spans);
+    int32_t answer = fancy_regex_find_row(regex, at, claimed, &query, below(32) == 0 ? NULL : spans, room, &count);
+    if (count > room || (answer == FANCY_REGEX_DONE) != (count > 0)) wrong(__LINE__);
+    want_marks(spans, count * sizeof *spans, sizeof spans);
+    if (answer != FANCY_REGEX_NULL_POINTER && answer != FANCY_REGEX_MEMORY) want_row(regex, at, claimed, query, spans, room, count, answer);
+    return answer;
+}
+
 static int32_t any_list(fancy_regex *regex) {
     char text[LONGEST];
     size_t length = any_haystack(text), claimed = below(32) == 0 ? SIZE_MAX - below(9) : length;
@@ -332,8 +365,8 @@ static int32_t any_free(fancy_regex *regex) {
 }
 
 static const struct kind kinds[] = {
-    {"build", any_build, 5}, {"search", any_search, 8}, {"find_all", any_list, 3}, {"split", any_split, 2}, {"replace_all", any_replacement, 3},
-    {"set_build", any_set, 3}, {"set_find", any_set_search, 4}, {"set_groups", any_set_groups, 2}, {"questions", any_question, 2},
+    {"build", any_build, 5}, {"search", any_search, 8}, {"row", any_row, 4}, {"find_all", any_list, 3}, {"split", any_split, 2},
+    {"replace_all", any_replacement, 3}, {"set_build", any_set, 3}, {"set_find", any_set_search, 4}, {"set_groups", any_set_groups, 2}, {"questions", any_question, 2},
     {"names", any_names, 1}, {"check", any_check, 1}, {"escape", any_escape, 1}, {"bytes", any_bytes, 2}, {"free", any_free, 1},
 };
 
@@ -341,7 +374,7 @@ static const struct kind kinds[] = {
 #define ENDS 15
 
 static size_t any_kind(void) {
-    uint64_t drawn = below(38);
+    uint64_t drawn = below(42);
     size_t kind = 0;
     while (drawn >= kinds[kind].share) drawn -= kinds[kind++].share;
     return kind;

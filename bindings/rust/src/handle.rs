@@ -110,6 +110,27 @@ impl Owned {
         Ok(self.told(status)?.then_some(span))
     }
 
+    /// Writes a row of matches, and returns how many: the first match of the search, and those of searches that begin where the match
+    /// before them ended. An empty match is the last of its row. There are none only where the first search has no match.
+    #[inline]
+    pub fn find_row(&self, search: &Search<'_>, spans: &mut [Span]) -> Result<usize> {
+        let mut count = 0;
+        // As in `find`; the room is that of the slice, which is not empty.
+        let status = unsafe {
+            raw::fancy_regex_raw_find_row(
+                self.at(),
+                search.text.as_ptr(),
+                search.text.len(),
+                &search.query(),
+                spans.as_mut_ptr(),
+                spans.len(),
+                &mut count,
+            )
+        };
+        self.told(status)?;
+        Ok(count)
+    }
+
     /// Writes the spans of the groups of the first match, and tells whether there is one.
     pub fn captures(&self, search: &Search<'_>, spans: &mut [Span]) -> Result<bool> {
         // As in `find`; the room is that of the slice.

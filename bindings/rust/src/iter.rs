@@ -27,6 +27,51 @@ pub struct Matches<'r, 't, S: Input + ?Sized = str> {
     /// Whether the next search begins a character after an empty match, so that `\G` does not match there.
     stepped: bool,
     done: bool,
+    ahead: Ahead,
+}
+
+/// The most matches that one call of the library finds ahead.
+const MOST_AHEAD: usize = 16;
+
+/// Matches that one call of the library found, of which some were not asked for yet. Each call finds at most twice as many as the one
+/// before it, and the first one a single match: so who asks for few does not wait for many.
+struct Ahead {
+    spans: [Span; MOST_AHEAD],
+    /// How many were found.
+    count: usize,
+    /// How many of those were asked for.
+    taken: usize,
+    /// How many the last call might find.
+    room: usize,
+}
+
+impl Ahead {
+    fn new() -> Ahead {
+        Ahead {
+            spans: [Span::UNSET; MOST_AHEAD],
+            count: 0,
+            taken: 0,
+            room: 0,
+        }
+    }
+
+    /// The next match that was found.
+    #[inline]
+    fn take(&mut self) -> Option<Span> {
+        let span = *self.spans[..self.count].get(self.taken)?;
+        self.taken += 1;
+        Some(span)
+    }
+
+    /// Finds matches by a search, and takes the first one.
+    fn find(&mut self, regex: &Regex, search: &Search<'_>) -> Result<Option<Span>> {
+        self.room = (2 * self.room).clamp(1, MOST_AHEAD);
+        // Later searches of a row let `\G` match where they begin if the first one does.
+        let room = if search.continues { self.room } else { 1 };
+        (self.count, self.taken) = (0, 0);
+        self.count = regex.find_row(search, &mut self.spans[..room])?;
+        Ok(self.take())
+    }
 }
 
 impl<'r, 't, S: Input + ?Sized> Matches<'r, 't, S> {
@@ -38,6 +83,7 @@ impl<'r, 't, S: Input + ?Sized> Matches<'r, 't, S> {
             last: None,
             stepped: false,
             done: false,
+            ahead: Ahead::new(),
         }
     }
 
@@ -74,13 +120,14 @@ impl<'r, 't, S: Input + ?Sized> Matches<'r, 't, S> {
     }
 
     /// The next item, by a search that is described.
+    #[inline]
     fn step<T>(
         &mut self,
-        search: impl Fn(&Regex, &Search<'t>) -> Result<Option<T>>,
+        search: impl Fn(&mut Self) -> Result<Option<T>>,
         span: impl Fn(&T) -> Span,
     ) -> Option<Result<T>> {
         while !self.done {
-            let found = match self.search_next(&search) {
+            let found = match search(self) {
                 Ok(Some(found)) => found,
                 Ok(None) => break,
                 Err(error) => {
@@ -97,21 +144,44 @@ impl<'r, 't, S: Input + ?Sized> Matches<'r, 't, S> {
         None
     }
 
-    fn search_next<T>(
-        &self,
-        search: impl Fn(&Regex, &Search<'t>) -> Result<Option<T>>,
-    ) -> Result<Option<T>> {
+    /// The next search, if there is one.
+    fn next_search(&self) -> Result<Option<Search<'t>>> {
         let overrides = self.regex.overrides_assertions();
-        match self.input.search(self.text, overrides)? {
-            Some(mut next) => {
-                next.continues = next.continues && !self.stepped;
-                search(self.regex, &next)
-            }
+        let search = self.input.search(self.text, overrides)?;
+        Ok(search.map(|search| Search {
+            continues: search.continues && !self.stepped,
+            ..search
+        }))
+    }
+
+    /// The span of the next match: one that was found ahead, or by the next search.
+    #[inline]
+    fn next_span(&mut self) -> Result<Option<Span>> {
+        match self.ahead.take() {
+            Some(span) => Ok(Some(span)),
+            None => self.find_span(),
+        }
+    }
+
+    #[inline(never)]
+    fn find_span(&mut self) -> Result<Option<Span>> {
+        match self.next_search()? {
+            Some(search) if !search.anchored => self.ahead.find(self.regex, &search),
+            Some(search) => self.regex.find_span(&search),
+            None => Ok(None),
+        }
+    }
+
+    /// The spans of the groups of the next match.
+    fn next_groups(&mut self) -> Result<Option<Vec<Span>>> {
+        match self.next_search()? {
+            Some(search) => self.regex.group_spans(&search),
             None => Ok(None),
         }
     }
 
     /// Goes on after a match, and tells whether it counts: an empty one right after another does not.
+    #[inline]
     fn take(&mut self, found: Span) -> bool {
         let empty = found.start >= found.end;
         self.stepped = empty && found.end == self.input.effective_start();
@@ -138,8 +208,9 @@ impl<'r, 't, S: Input + ?Sized> Matches<'r, 't, S> {
 impl<'t, S: Input + ?Sized> Iterator for Matches<'_, 't, S> {
     type Item = Result<S::Match<'t>>;
 
+    #[inline]
     fn next(&mut self) -> Option<Result<S::Match<'t>>> {
-        let found = self.step(Regex::find_span, |span| *span)?;
+        let found = self.step(Self::next_span, |span| *span)?;
         let input = self.text();
         Some(found.map(|span| input.make_match(span.start, span.end)))
     }
@@ -200,7 +271,7 @@ impl<'t, S: Input + ?Sized> Iterator for CaptureMatches<'_, 't, S> {
     type Item = Result<Captures<'t, S>>;
 
     fn next(&mut self) -> Option<Result<Captures<'t, S>>> {
-        let spans = self.0.step(Regex::group_spans, |spans| spans[0])?;
+        let spans = self.0.step(Matches::next_groups, |spans| spans[0])?;
         let groups = |spans| Captures::new(self.text(), spans, self.regex().names());
         Some(spans.map(groups))
     }

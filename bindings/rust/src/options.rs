@@ -296,7 +296,8 @@ setters! {
     unicode_mode(yes: bool) |to| to.options.unicode_mode = yes;
 
     /// How often one search may go back: the default is 1,000,000. A search that would go back more often is
-    /// `RuntimeError::BacktrackLimitExceeded`. Patterns without look-around, references and the like go never back.
+    /// `RuntimeError::BacktrackLimitExceeded`, unless the pattern has states that answer then. Patterns without look-around, references
+    /// and the like go never back.
     ///
     /// ```
     /// use proved_fancy_regex::{Error, RegexBuilder, RuntimeError};

@@ -90,7 +90,7 @@ impl Pool {
     pub fn with<T>(
         &self,
         build: impl Fn(&Owned) -> Result<()>,
-        search: impl Fn(&Owned) -> Result<T>,
+        search: impl FnOnce(&Owned) -> Result<T>,
     ) -> Result<T> {
         let own = own_place();
         let place = &self.places[own % PLACES];

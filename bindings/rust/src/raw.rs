@@ -121,6 +121,15 @@ extern "C" {
         query: *const Query,
         span: *mut Span,
     ) -> i32;
+    pub fn fancy_regex_raw_find_row(
+        handle: *mut Handle,
+        text: *const u8,
+        length: usize,
+        query: *const Query,
+        spans: *mut Span,
+        room: usize,
+        count: *mut usize,
+    ) -> i32;
     pub fn fancy_regex_raw_is_match(
         handle: *mut Handle,
         text: *const u8,

@@ -92,7 +92,7 @@ impl Regex {
 
     /// Makes a search with a handle of the regex that no other search has.
     #[inline]
-    fn with_handle<T>(&self, search: impl Fn(&Owned) -> Result<T>) -> Result<T> {
+    fn with_handle<T>(&self, search: impl FnOnce(&Owned) -> Result<T>) -> Result<T> {
         let Compiled {
             pattern, options, ..
         } = &*self.compiled;
@@ -103,7 +103,7 @@ impl Regex {
     /// Makes a search with a handle of the set of the pattern and the empty pattern. The empty pattern matches where a search begins,
     /// and a set asks its members at the first place alone at which one of them matches: so its answer has the match of the pattern that
     /// starts there.
-    fn with_anchored<T>(&self, search: impl Fn(&Owned) -> Result<T>) -> Result<T> {
+    fn with_anchored<T>(&self, search: impl FnOnce(&Owned) -> Result<T>) -> Result<T> {
         let Compiled {
             pattern, options, ..
         } = &*self.compiled;
@@ -339,6 +339,11 @@ impl Regex {
             return Ok(self.anchored_spans(search)?.map(|spans| spans[0]));
         }
         self.with_handle(|handle| handle.find(search))
+    }
+
+    /// Writes the spans of a row of matches, of which the first is that of the search, and returns how many.
+    pub(crate) fn find_row(&self, search: &Search<'_>, spans: &mut [Span]) -> Result<usize> {
+        self.with_handle(|handle| handle.find_row(search, spans))
     }
 
     /// The spans of the groups of the first match.

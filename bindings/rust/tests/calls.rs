@@ -38,6 +38,53 @@ fn iterates_as_the_crate_does() {
     assert_eq!(spans(r"\G[ab]\K", "aab"), [(1, 1), (3, 3)]);
 }
 
+/// What an iteration gives, and the start of its next search after each item.
+fn items(regex: &Regex, text: &str) -> Vec<(Result<(usize, usize), Error>, usize)> {
+    let mut matches = regex.find_iter(text);
+    let mut items = Vec::new();
+    while let Some(found) = matches.next() {
+        items.push((found.map(|m| (m.start(), m.end())), matches.input().start()));
+    }
+    assert!(matches.next().is_none());
+    items
+}
+
+/// The same without a search ahead: that of groups makes one search for each match.
+#[test]
+fn matches_that_are_found_ahead_are_those_of_single_searches() {
+    let text = "one two  aa é x, aaab b ".repeat(9) + "aaaaaaaaaaaaaaaaaaaaaaaaaaa";
+    for pattern in [
+        r"\w+",
+        r"\w*",
+        "",
+        "a*",
+        r"\G\w",
+        r"(?=a)|\w\w",
+        r"\b",
+        r"\w\K",
+        r"(\w)\1",
+        r"(?!.*b)(a|aa)+\1,|\w ",
+    ] {
+        let regex = RegexBuilder::new(pattern)
+            .backtrack_limit(1000)
+            .build()
+            .unwrap();
+        let single: Vec<_> = regex
+            .captures_iter(&text)
+            .map(|groups| groups.map(|groups| groups.get(0).unwrap().range()))
+            .map(|found| found.map(|range| (range.start, range.end)))
+            .collect();
+        let items = items(&regex, &text);
+        assert!(single.len() > 2, "{pattern}");
+        assert!(items.iter().map(|item| &item.0).eq(&single), "{pattern}");
+        for (found, next) in &items {
+            // A search begins where the match before it ended, or a character after it.
+            let follows = |&(_, end): &(usize, usize)| (end..end + 3).contains(next);
+            assert!(found.as_ref().map_or(true, follows), "{pattern}");
+        }
+    }
+}
+
 #[test]
 fn splits_and_replaces() {
     let comma = Regex::new(",(?=b)").unwrap();

@@ -1,5 +1,6 @@
 pub mod EndLemmas
 pub mod Handles
 pub mod ListLemmas
+pub mod RowLemmas
 pub mod SetLemmas
 pub mod Values

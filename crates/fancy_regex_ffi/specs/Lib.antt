@@ -4,6 +4,7 @@ pub mod Ends
 pub mod Handles
 pub mod Lists
 pub mod Places
+pub mod Rows
 pub mod Searches
 pub mod Sets
 pub mod Templates

@@ -6,6 +6,7 @@ ghost use Rattle.fancy_regex_meta.specs.Refusals.{Accepts};
 ghost use Rattle.fancy_regex_ffi_lists.specs.Choices.{chosen};
 ghost use Rattle.fancy_regex_ffi.specs.Codes.{fault_status};
 ghost use Rattle.fancy_regex_ffi.specs.Ends.{IsAnswer, IsBuildFault, IsBuilt, FindEnds, MatchEnds, CapturesEnd, groups_for, place_or_max, IsGroupName, IsNameOf, IsNameWritten};
+ghost use Rattle.fancy_regex_ffi.specs.Rows.{IsRowBy, RowEnds};
 ghost use Rattle.fancy_regex_ffi.specs.Searches.{IsFoundBy, IsToldBy, CountsLooksBy, CountsStartsBy, IsCapturedBy, IsCapturedIn, AreGroupSpans};
 ghost use Rattle.fancy_regex_ffi.specs.Texts.{IsFaultWritten, IsTextWritten};
 ghost use Rattle.fancy_regex_ffi.specs.declared.contents.Subject.TheVariants as subjects;
@@ -13,7 +14,7 @@ ghost use Rattle.fancy_regex_ffi.specs.declared.contents.Subject.TheVariants as 
 use crate::contents::{Contents, Subject};
 use crate::fault::CallError;
 use crate::kept_memory::KeptMemory;
-use crate::query::{Query, check_place, find_in, is_match_in, text_of};
+use crate::query::{Query, check_place, find_in, is_match_in, text_of, write_row_in};
 use crate::status::Status;
 use fancy_regex::{Captures, Error, Regex, RegexInput, SearchMemory, Steps};
 use fancy_regex_ffi_lists::{Options, Span, group_span, write_error, write_front};
@@ -92,6 +93,50 @@ fn find(
     match subject {
         Subject::Regex(regex) => match text_of(text, query.is_utf8) {
             Ok(text) => find_in(alloc, regex, text, query, steps, &mut memory.memory),
+            Err(fault) => Err(fault),
+        },
+        Subject::Set(_) | Subject::Nothing => Err(CallError::NoRegex),
+    }
+}
+
+/// Writes a row of matches, as `write_row_in` does; and tells how the first search of it ends, and how many there are. A fault is
+/// recorded.
+#[tactic(auto, using(crate::proofs::RowLemmas::ends_of_row))]
+pub fn write_row(
+    alloc: Global,
+    contents: &mut Contents,
+    text: &[u8],
+    query: &Query,
+    spans: &mut [Span],
+) -> (Status, usize)
+    requires { query.now.is_utf8 ≡ true → IsUtf8 text.now }
+    ensures subject { contents.new.subject ≡ contents.old.subject }
+    ensures answer { RowEnds contents.old.subject text.now query.now result.0 result.1 spans.old spans.new
+        contents.old.fault contents.new.fault }
+{
+    let memory = &mut contents.memory;
+    match row(alloc, &contents.subject, text, query, spans, memory) {
+        Ok(0) => (Status::NoMatch, 0),
+        Ok(count) => (Status::Done, count),
+        Err(fault) => (record_fault(contents, fault), 0),
+    }
+}
+
+/// Writes a row of matches, and returns how many.
+fn row(
+    alloc: Global,
+    subject: &Subject,
+    text: &[u8],
+    query: &Query,
+    spans: &mut [Span],
+    memory: &mut KeptMemory,
+) -> Result<usize, CallError>
+    requires { query.now.is_utf8 ≡ true → IsUtf8 text.now }
+    ensures { IsRowBy subject.now text.now query.now result spans.old spans.new }
+{
+    match subject {
+        Subject::Regex(regex) => match text_of(text, query.is_utf8) {
+            Ok(text) => write_row_in(alloc, regex, text, query, spans, &mut memory.memory),
             Err(fault) => Err(fault),
         },
         Subject::Set(_) | Subject::Nothing => Err(CallError::NoRegex),

@@ -72,6 +72,7 @@ impl Contents {
 
     /// Drops the memory of a search from a place of the text to where the span of its match ends, or else to the end of the text, if
     /// that are many bytes: so a handle does not keep what one long text has needed.
+    #[inline(always)]
     pub fn bound_memory(&mut self, alloc: Global, text: &[u8], from: usize, span_end: usize)
         ensures subject { self.new.subject ≡ self.old.subject }
         ensures fault { self.new.fault ≡ self.old.fault }

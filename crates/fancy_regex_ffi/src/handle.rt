@@ -94,6 +94,8 @@ impl Handle {
         ensures { self.new.contents ≡ Some contents.value }
     {
         let old = mem::replace(self, Handle::of(contents));
-        drop(old.into_box(alloc));
+        if let Some(before) = old.into_box(alloc) {
+            drop(before);
+        }
     }
 }

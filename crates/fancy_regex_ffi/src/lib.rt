@@ -6,6 +6,7 @@ ghost use Rattle.std.specs.Prelude.{◌≡◌, true, None, IsUtf8, length};
 ghost use Rattle.fancy_regex_ffi_lists.specs.Choices.{chosen};
 ghost use Rattle.fancy_regex_ffi.specs.Ends.{BuildEnds, FindReports, MatchReports, CapturesReport, LooksCounted, NameReports, groups_in, place_in};
 ghost use Rattle.fancy_regex_ffi.specs.Lists.{ListReports, OfRegex, AreMatchSpans, ArePieceSpans, IsReplacedText, AreMembers, AreMemberGroups};
+ghost use Rattle.fancy_regex_ffi.specs.Rows.{RowReports};
 ghost use Rattle.fancy_regex_ffi.specs.Sets.{SetBuildEnds, MixedBuildEnds};
 ghost use Rattle.fancy_regex_ffi.specs.Templates.{CheckReports, EscapeEnds, NamesReport};
 ghost use Rattle.fancy_regex_ffi.specs.Texts.{TextReports};
@@ -29,7 +30,7 @@ use answers::{answer_done, answer_items, answer_text, end_text, store};
 use bytes::{end_asked, required_of, starts_of};
 use calls::{
     built, find_span, groups_of, place_of_fault, tell_match, write_captures, write_fault,
-    write_name,
+    write_name, write_row,
 };
 use fancy_regex::{Error, Steps};
 use fancy_regex_ffi_lists::{Member, Options, Span};
@@ -128,6 +129,42 @@ fn find_counted(
     *span = found;
     handle.put(alloc, contents);
     status.code()
+}
+
+/// A row of matches, as many as there is room for, and how many there are: the first match of a search, and those of searches that begin
+/// where the match before them ended. An empty match is the last of its row, and a row may end before the matches do: the number tells of
+/// the first search alone, and 0 says that it has no match if there is room for one.
+#[tactic(auto, using(crate::proofs::RowLemmas::row_reports))]
+#[unsafe(no_mangle)]
+pub extern "C" fn fancy_regex_raw_find_row(
+    alloc: Global,
+    handle: &mut Handle,
+    text: &[u8],
+    query: &Query,
+    spans: &mut [Span],
+    count: &mut usize,
+) -> i32
+    requires { query.now.is_utf8 ≡ true → IsUtf8 text.now }
+    ensures { RowReports handle.old.contents handle.new.contents text.now query.now result spans.old spans.new count.new }
+{
+    let Some(mut contents) = handle.take(alloc) else {
+        *count = 0;
+        return Status::EmptyHandle.code();
+    };
+    let (status, written) = write_row(alloc, &mut contents, text, query, spans);
+    let end = end_of_row(spans, written);
+    contents.bound_memory(alloc, text, query.position, end);
+    *count = written;
+    handle.put(alloc, contents);
+    status.code()
+}
+
+/// Where the last search of a row ends: where its match does; the largest number if it has none.
+fn end_of_row(spans: &[Span], count: usize) -> usize {
+    match spans.get(count.wrapping_sub(1)) {
+        Some(span) if count == spans.len() || span.start >= span.end => span.end,
+        _ => usize::MAX,
+    }
 }
 
 /// Whether a search has a match: 1 if it has one, and 0 if not.

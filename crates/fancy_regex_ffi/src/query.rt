@@ -1,10 +1,12 @@
 //! The searches over texts of bytes: each test that a Rust caller's types would make is made here.
 
 ghost use Rattle.std.specs.Prelude.{◌≡◌, true, IfOk, IsUtf8};
+ghost use Rattle.fancy_regex_ffi.specs.Rows.{IsRowIn, query_after};
 ghost use Rattle.fancy_regex_ffi.specs.Searches.{IsTextOrFault, IsPlaceOrFault, IsFoundIn, IsToldIn, CountsLooks, CountsStarts};
 
 use crate::fault::CallError;
 use fancy_regex::{Regex, RegexInput, SearchMemory, Steps};
+use fancy_regex_ffi_lists::Span;
 use std::alloc::Global;
 use std::str;
 
@@ -18,6 +20,19 @@ pub struct Query {
     pub is_utf8: bool,
     /// Whether `\G` matches at `position`; else it never matches.
     pub continues: bool,
+}
+
+impl Query {
+    /// The query for the search that begins where a match ended.
+    fn after(&self, end: usize) -> Query
+        ensures { result ≡ query_after self.now end }
+    {
+        Query {
+            position: end,
+            is_utf8: self.is_utf8,
+            continues: self.continues,
+        }
+    }
 }
 
 /// The text, which is tested unless it is known to be UTF-8.
@@ -48,6 +63,7 @@ pub fn check_place(text: &str, position: usize) -> Result<(), CallError>
 }
 
 /// The start and end of the first match of a search. The counter is raised by the looks of the linear-time matcher.
+#[inline(always)]
 pub fn find_in(
     alloc: Global,
     regex: &Regex,
@@ -68,6 +84,43 @@ pub fn find_in(
         Some(found) => Ok(Some((found.start(), found.end()))),
         None => Ok(None),
     }
+}
+
+/// Writes a row of matches, and returns how many: the first match of a search, and those of searches that begin where the match before
+/// them ended, as many as there is room for. An empty match ends a row, and so does a search that has no match or a fault; the row is
+/// none, and the fault is answered, only if that is the first search.
+pub fn write_row_in(
+    alloc: Global,
+    regex: &Regex,
+    text: &str,
+    query: &Query,
+    spans: &mut [Span],
+    memory: &mut SearchMemory,
+) -> Result<usize, CallError>
+    ensures { IsRowIn regex.now.meta text.now query.now result spans.old spans.new }
+{
+    let mut next = *query;
+    let mut count = 0;
+    'row: while count < spans.len() {
+        match find_in(alloc, regex, text, &next, &mut Steps::new(), memory) {
+            Ok(Some((start, end))) => {
+                spans[count] = Span { start, end };
+                count += 1;
+                if start >= end {
+                    return Ok(count);
+                }
+                next = query.after(end);
+            }
+            Ok(None) => return Ok(count),
+            Err(fault) => {
+                if count == 0 {
+                    return Err(fault);
+                }
+                return Ok(count);
+            }
+        }
+    }
+    Ok(count)
 }
 
 /// Whether a search has a match.
