@@ -31,6 +31,7 @@ told_by_table-requires-clause-table c =
       table = rw (c.deref.ensures.value, c.deref-2.ensures.value, c.rules.ensures) serves.table;
       passing = ap (λ p. p.first) serves.passing;
       seconds = rw (serves.passing, c.deref.ensures.value, c.deref-2.ensures.value, c.rules.ensures) self.seconds;
+      wide = rw (serves.passing, c.deref.ensures.value, c.deref-2.ensures.value, c.rules.ensures) self.wides;
       text_is = serves.text_is ∙ sym c.new-counted.ensures.text;
       first = ap (λ r. r.longest) c.rules.ensures ∙ serves.first;
       start_shown = ap (λ r. r.no_start_text) c.rules.ensures ∙ serves.start_shown;
