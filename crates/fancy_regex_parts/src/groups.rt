@@ -1,6 +1,6 @@
 //! A walk along the way of a match, which writes its slots.
 
-ghost use Rattle.std.specs.Prelude.{◌≡◌, ◌+◌, ◌-◌, ◌*◌, ◌^◌, ◌<◌, ◌≤◌, ℕ, true, length, max, vec_len, slice_set, IfOk, IfSome, OnOk, IsCharBoundary};
+ghost use Rattle.std.specs.Prelude.{◌≡◌, ◌+◌, ◌-◌, ◌*◌, ◌^◌, ◌<◌, ◌≤◌, ℕ, true, length, min, max, vec_len, slice_set, IfOk, IfSome, OnOk, IsCharBoundary};
 ghost use Rattle.std.specs.Char.{len_utf8};
 ghost use Rattle.regex_hir.specs.Text.{char_at};
 ghost use Rattle.fancy_regex_class.specs.Looks.{looked_text, look_count};
@@ -201,6 +201,7 @@ fn read_on(text: &mut Counted, next: usize, at: usize) -> WalkStep
     ensures step { result ≡ read_step next at (char_at (looked_text text.old) at) }
     ensures next { IfSome (char_at (looked_text text.old) at) (λ c. IsCharBoundary (looked_text text.old) (at + len_utf8 c)) }
     ensures count { look_count text.new ≤ look_count text.old + 1 }
+    ensures counted { min (look_count text.old + 1) (2 ^ 64 - 1) ≤ look_count text.new }
     ensures looks { IsOnlyLookedAt text.old text.new }
 {
     let (_, after) = text.look(at);

@@ -1,6 +1,6 @@
 //! A search over starts.
 
-ghost use Rattle.std.specs.Prelude.{◌≡◌, ◌+◌, ◌-◌, ◌*◌, ◌^◌, ◌<◌, ◌≤◌, length, vec_len, IfOk, IfSome, OnOk, IsCharBoundary, IsUtf8};
+ghost use Rattle.std.specs.Prelude.{◌≡◌, ◌+◌, ◌-◌, ◌*◌, ◌^◌, ◌<◌, ◌≤◌, length, min, vec_len, IfOk, IfSome, OnOk, IsCharBoundary, IsUtf8};
 ghost use Rattle.fancy_regex_class.specs.Looks.{looked_text, look_count};
 ghost use Rattle.fancy_regex_meaning.specs.Positions.{boundaries};
 ghost use Rattle.fancy_regex_states.specs.Attempts.{View};
@@ -70,6 +70,7 @@ fn place_after(text: &mut Counted, at: usize, last: usize) -> Option<usize>
     requires boundary { IsCharBoundary (looked_text text.old) at }
     ensures after { IsAfter (looked_text text.old) last at result }
     ensures count { look_count text.new ≤ look_count text.old + 1 }
+    ensures counted { min (look_count text.old + 1) (2 ^ 64 - 1) ≤ look_count text.new }
     ensures looks { IsOnlyLookedAt text.old text.new }
 {
     let (_, after) = text.look(at);

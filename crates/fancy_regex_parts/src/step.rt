@@ -1,6 +1,6 @@
 //! One step of a search in parts.
 
-ghost use Rattle.std.specs.Prelude.{◌≡◌, ◌+◌, ◌^◌, ◌<◌, ◌≤◌, ◌∷◌, Some, length, IfOk, IfSome, OnOk, IsCharBoundary};
+ghost use Rattle.std.specs.Prelude.{◌≡◌, ◌+◌, ◌-◌, ◌^◌, ◌<◌, ◌≤◌, ◌∷◌, Some, length, min, IfOk, IfSome, OnOk, IsCharBoundary};
 ghost use Rattle.std.specs.Char.{len_utf8};
 ghost use Rattle.regex_hir.specs.Text.{char_at, char_before};
 ghost use Rattle.fancy_regex_class.specs.Looks.{looked_text, look_count};
@@ -47,6 +47,7 @@ fn step(
     ensures frames { OnOk result (top_first stack.new.items ≡ step_frames state at (top_first stack.old.items)) }
     ensures next { IfSome (char_at (looked_text text.old) at) (λ c. IsCharBoundary (looked_text text.old) (at + len_utf8 c)) }
     ensures count { look_count text.new ≤ look_count text.old + 1 }
+    ensures counted { min (look_count text.old + 1) (2 ^ 64 - 1) ≤ look_count text.new }
     ensures looks { IsOnlyLookedAt text.old text.new }
 {
     let (before, after) = text.look(at);
