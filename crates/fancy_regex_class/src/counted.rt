@@ -87,11 +87,9 @@ impl<'t, 's> Counted<'t, 's> {
         self.text
     }
 
-    /// Counts a look at each byte offset from `from` up to `to`, which is not one of them. They stand for looks that are not made by
-    /// `look`: `skip_ascii` or a search of sixteen bytes at a time tested the byte at each of them, a table that has read the haystack by
-    /// itself tested its row there, or a state refuses each of them that refuses every character, and is not shown any.
+    /// Counts a look at each byte offset from `from` up to `to`, which is not one of them.
     #[inline(always)]
-    pub fn count_places(&mut self, from: usize, to: usize)
+    pub(crate) fn count_places(&mut self, from: usize, to: usize)
         requires range { (from ≤ to) × (to ≤ length (looked_text self.old)) }
         ensures ticked { look_count self.new ≡ min (look_count self.old + (to - from)) (2 ^ 64 - 1) }
         ensures text { looked_text self.new ≡ looked_text self.old }

@@ -11,6 +11,7 @@ mod counted;
 mod folding;
 mod input;
 mod matcher;
+mod places;
 mod range_bits;
 mod skip;
 
@@ -18,6 +19,7 @@ pub use class::{CharClassMatcher, ClassError};
 pub use counted::{Counted, Steps};
 pub use folding::{CaseiLiteral, fold, is_ascii_folding, is_word};
 pub use input::{RunInput, Span};
+pub use places::count_places;
 pub use skip::skip_ascii;
 
 /// Law: a `regex::Regex` that is parsed from a class's text matches the text of a single character exactly if the class

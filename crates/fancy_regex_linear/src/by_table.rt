@@ -17,7 +17,7 @@ use crate::passing::Passing;
 use crate::search::{SearchContext, attempt_start};
 use crate::settle::Settled;
 use crate::starts::{Start, start_after};
-use fancy_regex_class::Counted;
+use fancy_regex_class::{Counted, count_places};
 use fancy_regex_table::{Passed, Table};
 use std::alloc::AllocError;
 
@@ -54,9 +54,9 @@ pub fn pass_counted(
     let before = char_before(it.text, start);
     let passed = it.table.pass(context.matchers, it.text, start, before, context.stop, true);
     match passed {
-        Passed::Match { read, .. } => text.count_places(start, read),
-        Passed::Ended => text.count_places(start, context.stop),
-        Passed::Idle { at } => text.count_places(start + 1, at),
+        Passed::Match { read, .. } => count_places(text, start, read),
+        Passed::Ended => count_places(text, start, context.stop),
+        Passed::Idle { at } => count_places(text, start + 1, at),
         Passed::Unknown { .. } => {}
     }
     passed
@@ -176,7 +176,7 @@ fn end_pass(text: &mut Counted, start: usize, read: usize) -> Option<char>
     ensures text { looked_text text.new ≡ looked_text text.old }
     ensures same_counter { SameCounter text.old text.new }
 {
-    text.count_places(start + 1, read);
+    count_places(text, start + 1, read);
     let (_, after) = text.look(read);
     after
 }

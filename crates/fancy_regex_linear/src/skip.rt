@@ -12,7 +12,7 @@ use crate::by_table::TableSearch;
 use crate::passing::TOGETHER;
 use crate::search::SearchContext;
 use crate::starts::pass_pairs;
-use fancy_regex_class::{Counted, skip_ascii};
+use fancy_regex_class::{Counted, count_places, skip_ascii};
 
 /// The first byte offset from `from` on whose character is not known to begin no match, and the character there. Each character up to
 /// that one costs a look.
@@ -34,7 +34,7 @@ pub fn skip_refused(
     let Some(at) = it.passing.first_until(it.text.as_bytes(), from) else {
         return skip_ascii(text, from, context.stop, context.refused);
     };
-    text.count_places(from, at);
+    count_places(text, from, at);
     let (_, after) = text.look(at);
     (at, after)
 }
@@ -63,8 +63,8 @@ pub fn skip_pairs(
     let Some(at) = it.passing.pairs_until(bytes, from) else {
         return pass_pairs(context, text, from, second);
     };
-    text.count_places(from, at);
-    text.count_places(from, at);
+    count_places(text, from, at);
+    count_places(text, from, at);
     if bytes.len() - at <= TOGETHER {
         return pass_pairs(context, text, at, second);
     }

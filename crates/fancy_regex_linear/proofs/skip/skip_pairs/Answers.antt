@@ -27,7 +27,7 @@ look-after-requires c =
 
 pub returns-clause-place : goal.returns-clause-place
 returns-clause-place c =
-    let same : looked_text c.count_places-2.new.self ≡ looked_text c.args.text.now = c.count_places-2.ensures.text ∙ c.count_places.ensures.text in
+    let same : looked_text c.count_places-2.new.text ≡ looked_text c.args.text.now = c.count_places-2.ensures.text ∙ c.count_places.ensures.text in
     let is = (pairs_skipped c.args.context.now (looked_text c.args.text.now) c.args.it c.requires.table c.requires.text c.args.from c.requires.boundary
     c.as_bytes-bytes.result.now c.in-Some.at (c.as_bytes-bytes.ensures.value ∙ c.requires.table.text_is) c.in-Some.ensures) in
     record {
