@@ -288,7 +288,8 @@ fn search_regular(
 {
     match wanted {
         MatchDetail::Span => {
-            let span = regular.find_span_in(text, input, memory)?;
+            let mut steps = Steps::new();
+            let span = regular.find_span_in(text, input, &mut steps, memory)?;
             Ok(found_span(alloc, span))
         }
         MatchDetail::Groups => {

@@ -1,5 +1,6 @@
 -- The starts of a search, one place after another.
 use Rattle.std.proofs.Common.{◌≡◌, ◌∙◌, ℕ, ◌+◌, ◌-◌, ◌*◌, ◌<◌, ◌≤◌, List, [], ◌∷◌, length, Option, Some, None, refl, ap, arith, add-mul, one-mul, IsUtf8, IsCharBoundary}
+use Rattle.std.proofs.Math.Nat.{mul-le-mul_left}
 use Rattle.std.specs.Char.{len_utf8}
 use Rattle.std.proofs.lemmas.Str.{len_utf8_bounds}
 use Rattle.regex_hir.specs.Text.{char_at}
@@ -79,3 +80,9 @@ late_after text last at c width le b is width_is late = let too_late : last - at
 pub none_after : (text : List ℕ) (last at : ℕ) → IsUtf8 text → at ≤ last → last ≤ length text → IsCharBoundary text at → char_at text at ≡ None
     → boundaries text at last ≡ at ∷ []
 none_after text last at u le inside b is = end_place text at last u b is le inside
+
+-- one place more
+pub place_more : (before after cost : ℕ) → before < after → before * cost + cost ≤ after * cost
+place_more before after cost less =
+    let more : cost * (before + 1) ≤ cost * after = mul-le-mul_left cost (omega arith) in
+    omega (arith, more)

@@ -1,4 +1,5 @@
 pub mod RecallLemmas
+pub mod WeightLemmas
 pub mod StackLemmas
 pub mod TrackLemmas
 pub mod CostLemmas

@@ -1,9 +1,9 @@
 -- From one task of a search to the next.
 use Rattle.std.proofs.Common.{◌≡◌, ℕ, ◌+◌, ◌-◌, ◌*◌, ◌≤◌, ◌∙◌, List, ◌∷◌, length, Option, Some, None, sym, ap, subst, arith}
-use Rattle.std.proofs.Math.Nat.{mul-le-mul_left, mul_assoc, mul_comm}
 use Rattle.fancy_regex_class.specs.Looks.{looked_text}
 use Rattle.fancy_regex_class.specs.declared.counted.Counted.{Counted}
-use Rattle.fancy_regex_parts.specs.Recall.{known_count}
+use Rattle.fancy_regex_parts.specs.Recall.{known_weight}
+use Rattle.fancy_regex_parts.specs.Tables.{cell_cost, known_cost, table_weight}
 use Rattle.fancy_regex_states.specs.Attempts.{View}
 use Rattle.fancy_regex_parts.specs.Ways.{Ways}
 use Rattle.fancy_regex_parts.specs.Frames.{resume_task, IsTaskWithin, EndsWithin, Tracks, pending, task_due}
@@ -14,7 +14,7 @@ use Rattle.fancy_regex_parts.specs.declared.frame.Task.{Task}
 use Rattle.fancy_regex_parts.specs.declared.frame.Task.TheVariants.{Visit, Answer}
 use Rattle.fancy_regex_parts.specs.declared.recall.Recall.{Recall}
 use Rattle.fancy_regex_parts.specs.declared.step.PartContext.{PartContext}
-use Rattle.fancy_regex_parts.proofs.RecallLemmas.{known_most}
+use Rattle.fancy_regex_parts.proofs.WeightLemmas.{known_most}
 use Rattle.fancy_regex_parts.proofs.StackLemmas.{ends_stored}
 use Rattle.fancy_regex_parts.proofs.CostLemmas.{pending_cons, resume_due}
 use Rattle.fancy_regex_parts.proofs.VisitLemmas.{looks_on}
@@ -24,21 +24,21 @@ pub record IsKept (old new : Recall) : Type 0 where
   pub rows : new.rows ≡ old.rows
   pub width : new.width ≡ old.width
   pub base : new.base ≡ old.base
-  pub count : known_count new ≡ known_count old
+  pub weight : (w : ℕ → ℕ) → known_weight w new ≡ known_weight w old
 
 kept_same : {old new : Recall} → new ≡ old → IsKept old new
 kept_same e = record {
   rows = ap (λ (r : Recall). r.rows) e;
   width = ap (λ (r : Recall). r.width) e;
   base = ap (λ (r : Recall). r.base) e;
-  count = ap known_count e;
+  weight = λ w. ap (known_weight w) e;
 }
 
 pub kept : {old new : Recall} (f : Frame) (end : Option ℕ) → IsResumed f end old new → IsKept old new
 kept (Branch q i) None is = kept_same is
 kept (Branch q i) (Some e) is = kept_same is
 kept (Open k) None is = kept_same is
-kept (Open k) (Some e) is = record { rows = is.1; width = is.0.width; base = is.0.base; count = is.0.count }
+kept (Open k) (Some e) is = record { rows = is.1; width = is.0.width; base = is.0.base; weight = is.0.weight }
 kept (Ask negated next i) None is = kept_same is
 kept (Ask negated next i) (Some e) is = kept_same is
 kept (Atomic i same moved) None is = kept_same is
@@ -68,7 +68,7 @@ module _ (context : PartContext) (text new_text : Counted) (first old new : Reca
   paid_resumed count f rest end is place paid =
       let keeps = kept f end is in
       let base_is : new.base ≡ first.base = keeps.base ∙ paid.base in
-      let n = keeps.count in
+      let n = keeps.weight (cell_cost context.table.now) in
       record {
         base = base_is;
         memory = record {
@@ -92,13 +92,11 @@ module _ (context : PartContext) {one two three : Counted} {first second third :
     looks = looks_on a.looks b.looks;
   }
 
--- no more is known than there are cells
+-- no more is paid for than the parts weigh at each place
 pub known_cap : (context : PartContext) (text : List ℕ) (base : ℕ) (recall : Recall) → IsOfText context text recall → recall.base ≡ base
-    → context.table.now.most * known_count recall
-    ≤ context.table.now.most * ((length text - base + 1) * length context.table.now.heads.items)
+    → known_cost context.table.now recall ≤ (length text - base + 1) * table_weight context.table.now
 known_cap context text base recall memory base_is =
-    mul-le-mul_left context.table.now.most
-    (known_most recall (length text - base + 1) (length context.table.now.heads.items) (let r = memory.rows in omega (arith, r, base_is)) memory.width)
+    known_most context.table.now recall (length text - base + 1) (let r = memory.rows in omega (arith, r, base_is)) memory.width
 
 module _ (context : PartContext) {one two : Counted} {first second : Recall} where
   -- fewer looks are left
@@ -109,10 +107,6 @@ module _ (context : PartContext) {one two : Counted} {first second : Recall} whe
     counted = omega (arith, paid.counted, le);
     looks = paid.looks;
   }
-
--- the weight times the places, in another order
-pub weight_is : (places most width : ℕ) → most * (places * width) ≡ places * (most * width)
-weight_is places most width = sym (mul_assoc most places width) ∙ ap (λ (n : ℕ). n * width) (mul_comm most places) ∙ mul_assoc places most width
 
 module _ (context : PartContext) (text new_text : List ℕ) (base : ℕ) {recall new_recall : Recall} {frames new_frames : List Frame} (q i : ℕ) (task : Task)
     (text_is : new_text ≡ text) (base_is : recall.base ≡ base) (visit : IsVisit context new_text recall new_recall frames new_frames q i task) where

@@ -7,8 +7,8 @@ use Rattle.fancy_regex_class.specs.Looks.{looked_text, look_count}
 use Rattle.fancy_regex_class.specs.declared.counted.Counted.{Counted}
 use Rattle.fancy_regex_states.specs.Attempts.{NamesBelow}
 use Rattle.fancy_regex_states.specs.First.{state_at}
-use Rattle.fancy_regex_parts.specs.Tables.{IsTable, IsRightAt, mark_of, cost_of, due, due_of, owed}
-use Rattle.fancy_regex_parts.specs.Recall.{cell, cell_number, known_count, IsSame, IsOpened}
+use Rattle.fancy_regex_parts.specs.Tables.{IsTable, IsRightAt, mark_of, cost_of, cell_cost, known_cost, due, due_of, owed}
+use Rattle.fancy_regex_parts.specs.Recall.{cell, cell_number, IsSame, IsOpened}
 use Rattle.fancy_regex_parts.specs.Frames.{step_frames, step_task, IsPlace, pending, task_due}
 use Rattle.fancy_regex_parts.specs.Layers.{IsOnlyLookedAt, IsOfText, IsAtTask, IsPaid, IsVisit}
 use Rattle.fancy_regex_parts.specs.declared.frame.Frame.{Frame}
@@ -20,13 +20,13 @@ use Rattle.fancy_regex_states.specs.declared.state.State.{State}
 use Rattle.fancy_regex_parts.specs.declared.step.PartContext.{PartContext}
 use Rattle.fancy_regex_parts.specs.declared.table.PartTable.{PartTable}
 use Rattle.fancy_regex_parts.proofs.CostLemmas.{step_due, step_length, mode_most, pending_cons}
+use Rattle.fancy_regex_parts.proofs.WeightLemmas.{cost_opened}
 use Rattle.fancy_regex_parts.proofs.StackLemmas.{frames_within, task_within, ends_same, ends_opened}
 use Rattle.fancy_regex_parts.proofs.TrackLemmas.{Tracks-step, Tracks-open, Tracks-fails, Tracks-ends, cell_is}
 
 -- what is right of a state of a table
 pub right_at : (table : PartTable) (q : ℕ) → IsTable table → q < length table.states.items → IsRightAt table q
-unfolding IsTable
-right_at table q all within = all q within
+right_at table q all within = all.right q within
 
 -- no look, and looks one after the other
 pub no_look : (text : Counted) → IsOnlyLookedAt text text
@@ -133,7 +133,7 @@ module _ (context : PartContext) (text new_text : Counted) (recall : Recall) (fr
       known_paid end = record {
         base = same.base;
         memory = of_text_same context (looked_text text) memory at same rows place.task.1;
-        counted = let n = same.count in rw n (omega arith);
+        counted = let n = same.weight (cell_cost context.table.now) in rw n (omega arith);
         looks = no_look text;
       }
 
@@ -141,7 +141,7 @@ module _ (context : PartContext) (text new_text : Counted) (recall : Recall) (fr
       known_looked = record {
         base = same.base;
         memory = of_text_same context (looked_text text) memory at same rows place.task.1;
-        counted = let n = same.count in rw n (omega arith);
+        counted = let n = same.weight (cell_cost context.table.now) in rw n (omega arith);
         looks = no_look text;
       }
 
@@ -154,7 +154,7 @@ module _ (context : PartContext) (text new_text : Counted) (recall : Recall) (fr
                 Tracks-fails ways context.table.now.heads.items recall.base ((at - recall.base) * length context.table.now.heads.items + mark) q at frames goal
                 (rw cell_pair at was) same is.0 is.1 t;
             within = record { task = tt; frames = place.frames };
-            progress = let n = same.count in rw n (omega arith);
+            progress = let n = same.weight (cell_cost context.table.now) in rw n (omega arith);
           }
 
       pub ends_visit : (e : ℕ) → cell recall (cell_number recall mark at) ≡ e + 2 → IsVisit context (looked_text text) recall new_recall frames frames q at (Answer (Some e))
@@ -166,24 +166,26 @@ module _ (context : PartContext) (text new_text : Counted) (recall : Recall) (fr
                 Tracks-ends ways context.table.now.heads.items recall.base ((at - recall.base) * length context.table.now.heads.items + mark) e q at frames goal
                 (rw cell_pair at was) same is.0 t;
             within = record { task = memory.ends _ e was; frames = place.frames };
-            progress = let n = same.count in rw n (omega arith);
+            progress = let n = same.weight (cell_cost context.table.now) in rw n (omega arith);
           }
 
     -- the pair is new
-    module _ (k : ℕ) (opened : IsOpened recall new_recall k) where
-      most_more : context.table.now.most * known_count new_recall ≡ context.table.now.most * known_count recall + context.table.now.most
-      most_more = rw opened.count (omega arith)
+    module _ (k : ℕ) (opened : IsOpened recall new_recall k) (k_is : k ≡ cell_number recall mark at) where
+      cost_more : known_cost context.table.now new_recall ≡ known_cost context.table.now recall + cost_of context.table.now q
+      cost_more =
+          let m = right.marked mark some in
+          cost_opened context.table.now q mark at m.0 m.1 recall new_recall k opened k_is memory.width
 
       pub opened_looked : IsOnlyLookedAt text new_text → look_count new_text ≤ look_count text + 1
           → IsPaid context text new_text recall new_recall (due context.table.now q) 0
       opened_looked looks count = record {
         base = opened.base;
         memory = of_text_opened context (looked_text text) memory at k opened rows place.task.1;
-        counted = let m = (right.marked mark some).2 in omega (arith, count, m, right.paid, most_more);
+        counted = omega (arith, count, right.paid, cost_more);
         looks = looks;
       }
 
-      module _ (k_is : k ≡ cell_number recall mark at) (looks : IsOnlyLookedAt text new_text) (count : look_count new_text ≤ look_count text + 1)
+      module _ (looks : IsOnlyLookedAt text new_text) (count : look_count new_text ≤ look_count text + 1)
           (next : IfSome (char_at (looked_text text) at) (λ c. IsCharBoundary (looked_text text) (at + len_utf8 c))) (task : Task) (new_frames : List Frame)
           (state : State) (state_is : state ≡ state_at context.table.now.states.items q)
           (task_is : task ≡ step_task context.matchers.now context.rules context.stop q state at (char_before (looked_text text) at) (char_at (looked_text text) at))
@@ -192,12 +194,11 @@ module _ (context : PartContext) (text new_text : Counted) (recall : Recall) (fr
             (task_due context.table.now task + pending context.table.now new_frames)
         opened_paid =
             let here : owed context.table.now state + 1 ≤ cost_of context.table.now q = subst (λ s. owed context.table.now s + 1 ≤ cost_of context.table.now q) (sym state_is) right.paid in
-            let m = (right.marked mark some).2 in
             let step = step_due context.table.now context.matchers.now context.rules context.stop q state at (char_before (looked_text text) at) (char_at (looked_text text) at) (Open k ∷ frames) in
             record {
               base = opened.base;
               memory = of_text_opened context (looked_text text) memory at k opened rows place.task.1;
-              counted = rw (task_is, frames_are) (omega (arith, count, here, m, step, most_more, pending_cons context.table.now (Open k) frames));
+              counted = rw (task_is, frames_are) (omega (arith, count, here, step, cost_more, pending_cons context.table.now (Open k) frames));
               looks = looks;
             }
 
@@ -206,7 +207,6 @@ module _ (context : PartContext) (text new_text : Counted) (recall : Recall) (fr
             let here : owed context.table.now state + 1 ≤ cost_of context.table.now q = subst (λ s. owed context.table.now s + 1 ≤ cost_of context.table.now q) (sym state_is) right.paid in
             let names : NamesBelow (length context.table.now.states.items) state = subst (NamesBelow (length context.table.now.states.items)) (sym state_is) right.closed in
             let m = right.marked mark some in
-            let most = m.2 in
             let step = step_due context.table.now context.matchers.now context.rules context.stop q state at (char_before (looked_text text) at) (char_at (looked_text text) at) (Open k ∷ frames) in
             record {
               tracking = λ view ways has goal t.
@@ -222,9 +222,8 @@ module _ (context : PartContext) (text new_text : Counted) (recall : Recall) (fr
               progress = rw (task_is, frames_are) (omega (
                 arith,
                 here,
-                most,
                 step,
-                most_more,
+                cost_more,
                 pending_cons context.table.now (Open k) frames,
                 step_length state at (Open k ∷ frames),
                 mode_most (step_task context.matchers.now context.rules context.stop q state at (char_before (looked_text text) at) (char_at (looked_text text) at)),

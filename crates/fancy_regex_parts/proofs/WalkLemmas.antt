@@ -15,8 +15,8 @@ use Rattle.fancy_regex_states.specs.declared.state.State.{State}
 use Rattle.fancy_regex_states.specs.declared.state.State.TheVariants.{Split, Enter, Leave, Ask, Atomic, Match}
 use Rattle.fancy_regex_states.specs.declared.state.State.TheVariants as S
 use Rattle.fancy_regex_parts.specs.Ways.{ways_of, text_view, state_after}
-use Rattle.fancy_regex_parts.specs.Tables.{IsRightAt, mark_of, cost_of, due, due_of, owed, table_weight}
-use Rattle.fancy_regex_parts.specs.Recall.{cell, cell_number, known_count}
+use Rattle.fancy_regex_parts.specs.Tables.{IsRightAt, mark_of, cost_of, cell_cost, known_cost, due, due_of, owed, table_weight}
+use Rattle.fancy_regex_parts.specs.Recall.{cell, cell_number}
 use Rattle.fancy_regex_parts.specs.Frames.{cell_depth}
 use Rattle.fancy_regex_parts.specs.Layers.{HasWays}
 use Rattle.fancy_regex_parts.specs.Silent.{AsksPart, PartsAreSilent}
@@ -28,9 +28,8 @@ use Rattle.fancy_regex_parts.specs.declared.groups.WalkStep.{WalkStep}
 use Rattle.fancy_regex_parts.specs.declared.groups.WalkStep.TheVariants.{Onward, Matched, Lost}
 use Rattle.fancy_regex_parts.proofs.SilentLemmas.{EndsBetween, ends_between, asked_below, after_none, picked}
 use Rattle.fancy_regex_parts.proofs.TrackLemmas.{cell_is}
-use Rattle.fancy_regex_parts.proofs.RecallLemmas.{known_most}
+use Rattle.fancy_regex_parts.proofs.WeightLemmas.{cost_opened, known_most}
 use Rattle.fancy_regex_parts.proofs.EmittedLemmas.{explains_of}
-use Rattle.fancy_regex_parts.proofs.LoopLemmas.{weight_is}
 
 -- the slots at the end of a way
 abbrev left : List ℕ → Option Trace → Option (List ℕ)
@@ -233,30 +232,28 @@ module _ (table : PartTable) (base : ℕ) (old new : Recall) (q i : ℕ) (low : 
 
 -- no more pairs were visited than there are
 visited_cap : (table : PartTable) (len base : ℕ) (visited : Recall) → IsVisitedWithin len (length table.heads.items) base visited
-    → table.most * known_count visited ≤ (len - base + 1) * table_weight table
+    → known_cost table visited ≤ (len - base + 1) * table_weight table
 visited_cap table len base visited within =
-    let cap = mul-le-mul_left table.most (known_most visited (len - base + 1) (length table.heads.items) within.rows within.width_is) in
-    let weight = weight_is (len - base + 1) table.most (length table.heads.items) in
-    omega (arith, cap, weight)
+    known_most table visited (len - base + 1) within.rows within.width_is
 
-module _ (table : PartTable) (q i : ℕ) (right : IsRightAt table q) (old new : Recall) where
+module _ (table : PartTable) (q i : ℕ) (right : IsRightAt table q) (old new : Recall) (width_is : old.width ≡ length table.heads.items) where
   met_less : (m : Option ℕ) (next : ℕ) → mark_of table q ≡ m → IsMet old new i m true → due table next ≤ owed table (state_at table.states.items q)
-      → due table next + table.most * known_count old < due table q + table.most * known_count new
+      → due table next + known_cost table old < due table q + known_cost table new
   met_less None next is met less =
       let cost = ap (λ (o : Option ℕ). due_of o (cost_of table q)) is in
-      let same = ap (λ (n : ℕ). table.most * n) met.1.count in
+      let same = met.1.weight (cell_cost table) in
       omega (arith, right.paid, cost, same, less)
   met_less (Some mark) next is met less =
       let cost = ap (λ (o : Option ℕ). due_of o (cost_of table q)) is in
-      let most = (right.marked mark is).2 in
-      let more : table.most * known_count new ≡ table.most * known_count old + table.most = rw met.count (omega arith) in
-      omega (arith, right.paid, cost, most, more, less)
+      let m = right.marked mark is in
+      let more = cost_opened table q mark i m.0 m.1 old new (cell_number old mark i) met refl width_is in
+      omega (arith, right.paid, cost, more, less)
 
   -- what is left of a walk gets less
   pub walk_less : (len base next : ℕ) → IsArrival table old new q i true → due table next ≤ owed table (state_at table.states.items q)
       → IsVisitedWithin len (length table.heads.items) base new
-      → due table next + ((len - base + 1) * table_weight table - table.most * known_count new)
-      < due table q + ((len - base + 1) * table_weight table - table.most * known_count old)
+      → due table next + ((len - base + 1) * table_weight table - known_cost table new)
+      < due table q + ((len - base + 1) * table_weight table - known_cost table old)
   walk_less len base next arrival less within =
       omega (arith, met_less (mark_of table q) next refl arrival less, visited_cap table len base new within)
 

@@ -1,5 +1,5 @@
 -- A search over starts.
-use Rattle.std.specs.Prelude.{◌≡◌, ℕ, ◌+◌, ◌<◌, ◌≤◌, List, [], ◌∷◌, Option, Some, None, IsCharBoundary}
+use Rattle.std.specs.Prelude.{◌≡◌, ℕ, ◌+◌, ◌-◌, ◌<◌, ◌≤◌, List, [], ◌∷◌, length, Option, Some, None, IsCharBoundary}
 use Rattle.fancy_regex_meaning.specs.Positions.{boundaries}
 
 -- the first of these starts that has a way, and where that ends
@@ -23,3 +23,8 @@ pub record IsNext (text : List ℕ) (last at next : ℕ) : Type 0 where
 abbrev pub IsAfter : List ℕ → ℕ → ℕ → Option ℕ → Type 0
 IsAfter text last at None = boundaries text at last ≡ at ∷ []
 IsAfter text last at (Some next) = IsNext text last at next
+
+-- how many of these starts are known to have no way, where this was found
+abbrev pub failed_starts : List ℕ → ℕ → ℕ → Option (ℕ × ℕ) → ℕ
+failed_starts text from last None = length (boundaries text from last)
+failed_starts text from last (Some (start, end)) = length (boundaries text from last) - length (boundaries text start last)

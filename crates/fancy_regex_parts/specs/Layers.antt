@@ -4,8 +4,8 @@ use Rattle.fancy_regex_class.specs.Looks.{looked_text, look_count, SameCounter}
 use Rattle.fancy_regex_class.specs.declared.counted.Counted.{Counted}
 use Rattle.fancy_regex_states.specs.Attempts.{View}
 use Rattle.fancy_regex_parts.specs.Ways.{Ways, Explains}
-use Rattle.fancy_regex_parts.specs.Tables.{due}
-use Rattle.fancy_regex_parts.specs.Recall.{known_count, IsStored}
+use Rattle.fancy_regex_parts.specs.Tables.{due, known_cost}
+use Rattle.fancy_regex_parts.specs.Recall.{IsStored}
 use Rattle.fancy_regex_parts.specs.Frames.{EndsWithin, AllWithin, IsTaskWithin, Tracks, Remembers, pending, task_due, task_mode}
 use Rattle.fancy_regex_parts.specs.declared.frame.Frame.{Frame}
 use Rattle.fancy_regex_parts.specs.declared.frame.Frame.TheVariants.{Open}
@@ -39,8 +39,8 @@ pub record IsAtTask (context : PartContext) (text : List ℕ) (base : ℕ) (next
 pub record IsPaid (context : PartContext) (text new_text : Counted) (recall new_recall : Recall) (left new_left : ℕ) : Type 0 where
   pub base : new_recall.base ≡ recall.base
   pub memory : IsOfText context (looked_text text) new_recall
-  pub counted : look_count new_text + new_left + context.table.now.most * known_count recall
-      ≤ look_count text + left + context.table.now.most * known_count new_recall
+  pub counted : look_count new_text + new_left + known_cost context.table.now recall
+      ≤ look_count text + left + known_cost context.table.now new_recall
   pub looks : IsOnlyLookedAt text new_text
 
 -- where the visit of the state q at the place i leads
@@ -51,9 +51,9 @@ pub record IsVisit (context : PartContext) (text : List ℕ) (recall new_recall 
       → Tracks ways context.table.now.heads.items recall.base new_recall task new_frames goal
   pub within : IsAtTask context text recall.base task new_frames
   -- a measure of what is left to be done falls
-  pub progress : 6 * (task_due context.table.now task + pending context.table.now new_frames + context.table.now.most * known_count recall)
+  pub progress : 6 * (task_due context.table.now task + pending context.table.now new_frames + known_cost context.table.now recall)
       + 2 * length new_frames + task_mode task
-      < 6 * (due context.table.now q + pending context.table.now frames + context.table.now.most * known_count new_recall)
+      < 6 * (due context.table.now q + pending context.table.now frames + known_cost context.table.now new_recall)
       + 2 * length frames + 1
 
 -- what is known of the parts of these states is true

@@ -1,10 +1,12 @@
 -- A table of states with marks, and what a visit of each state costs.
-use Rattle.std.specs.Prelude.{◌≡◌, ℕ, ◌+◌, ◌*◌, ◌<◌, ◌≤◌, length, Option, Some, None, max, slice_index_or}
+use Rattle.std.specs.Prelude.{◌≡◌, ℕ, ◌+◌, ◌%◌, ◌<◌, ◌≤◌, length, Option, Some, None, max, sum_by, slice_index_or}
 use Rattle.fancy_regex_states.specs.Attempts.{NamesBelow}
 use Rattle.fancy_regex_states.specs.First.{state_at}
 use Rattle.fancy_regex_states.specs.declared.state.State.{State}
 use Rattle.fancy_regex_states.specs.declared.state.State.TheVariants.{Split, Enter, Leave, Ask, Atomic, Match}
 use Rattle.fancy_regex_states.specs.declared.state.State.TheVariants as S
+use Rattle.fancy_regex_parts.specs.Recall.{known_weight}
+use Rattle.fancy_regex_parts.specs.declared.recall.Recall.{Recall}
 use Rattle.fancy_regex_parts.specs.declared.table.PartTable.{PartTable}
 
 -- the mark of a state, if it has one
@@ -34,9 +36,17 @@ owed table (Ask part negated next) = due table part + due table next
 owed table (Atomic part same moved) = due table part + max (due table same) (due table moved)
 owed table Match = 0
 
--- the parts' weight: a bound on the looks for each place, over all questions
+-- the parts' weight, what all marked states cost: a bound on the looks for each place, over all questions
 abbrev pub table_weight : PartTable → ℕ
-table_weight table = table.most * length table.heads.items
+table_weight table = sum_by (cost_of table) table.heads.items
+
+-- what the state costs whose mark a cell of a row of marks has, by the cell's number
+abbrev pub cell_cost : PartTable → ℕ → ℕ
+cell_cost table k = cost_of table (slice_index_or table.heads.items (k % length table.heads.items) 0)
+
+-- what the pairs cost of which something is known
+abbrev pub known_cost : PartTable → Recall → ℕ
+known_cost table recall = known_weight (cell_cost table) recall
 
 -- what is right of the state q
 pub record IsRightAt (table : PartTable) (q : ℕ) : Type 0 where
@@ -45,9 +55,12 @@ pub record IsRightAt (table : PartTable) (q : ℕ) : Type 0 where
   -- its mark is its own, and no marked state costs more than this
   pub marked : (mark : ℕ) → mark_of table q ≡ Some mark
       → (mark < length table.heads.items) × (slice_index_or table.heads.items mark 0 ≡ q) × (cost_of table q ≤ table.most)
+  -- it costs no more than there are states
+  pub cheap : cost_of table q ≤ length table.states.items
   -- its cost is enough for it and those behind it
   pub paid : owed table (state_at table.states.items q) + 1 ≤ cost_of table q
 
--- all states are right
-unfoldable pub IsTable : PartTable → Type 0
-IsTable table = (q : ℕ) → q < length table.states.items → IsRightAt table q
+-- all states are right, and the parts weigh no more than there are states
+pub record IsTable (table : PartTable) : Type 0 where
+  pub right : (q : ℕ) → q < length table.states.items → IsRightAt table q
+  pub light : table_weight table ≤ length table.states.items

@@ -6,8 +6,7 @@ ghost use Rattle.regex_hir.specs.Text.{char_at};
 ghost use Rattle.fancy_regex_class.specs.Looks.{looked_text, look_count};
 ghost use Rattle.fancy_regex_states.specs.Attempts.{View, Continuation, Trace, NamesBelow};
 ghost use Rattle.fancy_regex_parts.specs.Ways.{Ways, ways_of};
-ghost use Rattle.fancy_regex_parts.specs.Tables.{IsTable, due, owed, table_weight};
-ghost use Rattle.fancy_regex_parts.specs.Recall.{known_count};
+ghost use Rattle.fancy_regex_parts.specs.Tables.{IsTable, due, owed, known_cost, table_weight};
 ghost use Rattle.fancy_regex_parts.specs.Frames.{IsPlace};
 ghost use Rattle.fancy_regex_parts.specs.Layers.{HasWays, IsOnlyLookedAt, IsOfText, IsTrueOf};
 ghost use Rattle.fancy_regex_parts.specs.Silent.{PartsAreSilent};
@@ -156,8 +155,8 @@ fn follow(
     ensures memory { IsOfText context.now (looked_text text.old) memory.new.recall }
     ensures base { memory.new.recall.base ≡ memory.old.recall.base }
     ensures stack { vec_len memory.new.stack ≡ 0 }
-    ensures counted { OnOk result (look_count text.new + context.now.table.now.most * known_count memory.old.recall
-        ≤ look_count text.old + (owed context.now.table.now state + 1) + context.now.table.now.most * known_count memory.new.recall) }
+    ensures counted { OnOk result (look_count text.new + known_cost context.now.table.now memory.old.recall
+        ≤ look_count text.old + (owed context.now.table.now state + 1) + known_cost context.now.table.now memory.new.recall) }
     ensures looks { IsOnlyLookedAt text.old text.new }
 {
     match state {

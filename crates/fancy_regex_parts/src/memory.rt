@@ -19,7 +19,7 @@ pub struct PartMemory {
 }
 
 impl PartMemory {
-    ghost use Rattle.fancy_regex_parts.specs.Recall.{known_count};
+    ghost use Rattle.fancy_regex_parts.specs.Recall.{known_weight};
     ghost use Rattle.fancy_regex_parts.specs.Ways.{Ways};
     ghost use Rattle.fancy_regex_parts.specs.Layers.{IsOfText, IsTrueOf};
 
@@ -36,7 +36,7 @@ impl PartMemory {
         ensures of_text { (text : List ℕ) → IsOfText context.now text self.new.recall }
         ensures base { self.new.recall.base ≡ base }
         ensures remembers { (ways : Ways) → IsTrueOf context.now ways self.new.recall }
-        ensures count { known_count self.new.recall ≡ 0 }
+        ensures weight { (w : ℕ → ℕ) → known_weight w self.new.recall ≡ 0 }
         ensures stack { vec_len self.new.stack ≡ 0 }
     {
         self.recall.restart(context.table.heads.len(), base);
@@ -49,7 +49,7 @@ impl PartMemory {
             → IsOfText context text self.new.recall }
         ensures base { self.new.recall.base ≡ self.old.recall.base }
         ensures remembers { (context : PartContextValue) (ways : Ways) → IsTrueOf context ways self.new.recall }
-        ensures count { known_count self.new.recall ≡ 0 }
+        ensures weight { (w : ℕ → ℕ) → known_weight w self.new.recall ≡ 0 }
         ensures stack { vec_len self.new.stack ≡ 0 }
     {
         self.recall.forget();

@@ -4,8 +4,7 @@ ghost use Rattle.std.specs.Prelude.{◌≡◌, ◌+◌, ◌-◌, ◌*◌, ◌^�
 ghost use Rattle.fancy_regex_class.specs.Looks.{looked_text, look_count};
 ghost use Rattle.fancy_regex_states.specs.Attempts.{View};
 ghost use Rattle.fancy_regex_parts.specs.Ways.{Ways, state_after};
-ghost use Rattle.fancy_regex_parts.specs.Tables.{IsTable, due, table_weight};
-ghost use Rattle.fancy_regex_parts.specs.Recall.{known_count};
+ghost use Rattle.fancy_regex_parts.specs.Tables.{IsTable, due, known_cost, table_weight};
 ghost use Rattle.fancy_regex_parts.specs.Frames.{IsPlace, resume_task, top_first};
 ghost use Rattle.fancy_regex_parts.specs.Layers.{HasWays, IsOnlyLookedAt, IsOfText, IsPaid, IsTrueOf, IsResumed};
 ghost use Rattle.fancy_regex_parts.specs.declared.frame.Task.TheVariants.{Visit};
@@ -125,9 +124,10 @@ pub fn ask(
     ensures memory { IsOfText context.now (looked_text text.old) memory.new.recall }
     ensures base { memory.new.recall.base ≡ memory.old.recall.base }
     ensures stack { vec_len memory.new.stack ≡ 0 }
-    ensures counted { OnOk result (look_count text.new + context.now.table.now.most * known_count memory.old.recall
-        ≤ look_count text.old + due context.now.table.now part + context.now.table.now.most * known_count memory.new.recall) }
-    ensures at_most { look_count text.new ≤ look_count text.old + due context.now.table.now part
+    ensures counted { OnOk result (look_count text.new + known_cost context.now.table.now memory.old.recall
+        ≤ look_count text.old + due context.now.table.now part + known_cost context.now.table.now memory.new.recall) }
+    ensures at_most { look_count text.new + known_cost context.now.table.now memory.old.recall
+        ≤ look_count text.old + due context.now.table.now part
         + (length (looked_text text.old) - memory.old.recall.base + 1) * table_weight context.now.table.now }
     ensures looks { IsOnlyLookedAt text.old text.new }
 {
@@ -166,9 +166,9 @@ pub fn ask_each(
     ensures memory { IsOfText context.now (looked_text text.old) memory.new.recall }
     ensures base { memory.new.recall.base ≡ memory.old.recall.base }
     ensures stack { vec_len memory.new.stack ≡ 0 }
-    ensures counted { OnOk result (look_count text.new + context.now.table.now.most * known_count memory.old.recall
+    ensures counted { OnOk result (look_count text.new + known_cost context.now.table.now memory.old.recall
         ≤ look_count text.old + length places.now * due context.now.table.now part
-        + context.now.table.now.most * known_count memory.new.recall) }
+        + known_cost context.now.table.now memory.new.recall) }
     ensures at_most { OnOk result (look_count text.new ≤ look_count text.old + length places.now * due context.now.table.now part
         + (length (looked_text text.old) - memory.old.recall.base + 1) * table_weight context.now.table.now) }
     ensures looks { IsOnlyLookedAt text.old text.new }

@@ -31,7 +31,7 @@ pub struct Recall {
 }
 
 impl Recall {
-    ghost use Rattle.fancy_regex_parts.specs.Recall.{cell, cell_number, known_count, IsKnown, IsSame, IsStored};
+    ghost use Rattle.fancy_regex_parts.specs.Recall.{cell, cell_number, known_weight, IsKnown, IsSame, IsStored};
 
     /// No cells. It allocates nothing.
     pub fn new(alloc: Global) -> Recall
@@ -52,7 +52,7 @@ impl Recall {
         ensures base { self.new.base ≡ base }
         ensures rows { self.new.rows ≡ 0 }
         ensures cells { (k : ℕ) → cell self.new k ≡ 0 }
-        ensures count { known_count self.new ≡ 0 }
+        ensures weight { (w : ℕ → ℕ) → known_weight w self.new ≡ 0 }
     {
         self.cells.clear();
         self.rows = 0;
@@ -66,7 +66,7 @@ impl Recall {
         ensures base { self.new.base ≡ self.old.base }
         ensures rows { self.new.rows ≡ 0 }
         ensures cells { (k : ℕ) → cell self.new k ≡ 0 }
-        ensures count { known_count self.new ≡ 0 }
+        ensures weight { (w : ℕ → ℕ) → known_weight w self.new ≡ 0 }
     {
         self.cells.clear();
         self.rows = 0;

@@ -8,7 +8,7 @@ ghost use Rattle.fancy_regex_parts.specs.Ways.{Ways};
 ghost use Rattle.fancy_regex_parts.specs.Tables.{IsTable, due, table_weight};
 ghost use Rattle.fancy_regex_parts.specs.Frames.{IsPlace};
 ghost use Rattle.fancy_regex_parts.specs.Layers.{HasWays, IsOnlyLookedAt, IsOfText, IsTrueOf};
-ghost use Rattle.fancy_regex_parts.specs.Find.{earliest, attempted, IsAfter};
+ghost use Rattle.fancy_regex_parts.specs.Find.{earliest, attempted, failed_starts, IsAfter};
 
 use crate::memory::PartMemory;
 use crate::question::ask;
@@ -18,7 +18,8 @@ use std::alloc::AllocError;
 
 /// The first place from the byte offset `from` on, up to `last`, where the state `entry` has a way, and where its first way from there
 /// ends; `None` if it has none. All questions together look at each place at most as often as the parts weigh, and for each start that
-/// is asked once more than what is due for the entry. The error is want of memory, and what the memory remembers then is still true.
+/// is asked once more than what is due for the entry, also where memory ran out; and there is at least one look for each start that has
+/// no way. The error is want of memory, and what the memory remembers then is still true.
 pub fn find(
     context: &PartContext,
     text: &mut Counted,
@@ -48,6 +49,10 @@ pub fn find(
         → look_count text.new ≤ look_count text.old
         + attempted (ways.end entry) (boundaries (looked_text text.old) from last) * (due context.now.table.now entry + 1)
         + (length (looked_text text.old) - memory.old.recall.base + 1) * table_weight context.now.table.now) }
+    ensures bound { look_count text.new ≤ look_count text.old + (last - from + 1) * (due context.now.table.now entry + 1)
+        + (length (looked_text text.old) - memory.old.recall.base + 1) * table_weight context.now.table.now }
+    ensures at_least { IfOk result (λ found. min (look_count text.old + failed_starts (looked_text text.old) from last found) (2 ^ 64 - 1)
+        ≤ look_count text.new) }
     ensures looks { IsOnlyLookedAt text.old text.new }
 {
     let mut at = from;

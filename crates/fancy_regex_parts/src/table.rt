@@ -27,7 +27,8 @@ impl PartTable {
     ghost use Rattle.fancy_regex_parts.specs.Tables.{IsTable, IsRightAt, mark_of, cost_of, due as due_is, owed as owed_is, table_weight};
 
     /// The table of these states. A state leads to earlier states, but for the heads of loops; `None` where a state leads to one that
-    /// is not there, or where states that are not marked lead in a circle. The error is want of memory.
+    /// is not there, where states that are not marked lead in a circle, or where the marked states together, or one state, cost more than
+    /// there are states. The error is want of memory.
     pub fn new(alloc: Global, states: Vec<State>) -> Result<Option<PartTable>, AllocError>
         ensures { IfOk result (λ made. IfSome made (λ table. IsTable table × (table.states.items ≡ states.items))) }
     {
@@ -51,12 +52,17 @@ impl PartTable {
         }
     }
 
-    /// The parts' weight: over all questions of one memory, a search in them looks at each place so often at most, but for a small
-    /// number of looks for each question.
+    /// The parts' weight, what all marked states cost, at most the last `usize`: over all questions of one memory, a search in them looks
+    /// at each place so often at most, but for a small number of looks for each question.
     pub fn weight(&self) -> usize
         ensures { result ≡ min (table_weight self.now) (2 ^ 64 - 1) }
     {
-        self.most.saturating_mul(self.heads.len())
+        let mut weight: usize = 0;
+        for mark in 0..self.heads.len() {
+            let cost = self.cost(self.heads[mark]);
+            weight = weight.saturating_add(cost);
+        }
+        weight
     }
 
     /// The mark of this state.
@@ -136,6 +142,9 @@ impl PartTable {
         if !self.has_mark(q, cost) {
             return false;
         }
+        if cost > self.states.len() {
+            return false;
+        }
         self.owed(state) < cost
     }
 
@@ -152,7 +161,7 @@ impl PartTable {
         }
     }
 
-    /// Whether all states are right.
+    /// Whether all states are right, and the parts weigh no more than there are states.
     fn is_right(&self) -> bool
         ensures { result ≡ true → IsTable self.now }
     {
@@ -161,7 +170,7 @@ impl PartTable {
                 return false;
             }
         }
-        true
+        self.weight() <= self.states.len()
     }
 }
 

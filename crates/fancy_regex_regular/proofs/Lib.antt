@@ -1,3 +1,4 @@
 pub mod RegularSpanLemmas
 pub mod RegularGroupLemmas
 pub mod BuildLemmas
+pub mod RegularWeightLemmas

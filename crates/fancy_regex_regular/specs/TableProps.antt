@@ -20,7 +20,6 @@ names_prop n (Atomic part same moved) = hlevel le_prop
 names_prop n Match = Unit-prop
 
 pub table_prop : (table : PartTable) → IsProp (IsTable table)
-unfolding IsTable
 table_prop table = hlevel (names_prop, le_prop, Coded-set coded_ℕ)
 
 pub silent_prop : (states : List State) → IsProp (PartsAreSilent states)

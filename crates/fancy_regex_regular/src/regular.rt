@@ -1,6 +1,6 @@
 //! Compiled regular patterns, and their searches.
 
-ghost use Rattle.std.specs.Prelude.{◌≡◌, ◌-◌, ◌*◌, ◌^◌, ◌<◌, ◌≤◌, Bool, length, replicate, IfOk, IfSome, IsCharBoundary, option_map, slice_set};
+ghost use Rattle.std.specs.Prelude.{◌≡◌, ◌+◌, ◌-◌, ◌*◌, ◌^◌, ◌<◌, ◌≤◌, Bool, length, min, replicate, IfOk, IfSome, IsCharBoundary, option_map, slice_set};
 ghost use Rattle.fancy_regex_tree.specs.Tree.{Tree};
 ghost use Rattle.fancy_regex_linear.specs.Easy.{found_slots, found_at};
 ghost use Rattle.fancy_regex_parts.specs.Silent.{PartsAreSilent};
@@ -35,7 +35,7 @@ pub struct Regular {
 }
 
 impl Regular {
-    ghost use Rattle.fancy_regex_regular.specs.Regulars.{IsRegularOf, IsContextOf, IsSpan, IsSlots};
+    ghost use Rattle.fancy_regex_regular.specs.Regulars.{IsRegularOf, IsContextOf, IsSpan, IsSlots, LooksAtMost, starts_without};
     ghost use Rattle.fancy_regex_info.specs.Analysis.{analysis};
     ghost use Rattle.fancy_regex_info.specs.Infos.{info_of};
     ghost use Rattle.fancy_regex_info.specs.Views.{pattern_in};
@@ -133,26 +133,34 @@ impl Regular {
         Ok(Some(self.places(slots, start, end)))
     }
 
-    /// Where the first match of a search starts and ends, as byte offsets; `None` if there is none. The memory may have been used by
-    /// other searches before, of this pattern or another. The error is want of memory; the memory may be used again.
+    /// Where the first match of a search starts and ends, as byte offsets; `None` if there is none. `steps` grows by one for each look at
+    /// the text, also after an error: by at least one for each start that has no match, and by at most four times the pattern's weight
+    /// for each place from the first start to the end of the text. The memory may have been used by other searches before, of this
+    /// pattern or another. The error is want of memory; the memory may be used again.
     pub fn find_span_in(
         &self,
         text: &str,
         input: &RunInput,
+        steps: &mut Steps,
         memory: &mut RegularMemory,
     ) -> Result<Option<(usize, usize)>, AllocError>
         requires first { IsCharBoundary text.now input.now.first }
         requires range { input.now.range.end ≤ length text.now }
-        ensures { IfOk result (IsSpan self.now text.now input.now) }
+        ensures answer { IfOk result (IsSpan self.now text.now input.now) }
+        ensures at_most { LooksAtMost self.now text.now input.now steps.old steps.new }
+        ensures at_least { IfOk result (λ found. input.now.first ≤ input.now.range.end
+            → min (steps.old + starts_without text.now input.now found) (2 ^ 64 - 1) ≤ steps.new) }
+        ensures counts { steps.old ≤ steps.new }
     {
         if input.first > input.range.end {
             return Ok(None);
         }
+        // Read so that the proof knows that the counter is a `u64`, which no look lowers.
+        let _before = steps.count();
         let context = self.context(input);
         let parts = &mut memory.parts;
         parts.restart(&context, input.first);
-        let mut steps = Steps::new();
-        let mut counted = Counted::new(text, &mut steps);
+        let mut counted = Counted::new(text, steps);
         let span = find(
             &context,
             &mut counted,

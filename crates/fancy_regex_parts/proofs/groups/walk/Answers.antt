@@ -8,12 +8,11 @@ use Rattle.fancy_regex_states.specs.First.{state_at}
 use Rattle.fancy_regex_states.specs.declared.state.State.{State}
 use Rattle.fancy_regex_states.specs.declared.state.State.TheVariants.{Match}
 use Rattle.fancy_regex_parts.specs.Ways.{ways_of, text_view}
-use Rattle.fancy_regex_parts.specs.Tables.{due, owed, table_weight}
-use Rattle.fancy_regex_parts.specs.Recall.{known_count}
+use Rattle.fancy_regex_parts.specs.Tables.{due, owed, cell_cost, known_cost, table_weight}
 use Rattle.fancy_regex_parts.specs.Layers.{HasWays, IsOfText}
 use Rattle.fancy_regex_parts.specs.Walk.{apply, dearest, walk_step, IsArrival, IsOnward}
 use Rattle.fancy_regex_parts.specs.declared.groups.WalkStep.TheVariants.{Onward, Matched, Lost}
-use Rattle.fancy_regex_parts.proofs.LoopLemmas.{known_cap, weight_is}
+use Rattle.fancy_regex_parts.proofs.LoopLemmas.{known_cap}
 use Rattle.fancy_regex_parts.proofs.VisitLemmas.{right_at, no_look, looks_on}
 use Rattle.fancy_regex_parts.proofs.WalkLemmas.{arrived_deeper, arrived_within, has_ways, entry_cheap, not_again, one_less, step_cheap, step_goes, walk_less}
 use Rattle.fancy_regex_parts.proofs.groups.walk.Goals as goal
@@ -22,8 +21,8 @@ pub pairs-init : goal.pairs-init
 pairs-init c =
     let table = c.args.context.now.table.now in
     let places : ℕ = (length (looked_text c.args.text.now) - c.args.start + 1) * table_weight table in
-    let none = ap (λ (n : ℕ). table.most * n) c.restart.ensures.count in
-    let all : due table c.args.entry + (places - table.most * known_count c.restart.new.self) ≡ due table c.args.entry + places = omega (arith, none) in
+    let none = c.restart.ensures.weight (cell_cost table) in
+    let all : due table c.args.entry + (places - known_cost table c.restart.new.self) ≡ due table c.args.entry + places = omega (arith, none) in
     let looks = ap (λ (n : ℕ). dearest table c.args.entry * n) all in
     record {
       within = c.requires.entry;
@@ -127,7 +126,7 @@ pairs-smaller c =
     subst (λ (s : State). due table c.in-Onward.next ≤ owed table s) state_is onward.3 in
     let within = arrived_within table c.args.start c.pairs.walked.visited c.arrive.new.visited c.pairs.state c.pairs.at invariant.low
     invariant.visited.base_is invariant.visited.width_is (length text) arrival c.arrive.ensures.rows invariant.visited.rows invariant.place.boundary.0 in
-    walk_less table c.pairs.state c.pairs.at right c.pairs.walked.visited c.arrive.new.visited (length text) c.args.start c.in-Onward.next arrival less within
+    walk_less table c.pairs.state c.pairs.at right c.pairs.walked.visited c.arrive.new.visited invariant.visited.width_is (length text) c.args.start c.in-Onward.next arrival less within
 
 pub pairs-preserved : goal.pairs-preserved
 pairs-preserved c =
@@ -143,7 +142,7 @@ pairs-preserved c =
     subst (λ (s : State). due table c.in-Onward.next ≤ owed table s) read onward.3 in
     let visited = arrived_within table c.args.start c.pairs.walked.visited c.arrive.new.visited c.pairs.state c.pairs.at before.low
     before.visited.base_is before.visited.width_is (length all_text) arrival c.arrive.ensures.rows before.visited.rows before.place.boundary.0 in
-    let fewer = walk_less table c.pairs.state c.pairs.at right c.pairs.walked.visited c.arrive.new.visited (length all_text) c.args.start c.in-Onward.next arrival less visited in
+    let fewer = walk_less table c.pairs.state c.pairs.at right c.pairs.walked.visited c.arrive.new.visited before.visited.width_is (length all_text) c.args.start c.in-Onward.next arrival less visited in
     let costs = step_cheap table c.args.entry c.pairs.state right before.cheap in
     let costs_here : owed table c.index.result.now + 1 ≤ dearest table c.args.entry = subst (λ (s : State). owed table s + 1 ≤ dearest table c.args.entry) (sym read) costs in
     record {
@@ -194,8 +193,7 @@ returns-in-Matched-clause-at_most c =
     subst (λ (s : State). owed table s + 1 ≤ dearest table c.args.entry) (sym read) (step_cheap table c.args.entry c.pairs.state right invariant.cheap) in
     let memory = subst (λ (t : List ℕ). IsOfText context t c.follow.new.memory.recall) invariant.looks.text c.follow.ensures.memory in
     let cap = known_cap context text c.args.memory.now.recall.base _ memory (c.follow.ensures.base ∙ invariant.base) in
-    let weight = weight_is (length text - c.args.memory.now.recall.base + 1) table.most (length table.heads.items) in
-    omega (arith, invariant.counted, c.in_ok-next.ensures.counted, costs, cap, weight)
+    omega (arith, invariant.counted, c.in_ok-next.ensures.counted, costs, cap)
 
 pub returns-in-Lost-clause-at_most : goal.returns-in-Lost-clause-at_most
 returns-in-Lost-clause-at_most c =
@@ -209,8 +207,7 @@ returns-in-Lost-clause-at_most c =
     subst (λ (s : State). owed table s + 1 ≤ dearest table c.args.entry) (sym read) (step_cheap table c.args.entry c.pairs.state right invariant.cheap) in
     let memory = subst (λ (t : List ℕ). IsOfText context t c.follow.new.memory.recall) invariant.looks.text c.follow.ensures.memory in
     let cap = known_cap context text c.args.memory.now.recall.base _ memory (c.follow.ensures.base ∙ invariant.base) in
-    let weight = weight_is (length text - c.args.memory.now.recall.base + 1) table.most (length table.heads.items) in
-    omega (arith, invariant.counted, c.in_ok-next.ensures.counted, costs, cap, weight)
+    omega (arith, invariant.counted, c.in_ok-next.ensures.counted, costs, cap)
 
 pub returns-then-not-branch-clause-at_most : goal.returns-then-not-branch-clause-at_most
 returns-then-not-branch-clause-at_most c =
@@ -219,5 +216,4 @@ returns-then-not-branch-clause-at_most c =
     let invariant = c.pairs.invariant in
     let text : List ℕ = looked_text c.args.text.now in
     let cap = known_cap context text c.args.memory.now.recall.base _ invariant.memory invariant.base in
-    let weight = weight_is (length text - c.args.memory.now.recall.base + 1) table.most (length table.heads.items) in
-    omega (arith, invariant.counted, cap, weight)
+    omega (arith, invariant.counted, cap)

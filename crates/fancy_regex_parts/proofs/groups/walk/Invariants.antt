@@ -2,8 +2,7 @@ use Rattle.std.proofs.Common.{◌≡◌, ℕ, ◌+◌, ◌-◌, ◌*◌, ◌<◌
 use Rattle.fancy_regex_class.specs.Looks.{looked_text, look_count}
 use Rattle.fancy_regex_states.specs.Attempts.{View, Continuation, Trace}
 use Rattle.fancy_regex_parts.specs.Ways.{Ways, ways_of}
-use Rattle.fancy_regex_parts.specs.Tables.{due, table_weight}
-use Rattle.fancy_regex_parts.specs.Recall.{known_count}
+use Rattle.fancy_regex_parts.specs.Tables.{due, known_cost, table_weight}
 use Rattle.fancy_regex_parts.specs.Frames.{IsPlace}
 use Rattle.fancy_regex_parts.specs.Layers.{HasWays, IsOnlyLookedAt, IsOfText, IsTrueOf}
 use Rattle.fancy_regex_parts.specs.Silent.{PartsAreSilent}
@@ -27,17 +26,17 @@ invariant-pairs l = record {
   base : l.memory.recall.base ≡ l.fn.memory.recall.base;
   stack : vec_len l.memory.stack ≡ 0;
   cheap : due l.context.table.now l.state ≤ dearest l.context.table.now l.entry;
-  counted : look_count l.text + l.context.table.now.most * known_count l.fn.memory.recall
+  counted : look_count l.text + known_cost l.context.table.now l.fn.memory.recall
       + dearest l.context.table.now l.entry * (due l.context.table.now l.state
-      + ((length (looked_text l.fn.text) - l.start + 1) * table_weight l.context.table.now - l.context.table.now.most * known_count l.walked.visited))
+      + ((length (looked_text l.fn.text) - l.start + 1) * table_weight l.context.table.now - known_cost l.context.table.now l.walked.visited))
       ≤ look_count l.fn.text
       + dearest l.context.table.now l.entry
       * (due l.context.table.now l.entry + (length (looked_text l.fn.text) - l.start + 1) * table_weight l.context.table.now)
-      + l.context.table.now.most * known_count l.memory.recall;
+      + known_cost l.context.table.now l.memory.recall;
   looks : IsOnlyLookedAt l.fn.text l.text;
 }
 
 abbrev pub decreases-pairs : goal.decreases-pairs
 decreases-pairs l =
     due l.context.table.now l.state
-    + ((length (looked_text l.fn.text) - l.start + 1) * table_weight l.context.table.now - l.context.table.now.most * known_count l.walked.visited)
+    + ((length (looked_text l.fn.text) - l.start + 1) * table_weight l.context.table.now - known_cost l.context.table.now l.walked.visited)

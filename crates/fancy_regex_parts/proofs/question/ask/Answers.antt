@@ -1,6 +1,6 @@
 use Rattle.std.proofs.Common.{◌+◌, ◌-◌, ◌∙◌, length, arith}
 use Rattle.fancy_regex_class.specs.Looks.{looked_text}
-use Rattle.fancy_regex_parts.proofs.LoopLemmas.{known_cap, weight_is}
+use Rattle.fancy_regex_parts.proofs.LoopLemmas.{known_cap}
 use Rattle.fancy_regex_parts.proofs.question.ask.Goals as goal
 
 pub returns-in-Ok-clause-answer : goal.returns-in-Ok-clause-answer
@@ -13,15 +13,13 @@ pub returns-in-Ok-clause-at_most : goal.returns-in-Ok-clause-at_most
 returns-in-Ok-clause-at_most c =
     let paid = c.search.ensures.paid in
     let cap = known_cap c.args.context.now (looked_text c.args.text.now) c.args.memory.now.recall.base _ paid.memory paid.base in
-    let weight = weight_is (length (looked_text c.args.text.now) - c.args.memory.now.recall.base + 1) c.args.context.now.table.now.most (length c.args.context.now.table.now.heads.items) in
-    omega (arith, paid.counted, cap, weight)
+    omega (arith, paid.counted, cap)
 
 pub returns-in-Err-clause-at_most : goal.returns-in-Err-clause-at_most
 returns-in-Err-clause-at_most c =
     let paid = c.search.ensures.paid in
     let cap = known_cap c.args.context.now (looked_text c.args.text.now) c.args.memory.now.recall.base _ paid.memory paid.base in
-    let weight = weight_is (length (looked_text c.args.text.now) - c.args.memory.now.recall.base + 1) c.args.context.now.table.now.most (length c.args.context.now.table.now.heads.items) in
-    omega (arith, paid.counted, cap, weight)
+    omega (arith, paid.counted, cap)
 
 pub returns-in-Err-clause-remembers : goal.returns-in-Err-clause-remembers
 returns-in-Err-clause-remembers c view ways has true_of = c.forget.ensures.remembers c.args.context.now ways

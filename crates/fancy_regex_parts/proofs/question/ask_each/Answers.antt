@@ -5,7 +5,7 @@ use Rattle.fancy_regex_class.specs.Looks.{looked_text}
 use Rattle.fancy_regex_parts.specs.Tables.{due}
 use Rattle.fancy_regex_parts.specs.Layers.{HasWays, IsOfText}
 use Rattle.fancy_regex_parts.proofs.VisitLemmas.{no_look, looks_on}
-use Rattle.fancy_regex_parts.proofs.LoopLemmas.{known_cap, weight_is}
+use Rattle.fancy_regex_parts.proofs.LoopLemmas.{known_cap}
 use Rattle.fancy_regex_parts.proofs.question.ask_each.Goals as goal
 
 pushed_last : (xs : List (Option ℕ)) (x : Option ℕ) (j : ℕ) → j ≡ length xs → get_or (xs ++ x ∷ []) j None ≡ x
@@ -74,10 +74,9 @@ pub returns-clause-at_most : goal.returns-clause-at_most
 returns-clause-at_most c =
     let paid = c.loop-k.invariant.paid in
     let cap = known_cap c.args.context.now (looked_text c.args.text.now) c.args.memory.now.recall.base _ paid.memory paid.base in
-    let weight = weight_is (length (looked_text c.args.text.now) - c.args.memory.now.recall.base + 1) c.args.context.now.table.now.most (length c.args.context.now.table.now.heads.items) in
     let all : c.loop-k.k ≡ length c.args.places.now = omega (arith, c.loop-k.invariant.len, c.loop-k-test.false) in
     let dues = ap (λ n. n * due c.args.context.now.table.now c.args.part) all in
-    omega (arith, paid.counted, cap, weight, dues)
+    omega (arith, paid.counted, cap, dues)
 
 pub returns-clause-remembers : goal.returns-clause-remembers
 returns-clause-remembers c view ways has true_of = c.loop-k.invariant.true_of view ways has true_of

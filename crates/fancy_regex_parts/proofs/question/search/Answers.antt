@@ -1,7 +1,7 @@
 use Rattle.std.proofs.Common.{◌≡◌, ℕ, ◌+◌, ◌∙◌, List, [], ◌∷◌, refl, sym, ap, subst, arith, length}
 use Rattle.std.proofs.lemmas.List.{nil_from_length}
 use Rattle.fancy_regex_class.specs.Looks.{looked_text}
-use Rattle.fancy_regex_parts.specs.Tables.{due}
+use Rattle.fancy_regex_parts.specs.Tables.{due, cell_cost}
 use Rattle.fancy_regex_parts.specs.Frames.{top_first, pending, task_due, task_mode, Remembers, IsTaskWithin}
 use Rattle.fancy_regex_parts.specs.Layers.{IsAtTask, IsOfText, IsPaid}
 use Rattle.fancy_regex_parts.specs.declared.frame.Task.{Task}
@@ -117,5 +117,5 @@ tasks-smaller c =
     let new_due = ap (task_due context.table.now) c.resume-task.ensures.task in
     let less = resume_due context.table.now c.in-Some.frame c.in-Answer.end in
     let mode = mode_most c.resume-task.result in
-    let same = (kept c.in-Some.frame c.in-Answer.end c.resume-task.ensures.recall).count in
+    let same = (kept c.in-Some.frame c.in-Answer.end c.resume-task.ensures.recall).weight (cell_cost context.table.now) in
     rw same (omega (arith, left, len, due_is, new_due, less, mode))

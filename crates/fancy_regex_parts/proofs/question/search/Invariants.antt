@@ -2,8 +2,7 @@ use Rattle.std.proofs.Common.{◌+◌, ◌-◌, ◌*◌, length}
 use Rattle.fancy_regex_class.specs.Looks.{looked_text}
 use Rattle.fancy_regex_states.specs.Attempts.{View}
 use Rattle.fancy_regex_parts.specs.Ways.{Ways}
-use Rattle.fancy_regex_parts.specs.Tables.{due}
-use Rattle.fancy_regex_parts.specs.Recall.{known_count}
+use Rattle.fancy_regex_parts.specs.Tables.{due, known_cost, table_weight}
 use Rattle.fancy_regex_parts.specs.Frames.{Tracks, pending, task_due, task_mode, top_first}
 use Rattle.fancy_regex_parts.specs.Layers.{HasWays, IsTrueOf, IsAtTask, IsPaid}
 use Rattle.fancy_regex_parts.proofs.question.search.Given as goal
@@ -20,6 +19,6 @@ invariant-tasks l = record {
 abbrev pub decreases-tasks : goal.decreases-tasks
 decreases-tasks l =
     6 * (task_due l.context.table.now l.task + pending l.context.table.now (top_first l.memory.stack.items)
-    + (l.context.table.now.most * ((length (looked_text l.fn.text) - l.fn.memory.recall.base + 1) * length l.context.table.now.heads.items)
-    - l.context.table.now.most * known_count l.memory.recall))
+    + ((length (looked_text l.fn.text) - l.fn.memory.recall.base + 1) * table_weight l.context.table.now
+    - known_cost l.context.table.now l.memory.recall))
     + 2 * length (top_first l.memory.stack.items) + task_mode l.task

@@ -1,13 +1,14 @@
-use Rattle.std.proofs.Common.{◌≡◌, ℕ, ◌+◌, ◌-◌, ◌∙◌, List, [], ◌∷◌, Option, length, sym, subst, arith}
+use Rattle.std.proofs.Common.{◌≡◌, ℕ, ◌+◌, ◌-◌, ◌∙◌, List, [], ◌∷◌, Option, length, sym, ap, subst, arith}
 use Rattle.fancy_regex_class.specs.Looks.{looked_text}
 use Rattle.fancy_regex_meaning.specs.Positions.{boundaries}
+use Rattle.fancy_regex_meaning.proofs.NextBoundaryLemmas.{from_here}
 use Rattle.fancy_regex_states.specs.Attempts.{View}
 use Rattle.fancy_regex_parts.specs.Ways.{Ways}
 use Rattle.fancy_regex_parts.specs.Tables.{due}
 use Rattle.fancy_regex_parts.specs.Find.{attempted, IsNext, IsAfter}
 use Rattle.fancy_regex_parts.specs.Layers.{HasWays, IsOfText}
-use Rattle.fancy_regex_parts.proofs.FindLemmas.{found_here, failed_next, failed_last, one_more, one_start}
-use Rattle.fancy_regex_parts.proofs.LoopLemmas.{known_cap, weight_is}
+use Rattle.fancy_regex_parts.proofs.FindLemmas.{found_here, failed_next, failed_last, one_more, one_start, place_more}
+use Rattle.fancy_regex_parts.proofs.LoopLemmas.{known_cap}
 use Rattle.fancy_regex_parts.proofs.VisitLemmas.{looks_on}
 use Rattle.fancy_regex_parts.proofs.starts.find.Goals as goal
 
@@ -68,8 +69,7 @@ returns-in-Some-clause-at_most c view ways has true_of =
     let one = one_start (attempted (ways.end c.args.entry) (boundaries (looked_text c.args.text.now) c.starts.at c.args.last)) (due c.args.context.now.table.now c.args.entry + 1) tried in
     let memory = subst (λ (t : List ℕ). IsOfText c.args.context.now t c.ask.new.memory.recall) invariant.looks.text c.ask.ensures.memory in
     let cap = known_cap c.args.context.now (looked_text c.args.text.now) c.args.memory.now.recall.base _ memory (c.ask.ensures.base ∙ invariant.base) in
-    let weight = weight_is (length (looked_text c.args.text.now) - c.args.memory.now.recall.base + 1) c.args.context.now.table.now.most (length c.args.context.now.table.now.heads.items) in
-    omega (arith, invariant.counted view ways has true_of, c.in_ok-end.ensures.counted, one, cap, weight)
+    omega (arith, invariant.counted view ways has true_of, c.in_ok-end.ensures.counted, one, cap)
 
 pub returns-in-None-clause-at_most : goal.returns-in-None-clause-at_most
 returns-in-None-clause-at_most c view ways has true_of =
@@ -84,8 +84,45 @@ returns-in-None-clause-at_most c view ways has true_of =
     let one = one_start (attempted (ways.end c.args.entry) (boundaries (looked_text c.args.text.now) c.starts.at c.args.last)) (due c.args.context.now.table.now c.args.entry + 1) tried in
     let memory = subst (λ (t : List ℕ). IsOfText c.args.context.now t c.ask.new.memory.recall) invariant.looks.text c.ask.ensures.memory in
     let cap = known_cap c.args.context.now (looked_text c.args.text.now) c.args.memory.now.recall.base _ memory (c.ask.ensures.base ∙ invariant.base) in
-    let weight = weight_is (length (looked_text c.args.text.now) - c.args.memory.now.recall.base + 1) c.args.context.now.table.now.most (length c.args.context.now.table.now.heads.items) in
-    omega (arith, invariant.counted view ways has true_of, c.in_ok-end.ensures.counted, c.place_after.ensures.count, one, cap, weight)
+    omega (arith, invariant.counted view ways has true_of, c.in_ok-end.ensures.counted, c.place_after.ensures.count, one, cap)
+
+pub returns-in_err-end-clause-bound : goal.returns-in_err-end-clause-bound
+returns-in_err-end-clause-bound c =
+    let invariant = c.starts.invariant in
+    let here = rw (invariant.looks.text, invariant.base) at c.ask.ensures.at_most in
+    let more = place_more (c.starts.at - c.args.from) (c.args.last - c.args.from + 1) (due c.args.context.now.table.now c.args.entry + 1) (omega (arith, invariant.range)) in
+    omega (arith, invariant.looked, here, more)
+
+pub returns-in-Some-clause-bound : goal.returns-in-Some-clause-bound
+returns-in-Some-clause-bound c =
+    let invariant = c.starts.invariant in
+    let here = rw (invariant.looks.text, invariant.base) at c.ask.ensures.at_most in
+    let more = place_more (c.starts.at - c.args.from) (c.args.last - c.args.from + 1) (due c.args.context.now.table.now c.args.entry + 1) (omega (arith, invariant.range)) in
+    omega (arith, invariant.looked, here, more)
+
+pub returns-in-None-clause-bound : goal.returns-in-None-clause-bound
+returns-in-None-clause-bound c =
+    let invariant = c.starts.invariant in
+    let here = rw (invariant.looks.text, invariant.base) at c.ask.ensures.at_most in
+    let more = place_more (c.starts.at - c.args.from) (c.args.last - c.args.from + 1) (due c.args.context.now.table.now c.args.entry + 1) (omega (arith, invariant.range)) in
+    omega (arith, invariant.looked, here, c.place_after.ensures.count, more)
+
+pub returns-in-Some-clause-at_least : goal.returns-in-Some-clause-at_least
+returns-in-Some-clause-at_least c =
+    let text : List ℕ = looked_text c.args.text.now in
+    let invariant = c.starts.invariant in
+    let split = ap (λ (xs : List ℕ). length xs) (from_here text c.starts.at c.args.last invariant.place.boundary invariant.range) in
+    omega (arith, invariant.least, invariant.looks.more, c.ask.ensures.looks.more, split)
+
+pub returns-in-None-clause-at_least : goal.returns-in-None-clause-at_least
+returns-in-None-clause-at_least c =
+    let invariant = c.starts.invariant in
+    let text = c.ask.ensures.looks.text ∙ invariant.looks.text in
+    let last : boundaries (looked_text c.args.text.now) c.starts.at c.args.last ≡ c.starts.at ∷ [] =
+    subst (λ (t : List ℕ). boundaries t c.starts.at c.args.last ≡ c.starts.at ∷ []) text
+    (subst (λ (o : Option ℕ). IsAfter (looked_text c.ask.new.text) c.args.last c.starts.at o) c.in-None.is c.place_after.ensures.after) in
+    let one : length (boundaries (looked_text c.args.text.now) c.starts.at c.args.last) ≡ 1 = ap (λ (xs : List ℕ). length xs) last in
+    omega (arith, invariant.least, c.ask.ensures.looks.more, c.place_after.ensures.counted, one)
 
 pub starts-preserved : goal.starts-preserved
 starts-preserved c =
@@ -108,6 +145,14 @@ starts-preserved c =
           let tried = (failed_next (ways.end c.args.entry) c.starts.at _ _ next.starts (sym answer ∙ c.in_default.is)).1 in
           let more = one_more _ _ (due c.args.context.now.table.now c.args.entry + 1) tried in
           omega (arith, invariant.counted view ways has true_of, c.in_ok-end.ensures.counted, c.place_after.ensures.count, more);
+      later = omega (arith, invariant.later, next.later);
+      least =
+          let one = ap (λ (xs : List ℕ). length xs) next.starts in
+          omega (arith, invariant.least, c.ask.ensures.looks.more, c.place_after.ensures.counted, one);
+      looked =
+          let more = place_more (c.starts.at - c.args.from) (c.in-Some-place_after.next - c.args.from) (due c.args.context.now.table.now c.args.entry + 1)
+          (omega (arith, invariant.later, next.later)) in
+          omega (arith, invariant.looked, c.in_ok-end.ensures.counted, c.place_after.ensures.count, more);
       memory = subst (λ (t : List ℕ). IsOfText c.args.context.now t c.ask.new.memory.recall) invariant.looks.text c.ask.ensures.memory;
       base = c.ask.ensures.base ∙ invariant.base;
       stack = c.ask.ensures.stack;

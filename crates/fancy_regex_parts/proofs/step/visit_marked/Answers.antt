@@ -1,4 +1,4 @@
-use Rattle.std.proofs.Common.{Some, None, ◌∙◌, ap, arith}
+use Rattle.std.proofs.Common.{Some, None, ◌∙◌, refl, ap, arith}
 use Rattle.std.proofs.lemmas.List.{get_or_read}
 use Rattle.fancy_regex_parts.specs.Frames.{top_first, step_frames}
 use Rattle.fancy_regex_states.specs.declared.state.State.TheVariants.{Match}
@@ -26,21 +26,21 @@ returns-in_ok-task-in-New-clause-looked c =
     let known = rw c.in-New.is at c.in_ok-known.ensures.known in
     opened_looked c.args.context.now c.args.text.now c.step.new.text c.args.recall.now (top_first c.args.stack.now.items) c.args.q c.args.at c.requires.table c.requires.memory c.requires.place
     c.open.new.self c.args.mark c.requires.mark c.open.ensures.rows
-    _ known.1 c.step.ensures.looks c.step.ensures.count
+    _ known.1 refl c.step.ensures.looks c.step.ensures.count
 
 pub returns-in_err-task-in-New-clause-looked : goal.returns-in_err-task-in-New-clause-looked
 returns-in_err-task-in-New-clause-looked c =
     let known = rw c.in-New.is at c.in_ok-known.ensures.known in
     opened_looked c.args.context.now c.args.text.now c.step.new.text c.args.recall.now (top_first c.args.stack.now.items) c.args.q c.args.at c.requires.table c.requires.memory c.requires.place
     c.open.new.self c.args.mark c.requires.mark c.open.ensures.rows
-    _ known.1 c.step.ensures.looks c.step.ensures.count
+    _ known.1 refl c.step.ensures.looks c.step.ensures.count
 
 pub returns-in_err-push-in-New-clause-looked : goal.returns-in_err-push-in-New-clause-looked
 returns-in_err-push-in-New-clause-looked c =
     let known = rw c.in-New.is at c.in_ok-known.ensures.known in
     opened_looked c.args.context.now c.args.text.now c.args.text.now c.args.recall.now (top_first c.args.stack.now.items) c.args.q c.args.at c.requires.table c.requires.memory c.requires.place
     c.open.new.self c.args.mark c.requires.mark c.open.ensures.rows
-    _ known.1 (no_look c.args.text.now) (omega arith)
+    _ known.1 refl (no_look c.args.text.now) (omega arith)
 
 pub returns-in_err-known-clause-looked : goal.returns-in_err-known-clause-looked
 returns-in_err-known-clause-looked c =

@@ -1,6 +1,6 @@
 use Rattle.std.proofs.Common.{inl, inr, sym, subst, arith}
-use Rattle.std.proofs.lemmas.Bool.{cases_eq}
-use Rattle.fancy_regex_parts.specs.Tables.{IsTable, IsRightAt}
+use Rattle.std.proofs.lemmas.Bool.{cases_eq, leb-true}
+use Rattle.fancy_regex_parts.specs.Tables.{IsRightAt}
 use Rattle.fancy_regex_parts.proofs.table.PartTable.is_right.Goals as goal
 
 pub loop-q-preserved : goal.loop-q-preserved
@@ -11,5 +11,9 @@ loop-q-preserved c k below =
     ]
 
 pub returns : goal.returns
-unfolding IsTable
-returns c holds k below = c.loop-q.invariant k (omega (arith, below, c.len-q-end.ensures, c.loop-q-test.false, c.args.self.now.states.ok.0))
+returns c holds =
+    let states = c.args.self.now.states in
+    record {
+      right = λ k below. c.loop-q.invariant k (omega (arith, below, c.len-q-end.ensures, c.loop-q-test.false, states.ok.0));
+      light = omega (arith, leb-true _ _ holds, c.weight.ensures, c.len.ensures, states.ok.0, states.ok.1);
+    }

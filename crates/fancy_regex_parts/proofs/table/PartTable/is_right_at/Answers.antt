@@ -17,5 +17,6 @@ returns c holds =
     record {
       closed = subst (NamesBelow (length table.states.items)) state (subst (λ (n : ℕ). NamesBelow n c.index-state.result.now) count (c.names_below.ensures c.if-not-names_below.false));
       marked = c.has_mark.ensures c.if-not-has_mark.false;
+      cheap = omega (arith, c.cost-cost.ensures, c.if-cost-len.false, c.len-2.ensures, table.states.ok.0);
       paid = subst (λ s. owed table s + 1 ≤ cost_of table c.args.q) state paid;
     }
