@@ -1,9 +1,9 @@
 -- The ends of a call for a row of matches, from what it answers.
-use Rattle.std.specs.Prelude.{◌≡◌, ℕ, ℤ, ◌+◌, ◌<◌, List, Option, Some, Ok, Err}
+use Rattle.std.specs.Prelude.{◌≡◌, ℕ, ℤ, ◌<◌, List, Option, Some, Ok, Err}
 use mathlib.Core.Path.{refl, sym, subst}
 use Rattle.std.proofs.Common.{arith}
 use Rattle.fancy_regex_ffi.specs.Codes.{code_of, fault_status}
-use Rattle.fancy_regex_ffi.specs.Rows.{IsRowBy, RowEnds, RowReports, query_after, span_at}
+use Rattle.fancy_regex_ffi.specs.Rows.{IsRowBy, RowEnds, RowReports}
 use Rattle.fancy_regex_ffi.specs.declared.fault.CallError.{CallError}
 use Rattle.fancy_regex_ffi.specs.declared.contents.Contents.{Contents}
 use Rattle.fancy_regex_ffi.specs.declared.contents.Subject.{Subject}
@@ -11,12 +11,6 @@ use Rattle.fancy_regex_ffi.specs.declared.query.Query.{Query}
 use Rattle.fancy_regex_ffi_lists.specs.declared.spans.Span.{Span}
 use Rattle.fancy_regex_ffi.specs.declared.status.Status.{Status}
 use Rattle.fancy_regex_ffi.specs.declared.status.Status.TheVariants as statuses
-
--- the next search of a row begins where its last match ended, which is not empty; the first one is the search itself
-pub record IsNext (query : Query) (count : ℕ) (spans : List Span) (next : Query) : Type 0 where
-  pub start : count ≡ 0 → next ≡ query
-  pub after : (k : ℕ) → k + 1 ≡ count → next ≡ query_after query (span_at spans k).end
-  pub full : (k : ℕ) → k + 1 ≡ count → (span_at spans k).start < (span_at spans k).end
 
 -- no match
 pub empty_row_ends : (subject : Subject) (text : List ℕ) (query : Query) (spans written : List Span) (old new : Option CallError)

@@ -1,6 +1,6 @@
 use Rattle.std.proofs.Common.{◌≡◌, ◌-◌, length}
 use Rattle.fancy_regex_ffi.specs.Rows.{IsRow}
-use Rattle.fancy_regex_ffi.proofs.RowLemmas.{IsNext}
+use Rattle.fancy_regex_ffi.proofs.RowSteps.{IsNext}
 use Rattle.fancy_regex_ffi.proofs.query.write_row_in.Given as goal
 
 abbrev pub invariant-row : goal.invariant-row
