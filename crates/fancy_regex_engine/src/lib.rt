@@ -14,8 +14,8 @@ pub use fancy_regex_compiler::compile;
 pub use fancy_regex_info::{AnalyzeContext, BytesMode, CompileError, CompileOptions, Info};
 pub use fancy_regex_linear::Easy;
 pub use fancy_regex_machine::{
-    Allowance, Exhausted, RunMemory, RunOptions, RuntimeError, run, run_default, run_in, run_spans,
-    run_spans_in, run_spans_within, run_within,
+    Allowance, Exhausted, ProgramRun, RunMemory, RunOptions, RuntimeError, run, run_default,
+    run_in, run_spans, run_spans_in, run_spans_within, run_within,
 };
 pub use fancy_regex_program::{
     AbsentRepeater, CaptureGroupRange, Delegate, Insn, Repeat, RepeatEpsilon, is_valid_program,

@@ -5,7 +5,7 @@ use fancy_regex_class::{RunInput, Span};
 use fancy_regex_compiled::Prog;
 use fancy_regex_info::CompileOptions;
 use fancy_regex_machine::{
-    Allowance, Exhausted, RunMemory, RunOptions, run_spans_within, run_within,
+    Allowance, Exhausted, ProgramRun, RunMemory, RunOptions, run_spans_within, run_within,
 };
 use std::alloc::Global;
 
@@ -94,8 +94,13 @@ fn ends(alloc: Global, memory: &mut RunMemory, prog: &Prog, text: &str, row: &Ru
         find_not_empty: false,
         seek: None,
     };
-    let span = run_spans_within(alloc, prog, text, &input, &options, row.3, memory);
-    let groups = run_within(alloc, prog, text, &input, &options, row.3, memory);
+    let run = ProgramRun {
+        prog,
+        options: &options,
+        allowance: row.3,
+    };
+    let span = run_spans_within(alloc, &run, text, &input, memory);
+    let groups = run_within(alloc, &run, text, &input, memory);
     match (span, groups, row.4) {
         (Ok(Ok(Some(span))), Ok(Ok(Some(groups))), Ending::Found(start, end)) => {
             span == (start, end)

@@ -21,6 +21,7 @@ mod work;
 pub use error::{Exhausted, RuntimeError};
 pub use memory::RunMemory;
 pub use search::{
-    RunOptions, run, run_default, run_in, run_spans, run_spans_in, run_spans_within, run_within,
+    ProgramRun, RunOptions, run, run_default, run_in, run_spans, run_spans_in, run_spans_within,
+    run_within,
 };
 pub use work::Allowance;

@@ -40,8 +40,8 @@ use fancy_regex_compiler::compile;
 use fancy_regex_info::{CompileError, CompileOptions, Info};
 use fancy_regex_linear::Easy;
 use fancy_regex_machine::{
-    Allowance, Exhausted, RunMemory, RunOptions, RuntimeError, run_in, run_spans_in,
-    run_spans_within, run_within,
+    Allowance, Exhausted, ProgramRun, RunMemory, RunOptions, RuntimeError, run_spans_within,
+    run_within,
 };
 use fancy_regex_regular::{Regular, RegularMemory};
 use std::alloc::{AllocError, Global};
@@ -188,42 +188,6 @@ fn hard_strategy(
     }
 }
 
-/// The first match by the program. Errors: a limit, or `Memory`.
-#[inline(always)]
-fn run_program(
-    alloc: Global,
-    prog: &Prog,
-    run_options: &RunOptions,
-    text: &str,
-    input: &RunInput,
-    wanted: MatchDetail,
-    memory: &mut RunMemory,
-) -> std::result::Result<Option<FoundMatch>, RuntimeError>
-    requires first { IsCharBoundary text.now input.now.first }
-    requires range { input.now.range.end ≤ length text.now }
-    requires whole { prog.now.whole ≡ true }
-    ensures answer { IfOk result (λ found. (o : RegexOptions) (t : Tree) → IsProgramFor prog.now run_options.now o t
-        → option_map found_parts found ≡ option_map (wanted_parts wanted (pattern_of t))
-        (first_match (setting_for o.unicode_mode text.now input.now) (pattern_of t) (search_of o input.now))) }
-    ensures limits { IfErr result (λ e. (o : RegexOptions) (t : Tree) → IsProgramFor prog.now run_options.now o t
-        → IsSearchError false o.backtrack_limit (run_choices o text.now input.now t) (from_runtime_error e)) }
-    ensures passed { IfErr result (λ e. (o : RegexOptions) (t : Tree) → IsProgramFor prog.now run_options.now o t
-        → IsStrategyError (strategies.Program prog.now run_options.now) o text.now input.now (from_runtime_error e)) }
-    ensures stays { IfOk result (λ _. (o : RegexOptions) → RunsUnder (strategies.Program prog.now run_options.now) o
-        → StrategyStaysInLimits (strategies.Program prog.now run_options.now) o text.now input.now) }
-{
-    match wanted {
-        MatchDetail::Span => {
-            let span = run_spans_in(alloc, prog, text, input, run_options, memory)?;
-            Ok(found_span(alloc, span))
-        }
-        MatchDetail::Groups => {
-            let slots = run_in(alloc, prog, text, input, run_options, memory)?;
-            Ok(found_groups(slots))
-        }
-    }
-}
-
 /// What a run of a program from this byte offset on may do, where states answer in its place.
 fn allowance_from(text: &str, first: usize) -> Allowance {
     let rest = text.len().saturating_sub(first) as u64;
@@ -235,10 +199,9 @@ fn allowance_from(text: &str, first: usize) -> Allowance {
 
 /// The first match by the program, as long as its work stays within the allowance. The errors inside are a limit, or `Memory`.
 #[inline(always)]
-fn run_allowed(
+fn run_program(
     alloc: Global,
-    prog: &Prog,
-    run_options: &RunOptions,
+    run: &ProgramRun<'_>,
     text: &str,
     input: &RunInput,
     wanted: MatchDetail,
@@ -246,22 +209,31 @@ fn run_allowed(
 ) -> std::result::Result<std::result::Result<Option<FoundMatch>, RuntimeError>, Exhausted>
     requires first { IsCharBoundary text.now input.now.first }
     requires range { input.now.range.end ≤ length text.now }
-    requires whole { prog.now.whole ≡ true }
-    ensures { IfOk result (λ told. IfOk told (λ found. (o : RegexOptions) (t : Tree) → IsProgramFor prog.now run_options.now o t
+    requires whole { run.now.prog.now.whole ≡ true }
+    ensures answer { IfOk result (λ told. IfOk told (λ found. (o : RegexOptions) (t : Tree)
+        → IsProgramFor run.now.prog.now run.now.options.now o t
         → option_map found_parts found ≡ option_map (wanted_parts wanted (pattern_of t))
         (first_match (setting_for o.unicode_mode text.now input.now) (pattern_of t) (search_of o input.now)))) }
+    ensures limits { IfOk result (λ told. IfErr told (λ e. (o : RegexOptions) (t : Tree)
+        → IsProgramFor run.now.prog.now run.now.options.now o t
+        → IsSearchError false o.backtrack_limit (run_choices o text.now input.now t) (from_runtime_error e))) }
+    ensures passed { IfOk result (λ told. IfErr told (λ e. (o : RegexOptions) (t : Tree)
+        → IsProgramFor run.now.prog.now run.now.options.now o t
+        → IsStrategyError (strategies.Program run.now.prog.now run.now.options.now) o text.now input.now (from_runtime_error e))) }
+    ensures stays { IfOk result (λ told. IfOk told (λ _. (o : RegexOptions)
+        → RunsUnder (strategies.Program run.now.prog.now run.now.options.now) o
+        → StrategyStaysInLimits (strategies.Program run.now.prog.now run.now.options.now) o text.now input.now)) }
 {
-    let allowance = allowance_from(text, input.first);
     match wanted {
         MatchDetail::Span => {
-            let told = run_spans_within(alloc, prog, text, input, run_options, allowance, memory)?;
+            let told = run_spans_within(alloc, run, text, input, memory)?;
             match told {
                 Ok(span) => Ok(Ok(found_span(alloc, span))),
                 Err(error) => Ok(Err(error)),
             }
         }
         MatchDetail::Groups => {
-            let told = run_within(alloc, prog, text, input, run_options, allowance, memory)?;
+            let told = run_within(alloc, run, text, input, memory)?;
             match told {
                 Ok(slots) => Ok(Ok(found_groups(slots))),
                 Err(error) => Ok(Err(error)),
@@ -423,17 +395,30 @@ impl Strategy {
                 Ok(found)
             }
             Strategy::Program { prog, run_options } => {
+                let run = ProgramRun {
+                    prog,
+                    options: run_options,
+                    allowance: Allowance::UNBOUNDED,
+                };
                 let memory = &mut memory.program;
-                let found = run_program(alloc, prog, run_options, text, input, wanted, memory)?;
-                Ok(found)
+                match run_program(alloc, &run, text, input, wanted, memory) {
+                    Ok(Ok(found)) => Ok(found),
+                    Ok(Err(error)) => Err(Error::from(error)),
+                    // Unreachable in practice: the run would have gone back 2^64 times, or by so many bytes.
+                    Err(Exhausted) => Err(Error::Memory),
+                }
             }
             Strategy::Regular {
                 regular,
                 prog,
                 run_options,
             } => {
-                let run = &mut memory.program;
-                match run_allowed(alloc, prog, run_options, text, input, wanted, run) {
+                let run = ProgramRun {
+                    prog,
+                    options: run_options,
+                    allowance: allowance_from(text, input.first),
+                };
+                match run_program(alloc, &run, text, input, wanted, &mut memory.program) {
                     Ok(Ok(found)) => Ok(found),
                     Ok(Err(RuntimeError::Memory)) => Err(Error::Memory),
                     Ok(Err(_)) | Err(Exhausted) => {

@@ -78,7 +78,8 @@ impl Regex {
         ensures limits { IfErr result (λ e. IsMetaSearchError self.now.meta (S.text haystack) (whole (S.text haystack)) false e) }
         ensures stays { IfOk result (λ _. MetaStaysInLimits self.now.meta (S.text haystack) (whole (S.text haystack)) false) }
     {
-        self.find_input_counted(alloc, RegexInput::new(haystack), &mut Steps::new())
+        let input = RegexInput::new(haystack);
+        self.find_counted_in(alloc, input, &mut Steps::new(), &mut MetaMemory::new(alloc))
     }
 
     /// The first match that starts at the byte offset `position` or later; `None` if there is none. `\G` matches at `position`,
@@ -109,7 +110,7 @@ impl Regex {
             (record (whole (S.text haystack)) { start = position }) false) }
     {
         let input = RegexInput::new(haystack).from_pos(position);
-        self.find_input_counted(alloc, input, &mut Steps::new())
+        self.find_counted_in(alloc, input, &mut Steps::new(), &mut MetaMemory::new(alloc))
     }
 
     /// The first match of an input; `None` if there is none.
@@ -135,7 +136,7 @@ impl Regex {
         ensures limits { IfErr result (λ e. IsMetaSearchError self.now.meta (S.text input.haystack) input.config false e) }
         ensures stays { IfOk result (λ _. MetaStaysInLimits self.now.meta (S.text input.haystack) input.config false) }
     {
-        self.find_input_counted(alloc, input, &mut Steps::new())
+        self.find_counted_in(alloc, input, &mut Steps::new(), &mut MetaMemory::new(alloc))
     }
 
     /// `find_input` that also counts, for a plain pattern: one without look-around, reference or other fancy part, in a regex whose

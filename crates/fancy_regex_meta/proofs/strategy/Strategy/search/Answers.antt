@@ -7,7 +7,6 @@ use Rattle.fancy_regex_meta.specs.FoundParts.{parts_in}
 use Rattle.fancy_regex_meta.specs.Strategies.{Executes, unlimited, search_of}
 use Rattle.fancy_regex_meta.specs.declared.strategy.Strategy.TheVariants.{Regular}
 use Rattle.fancy_regex_meta.proofs.MatchOffsetLemmas.{first-parts}
-use Rattle.std.proofs.lemmas.Result.{err_from_is_err_and}
 use Rattle.fancy_regex_meta.proofs.strategy.Strategy.search.Goals as goal
 
 pub returns-in_ok-found-in-Groups-clause-answer : goal.returns-in_ok-found-in-Groups-clause-answer
@@ -33,22 +32,21 @@ returns-in_err-found-in-Groups-clause-looks_most c o t runs served = let of = rw
 pub returns-in_ok-found-in-Groups-clause-looks_most : goal.returns-in_ok-found-in-Groups-clause-looks_most
 returns-in_ok-found-in-Groups-clause-looks_most c o t runs served = let of = rw c.in-Easy.is at runs in c.search_in.ensures.at_most (pattern_of t) of.0
 
-pub returns-in_err-found-in-Program-clause-limits : goal.returns-in_err-found-in-Program-clause-limits
-returns-in_err-found-in-Program-clause-limits c =
-    let p = err_from_is_err_and c.from_residual-in_err-found-in-Program.result c.from_residual-in_err-found-in-Program.ensures.1 in
-    rw (p.1, p.2) (λ o t runs. rw c.in-Program.is (c.in_err-found-in-Program.ensures.limits o t (rw c.in-Program.is at runs)))
+-- an error of the program's run
+pub returns-in-Ok-Err-clause-limits : goal.returns-in-Ok-Err-clause-limits
+returns-in-Ok-Err-clause-limits c =
+    rw c.from.ensures (λ o t runs. rw c.in-Program.is ((rw c.in-Ok-Err.field-0-is at c.in-Ok-Err.ensures.limits) o t (rw c.in-Program.is at runs)))
 
-pub returns-in_err-found-in-Program-clause-passed : goal.returns-in_err-found-in-Program-clause-passed
-returns-in_err-found-in-Program-clause-passed c =
-    let p = err_from_is_err_and c.from_residual-in_err-found-in-Program.result c.from_residual-in_err-found-in-Program.ensures.1 in
-    rw (p.1, p.2) (λ o t runs. rw c.in-Program.is (c.in_err-found-in-Program.ensures.passed o t (rw c.in-Program.is at runs)))
+pub returns-in-Ok-Err-clause-passed : goal.returns-in-Ok-Err-clause-passed
+returns-in-Ok-Err-clause-passed c =
+    rw c.from.ensures (λ o t runs. rw c.in-Program.is ((rw c.in-Ok-Err.field-0-is at c.in-Ok-Err.ensures.passed) o t (rw c.in-Program.is at runs)))
 
-pub returns-in_ok-found-in-Program-clause-stays : goal.returns-in_ok-found-in-Program-clause-stays
-returns-in_ok-found-in-Program-clause-stays c o under =
-    rw c.in-Program.is (c.in_ok-found-in-Program.ensures.stays o (rw c.in-Program.is at under))
+pub returns-in-Ok-Ok-clause-stays : goal.returns-in-Ok-Ok-clause-stays
+returns-in-Ok-Ok-clause-stays c o under =
+    rw c.in-Program.is ((rw c.in-Ok-Ok.field-0-is at c.in-Ok-Ok.ensures.stays) o (rw c.in-Program.is at under))
 
 -- the program of a pattern with states answers, where it does, as without a limit
-pub returns-in-Ok-Ok-clause-answer : goal.returns-in-Ok-Ok-clause-answer
-returns-in-Ok-Ok-clause-answer c o t runs =
+pub returns-in-Ok-Ok-run_program-clause-answer : goal.returns-in-Ok-Ok-run_program-clause-answer
+returns-in-Ok-Ok-run_program-clause-answer c o t runs =
     let does : Executes (Regular c.in-Regular.regular c.in-Regular.prog c.in-Regular.run_options) o t = rw c.in-Regular.is at runs in
-    (rw c.in-Ok-Ok.field-0-is at c.in-Ok-Ok.ensures) (unlimited o) t does.1
+    (rw c.in-Ok-Ok-run_program.field-0-is at c.in-Ok-Ok-run_program.ensures.answer) (unlimited o) t does.1
