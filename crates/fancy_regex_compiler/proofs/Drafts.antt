@@ -177,9 +177,9 @@ module _ (u w : Bool) where
         flat_holes q o x (C a [] (length l) s) g rest
         ∙ ap (λ k. q ++ (o ∷ x ∷ ((C a [] k s ++ g) ++ rest))) past_hole
 
-    pub behind_holes : drop (length before.ops + 1) inside.ops ≡ body
+    pub after_holes : drop (length before.ops + 1) inside.ops ≡ body
     unfolding with_pat with_op closed_draft
-    behind_holes =
+    after_holes =
         let q = d.ops ++ flushed d.text in
         let far : length before.ops + 1 ≡ length ((q ++ o ∷ []) ++ x ∷ []) = sym (length-append (q ++ o ∷ []) (x ∷ [])) in
         ap₂ (λ n l. drop n l) far (sym (append-nil inside.ops) ∙ spread [] ∙ sym (flat_pair q o x (body ++ [])))
@@ -284,7 +284,7 @@ module _ (u w : Bool) where
       let second : at + 1 ≡ n + 2 = omega (arith, here) in
       let first : at - 1 ≡ n = omega (arith, here) in
       let seen : is_uncounted lo (at + 1) (drop (at + 1) i.ops) ≡ free =
-      ap (λ k. is_uncounted lo k (drop (at + 1) i.ops)) second ∙ ap (is_uncounted lo (n + 2)) (behind_holes d x x a (slot + 2)) in
+      ap (λ k. is_uncounted lo k (drop (at + 1) i.ops)) second ∙ ap (is_uncounted lo (n + 2)) (after_holes d x x a (slot + 2)) in
       let step : P (repeat a lo None greedy) slot d ≡ patched at head (patched n entry (with_op (op.jump (n + 1)) i)) =
       same_draft
       (filled d entry x a (slot + 2) head rest

@@ -13,7 +13,7 @@ use Rattle.fancy_regex_search.specs.CaptureSpans.{AreGroupsOf}
 use Rattle.fancy_regex_ffi.specs.Codes.{code_of, fault_status}
 use Rattle.fancy_regex_ffi_lists.specs.Spans.{span_of}
 use Rattle.fancy_regex_ffi.specs.Ends.{FindEnds, MatchEnds, CapturesEnd, FindReports, MatchReports, CapturesReport, LooksCounted, NameReports, IsNameWritten, IsBuilt, IsAnswer, IsBuildFault, BuildEnds, IsStored}
-use Rattle.fancy_regex_ffi.specs.Searches.{IsFoundBy, IsToldBy, IsCapturedBy, CountsLooksBy, CountsStartsBy, AreGroupSpans, AreGroupsFound, config_of}
+use Rattle.fancy_regex_ffi.specs.Searches.{IsFoundBy, IsMatchFlagBy, IsCapturedBy, CountsLooksBy, CountsStartsBy, AreGroupSpans, AreGroupsFound, config_of}
 use Rattle.fancy_regex_ffi.specs.Bytes.{IsFaultStored, AreStartsOrFault, AreRequiredOrFault, IsAskedEnd, StartBytesEnd, RequiredBytesEnd}
 use Rattle.fancy_regex_ffi.specs.declared.fault.CallError.{CallError}
 use Rattle.fancy_regex_ffi.specs.declared.fault.CallError.TheVariants as faults
@@ -29,17 +29,17 @@ use Rattle.fancy_regex_ffi.specs.declared.status.Status.TheVariants as statuses
 -- a match that is found
 pub found_ends : (subject : Subject) (text : List ℕ) (query : Query) (found : ℕ × ℕ) (old new : Option CallError) → IsFoundBy subject text query (Ok (Some found)) → new ≡ old
     → FindEnds subject text query statuses.Done (span_of (Some found)) old new
-found_ends subject text query found old new by same = record { answer = Ok (Some found); is_found = by; is_told = (refl, refl); recorded = same }
+found_ends subject text query found old new by same = record { answer = Ok (Some found); is_found = by; has_status = (refl, refl); recorded = same }
 
 -- no match
 pub missing_ends : (subject : Subject) (text : List ℕ) (query : Query) (old new : Option CallError) → IsFoundBy subject text query (Ok None) → new ≡ old
     → FindEnds subject text query statuses.NoMatch (span_of None) old new
-missing_ends subject text query old new by same = record { answer = Ok None; is_found = by; is_told = (refl, refl); recorded = same }
+missing_ends subject text query old new by same = record { answer = Ok None; is_found = by; has_status = (refl, refl); recorded = same }
 
 -- a search that has a fault
 pub fault_ends : (subject : Subject) (text : List ℕ) (query : Query) (fault : CallError) (old new : Option CallError) → IsFoundBy subject text query (Err fault) → new ≡ Some fault
     → FindEnds subject text query (fault_status fault) (span_of None) old new
-fault_ends subject text query fault old new by told = record { answer = Err fault; is_found = by; is_told = (refl, refl); recorded = told }
+fault_ends subject text query fault old new by told = record { answer = Err fault; is_found = by; has_status = (refl, refl); recorded = told }
 
 -- the spans of a match from the offsets of its groups
 pub groups_found : (meta : MetaRegex) (text : List ℕ) (query : Query) (slots : List ℕ) (spans : List Span) (found : Match) → meta_match meta text (config_of text query) ≡ Some found
@@ -49,31 +49,31 @@ groups_found meta text query slots spans found same are here = (found, same, sub
 -- groups that are found
 pub captured_ends : (subject : Subject) (text : List ℕ) (query : Query) (spans written : List Span) (old new : Option CallError) → IsCapturedBy subject text query (Ok true) spans written → new ≡ old
     → CapturesEnd subject text query statuses.Done spans written old new
-captured_ends subject text query spans written old new by same = record { answer = Ok true; is_captured = by; is_told = refl; recorded = same }
+captured_ends subject text query spans written old new by same = record { answer = Ok true; is_captured = by; has_status = refl; recorded = same }
 
 -- no groups
 pub uncaptured_ends : (subject : Subject) (text : List ℕ) (query : Query) (spans written : List Span) (old new : Option CallError) → IsCapturedBy subject text query (Ok false) spans written → new ≡ old
     → CapturesEnd subject text query statuses.NoMatch spans written old new
-uncaptured_ends subject text query spans written old new by same = record { answer = Ok false; is_captured = by; is_told = refl; recorded = same }
+uncaptured_ends subject text query spans written old new by same = record { answer = Ok false; is_captured = by; has_status = refl; recorded = same }
 
 -- a search for groups that has a fault
 pub captures_fault_ends : (subject : Subject) (text : List ℕ) (query : Query) (fault : CallError) (spans written : List Span) (old new : Option CallError) → IsCapturedBy subject text query (Err fault) spans written
     → new ≡ Some fault → CapturesEnd subject text query (fault_status fault) spans written old new
-captures_fault_ends subject text query fault spans written old new by told = record { answer = Err fault; is_captured = by; is_told = refl; recorded = told }
+captures_fault_ends subject text query fault spans written old new by told = record { answer = Err fault; is_captured = by; has_status = refl; recorded = told }
 
 -- a search that answers whether there is a match
-pub matched_ends : (subject : Subject) (text : List ℕ) (query : Query) (old new : Option CallError) → IsToldBy subject text query (Ok true) → new ≡ old
+pub matched_ends : (subject : Subject) (text : List ℕ) (query : Query) (old new : Option CallError) → IsMatchFlagBy subject text query (Ok true) → new ≡ old
     → MatchEnds subject text query statuses.Done old new
-matched_ends subject text query old new by same = record { answer = Ok true; is_matched = by; is_told = refl; recorded = same }
+matched_ends subject text query old new by same = record { answer = Ok true; is_matched = by; has_status = refl; recorded = same }
 
-pub unmatched_ends : (subject : Subject) (text : List ℕ) (query : Query) (old new : Option CallError) → IsToldBy subject text query (Ok false) → new ≡ old
+pub unmatched_ends : (subject : Subject) (text : List ℕ) (query : Query) (old new : Option CallError) → IsMatchFlagBy subject text query (Ok false) → new ≡ old
     → MatchEnds subject text query statuses.NoMatch old new
-unmatched_ends subject text query old new by same = record { answer = Ok false; is_matched = by; is_told = refl; recorded = same }
+unmatched_ends subject text query old new by same = record { answer = Ok false; is_matched = by; has_status = refl; recorded = same }
 
 -- one that has a fault
-pub match_fault_ends : (subject : Subject) (text : List ℕ) (query : Query) (fault : CallError) (old new : Option CallError) → IsToldBy subject text query (Err fault)
+pub match_fault_ends : (subject : Subject) (text : List ℕ) (query : Query) (fault : CallError) (old new : Option CallError) → IsMatchFlagBy subject text query (Err fault)
     → new ≡ Some fault → MatchEnds subject text query (fault_status fault) old new
-match_fault_ends subject text query fault old new by told = record { answer = Err fault; is_matched = by; is_told = refl; recorded = told }
+match_fault_ends subject text query fault old new by told = record { answer = Err fault; is_matched = by; has_status = refl; recorded = told }
 
 -- a regex that is built
 pub built_ends : (options : RegexOptions) (pattern : List ℕ) (subject : Subject) (recorded : Option CallError) (regex : Regex) → subject ≡ subjects.Regex regex → recorded ≡ None

@@ -16,18 +16,18 @@ use Rattle.fancy_regex_ffi.specs.declared.status.Status.TheVariants as statuses
 pub empty_row_ends : (subject : Subject) (text : List ℕ) (query : Query) (spans written : List Span) (old new : Option CallError)
     → IsRowBy subject text query (Ok 0) spans written → new ≡ old → RowEnds subject text query statuses.NoMatch 0 spans written old new
 empty_row_ends subject text query spans written old new by same =
-    record { answer = Ok 0; is_row = by; is_told = (refl, λ _. refl, λ some. absurd (omega arith)); recorded = same }
+    record { answer = Ok 0; is_row = by; has_status = (refl, λ _. refl, λ some. absurd (omega arith)); recorded = same }
 
 -- some matches
 pub row_ends : (subject : Subject) (text : List ℕ) (query : Query) (count : ℕ) (spans written : List Span) (old new : Option CallError)
     → IsRowBy subject text query (Ok count) spans written → 0 < count → new ≡ old → RowEnds subject text query statuses.Done count spans written old new
 row_ends subject text query count spans written old new by some same =
-    record { answer = Ok count; is_row = by; is_told = (refl, λ none. absurd (omega arith), λ _. refl); recorded = same }
+    record { answer = Ok count; is_row = by; has_status = (refl, λ none. absurd (omega arith), λ _. refl); recorded = same }
 
 -- a fault
 pub row_fault_ends : (subject : Subject) (text : List ℕ) (query : Query) (fault : CallError) (spans written : List Span) (old new : Option CallError)
     → IsRowBy subject text query (Err fault) spans written → new ≡ Some fault → RowEnds subject text query (fault_status fault) 0 spans written old new
-row_fault_ends subject text query fault spans written old new by told = record { answer = Err fault; is_row = by; is_told = (refl, refl); recorded = told }
+row_fault_ends subject text query fault spans written old new by told = record { answer = Err fault; is_row = by; has_status = (refl, refl); recorded = told }
 
 -- what a call for a row of a handle that holds something reports
 pub row_reports : (old left : Option Contents) (contents after : Contents) (text : List ℕ) (query : Query) (status : Status) (code : ℤ) (spans written : List Span) (count : ℕ)

@@ -13,7 +13,7 @@ use Rattle.fancy_regex_ffi.specs.Codes.{code_of, fault_status}
 use Rattle.fancy_regex_ffi.specs.Ends.{IsStored}
 use Rattle.fancy_regex_ffi_lists.specs.Mixed.{AreBuiltEach}
 use Rattle.fancy_regex_ffi_lists.specs.declared.options.Options.{Options}
-use Rattle.fancy_regex_ffi.specs.Sets.{cut_at, Rise, AreTexts, IsPieceFault, IsPieceOrFault, IsSetBuilt, IsSetRefused, IsSetTold, SetBuildEnds, IsMixedBuilt, IsMixedRefused, MixedBuildEnds}
+use Rattle.fancy_regex_ffi.specs.Sets.{cut_at, Rise, AreTexts, IsPieceFault, IsPieceOrFault, IsSetBuilt, IsSetRefused, IsSetStored, SetBuildEnds, IsMixedBuilt, IsMixedRefused, MixedBuildEnds}
 use Rattle.fancy_regex_ffi.specs.declared.fault.CallError.{CallError}
 use Rattle.fancy_regex_ffi.specs.declared.fault.CallError.TheVariants as faults
 use Rattle.fancy_regex_ffi.specs.declared.contents.Contents.{Contents}
@@ -54,7 +54,7 @@ as_many text_of bytes ends options texts shown so_many same is =
 
 -- what a build of a set reports
 set_holds : (options : RegexOptions) (bytes ends : List ℕ) (answer : Result RegexSet CallError) (contents : Contents) (status : Status) → IfOk answer (λ _. AreTexts bytes 0 ends)
-    → IfOk answer (λ set. AreBuiltOf options (cut_at bytes 0 ends) set.regexes.items) → IfErr answer (IsSetRefused options bytes ends) → IsSetTold answer contents status
+    → IfOk answer (λ set. AreBuiltOf options (cut_at bytes 0 ends) set.regexes.items) → IfErr answer (IsSetRefused options bytes ends) → IsSetStored answer contents status
     → IsSetBuilt options bytes ends contents.subject contents.fault status
 set_holds options bytes ends (Ok set) contents status texts members refused told =
     subst (λ (s : Subject). IsSetBuilt options bytes ends s contents.fault status) (sym told.0) (told.2, told.1, texts, members)
@@ -64,13 +64,13 @@ set_holds options bytes ends (Err fault) contents status texts members refused t
 
 pub set_build_reports : (options : RegexOptions) (bytes ends : List ℕ) (left : Option Contents) (answer : Result RegexSet CallError) (contents : Contents) (status : Status) (code : ℤ)
     → IfOk answer (λ _. AreTexts bytes 0 ends) → IfOk answer (λ set. AreBuiltOf options (cut_at bytes 0 ends) set.regexes.items) → IfErr answer (IsSetRefused options bytes ends)
-    → IsSetTold answer contents status → IsStored contents status left code → SetBuildEnds options bytes ends left code
+    → IsSetStored answer contents status → IsStored contents status left code → SetBuildEnds options bytes ends left code
 set_build_reports options bytes ends None answer contents status code texts members refused told ends_so = ends_so
 set_build_reports options bytes ends (Some left) answer contents status code texts members refused told ends_so =
     (status, ends_so.1, subst (λ (h : Contents). IsSetBuilt options bytes ends h.subject h.fault status) (sym ends_so.0) (set_holds options bytes ends answer contents status texts members refused told))
 
 mixed_holds : (options : List Options) (bytes ends : List ℕ) (answer : Result RegexSet CallError) (contents : Contents) (status : Status) → IfOk answer (λ _. AreTexts bytes 0 ends)
-    → IfOk answer (λ set. AreBuiltEach options (cut_at bytes 0 ends) set.regexes.items) → IfErr answer (IsMixedRefused options bytes ends) → IsSetTold answer contents status
+    → IfOk answer (λ set. AreBuiltEach options (cut_at bytes 0 ends) set.regexes.items) → IfErr answer (IsMixedRefused options bytes ends) → IsSetStored answer contents status
     → IsMixedBuilt options bytes ends contents.subject contents.fault status
 mixed_holds options bytes ends (Ok set) contents status texts members refused told =
     subst (λ (s : Subject). IsMixedBuilt options bytes ends s contents.fault status) (sym told.0) (told.2, told.1, texts, members)
@@ -80,7 +80,7 @@ mixed_holds options bytes ends (Err fault) contents status texts members refused
 
 pub mixed_build_reports : (options : List Options) (bytes ends : List ℕ) (left : Option Contents) (answer : Result RegexSet CallError) (contents : Contents) (status : Status) (code : ℤ)
     → IfOk answer (λ _. AreTexts bytes 0 ends) → IfOk answer (λ set. AreBuiltEach options (cut_at bytes 0 ends) set.regexes.items) → IfErr answer (IsMixedRefused options bytes ends)
-    → IsSetTold answer contents status → IsStored contents status left code → MixedBuildEnds options bytes ends left code
+    → IsSetStored answer contents status → IsStored contents status left code → MixedBuildEnds options bytes ends left code
 mixed_build_reports options bytes ends None answer contents status code texts members refused told ends_so = ends_so
 mixed_build_reports options bytes ends (Some left) answer contents status code texts members refused told ends_so =
     (status, ends_so.1, subst (λ (h : Contents). IsMixedBuilt options bytes ends h.subject h.fault status) (sym ends_so.0) (mixed_holds options bytes ends answer contents status texts members refused told))

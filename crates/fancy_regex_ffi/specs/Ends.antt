@@ -10,7 +10,7 @@ use Rattle.fancy_regex_ffi.specs.Codes.{code_of, fault_status}
 use Rattle.fancy_regex_ffi_lists.specs.Spans.{span_of}
 use Rattle.fancy_regex_ffi.specs.Places.{place_of}
 use Rattle.fancy_regex_ffi_lists.specs.Fronts.{IsFrontOf}
-use Rattle.fancy_regex_ffi.specs.Searches.{IsFoundBy, IsToldBy, IsCapturedBy, CountsLooksBy, CountsStartsBy}
+use Rattle.fancy_regex_ffi.specs.Searches.{IsFoundBy, IsMatchFlagBy, IsCapturedBy, CountsLooksBy, CountsStartsBy}
 use Rattle.fancy_regex_ffi.specs.declared.fault.CallError.{CallError}
 use Rattle.fancy_regex_ffi.specs.declared.fault.CallError.TheVariants as faults
 use Rattle.fancy_regex_ffi.specs.declared.contents.Contents.{Contents}
@@ -73,16 +73,16 @@ FaultAfter (Ok _) old new = new ≡ old
 FaultAfter (Err fault) old new = new ≡ Some fault
 
 -- how a search that answers this ends: its number, and the span that it gives, unset without a match
-abbrev pub IsSpanTold : Result (Option (ℕ × ℕ)) CallError → Status → Span → Type 0
-IsSpanTold (Ok (Some found)) status span = (status ≡ statuses.Done) × (span ≡ span_of (Some found))
-IsSpanTold (Ok None) status span = (status ≡ statuses.NoMatch) × (span ≡ span_of None)
-IsSpanTold (Err fault) status span = (status ≡ fault_status fault) × (span ≡ span_of None)
+abbrev pub IsSpanStatus : Result (Option (ℕ × ℕ)) CallError → Status → Span → Type 0
+IsSpanStatus (Ok (Some found)) status span = (status ≡ statuses.Done) × (span ≡ span_of (Some found))
+IsSpanStatus (Ok None) status span = (status ≡ statuses.NoMatch) × (span ≡ span_of None)
+IsSpanStatus (Err fault) status span = (status ≡ fault_status fault) × (span ≡ span_of None)
 
 -- How a search of what was built ends: with the match that the definitions give, or without one; or with a fault, which is recorded.
 pub record FindEnds (subject : Subject) (text : List ℕ) (query : Query) (status : Status) (span : Span) (old new : Option CallError) : Type 0 where
   pub answer : Result (Option (ℕ × ℕ)) CallError
   pub is_found : IsFoundBy subject text query answer
-  pub is_told : IsSpanTold answer status span
+  pub has_status : IsSpanStatus answer status span
   pub recorded : FaultAfter answer old new
 
 -- how a search for groups, or whether there is a match, that answers this ends
@@ -96,14 +96,14 @@ captured_status (Err fault) = fault_status fault
 pub record CapturesEnd (subject : Subject) (text : List ℕ) (query : Query) (status : Status) (spans written : List Span) (old new : Option CallError) : Type 0 where
   pub answer : Result Bool CallError
   pub is_captured : IsCapturedBy subject text query answer spans written
-  pub is_told : status ≡ captured_status answer
+  pub has_status : status ≡ captured_status answer
   pub recorded : FaultAfter answer old new
 
 -- How a search of what was built ends that asks whether there is a match: with that; or with a fault, which is recorded.
 pub record MatchEnds (subject : Subject) (text : List ℕ) (query : Query) (status : Status) (old new : Option CallError) : Type 0 where
   pub answer : Result Bool CallError
-  pub is_matched : IsToldBy subject text query answer
-  pub is_told : status ≡ captured_status answer
+  pub is_matched : IsMatchFlagBy subject text query answer
+  pub has_status : status ≡ captured_status answer
   pub recorded : FaultAfter answer old new
 
 -- The number that a search of what a handle holds returns, the span, and what the handle holds afterwards: what was built, and the fault

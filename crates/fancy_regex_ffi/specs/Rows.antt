@@ -50,16 +50,16 @@ IsRowBy subjects.Nothing text query (Ok _) old new = ⊥
 IsRowBy subjects.Nothing text query (Err fault) old new = (fault ≡ faults.NoRegex) × (new ≡ old)
 
 -- how a call ends that answers this: its number, and how many matches are written
-abbrev pub IsRowTold : Result ℕ CallError → Status → ℕ → Type 0
-IsRowTold (Ok written) status count = (count ≡ written) × (written ≡ 0 → status ≡ statuses.NoMatch) × (0 < written → status ≡ statuses.Done)
-IsRowTold (Err fault) status count = (count ≡ 0) × (status ≡ fault_status fault)
+abbrev pub IsRowStatus : Result ℕ CallError → Status → ℕ → Type 0
+IsRowStatus (Ok written) status count = (count ≡ written) × (written ≡ 0 → status ≡ statuses.NoMatch) × (0 < written → status ≡ statuses.Done)
+IsRowStatus (Err fault) status count = (count ≡ 0) × (status ≡ fault_status fault)
 
 -- How a call for a row of matches of what was built ends: with the matches; or with a fault, which is recorded.
 pub record RowEnds (subject : Subject) (text : List ℕ) (query : Query) (status : Status) (count : ℕ) (spans written : List Span)
     (old new : Option CallError) : Type 0 where
   pub answer : Result ℕ CallError
   pub is_row : IsRowBy subject text query answer spans written
-  pub is_told : IsRowTold answer status count
+  pub has_status : IsRowStatus answer status count
   pub recorded : FaultAfter answer old new
 
 -- The number that a call for a row of matches of what a handle holds returns, the spans, how many there are, and what the handle holds

@@ -70,17 +70,17 @@ IsFoundBy subjects.Nothing text query (Ok _) = ⊥
 IsFoundBy subjects.Nothing text query (Err fault) = fault ≡ faults.NoRegex
 
 -- whether the definitions give a match, or why there is no answer
-abbrev pub IsToldIn : MetaRegex → List ℕ → Query → Result Bool CallError → Type 0
-IsToldIn meta text query (Ok answer) = Answers meta text query × (answer ≡ is_some (meta_match meta text (config_of text query)))
-IsToldIn meta text query (Err fault) = IsSearchFault meta text query fault
+abbrev pub IsMatchFlagIn : MetaRegex → List ℕ → Query → Result Bool CallError → Type 0
+IsMatchFlagIn meta text query (Ok answer) = Answers meta text query × (answer ≡ is_some (meta_match meta text (config_of text query)))
+IsMatchFlagIn meta text query (Err fault) = IsSearchFault meta text query fault
 
 -- whether they give one for what was built, or why there is no answer
-abbrev pub IsToldBy : Subject → List ℕ → Query → Result Bool CallError → Type 0
-IsToldBy (subjects.Regex regex) text query told = IsToldIn regex.meta text query told
-IsToldBy (subjects.Set set) text query (Ok _) = ⊥
-IsToldBy (subjects.Set set) text query (Err fault) = fault ≡ faults.NoRegex
-IsToldBy subjects.Nothing text query (Ok _) = ⊥
-IsToldBy subjects.Nothing text query (Err fault) = fault ≡ faults.NoRegex
+abbrev pub IsMatchFlagBy : Subject → List ℕ → Query → Result Bool CallError → Type 0
+IsMatchFlagBy (subjects.Regex regex) text query told = IsMatchFlagIn regex.meta text query told
+IsMatchFlagBy (subjects.Set set) text query (Ok _) = ⊥
+IsMatchFlagBy (subjects.Set set) text query (Err fault) = fault ≡ faults.NoRegex
+IsMatchFlagBy subjects.Nothing text query (Ok _) = ⊥
+IsMatchFlagBy subjects.Nothing text query (Err fault) = fault ≡ faults.NoRegex
 
 -- How a search raises the counter of looks: at most as often as the linear-time matcher may look, and not at all where the pattern is
 -- not plain.

@@ -54,9 +54,9 @@ IsSetRefused options bytes ends faults.WrongEnds = Rise bytes 0 ends → ⊥
 IsSetRefused options bytes ends _ = ⊥
 
 -- a set is stored with no fault, or nothing with the fault; and how that ends
-abbrev pub IsSetTold : Result RegexSet CallError → Contents → Status → Type 0
-IsSetTold (Ok set) contents status = (contents.subject ≡ subjects.Set set) × (contents.fault ≡ None) × (status ≡ statuses.Done)
-IsSetTold (Err fault) contents status = (contents.subject ≡ subjects.Nothing) × (contents.fault ≡ Some fault) × (status ≡ fault_status fault)
+abbrev pub IsSetStored : Result RegexSet CallError → Contents → Status → Type 0
+IsSetStored (Ok set) contents status = (contents.subject ≡ subjects.Set set) × (contents.fault ≡ None) × (status ≡ statuses.Done)
+IsSetStored (Err fault) contents status = (contents.subject ≡ subjects.Nothing) × (contents.fault ≡ Some fault) × (status ≡ fault_status fault)
 
 -- what is built of these patterns, and how the call ends
 abbrev pub IsSetBuilt : RegexOptions → List ℕ → List ℕ → Subject → Option CallError → Status → Type 0

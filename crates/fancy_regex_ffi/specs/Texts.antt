@@ -7,17 +7,17 @@ use Rattle.fancy_regex_ffi.specs.declared.fault.CallError.TheVariants as faults
 use Rattle.fancy_regex_ffi.specs.declared.contents.Contents.{Contents}
 
 -- the number is the length of the text, and the bytes begin with it; after it they are as they were
-abbrev pub IsTold : List ℕ → List ℕ → List ℕ → ℕ → Type 0
-IsTold text old new count = (count ≡ length text) × IsFrontOf text old new
+abbrev pub IsTextCopied : List ℕ → List ℕ → List ℕ → ℕ → Type 0
+IsTextCopied text old new count = (count ≡ length text) × IsFrontOf text old new
 
 -- the text of a fault is told, where `shown` gives that of an error of the library
 abbrev pub IsFaultWritten : (Error → Option (List ℕ)) → CallError → List ℕ → List ℕ → ℕ → Type 0
-IsFaultWritten shown faults.NoRegex = IsTold (codes "the handle holds no regex")
-IsFaultWritten shown faults.NoSet = IsTold (codes "the handle holds no set")
-IsFaultWritten shown faults.WrongEnds = IsTold (codes "the ends of the patterns fall, or lie past their bytes")
-IsFaultWritten shown faults.NotUtf8 = IsTold (codes "the text is not UTF-8")
-IsFaultWritten shown faults.PastEnd = IsTold (codes "the search begins past the end of the text")
-IsFaultWritten shown faults.OffBoundary = IsTold (codes "the search begins inside a character")
+IsFaultWritten shown faults.NoRegex = IsTextCopied (codes "the handle holds no regex")
+IsFaultWritten shown faults.NoSet = IsTextCopied (codes "the handle holds no set")
+IsFaultWritten shown faults.WrongEnds = IsTextCopied (codes "the ends of the patterns fall, or lie past their bytes")
+IsFaultWritten shown faults.NotUtf8 = IsTextCopied (codes "the text is not UTF-8")
+IsFaultWritten shown faults.PastEnd = IsTextCopied (codes "the search begins past the end of the text")
+IsFaultWritten shown faults.OffBoundary = IsTextCopied (codes "the search begins inside a character")
 IsFaultWritten shown (faults.Regex error) = IsErrorWritten (shown error)
 
 -- the same for the fault that is recorded; without one nothing is told

@@ -7,7 +7,7 @@ ghost use Rattle.fancy_regex_ffi_lists.specs.Choices.{chosen};
 ghost use Rattle.fancy_regex_ffi.specs.Codes.{fault_status};
 ghost use Rattle.fancy_regex_ffi.specs.Ends.{IsAnswer, IsBuildFault, IsBuilt, FindEnds, MatchEnds, CapturesEnd, groups_for, place_or_max, IsGroupName, IsNameOf, IsNameWritten};
 ghost use Rattle.fancy_regex_ffi.specs.Rows.{IsRowBy, RowEnds};
-ghost use Rattle.fancy_regex_ffi.specs.Searches.{IsFoundBy, IsToldBy, CountsLooksBy, CountsStartsBy, IsCapturedBy, IsCapturedIn, AreGroupSpans};
+ghost use Rattle.fancy_regex_ffi.specs.Searches.{IsFoundBy, IsMatchFlagBy, CountsLooksBy, CountsStartsBy, IsCapturedBy, IsCapturedIn, AreGroupSpans};
 ghost use Rattle.fancy_regex_ffi.specs.Texts.{IsFaultWritten, IsTextWritten};
 ghost use Rattle.fancy_regex_ffi.specs.declared.contents.Subject.TheVariants as subjects;
 
@@ -167,7 +167,7 @@ fn is_match(
     memory: &mut KeptMemory,
 ) -> Result<bool, CallError>
     requires { query.now.is_utf8 ≡ true → IsUtf8 text.now }
-    ensures { IsToldBy subject.now text.now query.now result }
+    ensures { IsMatchFlagBy subject.now text.now query.now result }
 {
     match subject {
         Subject::Regex(regex) => match text_of(text, query.is_utf8) {
@@ -324,13 +324,13 @@ pub fn write_fault(contents: &Contents, out: &mut [u8]) -> usize
     ensures { IsTextWritten ⟦<Error as fmt::Display>⟧.output contents.now.fault out.old out.new result }
 {
     match &contents.fault {
-        Some(fault) => write_told(fault, out),
+        Some(fault) => write_call_error(fault, out),
         None => 0,
     }
 }
 
 /// Writes the text of a fault, as much as there is room for, and returns how long it is.
-fn write_told(fault: &CallError, out: &mut [u8]) -> usize
+fn write_call_error(fault: &CallError, out: &mut [u8]) -> usize
     ensures { IsFaultWritten ⟦<Error as fmt::Display>⟧.output fault.now out.old out.new result }
 {
     match fault {

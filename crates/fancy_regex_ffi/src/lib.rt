@@ -37,7 +37,7 @@ use fancy_regex_ffi_lists::{Member, Options, Span};
 use handle::Handle;
 use items::{pieces_of, replaced_of, spans_of};
 use query::Query;
-use sets::{build_mixed, build_set, member_groups_of, members_of, set_told};
+use sets::{build_mixed, build_set, member_groups_of, members_of, stored_set};
 use status::Status;
 use std::alloc::Global;
 use std::fmt;
@@ -375,7 +375,7 @@ pub extern "C" fn fancy_regex_raw_set_build(
     ensures { SetBuildEnds (chosen options.now) patterns.now ends.now handle.new.contents result }
 {
     fancy_regex_raw_free(alloc, handle);
-    let (contents, status) = set_told(alloc, build_set(alloc, patterns, ends, options));
+    let (contents, status) = stored_set(alloc, build_set(alloc, patterns, ends, options));
     store(alloc, handle, contents, status)
 }
 
@@ -445,7 +445,7 @@ pub extern "C" fn fancy_regex_raw_set_build_mixed(
     ensures { MixedBuildEnds options.now patterns.now ends.now handle.new.contents result }
 {
     fancy_regex_raw_free(alloc, handle);
-    let (contents, status) = set_told(alloc, build_mixed(alloc, patterns, ends, options));
+    let (contents, status) = stored_set(alloc, build_mixed(alloc, patterns, ends, options));
     store(alloc, handle, contents, status)
 }
 

@@ -2,7 +2,7 @@
 
 ghost use Rattle.std.specs.Prelude.{◌≡◌, true, IfOk, IsUtf8};
 ghost use Rattle.fancy_regex_ffi.specs.Rows.{IsRowIn, query_after};
-ghost use Rattle.fancy_regex_ffi.specs.Searches.{IsTextOrFault, IsPlaceOrFault, IsFoundIn, IsToldIn, CountsLooks, CountsStarts};
+ghost use Rattle.fancy_regex_ffi.specs.Searches.{IsTextOrFault, IsPlaceOrFault, IsFoundIn, IsMatchFlagIn, CountsLooks, CountsStarts};
 
 use crate::fault::CallError;
 use fancy_regex::{Regex, RegexInput, SearchMemory, Steps};
@@ -131,7 +131,7 @@ pub fn is_match_in(
     query: &Query,
     memory: &mut SearchMemory,
 ) -> Result<bool, CallError>
-    ensures { IsToldIn regex.now.meta text.now query.now result }
+    ensures { IsMatchFlagIn regex.now.meta text.now query.now result }
 {
     check_place(text, query.position)?;
     let input = RegexInput::new(text)

@@ -5,7 +5,7 @@ ghost use Rattle.fancy_regex.specs.SetMembers.{AreBuiltOf};
 ghost use Rattle.fancy_regex_ffi_lists.specs.Choices.{chosen};
 ghost use Rattle.fancy_regex_ffi_lists.specs.Mixed.{AreBuiltEach};
 ghost use Rattle.fancy_regex_ffi.specs.Lists.{AreMemberGroups, AreMembers, listed};
-ghost use Rattle.fancy_regex_ffi.specs.Sets.{cut_at, AreTexts, IsPieceFault, IsPieceOrFault, IsSetRefused, IsSetTold, IsMixedRefused};
+ghost use Rattle.fancy_regex_ffi.specs.Sets.{cut_at, AreTexts, IsPieceFault, IsPieceOrFault, IsSetRefused, IsSetStored, IsMixedRefused};
 
 use crate::contents::{Contents, Subject};
 use crate::fault::CallError;
@@ -16,8 +16,8 @@ use fancy_regex_ffi_lists::{Member, Options, mixed_set, set_groups, set_members}
 use std::alloc::Global;
 
 /// What holds a set, or the fault of building it; and how that ends.
-pub fn set_told(alloc: Global, answer: Result<RegexSet, CallError>) -> (Contents, Status)
-    ensures { IsSetTold answer result.0 result.1 }
+pub fn stored_set(alloc: Global, answer: Result<RegexSet, CallError>) -> (Contents, Status)
+    ensures { IsSetStored answer result.0 result.1 }
 {
     match answer {
         Ok(set) => (Contents::of_set(alloc, set), Status::Done),

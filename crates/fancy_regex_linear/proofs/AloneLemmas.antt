@@ -13,12 +13,12 @@ use Rattle.fancy_regex_linear.specs.Meaning.{Spot}
 use Rattle.fancy_regex_linear.specs.Attempt.{trace_end}
 use Rattle.fancy_regex_linear.specs.Search.{AllFail}
 use Rattle.fancy_regex_linear.specs.Visited.{Has, visited_bound}
-use Rattle.fancy_regex_linear.specs.Alone.{AllFailBetween, AloneSays, IsLeft, IsLeftAt, IsLookedAt, IsLookedFor, IsNoneFrom, IsOnWay}
+use Rattle.fancy_regex_linear.specs.Alone.{AllFailBetween, AloneSays, IsUnknown, IsUnknownAt, IsLookedAt, IsLookedFor, IsNoneFrom, IsOnWay}
 use Rattle.fancy_regex_linear.specs.Find.{earliest, attempted, places, places_from}
 use Rattle.fancy_regex_linear.specs.Settled.{FailBetween, IsSettled, IsSettledAfter}
 use Rattle.fancy_regex_linear.specs.Starts.{IsAfter, IsStart, spot_from}
 use Rattle.fancy_regex_linear.specs.declared.alone.Alone.{Alone}
-use Rattle.fancy_regex_linear.specs.declared.alone.Alone.TheVariants.{Found, NoMatch, Left}
+use Rattle.fancy_regex_linear.specs.declared.alone.Alone.TheVariants.{Found, NoMatch, Unknown}
 use Rattle.fancy_regex_linear.specs.declared.memory.SearchMemory.{SearchMemory}
 use Rattle.fancy_regex_linear.specs.declared.search.SearchContext.{SearchContext}
 use Rattle.fancy_regex_linear.specs.declared.settle.Settled.{Settled}
@@ -72,18 +72,18 @@ none_then context a b c from at way here = record {
       (omega (arith, way.range));
 }
 
--- a start at which the text was looked at is left
-pub left_says : (context : SearchContext) (a c : Counted) (first from read : ℕ) (place : ℕ × Option ℕ) (alone : Alone) → IsUtf8 (looked_text a)
+-- the table does not tell of a start at which the text was looked at
+pub unknown_says : (context : SearchContext) (a c : Counted) (first from read : ℕ) (place : ℕ × Option ℕ) (alone : Alone) → IsUtf8 (looked_text a)
     → context.stop ≤ length (looked_text a) → IsLookedAt context a c first place → (place.0 ≤ from) × (from ≤ read) × (read ≤ context.stop)
-    → AllFailBetween context (looked_text a) place.0 from → AreBoundaries (looked_text a) place.0 read → IsLeft context place from read alone
+    → AllFailBetween context (looked_text a) place.0 from → AreBoundaries (looked_text a) place.0 read → IsUnknown context place from read alone
     → AloneSays context a c first alone
-left_says context a c first from read place (Found start end) utf8 inside here range fails boundaries is = absurd is
-left_says context a c first from read place NoMatch utf8 inside here range fails boundaries is = absurd is
-left_says context a c first from read place (Left start low last) utf8 inside here range fails boundaries is =
+unknown_says context a c first from read place (Found start end) utf8 inside here range fails boundaries is = absurd is
+unknown_says context a c first from read place NoMatch utf8 inside here range fails boundaries is = absurd is
+unknown_says context a c first from read place (Unknown start low last) utf8 inside here range fails boundaries is =
     let text = looked_text a in
     let at_is = is.0 in
     let split = is.4 text utf8 here.boundary inside (sym here.after) in
-    let left : IsLeftAt context text start low last = record {
+    let unknown : IsUnknownAt context text start low last = record {
       start = record {
         low = omega arith;
         high = omega (arith, at_is, here.range.1);
@@ -97,7 +97,7 @@ left_says context a c first from read place (Left start low last) utf8 inside he
       range = (omega (arith, at_is, is.2, range.0), omega (arith, is.2, is.3, range.1), omega (arith, is.3, range.2));
       boundaries = rw (at_is, is.3) boundaries;
     } in
-    (left, omega (arith, at_is, here.range.0), rw at_is here.fails, rw at_is here.looked)
+    (unknown, omega (arith, at_is, here.range.0), rw at_is here.fails, rw at_is here.looked)
 
 looks_in : (looks old spent start m count extra : ℕ) → looks + start * count ≤ old + spent + extra → spent ≤ (start + m) * count → looks ≤ old + m * count + extra
 looks_in looks old spent start m count extra a b = omega (arith, a, b)

@@ -31,6 +31,6 @@ pub mod RegularStateLemmas
 pub mod ServedLemmas
 pub mod LayerLemmas
 pub mod SettleLemmas
-pub mod ToldLemmas
+pub mod VerdictLemmas
 pub mod AloneLemmas
 pub mod SpanLemmas

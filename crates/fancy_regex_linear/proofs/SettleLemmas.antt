@@ -20,7 +20,7 @@ use Rattle.fancy_regex_linear.specs.Attempt.{apply, trace_end}
 use Rattle.fancy_regex_linear.specs.Find.{earliest, attempted, places}
 use Rattle.fancy_regex_linear.specs.Layers.{IsAttempt, IsBetweenAttempts, IsOnlyLookedAt}
 use Rattle.fancy_regex_linear.specs.Search.{Explains, end_spot}
-use Rattle.fancy_regex_linear.specs.Settled.{FailBetween, IsAtStart, IsTableSearch, left_from, parts_of}
+use Rattle.fancy_regex_linear.specs.Settled.{FailBetween, IsAtStart, IsTableSearch, remaining_starts, parts_of}
 use Rattle.fancy_regex_linear.specs.Starts.{IsAfter, spot_from}
 use Rattle.fancy_regex_linear.specs.declared.by_table.TableSearch.{TableSearch}
 use Rattle.fancy_regex_linear.specs.declared.starts.Start.{Start}
@@ -199,8 +199,8 @@ module _ (context : SearchContext) (text : List ℕ) (place : Start) (memory : S
 
   -- the starts before this one fail
   pub on_says : (to : ℕ) → place.at ≤ to → to ≤ context.stop → FailBetween context text go place.at to
-      → (earliest spot (left_from context text false place) ≡ earliest spot (places text false to context.stop))
-      × (attempted spot (left_from context text false place) ≤ to - place.at + attempted spot (places text false to context.stop))
+      → (earliest spot (remaining_starts context text false place) ≡ earliest spot (places text false to context.stop))
+      × (attempted spot (remaining_starts context text false place) ≤ to - place.at + attempted spot (places text false to context.stop))
   on_says to low high fail =
       let skip = skip_to spot text place.at to context.stop low high (λ p a b boundary. no_spot p (fail p a b boundary)) start.inside in
       let tried = ap (attempted spot) start.split in
@@ -208,8 +208,8 @@ module _ (context : SearchContext) (text : List ℕ) (place : Start) (memory : S
 
   -- they fail, and this one matches
   pub found_says : (m : ℕ) (w : Spot) → place.at ≤ m → m ≤ context.stop → IsCharBoundary text m → FailBetween context text go place.at m → spot m ≡ Some w
-      → (earliest spot (left_from context text false place) ≡ Some (record { start = m; way = w }))
-      × (attempted spot (left_from context text false place) ≤ m - place.at + 1)
+      → (earliest spot (remaining_starts context text false place) ≡ Some (record { start = m; way = w }))
+      × (attempted spot (remaining_starts context text false place) ≤ m - place.at + 1)
   found_says m w low high boundary fail is =
       let on = on_says m low high fail in
       let here = found_here spot text false m context.stop w boundary high is in

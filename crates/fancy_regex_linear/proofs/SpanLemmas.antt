@@ -106,7 +106,7 @@ module _ (easy : Easy) (text : List ℕ) (input : RunInput) (context : SearchCon
           span_is = sym (span_back span answer.found_slots) ∙ ap (option_map span_of_found) found
               ∙ sym (span_is_match easy.unicode easy.longest text input easy.states.items easy.entry pattern is.serves.plain inside d below);
           slots_are = λ kept.
-              ap (λ xs. option_map (found_slots easy.whole) (found_of_span span xs)) (sym (answer.kept kept))
+              ap (λ xs. option_map (found_slots easy.whole) (found_of_span span xs)) (sym (answer.same_slots kept))
               ∙ ap (option_map (found_slots easy.whole)) found
               ∙ ap (λ b. option_map (found_slots b) (earliest (at free) (places text input.anchored input.first input.range.end))) is.whole
               ∙ sym (slots_are_match easy.unicode easy.longest text input easy.states.items easy.entry pattern is.serves.plain inside d below);

@@ -54,12 +54,12 @@ module _ (view : View) (stop : ℕ) where
             d.same_means i h ∙ ok _ _ i h (λ j _ _. pick_both i (c.next_go (length states)) j) ∙ ap (λ k. T k i) c.here;
       }
 
-  -- a state behind what was emitted
-  behind_done : (Open : ℕ → Type 0) (states : List State) (go : ℕ → Continuation) (made : List State × ℕ) (part : Continuation) (state : State) (g : Continuation)
+  -- a state after what was emitted
+  state_after_done : (Open : ℕ → Type 0) (states : List State) (go : ℕ → Continuation) (made : List State × ℕ) (part : Continuation) (state : State) (g : Continuation)
       → (d : Done view stop Open states go made part) → NamesBelow (length made.0) state → MayAsk view.has_parts state
       → ((i : ℕ) → i ≤ stop → g i ≡ visit view stop d.next_go state i)
       → Done view stop Open states go (push made.0 state, length made.0) g
-  behind_done Open states go made part state g d names asks does =
+  state_after_done Open states go made part state g d names asks does =
       let p = push_done view stop Open made.0 d.next_go state g d.agree (inr (names, asks, does)) in
       let len = length-push made.0 state in
       record {
@@ -71,14 +71,14 @@ module _ (view : View) (stop : ℕ) where
         means = λ i h. ap (λ f. f i) p.here;
       }
 
-  -- two states behind it
-  two_behind_done : (Open : ℕ → Type 0) (states : List State) (go : ℕ → Continuation) (made : List State × ℕ) (part : Continuation) (one two : State) (f g : Continuation)
+  -- two states after it
+  two_states_after_done : (Open : ℕ → Type 0) (states : List State) (go : ℕ → Continuation) (made : List State × ℕ) (part : Continuation) (one two : State) (f g : Continuation)
       → (d : Done view stop Open states go made part) → NamesBelow (length made.0) one → NamesBelow (length made.0) two
       → MayAsk view.has_parts one → MayAsk view.has_parts two
       → ((i : ℕ) → i ≤ stop → f i ≡ visit view stop d.next_go one i) → ((i : ℕ) → i ≤ stop → g i ≡ visit view stop d.next_go two i)
       → DoneBoth view stop Open states go (emitted_both_asking one two made.0) f g
   unfolding emitted_both_asking
-  two_behind_done Open states go made part one two f g d names names2 asks asks2 does does2 =
+  two_states_after_done Open states go made part one two f g d names names2 asks asks2 does does2 =
       let p = push_done view stop Open made.0 d.next_go one f d.agree (inr (names, asks, does)) in
       let len = length-push made.0 one in
       let q = push_done view stop Open (push made.0 one) p.next_go two g p.agree
@@ -174,13 +174,13 @@ module _ (view : View) (stop : ℕ) where
   emit_done both (ask negated a) sound may Open states go next before inside =
       let d = part_done (emitted a) (attempt view stop a) (emit_done both a sound may.1) Open states go before in
       let part = emitted_part (emitted a) states in
-      behind_done Open states go part (attempt view stop a accept) (Ask part.1 negated next) (attempt view stop (ask negated a) (go next)) d
+      state_after_done Open states go part (attempt view stop a accept) (Ask part.1 negated next) (attempt view stop (ask negated a) (go next)) d
       (d.entry, omega (arith, d.longer)) may.0
       (λ i h. ap₂ (asked negated) (sym (d.means i h)) (ap (λ f. f i) (sym (d.unchanged next inside))))
   emit_done both (atomic a) sound may Open states go next before inside =
       let d = part_done (emitted a) (attempt view stop a) (emit_done both a sound may.1) Open states go before in
       let part = emitted_part (emitted a) states in
-      behind_done Open states go part (attempt view stop a accept) (Atomic part.1 next next) (attempt view stop (atomic a) (go next)) d
+      state_after_done Open states go part (attempt view stop a accept) (Atomic part.1 next next) (attempt view stop (atomic a) (go next)) d
       (d.entry, omega (arith, d.longer), omega (arith, d.longer)) may.0
       (λ i h. passes_one d.next_go (go next) (attempt view stop a accept i) part.1 next i (d.means i h) (d.unchanged next inside))
 
@@ -327,7 +327,7 @@ module _ (view : View) (stop : ℕ) where
   emit_both_done (ask negated a) sound may Open states go same moved before a_in b_in =
       let d = both_part_done (emitted_both a) (attempt view stop a) (attempt_agree view stop a) (emit_both_done a sound may.1) Open states go before in
       let part = emitted_both_part (emitted_both a) states in
-      two_behind_done Open states go part (attempt view stop a accept) (Ask part.1 negated same) (Ask part.1 negated moved)
+      two_states_after_done Open states go part (attempt view stop a accept) (Ask part.1 negated same) (Ask part.1 negated moved)
       (fresh (ask negated a) (go same) (go moved)) (attempt view stop (ask negated a) (go moved)) d
       (d.entry, omega (arith, d.longer)) (d.entry, omega (arith, d.longer)) may.0 may.0
       (λ i h. ap₂ (asked negated) (sym (d.means i h)) (pick_same i (go same) (go moved) i (omega arith) ∙ ap (λ f. f i) (sym (d.unchanged same a_in))))
@@ -335,7 +335,7 @@ module _ (view : View) (stop : ℕ) where
   emit_both_done (atomic a) sound may Open states go same moved before a_in b_in =
       let d = both_part_done (emitted_both a) (attempt view stop a) (attempt_agree view stop a) (emit_both_done a sound may.1) Open states go before in
       let part = emitted_both_part (emitted_both a) states in
-      two_behind_done Open states go part (attempt view stop a accept) (Atomic part.1 same moved) (Atomic part.1 moved moved)
+      two_states_after_done Open states go part (attempt view stop a accept) (Atomic part.1 same moved) (Atomic part.1 moved moved)
       (fresh (atomic a) (go same) (go moved)) (attempt view stop (atomic a) (go moved)) d
       (d.entry, omega (arith, d.longer), omega (arith, d.longer)) (d.entry, omega (arith, d.longer), omega (arith, d.longer)) may.0 may.0
       (λ i h. ap₂ passed (sym (d.means i h)) (ap₂ (pick i) (sym (d.unchanged same a_in)) (sym (d.unchanged moved b_in))))

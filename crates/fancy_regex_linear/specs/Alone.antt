@@ -12,7 +12,7 @@ use Rattle.fancy_regex_linear.specs.Search.{Explains}
 use Rattle.fancy_regex_linear.specs.Settled.{FailBetween}
 use Rattle.fancy_regex_linear.specs.Starts.{IsStart, IsAfter}
 use Rattle.fancy_regex_linear.specs.declared.alone.Alone.{Alone}
-use Rattle.fancy_regex_linear.specs.declared.alone.Alone.TheVariants.{Found, NoMatch, Left}
+use Rattle.fancy_regex_linear.specs.declared.alone.Alone.TheVariants.{Found, NoMatch, Unknown}
 use Rattle.fancy_regex_linear.specs.declared.search.SearchContext.{SearchContext}
 use Rattle.fancy_regex_linear.specs.declared.starts.Start.{Start}
 
@@ -69,19 +69,19 @@ pub record IsFirstFrom (context : SearchContext) (text : List ℕ) (from start e
   pub ends : (view : View) (go : ℕ → Continuation) → Explains context text view go
       → end_of (go context.entry start).answer ≡ Some end
 
--- The start `place` is left, where the table has read the characters up to `read`, and no match starts before `from`.
-pub record IsLeftAt (context : SearchContext) (text : List ℕ) (place : Start) (from read : ℕ) : Type 0 where
+-- The table does not tell of the start `place`. It has read the characters up to `read`, and no match starts before `from`.
+pub record IsUnknownAt (context : SearchContext) (text : List ℕ) (place : Start) (from read : ℕ) : Type 0 where
   pub start : IsStart text context.stop place.at place
   pub split : places text false place.at context.stop ≡ place.at ∷ places_from text false place.next context.stop
   pub fails : AllFailBetween context text place.at from
   pub range : (place.at ≤ from) × (from ≤ read) × (read ≤ context.stop)
   pub boundaries : AreBoundaries text place.at read
 
--- a start that is left is made of a place and the character there
-abbrev pub IsLeft : SearchContext → ℕ × Option ℕ → ℕ → ℕ → Alone → Type 0
-IsLeft context place from read (Found start end) = ⊥
-IsLeft context place from read NoMatch = ⊥
-IsLeft context place from read (Left start first last) =
+-- a start of which it does not tell is made of a place and the character there
+abbrev pub IsUnknown : SearchContext → ℕ × Option ℕ → ℕ → ℕ → Alone → Type 0
+IsUnknown context place from read (Found start end) = ⊥
+IsUnknown context place from read NoMatch = ⊥
+IsUnknown context place from read (Unknown start first last) =
     (start.at ≡ place.0) × (start.after ≡ place.1) × (first ≡ from) × (last ≡ read)
     × ((text : List ℕ) → IsUtf8 text → IsCharBoundary text place.0 → context.stop ≤ length text → char_at text place.0 ≡ place.1
     → places text false place.0 context.stop ≡ place.0 ∷ places_from text false start.next context.stop)
@@ -92,6 +92,6 @@ abbrev pub AloneSays : SearchContext → Counted → Counted → ℕ → Alone �
 AloneSays context old new first (Found start end) =
     IsFirstFrom context (looked_text old) first start end × IsLookedFor old new (start - first + 1) (context.stop - first)
 AloneSays context old new first NoMatch = IsNoneFrom context old new first
-AloneSays context old new first (Left place from read) =
-    IsLeftAt context (looked_text old) place from read × (first ≤ place.at) × AllFailBetween context (looked_text old) first place.at
+AloneSays context old new first (Unknown place from read) =
+    IsUnknownAt context (looked_text old) place from read × (first ≤ place.at) × AllFailBetween context (looked_text old) first place.at
     × IsLookedFor old new (place.at - first + 1) (place.at - first)

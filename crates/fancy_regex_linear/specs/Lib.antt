@@ -17,7 +17,7 @@ pub mod Translation
 pub mod Layers
 pub mod Settled
 pub mod EasyTables
-pub mod Tellings
+pub mod Verdicts
 pub mod Alone
 pub mod RegularStates
 pub mod Passing

@@ -64,25 +64,25 @@ pub record IsAtStart (context : SearchContext) (text : List ℕ) (anchored : Boo
 pub record IsAnswer (span_only : Bool) (span : Option (ℕ × ℕ)) (slots : List ℕ) (found : Option FoundMatch) : Type 0 where
   pub found_slots : List ℕ
   pub is : found_of_span span found_slots ≡ found
-  pub kept : span_only ≡ false → found_slots ≡ slots
+  pub same_slots : span_only ≡ false → found_slots ≡ slots
 
--- the starts that are left from this one on
-abbrev pub left_from : SearchContext → List ℕ → Bool → Start → List ℕ
-left_from context text anchored place = place.at ∷ places_from text anchored place.next context.stop
+-- this start and those after it
+abbrev pub remaining_starts : SearchContext → List ℕ → Bool → Start → List ℕ
+remaining_starts context text anchored place = place.at ∷ places_from text anchored place.next context.stop
 
 -- What was settled is so. The text was looked at `old` times before, and `new` times now, which is at least once more for each start
 -- but the first.
 abbrev pub Says : SearchContext → List ℕ → ℕ → ℕ → Bool → Bool → Start → SearchMemory → SearchMemory → View → (ℕ → Continuation) → Settled → Type 0
 Says context text old new anchored span_only place memory new_memory view go (Found start end) =
     IsAnswer span_only (Some (start, end)) new_memory.backtrack.slots.items
-    (earliest (spot_from go context.entry memory.backtrack.slots.items) (left_from context text anchored place))
-    × (min (old + (attempted (spot_from go context.entry memory.backtrack.slots.items) (left_from context text anchored place) - 1)) (2 ^ 64 - 1) ≤ new)
+    (earliest (spot_from go context.entry memory.backtrack.slots.items) (remaining_starts context text anchored place))
+    × (min (old + (attempted (spot_from go context.entry memory.backtrack.slots.items) (remaining_starts context text anchored place) - 1)) (2 ^ 64 - 1) ≤ new)
 Says context text old new anchored span_only place memory new_memory view go (On next) =
     AllFail view.longest go (Has new_memory.visited)
     × (new_memory.backtrack.slots.items ≡ memory.backtrack.slots.items)
-    × (earliest (spot_from go context.entry memory.backtrack.slots.items) (left_from context text anchored place)
+    × (earliest (spot_from go context.entry memory.backtrack.slots.items) (remaining_starts context text anchored place)
     ≡ earliest (spot_from go context.entry memory.backtrack.slots.items) (places_from text anchored next context.stop))
-    × (min (old + (attempted (spot_from go context.entry memory.backtrack.slots.items) (left_from context text anchored place) - 1)) (2 ^ 64 - 1)
+    × (min (old + (attempted (spot_from go context.entry memory.backtrack.slots.items) (remaining_starts context text anchored place) - 1)) (2 ^ 64 - 1)
     ≤ min (new + attempted (spot_from go context.entry memory.backtrack.slots.items) (places_from text anchored next context.stop)) (2 ^ 64 - 1))
 
 -- the search goes on at a later start

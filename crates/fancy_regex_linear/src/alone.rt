@@ -5,7 +5,7 @@ ghost use Rattle.std.specs.Char.{len_utf8};
 ghost use Rattle.regex_hir.specs.Text.{char_at};
 ghost use Rattle.fancy_regex_class.specs.Looks.{looked_text};
 ghost use Rattle.fancy_regex_table.specs.Tables.{AreBoundaries};
-ghost use Rattle.fancy_regex_linear.specs.Alone.{AllFailBetween, AloneSays, IsLeft, IsPassedTo};
+ghost use Rattle.fancy_regex_linear.specs.Alone.{AllFailBetween, AloneSays, IsUnknown, IsPassedTo};
 ghost use Rattle.fancy_regex_linear.specs.Layers.{IsSearchContext};
 ghost use Rattle.fancy_regex_linear.specs.Settled.{IsTableSearch};
 
@@ -26,9 +26,9 @@ pub enum Alone {
     },
     /// No match.
     NoMatch,
-    /// No match starts before `from`. The start `place` was looked at, and where `read` is behind it, the characters up to there
-    /// were read.
-    Left {
+    /// The table does not tell of the start `place`, which was looked at, and no match starts before `from`. Where `read` is after the
+    /// start, the characters up to there were read.
+    Unknown {
         place: Start,
         from: usize,
         read: usize,
@@ -64,15 +64,15 @@ fn pass_over(
     Some(skip_pairs(context, text, it, at, second))
 }
 
-/// That the starts from this one on are left, where none before `from` matches and the characters up to `read` were read.
-fn left(context: &SearchContext, place: (usize, Option<char>), from: usize, read: usize) -> Alone
+/// That the table does not tell of this start, where none before `from` matches and the characters up to `read` were read.
+fn unknown(context: &SearchContext, place: (usize, Option<char>), from: usize, read: usize) -> Alone
     requires range { place.0 ≤ context.now.stop }
-    ensures { IsLeft context.now place from read result }
+    ensures { IsUnknown context.now place from read result }
 {
     let (at, after) = place;
     let next = start_after(at, after, false, context.stop);
     let place = Start { at, after, next };
-    Alone::Left { place, from, read }
+    Alone::Unknown { place, from, read }
 }
 
 /// Goes through the text by the table from `from` on: to the first match, to the end, or to a start of which the table does not tell
@@ -97,7 +97,7 @@ pub fn by_table_alone(
             return Alone::NoMatch;
         };
         if !is_ascii(after) {
-            return left(context, (start, after), start, start);
+            return unknown(context, (start, after), start, start);
         }
         match pass_counted(context, text, it, start) {
             Passed::Match {
@@ -107,7 +107,7 @@ pub fn by_table_alone(
             } => return Alone::Found { start: first, end },
             Passed::Ended => return Alone::NoMatch,
             Passed::Idle { at: next } => at = next,
-            Passed::Unknown { from, read } => return left(context, (start, after), from, read),
+            Passed::Unknown { from, read } => return unknown(context, (start, after), from, read),
         }
     }
 }

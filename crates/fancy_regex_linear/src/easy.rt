@@ -19,7 +19,7 @@ use crate::passing::Passing;
 use crate::search::SearchContext;
 use crate::starts::refused_ascii;
 use crate::state::add;
-use crate::told::{Told, told_by_table};
+use crate::verdict::{Verdict, table_verdict};
 use fancy_regex_class::{CharClassMatcher, Counted, RunInput, Steps};
 use fancy_regex_info::{BytesMode, CompileError, CompileOptions, Info};
 use fancy_regex_states::{FirstChars, Rules, State};
@@ -66,7 +66,7 @@ pub struct Easy {
 impl Easy {
     ghost use Rattle.fancy_regex_linear.specs.EasyPatterns.{IsEasyOf, IsMatchSlots, IsMatchSpan, LooksAtMost, LooksAtLeast};
     ghost use Rattle.fancy_regex_linear.specs.EasyTables.{IsContextOf, IsTableFor};
-    ghost use Rattle.fancy_regex_linear.specs.Tellings.{IsMatchFlag, IsToldFor, GoesOnIn};
+    ghost use Rattle.fancy_regex_linear.specs.Verdicts.{IsMatchFlag, IsVerdictFor, GoesOnIn};
     ghost use Rattle.fancy_regex_meaning.specs.Groups.{Pattern};
     ghost use Rattle.fancy_regex_linear.specs.Plain.{IsPlain};
     ghost use Rattle.fancy_regex_linear.specs.Refusals.{IsTaken, IsCause};
@@ -286,10 +286,10 @@ impl Easy {
         requires range { input.now.range.end ≤ length text.now }
         ensures { IfOk result (IsMatchFlag self.now text.now input.now) }
     {
-        let first = match self.told(text, input) {
-            Told::Match => return Ok(true),
-            Told::NoMatch => return Ok(false),
-            Told::NoneBefore { at } => at,
+        let first = match self.verdict(text, input) {
+            Verdict::Match => return Ok(true),
+            Verdict::NoMatch => return Ok(false),
+            Verdict::NoneBefore { at } => at,
         };
         let rest = RunInput { first, ..*input };
         let span = self.span_in(text, &rest, &mut Steps::new(), memory, true)?;
@@ -297,22 +297,22 @@ impl Easy {
     }
 
     /// What the table tells of the matches in the text; that none starts before the first start, where it does not serve.
-    fn told(&self, text: &str, input: &RunInput) -> Told
+    fn verdict(&self, text: &str, input: &RunInput) -> Verdict
         requires first { IsCharBoundary text.now input.now.first }
         requires range { input.now.range.end ≤ length text.now }
-        ensures told { (pattern : Pattern) → IsEasyOf self.now pattern → IsToldFor self.now text.now input.now result pattern }
+        ensures verdict { (pattern : Pattern) → IsEasyOf self.now pattern → IsVerdictFor self.now text.now input.now result pattern }
         ensures goes_on { GoesOnIn text.now result }
     {
         let at = input.first;
         let stop = input.range.end;
         if input.anchored {
-            return Told::NoneBefore { at };
+            return Verdict::NoneBefore { at };
         }
         if at > stop {
-            return Told::NoneBefore { at };
+            return Verdict::NoneBefore { at };
         }
         let Some(it) = self.table_search(text, input) else {
-            return Told::NoneBefore { at };
+            return Verdict::NoneBefore { at };
         };
         let context = SearchContext {
             states: &self.states,
@@ -325,7 +325,7 @@ impl Easy {
         };
         let mut steps = Steps::new();
         let mut counted = Counted::new(text, &mut steps);
-        told_by_table(&context, &mut counted, it, at)
+        table_verdict(&context, &mut counted, it, at)
     }
 
     /// Searches the text as `search_in` does, and answers where the match starts and ends. The slots of the match are in the

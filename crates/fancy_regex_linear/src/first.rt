@@ -3,7 +3,7 @@
 ghost use Rattle.std.specs.Prelude.{◌≡◌, ◌+◌, ◌-◌, ◌*◌, ◌^◌, ◌≤◌, ℕ, false, true, length, min, IfOk, IfSome, IsCharBoundary, IsUtf8};
 ghost use Rattle.fancy_regex_class.specs.Looks.{looked_text, look_count, SameCounter};
 ghost use Rattle.fancy_regex_states.specs.Attempts.{View, Continuation};
-ghost use Rattle.fancy_regex_linear.specs.Alone.{IsLeftAt, unset_slots};
+ghost use Rattle.fancy_regex_linear.specs.Alone.{IsUnknownAt, unset_slots};
 ghost use Rattle.fancy_regex_linear.specs.Find.{earliest, attempted, places};
 ghost use Rattle.fancy_regex_linear.specs.Layers.{IsSearchContext};
 ghost use Rattle.fancy_regex_linear.specs.Search.{Explains};
@@ -49,10 +49,10 @@ pub fn by_table_first(
     match by_table_alone(context, text, it, start) {
         Alone::Found { start, end } => Ok(Some((start, end))),
         Alone::NoMatch => Ok(None),
-        Alone::Left { place, from, read } => {
+        Alone::Unknown { place, from, read } => {
             // A context of its own, so that the values of the other one stay in registers.
             let own = *context;
-            let span = from_left(&own, text, it, place, from, read, groups, memory)?;
+            let span = from_unknown(&own, text, it, place, from, read, groups, memory)?;
             Ok(span)
         }
     }
@@ -94,7 +94,7 @@ pub fn with_memory(
 /// The start and the end of the first match from the start `place` on, where none starts before `from` and the table has read the text
 /// up to `read`. The error is want of memory.
 #[inline(never)]
-fn from_left(
+fn from_unknown(
     context: &SearchContext,
     text: &mut Counted,
     it: TableSearch,
@@ -107,7 +107,7 @@ fn from_left(
     requires context { IsSearchContext context.now }
     requires range { context.now.stop ≤ length (looked_text text.old) }
     requires text { IsUtf8 (looked_text text.old) }
-    requires left { IsLeftAt context.now (looked_text text.old) place from read }
+    requires unknown { IsUnknownAt context.now (looked_text text.old) place from read }
     requires table { IsTableSearch context.now (looked_text text.old) it }
     ensures answer { IfOk result (λ span. (view : View) (go : ℕ → Continuation) → Explains context.now (looked_text text.old) view go
         → IsAnswer true span memory.new.backtrack.slots.items
@@ -121,7 +121,7 @@ fn from_left(
     ensures same_counter { SameCounter text.old text.new }
 {
     memory.restart(context.states.len(), place.at, groups)?;
-    match settle_left(context, text, place, from, read, memory)? {
+    match settle_unknown(context, text, place, from, read, memory)? {
         Settled::Found { start, end } => Ok(Some((start, end))),
         Settled::On { next: None } => Ok(None),
         Settled::On { next: Some(next) } => {
@@ -132,7 +132,7 @@ fn from_left(
 }
 
 /// Settles the starts from `place` on of which the table did not tell, by attempts. The error is want of memory.
-fn settle_left(
+fn settle_unknown(
     context: &SearchContext,
     text: &mut Counted,
     place: Start,
@@ -142,7 +142,7 @@ fn settle_left(
 ) -> Result<Settled, AllocError>
     requires context { IsSearchContext context.now }
     requires start { IsAtStart context.now (looked_text text.old) false place memory.old }
-    requires left { IsLeftAt context.now (looked_text text.old) place from read }
+    requires unknown { IsUnknownAt context.now (looked_text text.old) place from read }
     ensures settled { IfOk result (IsSettledAfter context.now (looked_text text.old) (look_count text.old) (look_count text.new)
         true place from memory.old memory.new) }
     ensures settling { IsSettling context.now text.old text.new place memory.old memory.new }

@@ -25,7 +25,7 @@ mod settle;
 mod skip;
 mod starts;
 mod state;
-mod told;
+mod verdict;
 mod visited;
 
 pub use easy::Easy;

@@ -20,7 +20,7 @@ use Rattle.fancy_regex_meta.specs.Patterns.{read_as, reading_of}
 use Rattle.fancy_regex_meta.specs.PatternMatches.{names_in}
 use Rattle.fancy_regex_meta.specs.GroupNames.{AreGroupNumbersOf}
 use Rattle.fancy_regex_meta.specs.EasyPatterns.{uses_easy, pattern_uses_easy, is_easy_strategy}
-use Rattle.fancy_regex_meta.specs.Refusals.{context_of, compile_options_of, HasNoCause, IsTooLong, IsFirst, IsCompileRefusal, IsRefused, shown, by_runner, by_compiler, RefusesTree, IsAccepted, Refuses, Accepts}
+use Rattle.fancy_regex_meta.specs.Refusals.{context_of, compile_options_of, HasNoCause, IsTooLong, IsFirst, IsCompileRefusal, IsRefused, by_analysis, by_linear, by_compiler, RefusesTree, IsAccepted, Refuses, Accepts}
 use Rattle.fancy_regex_meta.specs.declared.options.RegexOptions.{RegexOptions}
 use Rattle.fancy_regex_meta.specs.declared.strategy.Strategy.{Strategy}
 use Rattle.fancy_regex_meta.specs.declared.error.Error.{Error}
@@ -38,12 +38,12 @@ module _ (o : RegexOptions) (marked calls : Bool) (t : Tree) where
   pub analysis_told : (cause : CompileError) → ((is_memory cause ≡ true) ⊎ ErrorHolds (context_of o) marked t cause) →
       IsFirst o marked calls t cause → RefusesTree o marked calls t (from_compile_error cause)
   analysis_told cause (inl e) first = memory_told cause e
-  analysis_told cause (inr h) first = told_as cause (λ _. shown h first)
+  analysis_told cause (inr h) first = told_as cause (λ _. by_analysis h first)
 
   engine_case : (b : Bool) (cause : CompileError) → uses_easy o t ≡ b → HasNoCause o marked calls t →
       (uses_easy o t ≡ true → IsCause (compile_options_of o calls) (pattern_of t) cause) → (uses_easy o t ≡ false → IsTooLong o marked calls t cause) →
       (uses_easy o t ≡ false → IsCompileRefusal (compile_options_of o calls) t cause) → IsRefused o marked calls t cause
-  engine_case true cause e none f g h = by_runner e none (f e)
+  engine_case true cause e none f g h = by_linear e none (f e)
   engine_case false cause e none f g h = by_compiler e none (g e) (h e)
 
   pub engine_told : (cause : CompileError) → HasNoCause o marked calls t →

@@ -59,8 +59,8 @@ module _ (o : RegexOptions) (marked calls : Bool) (t : Tree) where
   -- The reason is one of the analysis, reversed bounds before all others; or the analysis has none, and it is one of the
   -- linear-time matcher's construction or of the compiler.
   pub data IsRefused (cause : CompileError) : Type 0 where
-    shown : ErrorHolds (context_of o) marked t cause → IsFirst cause → IsRefused cause
-    by_runner : uses_easy o t ≡ true → HasNoCause → IsCause (compile_options_of o calls) (pattern_of t) cause → IsRefused cause
+    by_analysis : ErrorHolds (context_of o) marked t cause → IsFirst cause → IsRefused cause
+    by_linear : uses_easy o t ≡ true → HasNoCause → IsCause (compile_options_of o calls) (pattern_of t) cause → IsRefused cause
     by_compiler : uses_easy o t ≡ false → HasNoCause → IsTooLong cause → IsCompileRefusal (compile_options_of o calls) t cause → IsRefused cause
 
   -- An error for a parsed tree. Want of memory is `Memory`, and no reason.

@@ -82,8 +82,8 @@ and_true true b e = e
 and_true false b e = refl
 
 -- the pattern's own final state, and another one
-accepted : (within behind : Bool) (i : ℕ) → (within ≡ true → behind ≡ false) → (within ≡ false → behind ≡ true)
-    → answer_end (if within then accept i else failed) ≡ (if behind then None else Some i)
+accepted : (within past : Bool) (i : ℕ) → (within ≡ true → past ≡ false) → (within ≡ false → past ≡ true)
+    → answer_end (if within then accept i else failed) ≡ (if past then None else Some i)
 accepted true true i h k = absurd (true≢false (h refl))
 accepted true false i h k = refl
 accepted false true i h k = refl
@@ -96,9 +96,9 @@ own_end stop i =
       | inr ge ↦ accepted (nat_le i stop) (nat_lt stop i) i (λ e. le-ltb stop i ge) (λ e. absurd (true≢false (sym (le-leb i stop ge) ∙ e)))
     ]
 
-part_end : (own behind : Bool) (i : ℕ) → own ≡ false → Some i ≡ (if own && behind then None else Some i)
-part_end true behind i e = absurd (true≢false e)
-part_end false behind i e = refl
+part_end : (own past : Bool) (i : ℕ) → own ≡ false → Some i ≡ (if own && past then None else Some i)
+part_end true past i e = absurd (true≢false e)
+part_end false past i e = refl
 
 module _ (matchers : List CharClassMatcher) (rules : Rules) (stop : ℕ) (text : List ℕ) (view : View) (go : ℕ → Continuation) (first : view.longest ≡ false)
     (shows : ShowsAll matchers rules text (text_view view)) where

@@ -187,13 +187,13 @@ fn follow(
         }
         State::Atomic { part, same, moved } => {
             let end = ask(context, text, memory, part, at)?;
-            Ok(behind_group(same, moved, at, end))
+            Ok(step_after_atomic(same, moved, at, end))
         }
         State::Match => Ok(WalkStep::Matched),
     }
 }
 
-/// Goes on behind the character at `at`.
+/// Goes on after the character at `at`.
 fn read_on(text: &mut Counted, next: usize, at: usize) -> WalkStep
     requires boundary { IsCharBoundary (looked_text text.old) at }
     requires small { length (looked_text text.old) < 2 ^ 63 }
@@ -230,7 +230,7 @@ fn branch(first: usize, second: usize, at: usize, end: Option<usize>) -> WalkSte
 }
 
 /// Goes on where the way of an atomic group ends that began at `at`.
-fn behind_group(same: usize, moved: usize, at: usize, end: Option<usize>) -> WalkStep
+fn step_after_atomic(same: usize, moved: usize, at: usize, end: Option<usize>) -> WalkStep
     ensures { result ≡ group_step same moved at end }
 {
     match end {

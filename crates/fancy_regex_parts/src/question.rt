@@ -42,15 +42,15 @@ fn resume(frame: Frame, end: Option<usize>, recall: &mut Recall) -> Task
             }
         }
         Frame::Atomic { at, same, moved } => match end {
-            Some(e) => visit_behind(at, same, moved, e),
+            Some(e) => visit_after_atomic(at, same, moved, e),
             None => Task::Answer(None),
         },
     }
 }
 
-/// Continues behind the part of an atomic group that began at `at` and ends at `end`.
+/// Continues after the part of an atomic group that began at `at` and ends at `end`.
 #[inline(always)]
-fn visit_behind(at: usize, same: usize, moved: usize, end: usize) -> Task
+fn visit_after_atomic(at: usize, same: usize, moved: usize, end: usize) -> Task
     ensures { result ≡ Visit (state_after at same moved end) end }
 {
     let state = if at < end { moved } else { same };

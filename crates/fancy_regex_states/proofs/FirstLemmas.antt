@@ -43,7 +43,7 @@ lead_into_closed states found done all into q p (k, lt, is) leads =
 -- the next state's numbers are there too
 pub into_more : (states : List State) (old new : List ℕ) (done : ℕ) → Extends old new → done < length old → LeadInto states old done
     → ((p : ℕ) → Leads (state_at states (get_or old done 0)) p → Contains new p) → LeadInto states new (done + 1)
-into_more states old new done more lt into led k p below leads =
+into_more states old new done more lt into successors k p below leads =
     elim (cases_lt k done) [
       | inl less ↦
           let same : get_or new k 0 ≡ get_or old k 0 = more.1 k (omega arith) in
@@ -51,7 +51,7 @@ into_more states old new done more lt into led k p below leads =
       | inr ge ↦
           let here : k ≡ done = omega arith in
           let same : get_or new k 0 ≡ get_or old done 0 = more.1 k (omega arith) ∙ ap (λ (m : ℕ). get_or old m 0) here in
-          led p (subst (λ (m : ℕ). Leads (state_at states m) p) same leads)
+          successors p (subst (λ (m : ℕ). Leads (state_at states m) p) same leads)
     ]
 
 -- more leaves, and the state is still among them

@@ -142,15 +142,15 @@ pub fn reached(
         if number >= states.len() {
             return Ok(None);
         }
-        add_led(&mut found, states[number])?;
+        add_successors(&mut found, states[number])?;
     }
     Ok(None)
 }
 
 /// Adds the numbers of the states that this one leads to without reading. The error is want of memory.
-fn add_led(found: &mut Vec<usize>, state: State) -> Result<(), AllocError>
+fn add_successors(found: &mut Vec<usize>, state: State) -> Result<(), AllocError>
     ensures extends { OnOk result (Extends found.old.items found.new.items) }
-    ensures led { OnOk result ((p : ℕ) → Leads state p → Contains found.new.items p) }
+    ensures successors { OnOk result ((p : ℕ) → Leads state p → Contains found.new.items p) }
 {
     match state {
         State::Read { .. } | State::Match => Ok(()),

@@ -9,7 +9,7 @@ use Rattle.fancy_regex_states.specs.declared.state.State.TheVariants as S
 use Rattle.fancy_regex_table.specs.Ends.{end_of, or_else, end_if, end_at, first_end}
 use Rattle.fancy_regex_table.specs.Sorts.{holds_between}
 use Rattle.fancy_regex_table.specs.Sets.{Has}
-use Rattle.fancy_regex_table.specs.Meanings.{IsMeaning, HoldsAs, AllHoldAs, read_end, first_read, led_to, is_reader, is_final}
+use Rattle.fancy_regex_table.specs.Meanings.{IsMeaning, HoldsAs, AllHoldAs, read_end, first_read, epsilon_successors, is_reader, is_final}
 use Rattle.fancy_regex_table.specs.declared.close.StateSet.{StateSet}
 use Rattle.fancy_regex_table.specs.declared.sort.Sort.{Sort}
 use Rattle.fancy_regex_table.proofs.EndLemmas.{or_else_assoc, or_else_none, neither, end_better, end_write, end_guard, first_end_append}
@@ -21,7 +21,7 @@ module _ (view : View) (stop : ℕ) (go : ℕ → Continuation) (i : ℕ) (befor
 
   -- the end of a state is that of its reading, or of what it leads to, or here
   pub end_led : (state : State) (r : AttemptResult) → view.longest ≡ false → MayAsk false state → r ≡ visit view stop go state i → HoldsAs view i before after state
-      → end_of r.answer ≡ or_else (read_end view stop go i state) (or_else (first_end go i (led_to before after state)) (end_if (is_final state) i))
+      → end_of r.answer ≡ or_else (read_end view stop go i state) (or_else (first_end go i (epsilon_successors before after state)) (end_if (is_final state) i))
   end_led (S.Read leaf next) r first asks e h =
       ap (λ v. end_of v.answer) e ∙ end_guard (reads view stop leaf i) (go next (view.next i)) ∙ sym (or_else_none (read_end view stop go i (S.Read leaf next)))
   end_led (S.Look test next) r first asks e h =
@@ -64,20 +64,20 @@ module _ (view : View) (stop : ℕ) (go : ℕ → Continuation) (i : ℕ) (befor
   look_below false r d next e le = tt
 
   -- what a state leads to is less deep
-  pub led_below : (state : State) (r : AttemptResult) (d : ℕ) → r ≡ visit view stop go state i → HoldsAs view i before after state → r.depth ≤ d
-      → AllBelow d (led_to before after state)
-  led_below (S.Read leaf next) r d e h le = tt
-  led_below (S.Look test next) r d e h le =
+  pub successors_below : (state : State) (r : AttemptResult) (d : ℕ) → r ≡ visit view stop go state i → HoldsAs view i before after state → r.depth ≤ d
+      → AllBelow d (epsilon_successors before after state)
+  successors_below (S.Read leaf next) r d e h le = tt
+  successors_below (S.Look test next) r d e h le =
       look_below (holds_between test before after) r d next
       (e ∙ ap (λ (b : Bool). if b then record { answer = (go next i).answer; depth = (go next i).depth + 1 } else record { answer = None; depth = 0 }) h) le
-  led_below (S.Split one two) r d e h le =
+  successors_below (S.Split one two) r d e h le =
       let same : r.depth ≡ (go one i).depth + (go two i).depth + 1 = ap (λ v. v.depth) e in
       (omega arith, (omega arith, tt))
-  led_below (S.Enter g next) r d e h le = let same : r.depth ≡ (go next i).depth + 1 = ap (λ v. v.depth) e in (omega arith, tt)
-  led_below (S.Leave g next) r d e h le = let same : r.depth ≡ (go next i).depth + 1 = ap (λ v. v.depth) e in (omega arith, tt)
-  led_below (S.Ask part negated next) r d e h le = tt
-  led_below (S.Atomic part same moved) r d e h le = tt
-  led_below S.Match r d e h le = tt
+  successors_below (S.Enter g next) r d e h le = let same : r.depth ≡ (go next i).depth + 1 = ap (λ v. v.depth) e in (omega arith, tt)
+  successors_below (S.Leave g next) r d e h le = let same : r.depth ≡ (go next i).depth + 1 = ap (λ v. v.depth) e in (omega arith, tt)
+  successors_below (S.Ask part negated next) r d e h le = tt
+  successors_below (S.Atomic part same moved) r d e h le = tt
+  successors_below S.Match r d e h le = tt
 
   -- one of these has a way, and it and those before it are less deep than d
   abbrev pub LivesBelow : ℕ → List ℕ → Type 0
@@ -169,42 +169,42 @@ module _ (view : View) (stop : ℕ) (go : ℕ → Continuation) (i : ℕ) (befor
     rearranged None None (Some z) s = refl
     rearranged None None None s = refl
 
-    lives_split : (d : ℕ) (fresh after_reads : List ℕ) → fresh ≡ led_to before after (state_at states q) ++ stack
-        → AllBelow d (led_to before after (state_at states q))
+    lives_split : (d : ℕ) (fresh after_reads : List ℕ) → fresh ≡ epsilon_successors before after (state_at states q) ++ stack
+        → AllBelow d (epsilon_successors before after (state_at states q))
         → (re : Option ℕ) → first_read view stop go i states after_reads ≡ or_else (first_read view stop go i states done) re
-        → (fl : Option ℕ) → first_end go i (led_to before after (state_at states q)) ≡ fl
+        → (fl : Option ℕ) → first_end go i (epsilon_successors before after (state_at states q)) ≡ fl
         → (re ≡ None → fl ≡ None → ⊥)
         → (first_read view stop go i states after_reads ≡ None → ⊥) ⊎ LivesBelow d fresh
     lives_split d fresh after_reads is_fresh below (Some x) read_is fl fl_is lives =
         inl (λ none. let no : Some x ≡ None = (neither (first_read view stop go i states done) (Some x) (sym read_is ∙ none)).1 in cc)
     lives_split d fresh after_reads is_fresh below None read_is fl fl_is lives =
         inr (subst (LivesBelow d) (sym is_fresh)
-        (lives_front d (led_to before after (state_at states q)) stack below (λ none. lives refl (sym fl_is ∙ none))))
+        (lives_front d (epsilon_successors before after (state_at states q)) stack below (λ none. lives refl (sym fl_is ∙ none))))
 
     -- a state that was not seen gives way to what it leads to
     pub so_far_next : (now : StateSet) (fresh after_reads : List ℕ) → view.longest ≡ false → MayAsk false (state_at states q) → go q i ≡ visit view stop go (state_at states q) i
         → HoldsAs view i before after (state_at states q) → is_final (state_at states q) ≡ false
         → ((p : ℕ) → Has now p → Has seen p ⊎ (p ≡ q))
-        → fresh ≡ led_to before after (state_at states q) ++ stack
+        → fresh ≡ epsilon_successors before after (state_at states q) ++ stack
         → after_reads ≡ (if is_reader (state_at states q) then done ++ q ∷ [] else done)
         → SoFar states from now fresh after_reads
     so_far_next now fresh after_reads first asks does holds final added is_fresh is_after =
         let state = state_at states q in
-        let led = led_to before after state in
+        let successors = epsilon_successors before after state in
         let fr = first_read view stop go i states done in
         let re = read_end view stop go i state in
-        let fl = first_end go i led in
+        let fl = first_end go i successors in
         let end_is : end_at go i q ≡ or_else re (or_else fl None) =
         end_led state (go q i) first asks does holds ∙ ap (λ (b : Bool). or_else re (or_else fl (end_if b i))) final in
         let read_is : first_read view stop go i states after_reads ≡ or_else fr re =
         ap (first_read view stop go i states) is_after ∙ grown_read (is_reader state) refl in
         let rest_is : first_end go i fresh ≡ or_else fl (first_end go i stack) =
-        ap (first_end go i) is_fresh ∙ first_end_append go i led stack in
+        ap (first_end go i) is_fresh ∙ first_end_append go i successors stack in
         let alive_more : (fr ≡ None → ⊥) → first_read view stop go i states after_reads ≡ None → ⊥ =
         λ alive none. alive (neither fr re (sym read_is ∙ none)).0 in
         let from_q : (d : ℕ) → (go q i).depth ≤ d → (end_at go i q ≡ None → ⊥)
         → (first_read view stop go i states after_reads ≡ None → ⊥) ⊎ LivesBelow d fresh =
-        λ d le lives. lives_split d fresh after_reads is_fresh (led_below state (go q i) d does holds le) re read_is fl refl (λ none_r none_l. lives (end_is ∙ ap (λ a. or_else a (or_else fl None)) none_r ∙ or_else_none fl ∙ none_l)) in
+        λ d le lives. lives_split d fresh after_reads is_fresh (successors_below state (go q i) d does holds le) re read_is fl refl (λ none_r none_l. lives (end_is ∙ ap (λ a. or_else a (or_else fl None)) none_r ∙ or_else_none fl ∙ none_l)) in
         record {
           value = so_far.value ∙ ap (λ a. or_else fr (or_else a (first_end go i stack))) end_is ∙ rearranged fr re fl (first_end go i stack)
               ∙ sym (ap (λ a. or_else a (or_else fl (first_end go i stack))) read_is) ∙ sym (ap (or_else (first_read view stop go i states after_reads)) rest_is);
@@ -219,7 +219,7 @@ module _ (view : View) (stop : ℕ) (go : ℕ → Continuation) (i : ℕ) (befor
                             | inr under ↦
                                 let lt : (go q i).depth < (go p i).depth = below.0 in
                                 inr (subst (LivesBelow (go p i).depth) (sym is_fresh)
-                                (lives_over (go p i).depth led stack (led_below state (go q i) (go p i).depth does holds (omega arith)) under))
+                                (lives_over (go p i).depth successors stack (successors_below state (go q i) (go p i).depth does holds (omega arith)) under))
                           ]
                     ]
                 | inr same ↦
@@ -257,7 +257,7 @@ so_far_repeated states before after from seen now stack rest done q so_far is ha
 pub so_far_followed : (states : List State) (before after : Sort) (from : List ℕ) (seen now : StateSet) (stack rest fresh done reads : List ℕ) (q : ℕ)
     → IsSoFar states before after from seen stack done → stack ≡ rest ++ q ∷ [] → q < length states
     → ((p : ℕ) → Has now p → Has seen p ⊎ (p ≡ q)) → is_final (state_at states q) ≡ false
-    → reverse fresh ≡ led_to before after (state_at states q) ++ reverse rest
+    → reverse fresh ≡ epsilon_successors before after (state_at states q) ++ reverse rest
     → reads ≡ (if is_reader (state_at states q) then done ++ q ∷ [] else done)
     → IsSoFar states before after from now fresh reads
 so_far_followed states before after from seen now stack rest fresh done reads q so_far is lt added final is_fresh is_reads view stop go i m le holds =

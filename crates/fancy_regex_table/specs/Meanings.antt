@@ -77,15 +77,15 @@ read_next unicode matchers c (S.Read leaf next) = if is_some_and c (leaf_matches
 read_next unicode matchers c _ = None
 
 -- what the state leads to without reading between characters of these sorts
-abbrev pub led_to : Sort → Sort → State → List ℕ
-led_to before after (S.Read leaf next) = []
-led_to before after (S.Look test next) = if holds_between test before after then next ∷ [] else []
-led_to before after (S.Split first second) = first ∷ second ∷ []
-led_to before after (S.Enter group next) = next ∷ []
-led_to before after (S.Leave group next) = next ∷ []
-led_to before after S.Match = []
-led_to before after (S.Ask part negated next) = []
-led_to before after (S.Atomic part same moved) = []
+abbrev pub epsilon_successors : Sort → Sort → State → List ℕ
+epsilon_successors before after (S.Read leaf next) = []
+epsilon_successors before after (S.Look test next) = if holds_between test before after then next ∷ [] else []
+epsilon_successors before after (S.Split first second) = first ∷ second ∷ []
+epsilon_successors before after (S.Enter group next) = next ∷ []
+epsilon_successors before after (S.Leave group next) = next ∷ []
+epsilon_successors before after S.Match = []
+epsilon_successors before after (S.Ask part negated next) = []
+epsilon_successors before after (S.Atomic part same moved) = []
 
 abbrev pub is_reader : State → Bool
 is_reader (S.Read leaf next) = true

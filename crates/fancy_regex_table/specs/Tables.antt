@@ -106,18 +106,18 @@ pub record Stands (matchers : List CharClassMatcher) (asked : Asked) (unicode : 
   pub start_boundary : IsCharBoundary s.text place.start
 
 -- what was found lies between the first attempt and the place
-abbrev pub IsLeft : Place → Passed → Type 0
-IsLeft place (P.Match start end read) = (place.start ≤ start) × (start ≤ read) × (read ≡ place.at)
-IsLeft place P.Ended = Unit {0}
-IsLeft place (P.Idle next) = ⊥
-IsLeft place (P.Unknown from read) = (place.start ≤ from) × (from ≤ read) × (read ≡ place.at)
+abbrev pub LiesBetween : Place → Passed → Type 0
+LiesBetween place (P.Match start end read) = (place.start ≤ start) × (start ≤ read) × (read ≡ place.at)
+LiesBetween place P.Ended = Unit {0}
+LiesBetween place (P.Idle next) = ⊥
+LiesBetween place (P.Unknown from read) = (place.start ≤ from) × (from ≤ read) × (read ≡ place.at)
 
 -- it does so, or the search goes on after an ASCII character
 abbrev pub IsDoneAt : Place → ℕ → Passed → Type 0
-IsDoneAt place byte (P.Match start end read) = IsLeft place (P.Match start end read)
+IsDoneAt place byte (P.Match start end read) = LiesBetween place (P.Match start end read)
 IsDoneAt place byte P.Ended = Unit {0}
 IsDoneAt place byte (P.Idle next) = (next ≡ place.at + 1) × (byte < 128)
-IsDoneAt place byte (P.Unknown from read) = IsLeft place (P.Unknown from read)
+IsDoneAt place byte (P.Unknown from read) = LiesBetween place (P.Unknown from read)
 
 -- the search goes on after an ASCII character
 pub record IsOnward (place : Place) (byte : ℕ) (next : Place) : Type 0 where

@@ -1,7 +1,7 @@
 //! The states that are reached from others without reading.
 
 ghost use Rattle.std.specs.Prelude.{◌≡◌, ◌++◌, ◌∷◌, ◌⊎◌, ℕ, true, false, [], reverse, if◌then◌else◌, IfOk, IfSome, OnOk};
-ghost use Rattle.fancy_regex_table.specs.Meanings.{IsClosing, led_to, is_reader, is_final};
+ghost use Rattle.fancy_regex_table.specs.Meanings.{IsClosing, epsilon_successors, is_reader, is_final};
 
 use crate::sort::{Sort, holds};
 use fancy_regex_states::State;
@@ -108,7 +108,7 @@ fn follow(
     reads: &mut Vec<usize>,
 ) -> Result<bool, AllocError>
     ensures is_final { IfOk result (λ ends. ends ≡ is_final state) }
-    ensures stack { OnOk result (reverse stack.new.items ≡ led_to before after state ++ reverse stack.old.items) }
+    ensures stack { OnOk result (reverse stack.new.items ≡ epsilon_successors before after state ++ reverse stack.old.items) }
     ensures reads { OnOk result (reads.new.items ≡ (if is_reader state then reads.old.items ++ id ∷ [] else reads.old.items)) }
 {
     match state {

@@ -71,7 +71,7 @@ impl Table {
             match self.onward(byte, place) {
                 Onward::To(next) => place = next,
                 Onward::Noted => return Sign::Match,
-                Onward::Nowhere => return sign_of(self.told(byte, place)),
+                Onward::Nowhere => return sign_of(self.outcome(byte, place)),
             }
         }
         sign_of(self.at_stop(place, true))

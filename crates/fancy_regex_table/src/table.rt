@@ -71,7 +71,7 @@ pub struct Table {
 }
 
 impl Table {
-    ghost use Rattle.fancy_regex_table.specs.Tables.{IsTable, IsSearchOf, IsPassed, Stands, IsStartAt, IsFreshRow, HasColumn, IsOnward, IsRunTo, IsAsciiAt, IsLeft, IsDoneAt, IsInRange};
+    ghost use Rattle.fancy_regex_table.specs.Tables.{IsTable, IsSearchOf, IsPassed, Stands, IsStartAt, IsFreshRow, HasColumn, IsOnward, IsRunTo, IsAsciiAt, LiesBetween, IsDoneAt, IsInRange};
     ghost use Rattle.fancy_regex_table.specs.Cells.{Tells};
     ghost use Rattle.fancy_regex_table.specs.Sorts.{sort_at};
     ghost use Rattle.fancy_regex_table.specs.declared.sort.Sort.{Sort as SortValue};
@@ -157,7 +157,7 @@ impl Table {
         if place.at >= stop {
             return self.at_stop(place, at_end);
         }
-        self.told(text.as_bytes()[place.at], place)
+        self.outcome(text.as_bytes()[place.at], place)
     }
 
     /// The place to which the characters from this one on lead, as long as each is ASCII and leads to a row.
@@ -245,7 +245,7 @@ impl Table {
         requires { place.start ≤ place.at }
         ensures passed { (parts : Parts) (s : Search) (table : IsTable parts self.now)
             → Stands parts.matchers self.now.asked self.now.unicode table.rows s place → IsPassed s result }
-        ensures left { IsLeft place result }
+        ensures between { LiesBetween place result }
     {
         Passed::Unknown {
             from: self.start_at(place),
@@ -259,7 +259,7 @@ impl Table {
         ensures passed { (parts : Parts) (s : Search) (table : IsTable parts self.now) (after : SortValue) (next : ℕ)
             → Stands parts.matchers self.now.asked self.now.unicode table.rows s place
             → Tells s table.rows after place.at next place.start place.last cell → IsPassed s result }
-        ensures left { IsLeft place result }
+        ensures between { LiesBetween place result }
     {
         match cell {
             Cell::Empty => Passed::Match {
@@ -287,7 +287,7 @@ impl Table {
         ensures passed { (parts : Parts) (rules : Rules) (s : Search) (table : IsTable parts self.now) → IsSearchOf parts rules s
             → place.at ≡ s.stop → (at_end ≡ true → s.stop ≡ length s.text)
             → Stands parts.matchers self.now.asked self.now.unicode table.rows s place → IsPassed s result }
-        ensures left { IsLeft place result }
+        ensures between { LiesBetween place result }
     {
         if !at_end {
             return self.unknown(place);
@@ -324,7 +324,7 @@ impl Table {
     }
 
     /// What is told at the place where a run ends, before a character whose first byte this is.
-    pub(crate) fn told(&self, byte: u8, place: Place) -> Passed
+    pub(crate) fn outcome(&self, byte: u8, place: Place) -> Passed
         requires next { place.at + 1 < 2 ^ 64 }
         requires order { place.start ≤ place.at }
         ensures done { IsDoneAt place byte result }

@@ -2,7 +2,7 @@ use Rattle.std.proofs.Common.{◌≡◌, ◌∙◌, refl, arith, inl}
 use Rattle.regex_hir.specs.Text.{char_at}
 use Rattle.fancy_regex_class.specs.Looks.{looked_text}
 use Rattle.fancy_regex_linear.proofs.RefusalLemmas.{start_fails}
-use Rattle.fancy_regex_linear.proofs.ToldLemmas.{refused_between}
+use Rattle.fancy_regex_linear.proofs.VerdictLemmas.{refused_between}
 use Rattle.fancy_regex_linear.proofs.alone.pass_over.Goals as goal
 
 pub returns-then-at-eq0 : goal.returns-then-at-eq0

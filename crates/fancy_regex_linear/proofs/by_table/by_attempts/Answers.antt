@@ -34,7 +34,7 @@ returns-in-Some-clause-settled c span_only =
           (c.requires.boundaries start (omega (arith, tried.range.0, c.requires.range.0)) tried.range.1)
           (fail_on context text go place.at c.args.from start early found.0) (sym found.1) in
           let counts = looks d in (
-            record { found_slots = slots; is = sym says.0; kept = λ _. refl },
+            record { found_slots = slots; is = sym says.0; same_slots = λ _. refl },
             omega (arith, says.1, counts.1, tried.range.1, c.first_tried.ensures.attempt.looks.more),
           );
       on = tt;

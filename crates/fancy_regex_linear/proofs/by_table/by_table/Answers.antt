@@ -41,7 +41,7 @@ returns-in_ok-load_match-in-Match-clause-settled c =
           (λ t. (c.in-Match.ensures.passed (parts_of context) context.rules (search_of context text c.in-Some.it by view go explains place.at) t search_ok refl (sym by.text_is) refl refl).0.end_is) in
           let loaded = loaded_is.says view go explains failed end end_is in
           let found = found_says context text place memory here go start (record { at = end; slots = loaded.0 }) range.0 (omega (arith, range.1, range.2)) range.3 early (sym loaded.1) in (
-            record { found_slots = loaded.0; is = sym found.0; kept = loaded.2 },
+            record { found_slots = loaded.0; is = sym found.0; same_slots = loaded.2 },
             omega (arith, found.1, range.0, range.1, c.in-Match.ensures.looks, c.load_match.ensures.attempt.looks.more),
           );
       on = tt;

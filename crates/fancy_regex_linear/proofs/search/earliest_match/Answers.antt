@@ -53,7 +53,7 @@ pub returns-in_default-next_start-clause-answer : goal.returns-in_default-next_s
 returns-in_default-next_start-clause-answer c view go explains failed =
     let d = (goal.at.returns-in_default-next_start-clause-answer c).After-next_start in
     let over = rw c.in_default-next_start.is at (passed d view go explains failed) in
-    record { found_slots = c.starts.memory.backtrack.slots.items; is = sym (over.0 ∙ earliest_none (spot d go)); kept = λ _. refl }
+    record { found_slots = c.starts.memory.backtrack.slots.items; is = sym (over.0 ∙ earliest_none (spot d go)); same_slots = λ _. refl }
 
 pub returns-in_default-next_start-clause-at_least : goal.returns-in_default-next_start-clause-at_least
 returns-in_default-next_start-clause-at_least c view go explains failed =
@@ -79,7 +79,7 @@ returns-clause-answer c view go explains failed =
     record {
       found_slots = c.starts.memory.backtrack.slots.items;
       is = sym (inv.2 ∙ earliest_none (spot_from go c.args.context.now.entry c.args.memory.now.backtrack.slots.items));
-      kept = λ _. refl;
+      same_slots = λ _. refl;
     }
 
 pub returns-clause-at_least : goal.returns-clause-at_least

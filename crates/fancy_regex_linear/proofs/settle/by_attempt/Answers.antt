@@ -22,7 +22,7 @@ returns-in-Some-clause-settled c span_only =
       says = λ view go explains failed.
           let value = rw c.in-Some.is at (c.in_ok-end.ensures.end.value view go explains failed) in
           let one = tried_here (spot d go) place.at rest _ (sym value) in (
-            record { found_slots = slots; is = sym (earliest_here (spot d go) place.at rest _ (sym value)); kept = λ _. refl },
+            record { found_slots = slots; is = sym (earliest_here (spot d go) place.at rest _ (sym value)); same_slots = λ _. refl },
             omega (arith, one, c.attempt_start.ensures.attempt.looks.more),
           );
       on = tt;

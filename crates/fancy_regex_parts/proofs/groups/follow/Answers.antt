@@ -26,7 +26,7 @@ returns-in_ok-end-in-Split-clause-step c view ways has true_of =
 pub returns-in_ok-end-in-Atomic-clause-step : goal.returns-in_ok-end-in-Atomic-clause-step
 returns-in_ok-end-in-Atomic-clause-step c view ways has true_of =
     let answer = c.in_ok-end-in-Atomic.ensures.answer view ways has true_of in
-    c.behind_group.ensures ∙ ap (group_step c.in-Atomic.same c.in-Atomic.moved c.args.at) answer
+    c.step_after_atomic.ensures ∙ ap (group_step c.in-Atomic.same c.in-Atomic.moved c.args.at) answer
     ∙ ap (λ (s : State). walk_step ways (char_at (looked_text c.args.text.now) c.args.at) s c.args.at) (sym c.in-Atomic.is)
 
 pub returns-in_ok-end-in-Split-clause-counted : goal.returns-in_ok-end-in-Split-clause-counted

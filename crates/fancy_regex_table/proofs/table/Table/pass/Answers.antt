@@ -2,7 +2,7 @@ use Rattle.std.proofs.Common.{◌∙◌, ◌<◌, ◌≤◌, ◌≡◌, ◌+◌,
 use Rattle.regex_hir.specs.Text.{char_before}
 use Rattle.fancy_regex_states.specs.declared.rules.Rules.{Rules}
 use Rattle.fancy_regex_table.specs.Cells.{Parts, Search}
-use Rattle.fancy_regex_table.specs.Tables.{IsTable, IsSearchOf, IsAsciiAt, IsLeft, IsDoneAt, IsInRange, AreBoundaries, Stands}
+use Rattle.fancy_regex_table.specs.Tables.{IsTable, IsSearchOf, IsAsciiAt, LiesBetween, IsDoneAt, IsInRange, AreBoundaries, Stands}
 use Rattle.fancy_regex_table.specs.declared.table.Passed.{Passed}
 use Rattle.fancy_regex_table.specs.declared.table.Passed.TheVariants as P
 use Rattle.fancy_regex_table.specs.declared.table.Place.{Place}
@@ -40,13 +40,13 @@ in_range text low stop place byte (P.Idle to) begins order all lt next is =
 in_range text low stop place byte (P.Unknown from read) begins order all lt next is =
     (omega (arith, is.0), is.1, omega (arith, is.2), λ i a b. all i a (omega (arith, is.2, b)))
 
-left_in_range : (text : List ℕ) (low stop : ℕ) (place : Place) (passed : Passed) → low ≤ place.start → AreBoundaries text low place.at → place.at ≤ stop
-    → IsLeft place passed → IsInRange text low stop passed
-left_in_range text low stop place (P.Match start end read) begins all le is =
+between_in_range : (text : List ℕ) (low stop : ℕ) (place : Place) (passed : Passed) → low ≤ place.start → AreBoundaries text low place.at → place.at ≤ stop
+    → LiesBetween place passed → IsInRange text low stop passed
+between_in_range text low stop place (P.Match start end read) begins all le is =
     (omega (arith, is.0), is.1, omega (arith, is.2), all start (omega (arith, is.0)) (omega (arith, is.1, is.2)))
-left_in_range text low stop place P.Ended begins all le is = tt
-left_in_range text low stop place (P.Idle to) begins all le is = absurd is
-left_in_range text low stop place (P.Unknown from read) begins all le is =
+between_in_range text low stop place P.Ended begins all le is = tt
+between_in_range text low stop place (P.Idle to) begins all le is = absurd is
+between_in_range text low stop place (P.Unknown from read) begins all le is =
     (omega (arith, is.0), is.1, omega (arith, is.2), λ i a b. all i a (omega (arith, is.2, b)))
 
 pub returns-then-place-stop : goal.returns-then-place-stop
@@ -56,7 +56,7 @@ returns-then-place-stop c =
       passed = λ parts rules s table search same text from stop.
           c.at_stop.ensures.passed parts rules s table search (omega (arith, c.if-place-stop.true, run.high, stop))
           (λ e. stop ∙ c.requires.end e ∙ ap length (sym text)) (stands_there (goal.at.returns-then-place-stop c).After-run-place parts rules s table search same text from stop);
-      range = left_in_range c.args.text.now c.args.from c.args.stop c.run-place.result c.at_stop.result run.low run.boundaries run.high c.at_stop.ensures.left;
+      range = between_in_range c.args.text.now c.args.from c.args.stop c.run-place.result c.at_stop.result run.low run.boundaries run.high c.at_stop.ensures.between;
     }
 
 pub returns : goal.returns
@@ -70,8 +70,8 @@ returns c =
     ascii_there (goal.at.returns c).After-run-place less byte (ap (λ (t : List ℕ). get_or t place.at 0) c.as_bytes.ensures.value) in
     record {
       passed = λ parts rules s table search same text from stop.
-          c.told.ensures.passed parts rules s table search (λ small. subst (λ (t : List ℕ). IsAsciiAt t place.at byte) (sym text) (ascii small))
+          c.outcome.ensures.passed parts rules s table search (λ small. subst (λ (t : List ℕ). IsAsciiAt t place.at byte) (sym text) (ascii small))
           (omega (arith, less, stop)) (stands_there (goal.at.returns c).After-run-place parts rules s table search same text from stop);
-      range = in_range c.args.text.now c.args.from c.args.stop place byte c.told.result run.low run.order run.boundaries less
-          (λ small. (ascii small).boundary_next) c.told.ensures.done;
+      range = in_range c.args.text.now c.args.from c.args.stop place byte c.outcome.result run.low run.order run.boundaries less
+          (λ small. (ascii small).boundary_next) c.outcome.ensures.done;
     }

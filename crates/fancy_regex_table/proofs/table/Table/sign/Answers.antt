@@ -67,10 +67,10 @@ chars-preserved c =
 pub returns-in-Nowhere-clause-sign : goal.returns-in-Nowhere-clause-sign
 returns-in-Nowhere-clause-sign c parts rules s table by same text from stop =
     let d = (goal.at.returns-in-Nowhere-clause-sign c).After-onward in
-    let passed = c.told.ensures.passed parts rules s table by
+    let passed = c.outcome.ensures.passed parts rules s table by
     (λ small. subst (λ (t : List ℕ). IsAsciiAt t c.chars.place.at (byte_at d)) (sym text) (ascii d small))
     (omega (arith, inside d, stop)) (c.chars.invariant.stands parts rules s table by same text from stop) in
-    subst (IsSign s) (sym c.sign_of.ensures) (sign_passed s c.told.result passed)
+    subst (IsSign s) (sym c.sign_of.ensures) (sign_passed s c.outcome.result passed)
 
 -- what was found lies in the text
 in_range : (text : List ℕ) (low : ℕ) (place : Place) (byte : ℕ) (passed : Passed) → low ≤ place.start → place.start ≤ place.at → AreBoundaries text low place.at
@@ -87,8 +87,8 @@ returns-in-Nowhere-clause-range c =
     let d = (goal.at.returns-in-Nowhere-clause-range c).After-onward in
     let inv = c.chars.invariant in
     subst (IsSignInRange c.args.text.now c.args.from) (sym c.sign_of.ensures)
-    (in_range c.args.text.now c.args.from c.chars.place (byte_at d) c.told.result inv.order.0 inv.order.1 inv.read (inside d)
-    (λ small. (ascii d small).boundary_next) c.told.ensures.done)
+    (in_range c.args.text.now c.args.from c.chars.place (byte_at d) c.outcome.result inv.order.0 inv.order.1 inv.read (inside d)
+    (λ small. (ascii d small).boundary_next) c.outcome.ensures.done)
 
 pub returns-clause-sign : goal.returns-clause-sign
 returns-clause-sign c parts rules s table by same text from stop =

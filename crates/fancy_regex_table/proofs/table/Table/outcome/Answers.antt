@@ -1,5 +1,5 @@
 use Rattle.std.proofs.Common.{ℕ, ◌+◌, ◌<◌, Some, refl, arith}
-use Rattle.fancy_regex_table.specs.Tables.{IsLeft, IsDoneAt}
+use Rattle.fancy_regex_table.specs.Tables.{LiesBetween, IsDoneAt}
 use Rattle.fancy_regex_table.specs.declared.table.Passed.{Passed}
 use Rattle.fancy_regex_table.specs.declared.table.Passed.TheVariants as P
 use Rattle.fancy_regex_table.specs.declared.table.Place.{Place}
@@ -7,18 +7,18 @@ use Rattle.std.specs.Prelude.{slice_index}
 use Rattle.fancy_regex_table.specs.declared.row.Cell.TheVariants.{Idle}
 use Rattle.fancy_regex_table.proofs.PlaceLemmas.{ascii_place}
 use Rattle.fancy_regex_table.proofs.TableLemmas.{cell_tells, idle_next}
-use Rattle.fancy_regex_table.proofs.table.Table.told.Goals as goal
+use Rattle.fancy_regex_table.proofs.table.Table.outcome.Goals as goal
 
 -- what is left is done
-left_done : (place : Place) (byte : ℕ) (passed : Passed) → IsLeft place passed → IsDoneAt place byte passed
-left_done place byte (P.Match start end read) is = is
-left_done place byte P.Ended is = tt
-left_done place byte (P.Idle next) is = absurd is
-left_done place byte (P.Unknown from read) is = is
+between_done : (place : Place) (byte : ℕ) (passed : Passed) → LiesBetween place passed → IsDoneAt place byte passed
+between_done place byte (P.Match start end read) is = is
+between_done place byte P.Ended is = tt
+between_done place byte (P.Idle next) is = absurd is
+between_done place byte (P.Unknown from read) is = is
 
 pub returns-then-byte-ge128 : goal.returns-then-byte-ge128
 returns-then-byte-ge128 c = record {
-  done = left_done c.args.place c.args.byte c.unknown.result c.unknown.ensures.left;
+  done = between_done c.args.place c.args.byte c.unknown.result c.unknown.ensures.between;
   passed = λ parts rules s table search ascii lt stands. c.unknown.ensures.passed parts s table stands;
 }
 
@@ -39,7 +39,7 @@ returns-in-Idle c = record {
 
 pub returns-in_default : goal.returns-in_default
 returns-in_default c = record {
-  done = left_done c.args.place c.args.byte c.ended.result c.ended.ensures.left;
+  done = between_done c.args.place c.args.byte c.ended.result c.ended.ensures.between;
   passed = λ parts rules s table search ascii lt stands.
       let place = c.args.place in
       let byte = c.args.byte in

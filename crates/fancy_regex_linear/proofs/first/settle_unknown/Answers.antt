@@ -1,7 +1,7 @@
 use Rattle.std.proofs.Common.{true}
 use Rattle.fancy_regex_class.specs.Looks.{looked_text, look_count}
 use Rattle.fancy_regex_linear.proofs.AloneLemmas.{settled_after}
-use Rattle.fancy_regex_linear.proofs.first.settle_left.Goals as goal
+use Rattle.fancy_regex_linear.proofs.first.settle_unknown.Goals as goal
 
 pub returns-then-read-place-clause-settled : goal.returns-then-read-place-clause-settled
 returns-then-read-place-clause-settled c =

@@ -4,7 +4,7 @@ ghost use Rattle.std.specs.Prelude.{◌≡◌, ◌≤◌, IfSome, IsCharBoundary
 ghost use Rattle.fancy_regex_class.specs.Looks.{looked_text};
 ghost use Rattle.fancy_regex_linear.specs.Layers.{IsSearchContext};
 ghost use Rattle.fancy_regex_linear.specs.Settled.{IsTableSearch};
-ghost use Rattle.fancy_regex_linear.specs.Tellings.{IsPassedOver, IsTold, IsToldInRange};
+ghost use Rattle.fancy_regex_linear.specs.Verdicts.{IsPassedOver, IsVerdict, IsVerdictInRange};
 
 use crate::by_table::{TableSearch, char_before};
 use crate::search::SearchContext;
@@ -15,7 +15,7 @@ use fancy_regex_table::Sign;
 
 /// What a table tells of the matches of a search.
 #[derive(Clone, Copy)]
-pub enum Told {
+pub enum Verdict {
     /// There is one.
     Match,
     /// There is none.
@@ -60,34 +60,34 @@ fn is_wide(text: &str, at: usize) -> bool {
 }
 
 /// What the table tells of the matches from the byte offset `from` on.
-pub fn told_by_table(
+pub fn table_verdict(
     context: &SearchContext,
     text: &mut Counted,
     it: TableSearch,
     from: usize,
-) -> Told
+) -> Verdict
     requires context { IsSearchContext context.now }
     requires table { IsTableSearch context.now (looked_text text.old) it }
     requires range { (from ≤ context.now.stop) × (context.now.stop ≤ length (looked_text text.old)) }
     requires text { IsUtf8 (looked_text text.old) }
     requires boundary { IsCharBoundary (looked_text text.old) from }
-    ensures told { IsTold context.now (looked_text text.old) from result }
-    ensures range { IsToldInRange (looked_text text.old) from context.now.stop result }
+    ensures verdict { IsVerdict context.now (looked_text text.old) from result }
+    ensures range { IsVerdictInRange (looked_text text.old) from context.now.stop result }
 {
     let mut at = from;
     'starts: loop {
         let Some(start) = pass_starts(context, text, it, at) else {
-            return Told::NoMatch;
+            return Verdict::NoMatch;
         };
         if is_wide(it.text, start) {
-            return Told::NoneBefore { at: start };
+            return Verdict::NoneBefore { at: start };
         }
         let before = char_before(it.text, start);
         match it.table.sign(context.matchers, it.text, start, before) {
-            Sign::Match => return Told::Match,
-            Sign::Ended => return Told::NoMatch,
+            Sign::Match => return Verdict::Match,
+            Sign::Ended => return Verdict::NoMatch,
             Sign::Idle { at: next } => at = next,
-            Sign::Unknown { from } => return Told::NoneBefore { at: from },
+            Sign::Unknown { from } => return Verdict::NoneBefore { at: from },
         }
     }
 }

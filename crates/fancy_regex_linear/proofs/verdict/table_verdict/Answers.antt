@@ -8,11 +8,11 @@ use Rattle.fancy_regex_linear.specs.Find.{earliest, places}
 use Rattle.fancy_regex_linear.specs.Search.{Explains}
 use Rattle.fancy_regex_linear.specs.Settled.{parts_of}
 use Rattle.fancy_regex_linear.specs.Starts.{spot_from}
-use Rattle.fancy_regex_linear.specs.Tellings.{IsPassedOver}
+use Rattle.fancy_regex_linear.specs.Verdicts.{IsPassedOver}
 use Rattle.fancy_regex_linear.proofs.SettleLemmas.{search_of, is_search, fail_by}
-use Rattle.fancy_regex_linear.proofs.ToldLemmas.{some_by, none_by, on_by}
-use Rattle.fancy_regex_linear.proofs.told.told_by_table.Goals as goal
-use Rattle.fancy_regex_linear.proofs.told.told_by_table.Goals.{After-is_wide}
+use Rattle.fancy_regex_linear.proofs.VerdictLemmas.{some_by, none_by, on_by}
+use Rattle.fancy_regex_linear.proofs.verdict.table_verdict.Goals as goal
+use Rattle.fancy_regex_linear.proofs.verdict.table_verdict.Goals.{After-is_wide}
 
 abbrev text_of : After-is_wide → List ℕ
 text_of c = looked_text c.args.text.now
@@ -39,8 +39,8 @@ earlier c view go explains slots =
     ∙ on_by c.args.context.now (text_of c) c.args.it c.requires.table view go explains slots c.starts.at c.in-Some.start at.range.0 at.range.1 c.requires.range.1
     (at.fails view go explains)
 
-pub returns-in_default-clause-told : goal.returns-in_default-clause-told
-returns-in_default-clause-told c view go explains slots =
+pub returns-in_default-clause-verdict : goal.returns-in_default-clause-verdict
+returns-in_default-clause-verdict c view go explains slots =
     let context = c.args.context.now in
     let text = looked_text c.args.text.now in
     let inv = c.starts.invariant in
@@ -48,17 +48,17 @@ returns-in_default-clause-told c view go explains slots =
     ap is_some (inv.passed view go explains slots)
     ∙ none_by context text c.args.it c.requires.table view go explains slots c.starts.at inv.boundary inv.range.1 c.requires.range.1 (over view go explains)
 
-pub returns-then-is_wide-clause-told : goal.returns-then-is_wide-clause-told
-returns-then-is_wide-clause-told c view go explains slots = earlier (goal.at.returns-then-is_wide-clause-told c).After-is_wide view go explains slots
+pub returns-then-is_wide-clause-verdict : goal.returns-then-is_wide-clause-verdict
+returns-then-is_wide-clause-verdict c view go explains slots = earlier (goal.at.returns-then-is_wide-clause-verdict c).After-is_wide view go explains slots
 
 pub returns-then-is_wide-clause-range : goal.returns-then-is_wide-clause-range
 returns-then-is_wide-clause-range c =
     let at = here (goal.at.returns-then-is_wide-clause-range c).After-is_wide in
     (omega (arith, c.starts.invariant.range.0, at.range.0), at.range.1, at.range.2)
 
-pub returns-in-Match-clause-told : goal.returns-in-Match-clause-told
-returns-in-Match-clause-told c view go explains slots =
-    let d = (goal.at.returns-in-Match-clause-told c).After-is_wide in
+pub returns-in-Match-clause-verdict : goal.returns-in-Match-clause-verdict
+returns-in-Match-clause-verdict c view go explains slots =
+    let d = (goal.at.returns-in-Match-clause-verdict c).After-is_wide in
     let context = c.args.context.now in
     let text = looked_text c.args.text.now in
     let by = c.requires.table in
@@ -68,9 +68,9 @@ returns-in-Match-clause-told c view go explains slots =
     (λ t. c.in-Match.ensures.sign (parts_of context) context.rules (search_of context text c.args.it by view go explains start) t
     (is_search context text c.args.it by view go explains start c.requires.text c.requires.range.1) refl (sym by.text_is) refl (whole d))
 
-pub returns-in-Ended-clause-told : goal.returns-in-Ended-clause-told
-returns-in-Ended-clause-told c view go explains slots =
-    let d = (goal.at.returns-in-Ended-clause-told c).After-is_wide in
+pub returns-in-Ended-clause-verdict : goal.returns-in-Ended-clause-verdict
+returns-in-Ended-clause-verdict c view go explains slots =
+    let d = (goal.at.returns-in-Ended-clause-verdict c).After-is_wide in
     let context = c.args.context.now in
     let text = looked_text c.args.text.now in
     let by = c.requires.table in
@@ -105,9 +105,9 @@ starts-preserved c =
           (is_search context text c.args.it by view go explains start c.requires.text c.requires.range.1) refl (sym by.text_is) refl (whole d)).0.early));
     }
 
-pub returns-in-Unknown-clause-told : goal.returns-in-Unknown-clause-told
-returns-in-Unknown-clause-told c view go explains slots =
-    let d = (goal.at.returns-in-Unknown-clause-told c).After-is_wide in
+pub returns-in-Unknown-clause-verdict : goal.returns-in-Unknown-clause-verdict
+returns-in-Unknown-clause-verdict c view go explains slots =
+    let d = (goal.at.returns-in-Unknown-clause-verdict c).After-is_wide in
     let context = c.args.context.now in
     let text = looked_text c.args.text.now in
     let by = c.requires.table in

@@ -20,12 +20,12 @@ use Rattle.fancy_regex_linear.specs.Find.{earliest, places}
 use Rattle.fancy_regex_linear.specs.Search.{Explains, HasMarks}
 use Rattle.fancy_regex_linear.specs.Settled.{FailBetween, IsTableSearch, parts_of}
 use Rattle.fancy_regex_linear.specs.Starts.{IsSkippedAt, spot_from}
-use Rattle.fancy_regex_linear.specs.Tellings.{GoesOnIn, IsToldFor, IsToldAt, IsToldInRange, has_match}
+use Rattle.fancy_regex_linear.specs.Verdicts.{GoesOnIn, IsVerdictFor, IsVerdictAt, IsVerdictInRange, has_match}
 use Rattle.fancy_regex_linear.specs.declared.by_table.TableSearch.{TableSearch}
 use Rattle.fancy_regex_linear.specs.declared.easy.Easy.{Easy}
 use Rattle.fancy_regex_linear.specs.declared.search.SearchContext.{SearchContext}
-use Rattle.fancy_regex_linear.specs.declared.told.Told.{Told}
-use Rattle.fancy_regex_linear.specs.declared.told.Told.TheVariants.{Match, NoMatch, NoneBefore}
+use Rattle.fancy_regex_linear.specs.declared.verdict.Verdict.{Verdict}
+use Rattle.fancy_regex_linear.specs.declared.verdict.Verdict.TheVariants.{Match, NoMatch, NoneBefore}
 use Rattle.fancy_regex_linear.proofs.DfsLemmas.{trace_end_none}
 use Rattle.fancy_regex_linear.proofs.RefusalLemmas.{skipped_fails}
 use Rattle.fancy_regex_linear.proofs.SettleLemmas.{search_of, skip_to}
@@ -121,8 +121,8 @@ map_some f (Some a) = refl
 pub tells : (easy : Easy) (text : List ℕ) (input : RunInput) (pattern : Pattern) (entry stop : ℕ) (go : ℕ → Continuation) (slots : List ℕ)
     → ((at : ℕ) → at ≤ stop
     → has_match easy text (record input { first = at }) pattern ≡ is_some (earliest (spot_from go entry slots) (places text input.anchored at stop)))
-    → input.anchored ≡ false → input.first ≤ stop → (told : Told) → IsToldAt text entry stop input.first go slots told
-    → IsToldInRange text input.first stop told → IsToldFor easy text input told pattern
+    → input.anchored ≡ false → input.first ≤ stop → (verdict : Verdict) → IsVerdictAt text entry stop input.first go slots verdict
+    → IsVerdictInRange text input.first stop verdict → IsVerdictFor easy text input verdict pattern
 tells easy text input pattern entry stop go slots same none first Match said range =
     same input.first first
     ∙ ap (λ (b : Bool). is_some (earliest (spot_from go entry slots) (places text b input.first stop))) none ∙ said
@@ -136,7 +136,7 @@ tells easy text input pattern entry stop go slots same none first (NoneBefore at
     ∙ sym (same at range.1 ∙ ap (λ (b : Bool). is_some (earliest (spot_from go entry slots) (places text b at stop))) none)
 
 -- a place in the range is one of the text
-pub told_goes_on : (text : List ℕ) (from stop : ℕ) (told : Told) → IsToldInRange text from stop told → GoesOnIn text told
-told_goes_on text from stop Match range = tt
-told_goes_on text from stop NoMatch range = tt
-told_goes_on text from stop (NoneBefore at) range = range.2
+pub verdict_goes_on : (text : List ℕ) (from stop : ℕ) (verdict : Verdict) → IsVerdictInRange text from stop verdict → GoesOnIn text verdict
+verdict_goes_on text from stop Match range = tt
+verdict_goes_on text from stop NoMatch range = tt
+verdict_goes_on text from stop (NoneBefore at) range = range.2

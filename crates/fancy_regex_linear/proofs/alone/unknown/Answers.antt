@@ -1,5 +1,5 @@
 use Rattle.std.proofs.Common.{refl}
-use Rattle.fancy_regex_linear.proofs.alone.left.Goals as goal
+use Rattle.fancy_regex_linear.proofs.alone.unknown.Goals as goal
 
 pub returns : goal.returns
 returns c =

@@ -2,8 +2,8 @@ use Rattle.std.proofs.Common.{inl, refl, arith}
 use Rattle.fancy_regex_class.specs.Looks.{looked_text}
 use Rattle.regex_hir.specs.Text.{char_at}
 use Rattle.fancy_regex_linear.proofs.RefusalLemmas.{start_fails}
-use Rattle.fancy_regex_linear.proofs.ToldLemmas.{refused_between}
-use Rattle.fancy_regex_linear.proofs.told.pass_starts.Goals as goal
+use Rattle.fancy_regex_linear.proofs.VerdictLemmas.{refused_between}
+use Rattle.fancy_regex_linear.proofs.verdict.pass_starts.Goals as goal
 
 pub returns-then-at-eq0-clause-passed : goal.returns-then-at-eq0-clause-passed
 returns-then-at-eq0-clause-passed c view go explains p low less boundary = absurd (omega (arith, low, less))

@@ -6,15 +6,15 @@ use Rattle.fancy_regex_linear.specs.Find.{earliest, places, span_of_found}
 use Rattle.fancy_regex_linear.specs.Plain.{classes, re_of}
 use Rattle.fancy_regex_linear.specs.SettingView.{view_of}
 use Rattle.fancy_regex_linear.specs.Starts.{spot_from}
-use Rattle.fancy_regex_linear.specs.Tellings.{has_match}
+use Rattle.fancy_regex_linear.specs.Verdicts.{has_match}
 use Rattle.fancy_regex_linear.proofs.AnswerLemmas.{program_does, closed, entry_in, span_is_match}
 use Rattle.fancy_regex_linear.proofs.CharTestLemmas.{shows_all}
 use Rattle.fancy_regex_linear.proofs.PlainLemmas.{sound, plain_may}
-use Rattle.fancy_regex_linear.proofs.ToldLemmas.{map_some, tells, told_goes_on}
-use Rattle.fancy_regex_linear.proofs.easy.Easy.told.Goals as goal
+use Rattle.fancy_regex_linear.proofs.VerdictLemmas.{map_some, tells, verdict_goes_on}
+use Rattle.fancy_regex_linear.proofs.easy.Easy.verdict.Goals as goal
 
-pub told_by_table-requires-clause-context : goal.told_by_table-requires-clause-context
-told_by_table-requires-clause-context c =
+pub table_verdict-requires-clause-context : goal.table_verdict-requires-clause-context
+table_verdict-requires-clause-context c =
     let self = c.args.self.now in
     record {
       entry = rw c.deref.ensures.value (entry_in self.states.items self.entry self.made);
@@ -23,8 +23,8 @@ told_by_table-requires-clause-context c =
       marks = rw (c.deref.ensures.value, c.deref-2.ensures.value, c.rules.ensures) self.marks;
     }
 
-pub told_by_table-requires-clause-table : goal.told_by_table-requires-clause-table
-told_by_table-requires-clause-table c =
+pub table_verdict-requires-clause-table : goal.table_verdict-requires-clause-table
+table_verdict-requires-clause-table c =
     let self = c.args.self.now in
     let serves = c.in-Some.ensures in
     record {
@@ -39,8 +39,8 @@ told_by_table-requires-clause-table c =
       whole = serves.whole ∙ ap length (sym c.new-counted.ensures.text);
     }
 
-pub returns-clause-told : goal.returns-clause-told
-returns-clause-told c pattern is =
+pub returns-clause-verdict : goal.returns-clause-verdict
+returns-clause-verdict c pattern is =
     let self = c.args.self.now in
     let text = c.args.text.now in
     let input = c.args.input.now in
@@ -57,14 +57,14 @@ returns-clause-told c pattern is =
     sym (map_some span_of_match (match_for self text (record input { first = at }) pattern))
     ∙ ap is_some (span_is_match self.unicode self.longest text (record input { first = at }) self.states.items self.entry pattern is.serves.plain c.requires.range d inside)
     ∙ map_some span_of_found (earliest (spot_from d.go self.entry free) (places text input.anchored at input.range.end)) in
-    let said = c.told_by_table.ensures.told view d.go (record {
+    let said = c.table_verdict.ensures.verdict view d.go (record {
       longest = ap (λ r. r.longest) (sym c.rules.ensures);
       shows = rw (c.deref-2.ensures.value, c.rules.ensures, c.new-counted.ensures.text) shows;
       agree = rw c.deref.ensures.value d.agree;
     }) free in
-    let range = c.told_by_table.ensures.range in
-    tells self text input pattern self.entry input.range.end d.go free same c.if-input.false below c.told_by_table.result (rw c.new-counted.ensures.text at said) (rw c.new-counted.ensures.text at range)
+    let range = c.table_verdict.ensures.range in
+    tells self text input pattern self.entry input.range.end d.go free same c.if-input.false below c.table_verdict.result (rw c.new-counted.ensures.text at said) (rw c.new-counted.ensures.text at range)
 
 pub returns-clause-goes_on : goal.returns-clause-goes_on
 returns-clause-goes_on c =
-    told_goes_on c.args.text.now c.args.input.now.first c.args.input.now.range.end c.told_by_table.result (rw c.new-counted.ensures.text at c.told_by_table.ensures.range)
+    verdict_goes_on c.args.text.now c.args.input.now.first c.args.input.now.range.end c.table_verdict.result (rw c.new-counted.ensures.text at c.table_verdict.ensures.range)

@@ -4,7 +4,7 @@ use Rattle.fancy_regex_states.specs.Attempts.{View, Continuation}
 use Rattle.fancy_regex_linear.specs.Find.{earliest, places}
 use Rattle.fancy_regex_linear.specs.Search.{Explains}
 use Rattle.fancy_regex_linear.specs.Starts.{spot_from}
-use Rattle.fancy_regex_linear.proofs.told.told_by_table.Given as goal
+use Rattle.fancy_regex_linear.proofs.verdict.table_verdict.Given as goal
 
 abbrev pub invariant-starts : goal.invariant-starts
 invariant-starts l = record {
