@@ -86,6 +86,8 @@ impl Regex {
     /// let found = regex.find_counted_in(alloc, input, &mut steps, &mut memory)?;
     /// assert!(rt; found.is_none() && steps.count() > 0);
     /// ```
+    // Inlined where it is called: else the input and the answer are put together in memory, and each call waits for both.
+    #[inline(always)]
     pub fn find_counted_in<S: Input>(
         &self,
         alloc: Global,
