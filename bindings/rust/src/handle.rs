@@ -25,6 +25,17 @@ impl Drop for Owned {
 pub(crate) type Marks =
     unsafe extern "C" fn(*mut Handle, *const u8, usize, *const Options, *mut bool, usize) -> i32;
 
+/// A call of the library that writes what a search finds into a row of so much room, and tells a count.
+type WriteRow<T> = unsafe extern "C" fn(
+    *mut Handle,
+    *const u8,
+    usize,
+    *const Query,
+    *mut T,
+    usize,
+    *mut usize,
+) -> i32;
+
 impl Owned {
     /// The empty handle.
     pub fn empty() -> Owned {
@@ -114,21 +125,7 @@ impl Owned {
     /// before them ended. An empty match is the last of its row. There are none only where the first search has no match.
     #[inline]
     pub fn find_row(&self, search: &Search<'_>, spans: &mut [Span]) -> Result<usize> {
-        let mut count = 0;
-        // As in `find`; the room is that of the slice, which is not empty.
-        let status = unsafe {
-            raw::fancy_regex_raw_find_row(
-                self.at(),
-                search.text.as_ptr(),
-                search.text.len(),
-                &search.query(),
-                spans.as_mut_ptr(),
-                spans.len(),
-                &mut count,
-            )
-        };
-        self.told(status)?;
-        Ok(count)
+        self.write_row(raw::fancy_regex_raw_find_row, search, spans)
     }
 
     /// Writes the spans of the groups of the first match, and tells whether there is one.
@@ -162,16 +159,22 @@ impl Owned {
 
     /// Writes as many groups as there is room for, and returns how many there are.
     fn set_captures_into(&self, search: &Search<'_>, groups: &mut [Member]) -> Result<usize> {
+        self.write_row(raw::fancy_regex_raw_set_captures, search, groups)
+    }
+
+    /// Has `call` write into the row, and returns the count that it tells.
+    #[inline]
+    fn write_row<T>(&self, call: WriteRow<T>, search: &Search<'_>, row: &mut [T]) -> Result<usize> {
         let mut count = 0;
-        // As in `captures`.
+        // As in `find`; the room is that of the slice.
         let status = unsafe {
-            raw::fancy_regex_raw_set_captures(
+            call(
                 self.at(),
                 search.text.as_ptr(),
                 search.text.len(),
                 &search.query(),
-                groups.as_mut_ptr(),
-                groups.len(),
+                row.as_mut_ptr(),
+                row.len(),
                 &mut count,
             )
         };
