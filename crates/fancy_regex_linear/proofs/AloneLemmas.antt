@@ -79,11 +79,11 @@ pub unknown_says : (context : SearchContext) (a c : Counted) (first from read : 
     → AloneSays context a c first alone
 unknown_says context a c first from read place (Found start end) utf8 inside here range fails boundaries is = absurd is
 unknown_says context a c first from read place NoMatch utf8 inside here range fails boundaries is = absurd is
-unknown_says context a c first from read place (Unknown start low last) utf8 inside here range fails boundaries is =
+unknown_says context a c first from read place (Unknown start) utf8 inside here range fails boundaries is =
     let text = looked_text a in
     let at_is = is.0 in
     let split = is.4 text utf8 here.boundary inside (sym here.after) in
-    let unknown : IsUnknownAt context text start low last = record {
+    let unknown : IsUnknownAt context text start.place start.from start.read = record {
       start = record {
         low = omega arith;
         high = omega (arith, at_is, here.range.1);

@@ -29,6 +29,7 @@ pub mod BuildLemmas
 pub mod TranslationLemmas
 pub mod RegularStateLemmas
 pub mod ServedLemmas
+pub mod ExactLemmas
 pub mod LayerLemmas
 pub mod SettleLemmas
 pub mod VerdictLemmas

@@ -2,12 +2,16 @@
 use Rattle.std.proofs.Common.{◌≡◌, ℕ, zero, suc, ◌+◌, ◌-◌, ◌<◌, ◌≤◌, ◌⊎◌, Bool, true, false, List, Option, Some, None, length, replicate, refl, sym, subst, ◌∙◌, arith, inl, inr, slice_index_or, IsCharBoundary, IsUtf8, ⊎_elim}
 use Rattle.std.proofs.lemmas.Bool.{cases_lt, false≢true}
 use Rattle.std.specs.Prelude.{IfSome}
+use Rattle.std.specs.Option.{ForSome}
 use Rattle.regex_hir.specs.Text.{char_at}
 use Rattle.fancy_regex_class.specs.declared.class.CharClassMatcher.{CharClassMatcher}
 use Rattle.fancy_regex_states.specs.First.{CannotFollow, RefusesSecond}
 use Rattle.fancy_regex_states.specs.declared.state.State.{State}
 use Rattle.fancy_regex_stops.specs.Stops.{IsMarked, IsMarkedAt, IsPairAt, IsBeforeMarked}
 use Rattle.fancy_regex_linear.specs.Passing.{HasMarksOf, RefusesWideIf, IsStop}
+use Rattle.fancy_regex_linear.specs.Before.{HasMarksBefore, IsBeforeOf}
+use Rattle.fancy_regex_linear.specs.declared.passing.Passing.{Passing}
+use Rattle.fancy_regex_states.specs.Before.{RefusesAfter}
 use Rattle.fancy_regex_linear.specs.Starts.{IsSkippedAt, IsWideAt, HasRefusedPair}
 use Rattle.fancy_regex_linear.specs.declared.search.SearchContext.{SearchContext}
 use Rattle.fancy_regex_class.proofs.AdjacentCharLemmas.{ascii_at}
@@ -69,7 +73,7 @@ module _ (context : SearchContext) (text : List ℕ) (wide : Bool) (refuses : Re
       let c : ℕ = slice_index_or text i 0 in
       ⊎_elim
       (λ (ascii : (c < 128) × (slice_index_or context.refused.now c false ≡ true)). inl (inl (c, ascii.0, ascii_at text i c 0 inside refl ascii.0, ascii.1)))
-      (λ (other : (128 ≤ c) × (wide ≡ true)). let it : IsWideAt context text i = record { byte = other.0; none = refuses other.1 } in inr it)
+      (λ (other : (128 ≤ c) × (wide ≡ true)). let it : IsWideAt context text i = record { byte = other.0; none = refuses other.1 } in inr (inl it))
       marked
 
   -- nor does one before a character that is second in no match
@@ -89,3 +93,18 @@ module _ (context : SearchContext) (text : List ℕ) (wide : Bool) (refuses : Re
       } in
       inl (inr it))
       pair
+
+-- marks of characters before starts that are those of the states say what these do
+module _ (unicode : Bool) (matchers : List CharClassMatcher) (states : List State) (entry : ℕ) (firsts : List Bool) where
+  before_one : (known : Option (List Bool)) (passing : Passing) → IfSome known (RefusesAfter unicode matchers states entry) → HasMarksBefore known firsts passing
+      → IsBeforeOf unicode matchers states entry firsts passing
+  before_one (Some marks) passing says has = record {
+    refuses = ∣ subst (RefusesAfter unicode matchers states entry) (sym has.0) says ∣₁;
+    wide = has.1;
+    second = has.2;
+  }
+  before_one None passing says has = absurd has
+
+  pub before_is : (known : Option (List Bool)) (made : Option Passing) → IfSome known (RefusesAfter unicode matchers states entry)
+      → IfSome made (HasMarksBefore known firsts) → ForSome made (IsBeforeOf unicode matchers states entry firsts)
+  before_is known made says has passing is = before_one known passing says (subst (λ (o : Option Passing). IfSome o (HasMarksBefore known firsts)) is has)

@@ -1,5 +1,5 @@
 -- A start that the table of first characters refuses has no match.
-use Rattle.std.proofs.Common.{◌≡◌, ℕ, zero, suc, ◌+◌, ◌*◌, ◌<◌, ◌≤◌, ◌⊎◌, Bool, true, false, List, length, Option, Some, None, refl, sym, ap, ap₂, subst, ◌∙◌, inl, inr, arith, lt-ltb, IsUtf8, IsCharBoundary}
+use Rattle.std.proofs.Common.{◌≡◌, ℕ, zero, suc, ◌+◌, ◌*◌, ◌<◌, ◌≤◌, ◌⊎◌, ◌&&◌, ◌||◌, ◌==◌, not, Bool, true, false, true≢false, List, length, Option, Some, None, refl, sym, ap, ap₂, subst, ◌∙◌, inl, inr, arith, lt-ltb, IsUtf8, IsCharBoundary}
 use Rattle.std.proofs.lemmas.Bool.{and_left}
 use Rattle.std.proofs.lemmas.Bool.{cond-true}
 use Rattle.std.specs.Char.{len_utf8}
@@ -9,9 +9,12 @@ use mathlib.Core.HLevel.{Π_prop, Unit-prop, ⊥_prop}
 use mathlib.Core.Logic.{∥∥₁_elim}
 use Rattle.regex_hir.specs.Text.{char_at, char_before}
 use Rattle.fancy_regex_class.specs.declared.class.CharClassMatcher.{CharClassMatcher}
+use Rattle.fancy_regex_states.specs.CharTests.{passes, is_char}
+use Rattle.fancy_regex_states.specs.Before.{may_pass, CannotBeginAfter, IsSilent, LeadsAfter, ReachesAfter, RefusesAfter}
+use Rattle.fancy_regex_states.specs.Before as B
 use Rattle.fancy_regex_states.specs.First.{state_at, MayHold, Leads, Reaches, here, onward, CannotRead, CannotBegin, CannotGoOn, CannotFollow, IsTableOf, RefusesSecond}
 use Rattle.fancy_regex_states.specs.declared.atom.Test.{Test}
-use Rattle.fancy_regex_states.specs.declared.atom.Test.TheVariants.{StartText}
+use Rattle.fancy_regex_states.specs.declared.atom.Test.TheVariants.{StartText, EndText, StartLine, EndLine, WordBoundary, NotWordBoundary, LeftWordBoundary, RightWordBoundary, LookAhead, LookAheadNeg, LookBehind, LookBehindNeg}
 use Rattle.fancy_regex_states.specs.declared.first.FirstChars.{FirstChars}
 use Rattle.fancy_regex_states.specs.declared.rules.Rules.{Rules}
 use Rattle.fancy_regex_states.specs.declared.state.State.{State}
@@ -22,7 +25,7 @@ use Rattle.fancy_regex_linear.specs.Search.{Explains, HasMarks, RefusesAscii}
 use Rattle.regex_hir.proofs.Utf8Lemmas.{char_at_cases}
 use Rattle.fancy_regex_class.proofs.AdjacentCharLemmas.{boundary_past_ascii}
 use Rattle.fancy_regex_linear.specs.Passing.{RefusesWideIf}
-use Rattle.fancy_regex_linear.specs.Starts.{HasRefusedPair, IsRefusedAt, IsSkippedAt, IsWideAt}
+use Rattle.fancy_regex_linear.specs.Starts.{HasRefusedPair, IsRefusedAt, IsRefusedAfter, IsSkippedAt, IsWideAt}
 use Rattle.fancy_regex_linear.specs.declared.search.SearchContext.{SearchContext}
 use Rattle.fancy_regex_linear.proofs.CharTestLemmas.{before_some}
 use Rattle.fancy_regex_linear.proofs.DfsLemmas.{guard_yes, guard_no}
@@ -48,6 +51,12 @@ true_or_false : (b : Bool) → (b ≡ true) ⊎ (b ≡ false)
 true_or_false true = inl refl
 true_or_false false = inr refl
 
+line_fails : (one two crlf cr more : Bool) → (one || two) ≡ false → two ≡ (crlf && cr) → (one || (crlf && cr && more)) ≡ false
+line_fails true two crlf cr more never is = absurd (true≢false never)
+line_fails false two false cr more never is = refl
+line_fails false two true false more never is = refl
+line_fails false two true true more never is = absurd (true≢false (sym is ∙ never))
+
 none_saved : (slot i : ℕ) (a : Option Trace) → a ≡ None → write slot i a ≡ None
 none_saved slot i a e = ap (write slot i) e
 
@@ -68,6 +77,11 @@ module _ (view : View) (stop : ℕ) (states : List State) (go : ℕ → Continua
   holds_not StartText = inl (shows.holds StartText ∙ and_left _ _ not_first)
   holds_not check = inr tt
 
+  -- the state leads to the state of this number without reading, by assertions of which this is said
+  abbrev pub LeadsBy : (Test → Type 0) → State → ℕ → Type 0
+  LeadsBy May (S.Look check next) p = May check × (p ≡ next)
+  LeadsBy May state p = Leads state p
+
   -- what a state that reads comes to, or one that is final
   abbrev pub ReadFails : ℕ → State → Type 0
   ReadFails q (S.Read leaf next) = (go q at).answer ≡ None
@@ -75,49 +89,60 @@ module _ (view : View) (stop : ℕ) (states : List State) (go : ℕ → Continua
   ReadFails q _ = Unit {0}
 
   -- a state fails that does not read, where those fail that it leads to
-  one_fails : (n q : ℕ) (state : State) → NamesBelow (length states) state → go q at ≡ visit view stop go state at → (go q at).depth < suc n
+  one_fails : (May : Test → Type 0) → ((check : Test) → (view.holds check at ≡ false) ⊎ May check)
+      → (n q : ℕ) (state : State) → NamesBelow (length states) state → go q at ≡ visit view stop go state at → (go q at).depth < suc n
       → ReadFails q state
-      → ((p : ℕ) → Leads state p → p < length states → (go p at).depth < n → (go p at).answer ≡ None)
+      → ((p : ℕ) → LeadsBy May state p → p < length states → (go p at).depth < n → (go p at).answer ≡ None)
       → (go q at).answer ≡ None
-  one_fails n q (S.Read leaf next) names e d fails later = fails
-  one_fails n q (S.Look check next) names e d fails later =
+  one_fails May or_not n q (S.Read leaf next) names e d fails later = fails
+  one_fails May or_not n q (S.Look check next) names e d fails later =
       elim (true_or_false (view.holds check at)) [
         | inl is ↦
             let on = guard_yes (go q at) (go next at) (view.holds check at) e is in
-            elim (holds_not check) [
+            elim (or_not check) [
               | inl never ↦ guard_no (go q at) (go next at) (view.holds check at) e never
               | inr may ↦ on.0 ∙ later next (may, refl) names (omega (arith, on.1, d))
             ]
         | inr never ↦ guard_no (go q at) (go next at) (view.holds check at) e never
       ]
-  one_fails n q (Split first second) names e d fails later =
+  one_fails May or_not n q (Split first second) names e d fails later =
       let deep : (go q at).depth ≡ (go first at).depth + (go second at).depth + 1 = ap (λ r. r.depth) e in
       let found : (go q at).answer ≡ better_trace view.longest (go first at).answer (go second at).answer = ap (λ r. r.answer) e in
       found ∙ none_better view.longest (go first at).answer (go second at).answer (later first (inl refl) names.0 (omega arith)) (later second (inr refl) names.1 (omega arith))
-  one_fails n q (Enter g next) names e d fails later =
+  one_fails May or_not n q (Enter g next) names e d fails later =
       let deep : (go q at).depth ≡ (go next at).depth + 1 = ap (λ r. r.depth) e in
       let found : (go q at).answer ≡ write (2 * g) at (go next at).answer = ap (λ r. r.answer) e in
       found ∙ none_saved (2 * g) at (go next at).answer (later next refl names (omega arith))
-  one_fails n q (Leave g next) names e d fails later =
+  one_fails May or_not n q (Leave g next) names e d fails later =
       let deep : (go q at).depth ≡ (go next at).depth + 1 = ap (λ r. r.depth) e in
       let found : (go q at).answer ≡ write (2 * g + 1) at (go next at).answer = ap (λ r. r.answer) e in
       found ∙ none_saved (2 * g + 1) at (go next at).answer (later next refl names (omega arith))
-  one_fails n q (Ask part negated next) names e d fails later =
+  one_fails May or_not n q (Ask part negated next) names e d fails later =
       let deep : (go q at).depth ≡ (go part at).depth + (go next at).depth + 1 = ap (λ r. r.depth) e in
       let found : (go q at).answer ≡ asked_answer negated (go part at).answer (go next at).answer = ap (λ r. r.answer) e in
       found ∙ ap (asked_answer negated (go part at).answer) (later next refl names.1 (omega arith)) ∙ none_asked negated (go part at).answer
-  one_fails n q (Atomic part same moved) names e d fails later =
+  one_fails May or_not n q (Atomic part same moved) names e d fails later =
       let deep : (go q at).depth ≡ (go part at).depth + passed_depth (go part at).answer (pick at (go same) (go moved)) + 1 = ap (λ r. r.depth) e in
       let found : (go q at).answer ≡ passed_answer (go part at).answer (pick at (go same) (go moved)) = ap (λ r. r.answer) e in
       found ∙ ap (λ a. passed_answer a (pick at (go same) (go moved))) (later part refl names.0 (omega arith))
-  one_fails n q Match names e d fails later = absurd fails
+  one_fails May or_not n q Match names e d fails later = absurd fails
+
+  leads_any : (state : State) (p : ℕ) → LeadsBy MayHold state p → Leads state p
+  leads_any (S.Read leaf next) p leads = leads
+  leads_any (S.Look check next) p leads = leads
+  leads_any (Split first second) p leads = leads
+  leads_any (Enter g next) p leads = leads
+  leads_any (Leave g next) p leads = leads
+  leads_any (Ask part negated next) p leads = leads
+  leads_any (Atomic part same moved) p leads = leads
+  leads_any Match p leads = leads
 
   reached_fails : AllAgree view stop states go → at ≤ stop → ((q : ℕ) → q < length states → Reaches states entry q → ReadFails q (state_at states q))
       → (n q : ℕ) → q < length states → Reaches states entry q → (go q at).depth < n → (go q at).answer ≡ None
   reached_fails agree inside fails zero q lt from d = absurd (omega arith)
   reached_fails agree inside fails (suc n) q lt from d =
-      one_fails n q (state_at states q) (agree q lt).names ((agree q lt).does at inside) d (fails q lt from)
-      (λ p leads low less. reached_fails agree inside fails n p low (onward q p from leads) less)
+      one_fails MayHold holds_not n q (state_at states q) (agree q lt).names ((agree q lt).does at inside) d (fails q lt from)
+      (λ p leads low less. reached_fails agree inside fails n p low (onward q p from (leads_any (state_at states q) p leads)) less)
 
   -- no match begins at a place where all fail that read
   pub readers_fail : AllAgree view stop states go → at ≤ stop → entry < length states → ((q : ℕ) → q < length states → Reaches states entry q → ReadFails q (state_at states q))
@@ -142,6 +167,67 @@ module _ (view : View) (stop : ℕ) (states : List State) (go : ℕ → Continua
       → (go entry at).answer ≡ None
   refused_fails agree inside low cannot =
       readers_fail agree inside low (λ q lt from. refused_reader q (state_at states q) ((agree q lt).does at inside) (cannot q from))
+
+-- after a character that no match begins after
+module _ (view : View) (stop : ℕ) (states : List State) (go : ℕ → Continuation) (matchers : List CharClassMatcher) (rules : Rules) (entry at c : ℕ) (after : Option ℕ)
+    (shows : Shows matchers rules view at (Some c) after) where
+  abbrev May : Test → Type 0
+  May check = may_pass rules.unicode matchers check c ≡ true
+
+  -- an assertion that does not pass after the character does not hold
+  never_holds : (check : Test) → may_pass rules.unicode matchers check c ≡ false → passes matchers rules check (Some c) after ≡ false
+  never_holds StartText never = refl
+  never_holds (StartLine crlf) never = line_fails (c == 10) (crlf && c == 13) crlf (c == 13) (not (is_char 10 after)) never refl
+  never_holds (LookBehind leaf) never = never
+  never_holds (LookBehindNeg leaf) never = never
+  never_holds EndText never = absurd (true≢false never)
+  never_holds (EndLine crlf) never = absurd (true≢false never)
+  never_holds WordBoundary never = absurd (true≢false never)
+  never_holds NotWordBoundary never = absurd (true≢false never)
+  never_holds LeftWordBoundary never = absurd (true≢false never)
+  never_holds RightWordBoundary never = absurd (true≢false never)
+  never_holds (LookAhead leaf) never = absurd (true≢false never)
+  never_holds (LookAheadNeg leaf) never = absurd (true≢false never)
+
+  may_or_not : (check : Test) → (view.holds check at ≡ false) ⊎ May check
+  may_or_not check = elim (true_or_false (may_pass rules.unicode matchers check c)) [
+    | inl may ↦ inr may
+    | inr never ↦ inl (shows.holds check ∙ never_holds check never)
+  ]
+
+  -- what neither reads nor is final leads on after the character
+  silent_fails : (q : ℕ) (state : State) → IsSilent state → ReadFails view stop states go matchers rules entry at (Some c) after refl shows q state
+  silent_fails q (S.Read leaf next) silent = absurd silent
+  silent_fails q (S.Look check next) silent = tt
+  silent_fails q (Split first second) silent = tt
+  silent_fails q (Enter g next) silent = tt
+  silent_fails q (Leave g next) silent = tt
+  silent_fails q (Ask part negated next) silent = tt
+  silent_fails q (Atomic part same moved) silent = tt
+  silent_fails q Match silent = absurd silent
+
+  leads_after : (state : State) (p : ℕ) → LeadsBy view stop states go matchers rules entry at (Some c) after refl shows May state p
+      → LeadsAfter rules.unicode matchers c state p
+  leads_after (S.Read leaf next) p leads = leads
+  leads_after (S.Look check next) p leads = leads
+  leads_after (Split first second) p leads = leads
+  leads_after (Enter g next) p leads = leads
+  leads_after (Leave g next) p leads = leads
+  leads_after (Ask part negated next) p leads = leads
+  leads_after (Atomic part same moved) p leads = leads
+  leads_after Match p leads = leads
+
+  all_fail_after : AllAgree view stop states go → at ≤ stop → CannotBeginAfter rules.unicode matchers states entry c
+      → (n q : ℕ) → q < length states → ReachesAfter rules.unicode matchers states entry c q → (go q at).depth < n → (go q at).answer ≡ None
+  all_fail_after agree inside cannot zero q lt from d = absurd (omega arith)
+  all_fail_after agree inside cannot (suc n) q lt from d =
+      one_fails view stop states go matchers rules entry at (Some c) after refl shows May may_or_not n q (state_at states q)
+      (agree q lt).names ((agree q lt).does at inside) d (silent_fails q (state_at states q) (cannot q from))
+      (λ p leads low less. all_fail_after agree inside cannot n p low (B.onward q p from (leads_after (state_at states q) p leads)) less)
+
+  pub after_fails : AllAgree view stop states go → at ≤ stop → entry < length states → CannotBeginAfter rules.unicode matchers states entry c
+      → (go entry at).answer ≡ None
+  after_fails agree inside low cannot = all_fail_after agree inside cannot ((go entry at).depth + 1) entry low B.here (omega arith)
 
 -- a state that reads fails where no way goes on after what it reads
 followed_reader : (view : View) (stop : ℕ) (states : List State) (go : ℕ → Continuation) (matchers : List CharClassMatcher) (rules : Rules) (entry at : ℕ) (before after : Option ℕ)
@@ -189,6 +275,27 @@ pub marks_say : (unicode : Bool) (matchers : List CharClassMatcher) (states : Li
     → (c : ℕ) → c < 128 → slice_index_or marks c false ≡ true → CannotBegin unicode matchers states entry (Some c)
 marks_say unicode matchers states entry marks is c low marked =
     ∥∥₁_elim is (Π_prop λ q. Π_prop λ _. CannotRead-prop unicode matchers (Some c) (state_at states q)) (λ refuses. refuses c low marked)
+
+IsSilent-prop : (state : State) → IsProp (IsSilent state)
+IsSilent-prop (S.Read leaf next) = ⊥_prop
+IsSilent-prop (S.Look check next) = Unit-prop
+IsSilent-prop (Split first second) = Unit-prop
+IsSilent-prop (Enter g next) = Unit-prop
+IsSilent-prop (Leave g next) = Unit-prop
+IsSilent-prop (Ask part negated next) = Unit-prop
+IsSilent-prop (Atomic part same moved) = Unit-prop
+IsSilent-prop Match = ⊥_prop
+
+-- what the marks of characters before starts say holds, and what is said of those that are not ASCII
+pub after_say : (unicode : Bool) (matchers : List CharClassMatcher) (states : List State) (entry : ℕ) (marks : List Bool) → ∥ RefusesAfter unicode matchers states entry marks ∥₁
+    → (c : ℕ) → c < 128 → slice_index_or marks c false ≡ true → CannotBeginAfter unicode matchers states entry c
+after_say unicode matchers states entry marks is c low marked =
+    ∥∥₁_elim is (Π_prop λ q. Π_prop λ _. IsSilent-prop (state_at states q)) (λ refuses. refuses.ascii c low marked)
+
+pub wide_after_say : (unicode : Bool) (matchers : List CharClassMatcher) (states : List State) (entry : ℕ) (marks : List Bool) → ∥ RefusesAfter unicode matchers states entry marks ∥₁
+    → (c : ℕ) → 128 ≤ c → CannotBeginAfter unicode matchers states entry c
+wide_after_say unicode matchers states entry marks is c high =
+    ∥∥₁_elim is (Π_prop λ q. Π_prop λ _. IsSilent-prop (state_at states q)) (λ refuses. refuses.wide c high)
 
 -- what the marks of second characters say holds
 pub seconds_say : (unicode : Bool) (matchers : List CharClassMatcher) (states : List State) (entry : ℕ) (marks : List Bool) → ∥ RefusesSecond unicode matchers states entry marks ∥₁
@@ -257,9 +364,19 @@ module _ (context : SearchContext) (text : List ℕ) (view : View) (go : ℕ →
         | inr pair ↦ pair_fails context text view go explains utf8 i boundary some below pair
       ]
 
+  after_start_fails : IsRefusedAfter context text i → (go context.entry i).answer ≡ None
+  after_start_fails is =
+      let before = before_some text i utf8 boundary some in
+      after_fails view context.stop context.states.now go context.matchers.now context.rules context.entry i before.0 (char_at text i)
+      (subst (λ (o : Option ℕ). Shows context.matchers.now context.rules view i o (char_at text i)) before.1 (explains.shows i boundary))
+      explains.agree high below (is.none utf8 boundary before.0 before.1)
+
   pub skipped_fails : IsSkippedAt context text i → (go context.entry i).answer ≡ None
   skipped_fails is =
       elim is [
         | inl refused ↦ refused_start_fails refused
-        | inr wide ↦ wide_fails wide
+        | inr other ↦ elim other [
+          | inl wide ↦ wide_fails wide
+          | inr after ↦ after_start_fails after
+        ]
       ]

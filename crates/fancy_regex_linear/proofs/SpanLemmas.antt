@@ -50,6 +50,7 @@ module _ (easy : Easy) (text : List ℕ) (input : RunInput) (context : SearchCon
     passing = ap (λ p. p.first) h.passing ∙ sym of.refused;
     seconds = rw (h.passing, of.states, of.matchers, of.entry, of.rules) easy.seconds;
     wide = rw (h.passing, of.states, of.matchers, of.entry, of.rules) easy.wides;
+    before = rw (h.before, of.states, of.matchers, of.entry, of.rules, of.refused) easy.befores;
     first = ap (λ r. r.longest) of.rules ∙ h.first;
     start_shown = ap (λ r. r.no_start_text) of.rules ∙ h.start_shown;
     end_shown = ap (λ r. r.no_end_text) of.rules ∙ h.end_shown;

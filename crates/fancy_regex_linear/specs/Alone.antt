@@ -81,17 +81,18 @@ pub record IsUnknownAt (context : SearchContext) (text : List ℕ) (place : Star
 abbrev pub IsUnknown : SearchContext → ℕ × Option ℕ → ℕ → ℕ → Alone → Type 0
 IsUnknown context place from read (Found start end) = ⊥
 IsUnknown context place from read NoMatch = ⊥
-IsUnknown context place from read (Unknown start first last) =
-    (start.at ≡ place.0) × (start.after ≡ place.1) × (first ≡ from) × (last ≡ read)
+IsUnknown context place from read (Unknown start) =
+    (start.place.at ≡ place.0) × (start.place.after ≡ place.1) × (start.from ≡ from) × (start.read ≡ read)
     × ((text : List ℕ) → IsUtf8 text → IsCharBoundary text place.0 → context.stop ≤ length text → char_at text place.0 ≡ place.1
-    → places text false place.0 context.stop ≡ place.0 ∷ places_from text false start.next context.stop)
-    × ((text : List ℕ) → IfSome place.1 (λ c. IsCharBoundary text (place.0 + len_utf8 c)) → IfSome start.next (IsAfter text context.stop place.0))
+    → places text false place.0 context.stop ≡ place.0 ∷ places_from text false start.place.next context.stop)
+    × ((text : List ℕ) → IfSome place.1 (λ c. IsCharBoundary text (place.0 + len_utf8 c)) → IfSome start.place.next (IsAfter text context.stop place.0))
 
 -- what the table alone says is so
 abbrev pub AloneSays : SearchContext → Counted → Counted → ℕ → Alone → Type 0
 AloneSays context old new first (Found start end) =
     IsFirstFrom context (looked_text old) first start end × IsLookedFor old new (start - first + 1) (context.stop - first)
 AloneSays context old new first NoMatch = IsNoneFrom context old new first
-AloneSays context old new first (Unknown place from read) =
-    IsUnknownAt context (looked_text old) place from read × (first ≤ place.at) × AllFailBetween context (looked_text old) first place.at
-    × IsLookedFor old new (place.at - first + 1) (place.at - first)
+AloneSays context old new first (Unknown start) =
+    IsUnknownAt context (looked_text old) start.place start.from start.read × (first ≤ start.place.at)
+    × AllFailBetween context (looked_text old) first start.place.at
+    × IsLookedFor old new (start.place.at - first + 1) (start.place.at - first)

@@ -13,6 +13,7 @@ pub record IsTableFor (easy : Easy) (text : List ℕ) (input : RunInput) (it : T
   pub table : ∥ IsTable (record { states = easy.states.items; entry = easy.entry; matchers = easy.matchers.items; unicode = easy.unicode }) it.table.now ∥₁
   pub text_is : it.text.now ≡ text
   pub passing : it.passing.now ≡ easy.passing
+  pub before : it.before.now ≡ easy.before
   pub first : easy.longest ≡ false
   pub start_shown : input.no_start_text ≡ false
   pub end_shown : input.no_end_text ≡ false

@@ -21,3 +21,4 @@ pub mod Verdicts
 pub mod Alone
 pub mod RegularStates
 pub mod Passing
+pub mod Before

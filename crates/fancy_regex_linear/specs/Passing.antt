@@ -1,5 +1,5 @@
 -- The characters at which starts are passed over.
-use Rattle.std.specs.Prelude.{◌≡◌, ◌⊎◌, ◌<◌, ◌≤◌, ℕ, List, Bool, true, false, Option, Some, None, slice_index_or, length}
+use Rattle.std.specs.Prelude.{◌≡◌, ◌⊎◌, ◌-◌, ◌<◌, ◌≤◌, ℕ, List, Bool, true, false, Option, Some, None, slice_index_or, length}
 use Rattle.fancy_regex_class.specs.declared.class.CharClassMatcher.{CharClassMatcher}
 use Rattle.fancy_regex_states.specs.First.{RefusesWide}
 use Rattle.fancy_regex_states.specs.declared.state.State.{State}
@@ -29,3 +29,10 @@ pub record ArePairsUntil (bytes : List ℕ) (marks : List Bool) (wide : Bool) (o
   pub range : (from ≤ at) × (at ≤ length bytes)
   pub passed : (i : ℕ) → from ≤ i → i < at → IsPairAt bytes marks wide others i
   pub stop : IsStop bytes wide at
+
+-- the places from one offset up to another come after bytes that are passed over, or pairs of one and the byte at the place
+pub record AreAfterPairsUntil (bytes : List ℕ) (marks : List Bool) (wide : Bool) (others : List Bool) (from at : ℕ) : Type 0 where
+  pub range : (from ≤ at) × (at ≤ length bytes)
+  pub first : from ≡ 0 → at ≡ 0
+  pub passed : (i : ℕ) → from ≤ i → i < at → IsPairAt bytes marks wide others (i - 1)
+  pub stop : (at ≡ from) ⊎ (at ≡ length bytes) ⊎ (slice_index_or bytes (at - 1) 0 < 128) ⊎ (wide ≡ false)

@@ -1,5 +1,6 @@
 -- Starts that are settled: by the table, or by attempts.
 use Rattle.std.specs.Prelude.{◌≡◌, ◌+◌, ◌-◌, ◌^◌, ◌<◌, ◌≤◌, ℕ, Bool, false, List, ◌∷◌, Option, Some, None, length, vec_len, min, unwrap_or, IfSome, IsCharBoundary, IsUtf8}
+use Rattle.std.specs.Option.{ForSome}
 use Rattle.fancy_regex_class.specs.Looks.{look_count}
 use Rattle.fancy_regex_class.specs.declared.counted.Counted.{Counted}
 use Rattle.fancy_regex_states.specs.Attempts.{View, Continuation}
@@ -11,6 +12,7 @@ use Rattle.fancy_regex_table.specs.declared.table.Passed.{Passed}
 use Rattle.fancy_regex_table.specs.declared.table.Passed.TheVariants as P
 use Rattle.fancy_regex_linear.specs.Attempt.{trace_end}
 use Rattle.fancy_regex_linear.specs.Find.{FoundMatch, earliest, attempted, places, places_from, found_of_span}
+use Rattle.fancy_regex_linear.specs.Before.{IsBeforeOf}
 use Rattle.fancy_regex_linear.specs.Passing.{RefusesWideIf}
 use Rattle.fancy_regex_linear.specs.Layers.{IsBetweenAttempts, IsOnlyLookedAt}
 use Rattle.fancy_regex_linear.specs.Search.{AllFail, Explains, end_spot}
@@ -34,6 +36,7 @@ pub record IsTableSearch (context : SearchContext) (text : List ℕ) (it : Table
   pub passing : it.passing.now.first ≡ context.refused.now
   pub seconds : ∥ RefusesSecond context.rules.unicode context.matchers.now context.states.now context.entry it.passing.now.second ∥₁
   pub wide : ∥ RefusesWideIf it.passing.now.wide context.rules.unicode context.matchers.now context.states.now context.entry ∥₁
+  pub before : ForSome it.before.now (IsBeforeOf context.rules.unicode context.matchers.now context.states.now context.entry context.refused.now)
   pub first : context.rules.longest ≡ false
   pub start_shown : context.rules.no_start_text ≡ false
   pub end_shown : context.rules.no_end_text ≡ false

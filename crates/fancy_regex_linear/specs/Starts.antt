@@ -1,10 +1,11 @@
 -- The starts of a search that are to be attempted.
-use Rattle.std.specs.Prelude.{◌≡◌, ◌⊎◌, ◌+◌, ◌-◌, ◌^◌, ◌<◌, ◌≤◌, min, ℕ, Bool, false, List, [], ◌∷◌, Option, Some, None, IfSome, IsCharBoundary, length, slice_index_or}
+use Rattle.std.specs.Prelude.{◌≡◌, ◌⊎◌, ◌+◌, ◌-◌, ◌^◌, ◌<◌, ◌≤◌, min, ℕ, Bool, false, List, [], ◌∷◌, Option, Some, None, IfSome, IsCharBoundary, IsUtf8, length, slice_index_or}
 use Rattle.std.specs.Char.{len_utf8}
-use Rattle.regex_hir.specs.Text.{char_at}
+use Rattle.regex_hir.specs.Text.{char_at, char_before}
 use Rattle.fancy_regex_class.specs.Looks.{looked_text, look_count, SameCounter, HasMarkedAscii}
 use Rattle.fancy_regex_class.specs.declared.counted.Counted.{Counted}
 use Rattle.fancy_regex_states.specs.First.{CannotFollow, RefusesWide}
+use Rattle.fancy_regex_states.specs.Before.{CannotBeginAfter}
 use Rattle.fancy_regex_states.specs.Attempts.{View, Continuation}
 use Rattle.fancy_regex_linear.specs.Meaning.{Spot}
 use Rattle.fancy_regex_linear.specs.Attempt.{trace_end}
@@ -58,9 +59,14 @@ pub record IsWideAt (context : SearchContext) (text : List ℕ) (i : ℕ) : Type
   pub byte : 128 ≤ slice_index_or text i 0
   pub none : RefusesWide context.rules.unicode context.matchers.now context.states.now context.entry
 
--- no match starts at i, by what stands there, or after it
+-- no match begins after the character before i
+pub record IsRefusedAfter (context : SearchContext) (text : List ℕ) (i : ℕ) : Type 0 where
+  pub none : IsUtf8 text → IsCharBoundary text i → (c : ℕ) → char_before text i ≡ Some c
+      → CannotBeginAfter context.rules.unicode context.matchers.now context.states.now context.entry c
+
+-- no match starts at i, by what stands there, after it or before it
 abbrev pub IsSkippedAt : SearchContext → List ℕ → ℕ → Type 0
-IsSkippedAt context text i = IsRefusedAt context text i ⊎ IsWideAt context text i
+IsSkippedAt context text i = IsRefusedAt context text i ⊎ IsWideAt context text i ⊎ IsRefusedAfter context text i
 
 -- the start at i is passed over for what stands there, or after it
 pub record IsPassed (context : SearchContext) (text : List ℕ) (anchored : Bool) (i : ℕ) : Type 0 where

@@ -9,6 +9,7 @@ ghost use Rattle.fancy_regex_linear.specs.Alone.{AllFailBetween, AloneSays, IsUn
 ghost use Rattle.fancy_regex_linear.specs.Layers.{IsSearchContext};
 ghost use Rattle.fancy_regex_linear.specs.Settled.{IsTableSearch};
 
+use crate::before::by_before_alone;
 use crate::by_table::{TableSearch, pass_counted};
 use crate::search::SearchContext;
 use crate::skip::{skip_pairs, skip_refused};
@@ -20,19 +21,21 @@ use fancy_regex_table::Passed;
 #[derive(Clone, Copy)]
 pub enum Alone {
     /// The first match.
-    Found {
-        start: usize,
-        end: usize,
-    },
+    Found { start: usize, end: usize },
     /// No match.
     NoMatch,
-    /// The table does not tell of the start `place`, which was looked at, and no match starts before `from`. Where `read` is after the
-    /// start, the characters up to there were read.
-    Unknown {
-        place: Start,
-        from: usize,
-        read: usize,
-    },
+    /// The table does not tell whether the start here matches.
+    Unknown(UnknownStart),
+}
+
+/// A start of which the table does not tell whether it matches. It was looked at.
+#[derive(Clone, Copy)]
+pub struct UnknownStart {
+    pub place: Start,
+    /// No match starts before this byte offset.
+    pub from: usize,
+    /// Where this is after the start, the table has read the characters up to here.
+    pub read: usize,
 }
 
 /// The first start from `at` on at which the characters there do not show that no match begins, and the character there; `None` where
@@ -65,20 +68,24 @@ fn pass_over(
 }
 
 /// That the table does not tell of this start, where none before `from` matches and the characters up to `read` were read.
-fn unknown(context: &SearchContext, place: (usize, Option<char>), from: usize, read: usize) -> Alone
+pub fn unknown(
+    context: &SearchContext,
+    place: (usize, Option<char>),
+    from: usize,
+    read: usize,
+) -> Alone
     requires range { place.0 ≤ context.now.stop }
     ensures { IsUnknown context.now place from read result }
 {
     let (at, after) = place;
     let next = start_after(at, after, false, context.stop);
     let place = Start { at, after, next };
-    Alone::Unknown { place, from, read }
+    Alone::Unknown(UnknownStart { place, from, read })
 }
 
-/// Goes through the text by the table from `from` on: to the first match, to the end, or to a start of which the table does not tell
-/// whether it matches. Each character that is passed over or read costs a look.
+/// Goes through the text as `by_table_alone` does, by what stands at starts.
 #[inline(always)]
-pub fn by_table_alone(
+fn by_starts_alone(
     context: &SearchContext,
     text: &mut Counted,
     it: TableSearch,
@@ -112,9 +119,34 @@ pub fn by_table_alone(
     }
 }
 
+/// Goes through the text by the table from `from` on: to the first match, to the end, or to a start of which the table does not tell
+/// whether it matches. Each character that is passed over or read costs a look. Starts are passed over by the characters before them,
+/// if the search has these.
+#[inline(always)]
+pub fn by_table_alone(
+    context: &SearchContext,
+    text: &mut Counted,
+    it: TableSearch,
+    from: usize,
+) -> Alone
+    requires context { IsSearchContext context.now }
+    requires table { IsTableSearch context.now (looked_text text.old) it }
+    requires range { (from ≤ context.now.stop) × (context.now.stop ≤ length (looked_text text.old)) }
+    requires text { IsUtf8 (looked_text text.old) }
+    requires boundary { IsCharBoundary (looked_text text.old) from }
+    ensures { AloneSays context.now text.old text.new from result }
+{
+    if let Some(before) = it.before.as_ref() {
+        // A context of its own, so that the values of the other one stay in registers.
+        let own = *context;
+        return by_before_alone(&own, text, it, before, from);
+    }
+    by_starts_alone(context, text, it, from)
+}
+
 /// Whether an ASCII character stands here.
 #[inline(always)]
-fn is_ascii(c: Option<char>) -> bool {
+pub fn is_ascii(c: Option<char>) -> bool {
     match c {
         Some(c) => (c as u32) < 128,
         None => false,

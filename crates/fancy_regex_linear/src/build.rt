@@ -493,7 +493,8 @@ fn are_supported(children: &[Expr]) -> bool
 /// Whether the tree becomes a pattern with parts.
 #[cycle(regular)]
 pub fn is_regular(expr: &Expr) -> bool
-    ensures { result ≡ true → IsRegular (tree_of expr.now) }
+    ensures regular { result ≡ true → IsRegular (tree_of expr.now) }
+    ensures other { result ≡ false → IsRegular (tree_of expr.now) → ⊥ }
 {
     match expr {
         Expr::Empty | Expr::Any { .. } | Expr::Literal { .. } | Expr::Delegate { .. } => true,
@@ -515,7 +516,8 @@ pub fn is_regular(expr: &Expr) -> bool
 /// Whether all these trees become patterns with parts.
 #[cycle(regular)]
 fn are_regular(children: &[Expr]) -> bool
-    ensures { result ≡ true → AreRegular (all_trees children.now) }
+    ensures regular { result ≡ true → AreRegular (all_trees children.now) }
+    ensures other { result ≡ false → AreRegular (all_trees children.now) → ⊥ }
 {
     for i in 0..children.len() {
         if !is_regular(&children[i]) {
@@ -528,6 +530,7 @@ fn are_regular(children: &[Expr]) -> bool
 /// Whether the tree reads one character.
 fn is_one_char(expr: &Expr) -> bool
     ensures one { result ≡ true → IsOneChar (tree_of expr.now) }
+    ensures more { result ≡ false → IsOneChar (tree_of expr.now) → ⊥ }
     ensures none { result ≡ false → (unicode : Bool) (k : ℕ) → char_leaf unicode k (tree_of expr.now) ≡ None }
 {
     match expr {

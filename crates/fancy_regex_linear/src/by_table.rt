@@ -14,7 +14,7 @@ ghost use Rattle.fancy_regex_linear.specs.Settled.{IsAtStart, IsLoaded, IsSettle
 
 use crate::memory::SearchMemory;
 use crate::passing::Passing;
-use crate::search::{SearchContext, attempt_start};
+use crate::search::{SearchContext, SearchMode, attempt_start};
 use crate::settle::Settled;
 use crate::starts::{Start, start_after};
 use fancy_regex_class::{Counted, count_places};
@@ -28,6 +28,8 @@ pub struct TableSearch<'p> {
     pub text: &'p str,
     /// The characters at which starts are passed over.
     pub passing: &'p Passing,
+    /// The characters before starts by which they are passed over, if it is done by these.
+    pub before: &'p Option<Passing>,
 }
 
 /// What the table tells of the starts from `start` on, at which a search has looked. The table reads the text by itself. Each place at
@@ -68,30 +70,28 @@ pub fn pass_counted(
 pub fn by_table(
     context: &SearchContext,
     text: &mut Counted,
-    table: Option<TableSearch>,
     place: Start,
-    anchored: bool,
+    mode: &SearchMode,
     memory: &mut SearchMemory,
-    span_only: bool,
 ) -> Result<Option<Settled>, AllocError>
     requires context { IsSearchContext context.now }
-    requires start { IsAtStart context.now (looked_text text.old) anchored place memory.old }
-    requires table { IfSome table (IsTableSearch context.now (looked_text text.old)) }
+    requires start { IsAtStart context.now (looked_text text.old) mode.now.anchored place memory.old }
+    requires table { IfSome mode.now.table (IsTableSearch context.now (looked_text text.old)) }
     ensures settled { IfOk result (λ found. IfSome found (IsSettled context.now (looked_text text.old)
         (look_count text.old) (look_count text.new)
-        anchored span_only place memory.old memory.new)) }
+        mode.now.anchored mode.now.span_only place memory.old memory.new)) }
     ensures same { IfOk result (λ found. found ≡ None → (look_count text.new ≡ look_count text.old) × (memory.new ≡ memory.old)) }
     ensures settling { IsSettling context.now text.old text.new place memory.old memory.new }
 {
-    let Some(it) = table else {
+    let Some(it) = mode.table else {
         return Ok(None);
     };
-    if anchored || !is_ascii(place.after) {
+    if mode.anchored || !is_ascii(place.after) {
         return Ok(None);
     }
     match pass_counted(context, text, it, place.at) {
         Passed::Match { start, end, .. } => {
-            load_match(context, text, start, memory, span_only)?;
+            load_match(context, text, start, memory, mode.span_only)?;
             Ok(Some(Settled::Found { start, end }))
         }
         Passed::Ended => Ok(Some(Settled::On { next: None })),

@@ -7,22 +7,24 @@ ghost use Rattle.fancy_regex_tree.specs.Tree.{Tree};
 ghost use Rattle.fancy_regex_states.specs.First.{IsTableOf, RefusesSecond};
 ghost use Rattle.fancy_regex_states.specs.declared.state.State.{State as StateValue};
 ghost use Rattle.fancy_regex_linear.specs.Search.{RefusesAscii};
+ghost use Rattle.std.specs.Option.{ForSome};
+ghost use Rattle.fancy_regex_linear.specs.Before.{HasMarksBefore, IsBeforeOf};
 ghost use Rattle.fancy_regex_linear.specs.Passing.{RefusesWideIf};
 ghost use Rattle.fancy_regex_table.specs.Tables.{IsTable};
 
 use crate::build::{Translator, is_supported};
 use crate::by_table::TableSearch;
 use crate::emit::emit;
-use crate::first::{by_table_first, with_memory};
+use crate::first::{Request, by_table_first, with_memory};
 use crate::memory::SearchMemory;
-use crate::passing::Passing;
-use crate::search::SearchContext;
+use crate::passing::{By, Passing};
+use crate::search::{SearchContext, SearchMode};
 use crate::starts::refused_ascii;
 use crate::state::add;
 use crate::verdict::{Verdict, table_verdict};
 use fancy_regex_class::{CharClassMatcher, Counted, RunInput, Steps};
 use fancy_regex_info::{BytesMode, CompileError, CompileOptions, Info};
-use fancy_regex_states::{FirstChars, Rules, State};
+use fancy_regex_states::{FirstChars, Rules, State, refused_after};
 use fancy_regex_table::Table;
 use std::alloc::{AllocError, Global};
 
@@ -48,6 +50,8 @@ pub struct Easy {
     first: Option<FirstChars>,
     /// The characters at which starts are passed over.
     passing: Passing,
+    /// The characters before starts by which they are passed over, if it is done by these.
+    before: Option<Passing>,
     /// The table that goes through the text, where the first match is wanted.
     rows: Option<Table>,
     ghost made: { IsMade states.items entry },
@@ -55,6 +59,7 @@ pub struct Easy {
     ghost marks: { ∥ RefusesAscii unicode matchers.items states.items entry passing.first ∥₁ },
     ghost seconds: { ∥ RefusesSecond unicode matchers.items states.items entry passing.second ∥₁ },
     ghost wides: { ∥ RefusesWideIf passing.wide unicode matchers.items states.items entry ∥₁ },
+    ghost befores: { ForSome before (IsBeforeOf unicode matchers.items states.items entry passing.first) },
     ghost cells: { ∥ IfSome rows (IsTable (record {
       states = states.items;
       entry = entry;
@@ -181,7 +186,21 @@ impl Easy {
         let entry = emit(&translated.node, &mut states, 0)?;
         let first = FirstChars::new(alloc, &states, entry, &translator.matchers, options.unicode)?;
         let refused = refused_ascii(&first, &translator.matchers, options.unicode);
-        let passing = passing_of(&first, &refused, &translator.matchers, options.unicode);
+        let refused_before = refused_after(
+            alloc,
+            &states,
+            entry,
+            &translator.matchers,
+            options.unicode,
+        )?;
+        let before = before_for(&first, &refused_before, &refused);
+        let passing = passing_of(
+            &first,
+            &refused,
+            &translator.matchers,
+            options.unicode,
+            before.is_some(),
+        );
         let rows = table_of(
             alloc,
             &states,
@@ -200,6 +219,7 @@ impl Easy {
             longest: options.leftmost_longest,
             first,
             passing,
+            before,
             rows,
         })
     }
@@ -245,7 +265,10 @@ impl Easy {
         ensures at_least { IfOk result (λ _. LooksAtLeast self.now text.now input.now steps.old steps.new) }
         ensures counts { steps.old ≤ steps.new }
     {
-        match self.span_in(text, input, steps, memory, false)? {
+        if input.first > input.range.end {
+            return Ok(None);
+        }
+        match self.span_with_memory(text, input, steps, memory, false)? {
             Some((start, end)) => {
                 let slots = memory.take_answer(alloc)?;
                 Ok(Some(self.places(slots, start, end)))
@@ -270,8 +293,28 @@ impl Easy {
         ensures at_least { IfOk result (λ _. LooksAtLeast self.now text.now input.now steps.old steps.new) }
         ensures counts { steps.old ≤ steps.new }
     {
-        let span = self.span_in(text, input, steps, memory, true)?;
-        Ok(span)
+        if input.first > input.range.end {
+            return Ok(None);
+        }
+        if !input.anchored {
+            if let Some(it) = self.table_search(text, input) {
+                // Read so that the proof knows that the counter is a `u64`, which no look lowers.
+                let _before = steps.count();
+                let context = self.context(input);
+                let mut counted = Counted::new(text, steps);
+                let span = by_table_first(
+                    &context,
+                    &mut counted,
+                    input.first,
+                    it,
+                    self.groups,
+                    memory,
+                )?;
+                return Ok(span);
+            }
+        }
+        let attempt = self.span_with_memory(text, input, steps, memory, true)?;
+        Ok(attempt)
     }
 
     /// Whether `search_in` finds a match. Where the table tells it, the text is read up to the first sign of a match alone; nothing is
@@ -292,7 +335,7 @@ impl Easy {
             Verdict::NoneBefore { at } => at,
         };
         let rest = RunInput { first, ..*input };
-        let span = self.span_in(text, &rest, &mut Steps::new(), memory, true)?;
+        let span = self.find_span_in(text, &rest, &mut Steps::new(), memory)?;
         Ok(span.is_some())
     }
 
@@ -328,66 +371,8 @@ impl Easy {
         table_verdict(&context, &mut counted, it, at)
     }
 
-    /// Searches the text as `search_in` does, and answers where the match starts and ends. The slots of the match are in the
-    /// memory, unless the span alone is wanted.
-    fn span_in(
-        &self,
-        text: &str,
-        input: &RunInput,
-        steps: &mut Steps,
-        memory: &mut SearchMemory,
-        span_only: bool,
-    ) -> Result<Option<(usize, usize)>, AllocError>
-        requires first { IsCharBoundary text.now input.now.first }
-        requires range { input.now.range.end ≤ length text.now }
-        ensures answer { IfOk result (IsMatchSpan self.now text.now input.now) }
-        ensures slots { IfOk result (λ found. span_only ≡ false → IsMatchSlots self.now text.now input.now
-            (option_map (found_slots self.now.whole) (found_of_span found memory.new.backtrack.slots.items))) }
-        ensures at_most { LooksAtMost self.now input.now steps.old steps.new }
-        ensures at_least { IfOk result (λ _. LooksAtLeast self.now text.now input.now steps.old steps.new) }
-        ensures counts { steps.old ≤ steps.new }
-    {
-        if input.first > input.range.end {
-            return Ok(None);
-        }
-        if span_only && !input.anchored {
-            if let Some(it) = self.table_search(text, input) {
-                let span = self.span_by_table(text, input, it, steps, memory)?;
-                return Ok(span);
-            }
-        }
-        let span = self.span_with_memory(text, input, steps, memory, span_only)?;
-        Ok(span)
-    }
-
-    /// Searches for the span alone, by the table as far as that tells. The error is want of memory.
-    #[inline(always)]
-    fn span_by_table(
-        &self,
-        text: &str,
-        input: &RunInput,
-        it: TableSearch,
-        steps: &mut Steps,
-        memory: &mut SearchMemory,
-    ) -> Result<Option<(usize, usize)>, AllocError>
-        requires first { IsCharBoundary text.now input.now.first }
-        requires range { (input.now.first ≤ input.now.range.end) × (input.now.range.end ≤ length text.now) }
-        requires many { input.now.anchored ≡ false }
-        requires table { IsTableFor self.now text.now input.now it }
-        ensures answer { IfOk result (IsMatchSpan self.now text.now input.now) }
-        ensures at_most { LooksAtMost self.now input.now steps.old steps.new }
-        ensures at_least { IfOk result (λ _. LooksAtLeast self.now text.now input.now steps.old steps.new) }
-        ensures counts { steps.old ≤ steps.new }
-    {
-        // Read so that the proof knows that the counter is a `u64`, which no look lowers.
-        let _before = steps.count();
-        let context = self.context(input);
-        let mut counted = Counted::new(text, steps);
-        let span = by_table_first(&context, &mut counted, input.first, it, self.groups, memory)?;
-        Ok(span)
-    }
-
-    /// Searches the text as `span_in` does, with memory. The error is want of memory.
+    /// Searches the text with memory, and answers where the match starts and ends. The slots of the match are in the memory, unless the
+    /// span alone is wanted. The error is want of memory.
     // Not inlined: few searches for a span come to it.
     #[inline(never)]
     fn span_with_memory(
@@ -411,16 +396,16 @@ impl Easy {
         let _before = steps.count();
         let context = self.context(input);
         let mut counted = Counted::new(text, steps);
-        let span = with_memory(
-            &context,
-            &mut counted,
-            input.first,
-            input.anchored,
-            self.table_search(text, input),
-            self.groups,
-            memory,
-            span_only,
-        )?;
+        let request = Request {
+            start: input.first,
+            groups: self.groups,
+            mode: SearchMode {
+                anchored: input.anchored,
+                table: self.table_search(text, input),
+                span_only,
+            },
+        };
+        let span = with_memory(&context, &mut counted, &request, memory)?;
         Ok(span)
     }
 
@@ -458,6 +443,7 @@ impl Easy {
                 table,
                 text,
                 passing: &self.passing,
+                before: &self.before,
             }),
             None => None,
         }
@@ -487,12 +473,38 @@ impl Easy {
     }
 }
 
+/// The characters before starts by which starts are passed over, as `Passing::before_of` has them.
+fn before_for(
+    first: &Option<FirstChars>,
+    refused_before: &Option<[bool; 128]>,
+    refused: &[bool; 128],
+) -> Option<Passing>
+    ensures { IfSome result (HasMarksBefore refused_before.now refused.now) }
+{
+    match first {
+        Some(first) => Passing::before_of(refused_before, refused, first.refused_second()),
+        None => Passing::before_of(refused_before, refused, &None),
+    }
+}
+
+/// How starts are passed over fastest.
+fn way_of(has_before: bool, wide: bool) -> By {
+    if has_before {
+        By::Before
+    } else if wide {
+        By::Bytes
+    } else {
+        By::Chars
+    }
+}
+
 /// The characters at which starts are passed over, by these tables.
 fn passing_of(
     first: &Option<FirstChars>,
     refused: &[bool; 128],
     matchers: &[CharClassMatcher],
     unicode: bool,
+    has_before: bool,
 ) -> Passing
     ensures first { result.first ≡ refused.now }
     ensures wide { (states : List State) (entry : ℕ) → ∥ IfSome first.now (IsTableOf unicode matchers.now states entry) ∥₁
@@ -503,9 +515,10 @@ fn passing_of(
     match first {
         Some(first) => {
             let wide = first.refuses_wide(matchers, unicode);
-            Passing::new(refused, wide, first.refused_second())
+            let by = way_of(has_before, wide);
+            Passing::new(refused, wide, first.refused_second(), by)
         }
-        None => Passing::new(refused, false, &None),
+        None => Passing::new(refused, false, &None, way_of(has_before, false)),
     }
 }
 

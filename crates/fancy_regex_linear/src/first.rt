@@ -10,12 +10,11 @@ ghost use Rattle.fancy_regex_linear.specs.Search.{Explains};
 ghost use Rattle.fancy_regex_linear.specs.Settled.{IsAnswer, IsAtStart, IsSettledAfter, IsSettling, IsTableSearch};
 ghost use Rattle.fancy_regex_linear.specs.Starts.{spot_from};
 
-use crate::alone::{Alone, by_table_alone};
+use crate::alone::{Alone, UnknownStart, by_table_alone};
 use crate::by_table::{TableSearch, by_attempts};
 use crate::memory::SearchMemory;
-use crate::search::{SearchContext, earliest_match};
+use crate::search::{SearchContext, SearchMode, earliest_match};
 use crate::settle::{Settled, by_attempt};
-use crate::starts::Start;
 use fancy_regex_class::Counted;
 use std::alloc::AllocError;
 
@@ -49,108 +48,116 @@ pub fn by_table_first(
     match by_table_alone(context, text, it, start) {
         Alone::Found { start, end } => Ok(Some((start, end))),
         Alone::NoMatch => Ok(None),
-        Alone::Unknown { place, from, read } => {
+        Alone::Unknown(unknown) => {
             // A context of its own, so that the values of the other one stay in registers.
             let own = *context;
-            let span = from_unknown(&own, text, it, place, from, read, groups, memory)?;
+            let span = from_unknown(&own, text, it, &unknown, groups, memory)?;
             Ok(span)
         }
     }
 }
 
-/// The start and the end of the first match from `start` on, as byte offsets, of a pattern with so many groups, with its slots in the
-/// memory, unless the span alone is wanted. The error is want of memory.
+/// What a search with memory asks for.
+#[derive(Clone, Copy)]
+pub struct Request<'t> {
+    /// The first byte offset at which a match may start.
+    pub start: usize,
+    /// How many groups the pattern has.
+    pub groups: usize,
+    pub mode: SearchMode<'t>,
+}
+
+/// The start and the end of the first match, as byte offsets, with its slots in the memory, unless the span alone is wanted. The error
+/// is want of memory.
 pub fn with_memory(
     context: &SearchContext,
     text: &mut Counted,
-    start: usize,
-    anchored: bool,
-    table: Option<TableSearch>,
-    groups: usize,
+    request: &Request,
     memory: &mut SearchMemory,
-    span_only: bool,
 ) -> Result<Option<(usize, usize)>, AllocError>
     requires context { IsSearchContext context.now }
-    requires range { (start ≤ context.now.stop) × (context.now.stop ≤ length (looked_text text.old)) }
+    requires range { (request.now.start ≤ context.now.stop) × (context.now.stop ≤ length (looked_text text.old)) }
     requires text { IsUtf8 (looked_text text.old) }
-    requires start { IsCharBoundary (looked_text text.old) start }
-    requires table { IfSome table (IsTableSearch context.now (looked_text text.old)) }
+    requires start { IsCharBoundary (looked_text text.old) request.now.start }
+    requires table { IfSome request.now.mode.table (IsTableSearch context.now (looked_text text.old)) }
     ensures answer { IfOk result (λ span. (view : View) (go : ℕ → Continuation) → Explains context.now (looked_text text.old) view go
-        → IsAnswer span_only span memory.new.backtrack.slots.items
-        (earliest (spot_from go context.now.entry (unset_slots groups)) (places (looked_text text.old) anchored start context.now.stop))) }
-    ensures at_most { look_count text.new
-        ≤ look_count text.old + (context.now.stop - start + 1) * length context.now.states.now + (context.now.stop - start + 1) }
+        → IsAnswer request.now.mode.span_only span memory.new.backtrack.slots.items
+        (earliest (spot_from go context.now.entry (unset_slots request.now.groups))
+        (places (looked_text text.old) request.now.mode.anchored request.now.start context.now.stop))) }
+    ensures at_most { look_count text.new ≤ look_count text.old
+        + (context.now.stop - request.now.start + 1) * length context.now.states.now + (context.now.stop - request.now.start + 1) }
     ensures at_least { IfOk result (λ _. (view : View) (go : ℕ → Continuation) → Explains context.now (looked_text text.old) view go
-        → min (look_count text.old + attempted (spot_from go context.now.entry (unset_slots groups))
-        (places (looked_text text.old) anchored start context.now.stop)) (2 ^ 64 - 1) ≤ look_count text.new) }
+        → min (look_count text.old + attempted (spot_from go context.now.entry (unset_slots request.now.groups))
+        (places (looked_text text.old) request.now.mode.anchored request.now.start context.now.stop)) (2 ^ 64 - 1) ≤ look_count text.new) }
     ensures more { min (look_count text.old) (2 ^ 64 - 1) ≤ look_count text.new }
     ensures same_counter { SameCounter text.old text.new }
 {
-    memory.restart(context.states.len(), start, groups)?;
-    let span = earliest_match(context, text, start, anchored, table, memory, span_only)?;
+    memory.restart(context.states.len(), request.start, request.groups)?;
+    let span = earliest_match(context, text, request.start, &request.mode, memory)?;
     Ok(span)
 }
 
-/// The start and the end of the first match from the start `place` on, where none starts before `from` and the table has read the text
-/// up to `read`. The error is want of memory.
+/// The start and the end of the first match from the start on of which the table does not tell. The error is want of memory.
 #[inline(never)]
 fn from_unknown(
     context: &SearchContext,
     text: &mut Counted,
     it: TableSearch,
-    place: Start,
-    from: usize,
-    read: usize,
+    unknown: &UnknownStart,
     groups: usize,
     memory: &mut SearchMemory,
 ) -> Result<Option<(usize, usize)>, AllocError>
     requires context { IsSearchContext context.now }
     requires range { context.now.stop ≤ length (looked_text text.old) }
     requires text { IsUtf8 (looked_text text.old) }
-    requires unknown { IsUnknownAt context.now (looked_text text.old) place from read }
+    requires unknown { IsUnknownAt context.now (looked_text text.old) unknown.now.place unknown.now.from unknown.now.read }
     requires table { IsTableSearch context.now (looked_text text.old) it }
     ensures answer { IfOk result (λ span. (view : View) (go : ℕ → Continuation) → Explains context.now (looked_text text.old) view go
         → IsAnswer true span memory.new.backtrack.slots.items
-        (earliest (spot_from go context.now.entry (unset_slots groups)) (places (looked_text text.old) false place.at context.now.stop))) }
-    ensures at_most { look_count text.new
-        ≤ look_count text.old + (context.now.stop - place.at + 1) * length context.now.states.now + (context.now.stop - place.at) }
+        (earliest (spot_from go context.now.entry (unset_slots groups)) (places (looked_text text.old) false unknown.now.place.at context.now.stop))) }
+    ensures at_most { look_count text.new ≤ look_count text.old
+        + (context.now.stop - unknown.now.place.at + 1) * length context.now.states.now + (context.now.stop - unknown.now.place.at) }
     ensures at_least { IfOk result (λ _. (view : View) (go : ℕ → Continuation) → Explains context.now (looked_text text.old) view go
         → min (look_count text.old + (attempted (spot_from go context.now.entry (unset_slots groups))
-        (places (looked_text text.old) false place.at context.now.stop) - 1)) (2 ^ 64 - 1) ≤ look_count text.new) }
+        (places (looked_text text.old) false unknown.now.place.at context.now.stop) - 1)) (2 ^ 64 - 1) ≤ look_count text.new) }
     ensures more { min (look_count text.old) (2 ^ 64 - 1) ≤ look_count text.new }
     ensures same_counter { SameCounter text.old text.new }
 {
-    memory.restart(context.states.len(), place.at, groups)?;
-    match settle_unknown(context, text, place, from, read, memory)? {
+    memory.restart(context.states.len(), unknown.place.at, groups)?;
+    match settle_unknown(context, text, unknown, memory)? {
         Settled::Found { start, end } => Ok(Some((start, end))),
         Settled::On { next: None } => Ok(None),
         Settled::On { next: Some(next) } => {
-            let span = earliest_match(context, text, next, false, Some(it), memory, true)?;
+            let mode = SearchMode {
+                anchored: false,
+                table: Some(it),
+                span_only: true,
+            };
+            let span = earliest_match(context, text, next, &mode, memory)?;
             Ok(span)
         }
     }
 }
 
-/// Settles the starts from `place` on of which the table did not tell, by attempts. The error is want of memory.
+/// Settles the starts from this one on of which the table did not tell, by attempts. The error is want of memory.
 fn settle_unknown(
     context: &SearchContext,
     text: &mut Counted,
-    place: Start,
-    from: usize,
-    read: usize,
+    unknown: &UnknownStart,
     memory: &mut SearchMemory,
 ) -> Result<Settled, AllocError>
     requires context { IsSearchContext context.now }
-    requires start { IsAtStart context.now (looked_text text.old) false place memory.old }
-    requires unknown { IsUnknownAt context.now (looked_text text.old) place from read }
+    requires start { IsAtStart context.now (looked_text text.old) false unknown.now.place memory.old }
+    requires unknown { IsUnknownAt context.now (looked_text text.old) unknown.now.place unknown.now.from unknown.now.read }
     ensures settled { IfOk result (IsSettledAfter context.now (looked_text text.old) (look_count text.old) (look_count text.new)
-        true place from memory.old memory.new) }
-    ensures settling { IsSettling context.now text.old text.new place memory.old memory.new }
+        true unknown.now.place unknown.now.from memory.old memory.new) }
+    ensures settling { IsSettling context.now text.old text.new unknown.now.place memory.old memory.new }
 {
-    if read == place.at {
+    let place = unknown.place;
+    if unknown.read == place.at {
         let settled = by_attempt(context, text, place, false, memory)?;
         return Ok(settled);
     }
-    let settled = by_attempts(context, text, place, from, read, memory)?;
+    let settled = by_attempts(context, text, place, unknown.from, unknown.read, memory)?;
     Ok(settled)
 }

@@ -9,6 +9,7 @@
 
 mod alone;
 mod backtrack;
+mod before;
 mod build;
 mod by_table;
 mod easy;

@@ -1,14 +1,25 @@
 //! The characters at which starts are passed over.
 
-ghost use Rattle.std.specs.Prelude.{◌≡◌, ◌≤◌, ◌<◌, ◌⊎◌, true, false, IfSome, length};
+ghost use Rattle.std.specs.Prelude.{◌≡◌, ◌≤◌, ◌<◌, ◌+◌, ◌⊎◌, ℕ, true, false, IfSome, length};
 ghost use Rattle.std.specs.Option.{ForSome};
-ghost use Rattle.fancy_regex_linear.specs.Passing.{HasMarksOf, IsPassedUntil, ArePairsUntil};
-ghost use Rattle.fancy_regex_stops.specs.Stops.{Covers, IsMarked};
+ghost use Rattle.fancy_regex_linear.specs.Passing.{HasMarksOf, IsPassedUntil, ArePairsUntil, AreAfterPairsUntil};
+ghost use Rattle.fancy_regex_stops.specs.Stops.{Covers, IsBeforeMarked, IsMarked, IsPairAt};
 
 use fancy_regex_stops::Stops;
 
 /// How many bytes are tested together.
 pub const TOGETHER: usize = 16;
+
+/// By what starts are passed over. Each is right; this says which is fast.
+#[derive(Clone, Copy, PartialEq, Eq)]
+pub enum By {
+    /// The ASCII characters there, one after another.
+    Chars,
+    /// The bytes there.
+    Bytes,
+    /// The bytes before.
+    Before,
+}
 
 /// The characters at which starts are passed over.
 #[derive(Clone, Copy)]
@@ -19,6 +30,8 @@ pub struct Passing {
     pub wide: bool,
     /// The same as `first` of the second character of a match, where the first one is ASCII.
     pub second: [bool; 128],
+    /// How it is done.
+    pub by: By,
     /// The ranges of the others, if they are few.
     pub first_stops: Option<Stops>,
     pub second_stops: Option<Stops>,
@@ -27,8 +40,11 @@ pub struct Passing {
 }
 
 impl Passing {
+    ghost use Rattle.std.specs.Prelude.{IfSome};
+    ghost use Rattle.fancy_regex_linear.specs.Before.{HasMarksBefore};
+
     /// The characters that are marked, and all that are not ASCII if `wide`. None are where nothing is known of the second.
-    pub fn new(first: &[bool; 128], wide: bool, second: &Option<[bool; 128]>) -> Passing
+    pub fn new(first: &[bool; 128], wide: bool, second: &Option<[bool; 128]>, by: By) -> Passing
         ensures first { result.first ≡ first.now }
         ensures wide { result.wide ≡ wide }
         ensures second { HasMarksOf second.now result.second }
@@ -41,9 +57,39 @@ impl Passing {
             first: *first,
             wide,
             second,
+            by,
             first_stops: Stops::of(first, wide),
             second_stops: Stops::of(&second, false),
         }
+    }
+
+    /// The characters before starts by which starts are passed over, where no match begins after those that are marked, nor after one that
+    /// is not ASCII; `None` where they are as common as the first or the second characters of matches, or not in few ranges. The second ones
+    /// of these are the first ones of matches.
+    pub fn before_of(
+        refused: &Option<[bool; 128]>,
+        first: &[bool; 128],
+        second: &Option<[bool; 128]>,
+    ) -> Option<Passing>
+        ensures { IfSome result (HasMarksBefore refused.now first.now) }
+    {
+        let Some(marked) = refused else {
+            return None;
+        };
+        let common = commonness(marked);
+        if common >= commonness(first) {
+            return None;
+        }
+        if let Some(second) = second {
+            if common >= commonness(second) {
+                return None;
+            }
+        }
+        let passing = Passing::new(marked, true, &Some(*first), By::Bytes);
+        if passing.first_stops.is_none() {
+            return None;
+        }
+        Some(passing)
     }
 
     /// The first byte offset from `from` on of a character that is not known to begin no match, or the end; `None` where the ranges are
@@ -73,14 +119,77 @@ impl Passing {
         let Some(first_stops) = self.first_stops else {
             return None;
         };
-        let Some(second_stops) = self.second_stops else {
-            return None;
-        };
-        let at = first_stops.pairs_until(&second_stops, bytes, from);
+        let at = self.pairs_from(first_stops, bytes, from);
         if bytes.len() - at > TOGETHER && self.is_stop(bytes[at]) {
             return Some(at);
         }
         Some(self.bytes_until(bytes, at))
+    }
+
+    /// The first byte offset from `from` on that does not come after a character that is marked, nor has one of the second ones, or the
+    /// end: where these are the characters before starts and those at them.
+    #[inline(always)]
+    pub fn after_pairs_until(&self, bytes: &[u8], from: usize) -> usize
+        requires { from ≤ length bytes.now }
+        ensures { AreAfterPairsUntil bytes.now self.now.first self.now.wide self.now.second from result }
+    {
+        if from == 0 {
+            return from;
+        }
+        let Some(last) = self.pairs_until(bytes, from - 1) else {
+            return from;
+        };
+        if last >= bytes.len() {
+            return last;
+        }
+        last + 1
+    }
+
+    /// The place to which `pairs_until` goes together.
+    #[inline(always)]
+    fn pairs_from(&self, first_stops: Stops, bytes: &[u8], from: usize) -> usize
+        requires range { from ≤ length bytes.now }
+        requires covers { Covers first_stops self.now.first self.now.wide }
+        ensures range { (from ≤ result) × (result ≤ length bytes.now) }
+        ensures passed { (i : ℕ) → from ≤ i → i < result → IsPairAt bytes.now self.now.first self.now.wide self.now.second i }
+    {
+        match self.second_stops {
+            Some(second_stops) => first_stops.pairs_until(&second_stops, bytes, from),
+            None => self.marked_until(first_stops, bytes, from),
+        }
+    }
+
+    /// The same where the second characters are in many ranges.
+    // Not inlined: few patterns have them.
+    #[inline(never)]
+    fn marked_until(&self, first_stops: Stops, bytes: &[u8], from: usize) -> usize
+        requires range { from ≤ length bytes.now }
+        requires covers { Covers first_stops self.now.first self.now.wide }
+        ensures range { (from ≤ result) × (result ≤ length bytes.now) }
+        ensures passed { (i : ℕ) → from ≤ i → i < result → IsPairAt bytes.now self.now.first self.now.wide self.now.second i }
+    {
+        let mut at = from;
+        'stops: loop {
+            let stop = first_stops.until(bytes, at);
+            if bytes.len() - stop <= TOGETHER {
+                return stop;
+            }
+            if !self.is_before_marked(bytes, stop) {
+                return stop;
+            }
+            at = stop + 1;
+        }
+    }
+
+    /// Whether an ASCII character stands here before a marked one.
+    #[inline(always)]
+    fn is_before_marked(&self, bytes: &[u8], at: usize) -> bool
+        requires { at + 1 < length bytes.now }
+        ensures { result ≡ true → IsBeforeMarked bytes.now self.now.second at }
+    {
+        let byte = bytes[at];
+        let next = bytes[at + 1];
+        byte < 128 && next < 128 && self.second[next as usize]
     }
 
     /// The first byte offset from `from` on of a byte of a character that is not known to begin no match, or the end.
@@ -118,5 +227,28 @@ impl Passing {
             return self.first[byte as usize];
         }
         self.wide
+    }
+}
+
+/// How often a character of a text is one of those that are not marked, by a fixed measure.
+fn commonness(marked: &[bool; 128]) -> u32 {
+    let mut sum = 0u32;
+    for code in 0..128u8 {
+        if !marked[code as usize] {
+            sum = sum.saturating_add(weight(code));
+        }
+    }
+    sum
+}
+
+/// How many of a thousand characters of a text are this one, about.
+fn weight(code: u8) -> u32 {
+    match code {
+        b' ' => 150,
+        b'\n' | b'a'..=b'z' => 25,
+        b'A'..=b'Z' => 2,
+        b'0'..=b'9' => 4,
+        b'!'..=b'~' => 3,
+        _ => 0,
     }
 }

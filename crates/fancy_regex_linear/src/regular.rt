@@ -1,7 +1,8 @@
 //! The states of patterns with parts.
 
-ghost use Rattle.std.specs.Prelude.{◌≡◌, Bool, IfOk, IfSome};
-ghost use Rattle.fancy_regex_tree.specs.Tree.{Tree};
+ghost use Rattle.std.specs.Prelude.{◌≡◌, ◌∷◌, ◌↔◌, [], ℕ, Bool, List, IfErr, IfOk, IfSome, IsSome};
+ghost use Rattle.fancy_regex_tree.specs.Tree.{Tree, tree_of};
+ghost use Rattle.fancy_regex_states.specs.declared.state.State.TheVariants.{Match};
 
 use crate::build::{Translator, is_regular};
 use crate::emit::emit;
@@ -26,9 +27,13 @@ pub struct RegularStates {
 }
 
 impl RegularStates {
-    ghost use Rattle.fancy_regex_linear.specs.RegularStates.{AreRegularStates};
+    ghost use Rattle.fancy_regex_linear.specs.Plain.{classes, re_of};
+    ghost use Rattle.fancy_regex_linear.specs.Program.{emitted};
+    ghost use Rattle.fancy_regex_linear.specs.Refusals.{IsClassCause};
+    ghost use Rattle.fancy_regex_linear.specs.RegularStates.{AreRegularStates, IsMadeFor};
     ghost use Rattle.fancy_regex_info.specs.Analysis.{analysis};
     ghost use Rattle.fancy_regex_info.specs.Infos.{info_of};
+    ghost use Rattle.fancy_regex_info.specs.declared.info.Info.{out-Info};
     ghost use Rattle.fancy_regex_info.specs.Views.{pattern_in};
 
     /// The states of an analyzed pattern; `None` where its weight is above 4,000, or where it has more than characters, assertions,
@@ -39,8 +44,14 @@ impl RegularStates {
         info: &Info<'_>,
         options: &CompileOptions,
     ) -> Result<Option<RegularStates>, CompileError>
-        ensures { IfOk result (λ found. IfSome found (λ made. (explicit : Bool) (t : Tree) → info_of info.now ≡ analysis explicit t
+        ensures made { IfOk result (λ found. IfSome found (λ made. (explicit : Bool) (t : Tree) → info_of info.now ≡ analysis explicit t
             → AreRegularStates options.now.unicode made.states.items made.entry made.matchers.items (pattern_in explicit t))) }
+        ensures program { IfOk result (λ found. IfSome found (λ made. (groups : List Tree) → (first : ℕ)
+            × (emitted (re_of options.now.unicode groups first 0 (tree_of (out-Info info.now).expr.now)) (Match ∷ []) 0
+            ≡ (made.states.items, made.entry)))) }
+        ensures exact { IfOk result (λ found. (explicit : Bool) (t : Tree) → info_of info.now ≡ analysis explicit t
+            → (IsSome found ↔ IsMadeFor (pattern_in explicit t))) }
+        ensures refused { IfErr result (IsClassCause options.now.unicode (classes (tree_of (out-Info info.now).expr.now))) }
     {
         if info.weight > GREATEST_WEIGHT {
             return Ok(None);

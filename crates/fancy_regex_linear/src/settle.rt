@@ -5,9 +5,9 @@ ghost use Rattle.fancy_regex_class.specs.Looks.{looked_text, look_count};
 ghost use Rattle.fancy_regex_linear.specs.Layers.{IsSearchContext};
 ghost use Rattle.fancy_regex_linear.specs.Settled.{IsAtStart, IsSettled, IsSettling, IsTableSearch};
 
-use crate::by_table::{TableSearch, by_table};
+use crate::by_table::by_table;
 use crate::memory::SearchMemory;
-use crate::search::{SearchContext, attempt_start};
+use crate::search::{SearchContext, SearchMode, attempt_start};
 use crate::starts::Start;
 use fancy_regex_class::Counted;
 use std::alloc::AllocError;
@@ -26,23 +26,21 @@ pub enum Settled {
 pub fn settle(
     context: &SearchContext,
     text: &mut Counted,
-    table: Option<TableSearch>,
     place: Start,
-    anchored: bool,
+    mode: &SearchMode,
     memory: &mut SearchMemory,
-    span_only: bool,
 ) -> Result<Settled, AllocError>
     requires context { IsSearchContext context.now }
-    requires start { IsAtStart context.now (looked_text text.old) anchored place memory.old }
-    requires table { IfSome table (IsTableSearch context.now (looked_text text.old)) }
+    requires start { IsAtStart context.now (looked_text text.old) mode.now.anchored place memory.old }
+    requires table { IfSome mode.now.table (IsTableSearch context.now (looked_text text.old)) }
     ensures settled { IfOk result (IsSettled context.now (looked_text text.old) (look_count text.old) (look_count text.new)
-        anchored span_only place memory.old memory.new) }
+        mode.now.anchored mode.now.span_only place memory.old memory.new) }
     ensures settling { IsSettling context.now text.old text.new place memory.old memory.new }
 {
-    if let Some(settled) = by_table(context, text, table, place, anchored, memory, span_only)? {
+    if let Some(settled) = by_table(context, text, place, mode, memory)? {
         return Ok(settled);
     }
-    let settled = by_attempt(context, text, place, anchored, memory)?;
+    let settled = by_attempt(context, text, place, mode.anchored, memory)?;
     Ok(settled)
 }
 

@@ -7,9 +7,10 @@ ghost use Rattle.fancy_regex_class.specs.Looks.{looked_text, look_count, SameCou
 ghost use Rattle.fancy_regex_states.specs.First.{RefusesSecond};
 ghost use Rattle.fancy_regex_linear.specs.Settled.{IsTableSearch};
 ghost use Rattle.fancy_regex_linear.specs.Starts.{IsPlaceFrom, IsSkippedAt};
+ghost use Rattle.fancy_regex_linear.specs.Before.{IsBeforeOf};
 
 use crate::by_table::TableSearch;
-use crate::passing::TOGETHER;
+use crate::passing::{By, Passing, TOGETHER};
 use crate::search::SearchContext;
 use crate::starts::pass_pairs;
 use fancy_regex_class::{Counted, count_places, skip_ascii};
@@ -72,6 +73,55 @@ pub fn skip_pairs(
     (at, after)
 }
 
+/// The place to which `skip_before` goes, if the search has characters before starts, and else that of `skip_refused`.
+#[inline(never)]
+fn skip_before_or_refused(
+    context: &SearchContext,
+    text: &mut Counted,
+    it: TableSearch,
+    from: usize,
+) -> (usize, Option<char>)
+    requires table { IsTableSearch context.now (looked_text text.old) it }
+    requires text { IsUtf8 (looked_text text.old) }
+    requires range { from ≤ context.now.stop }
+    requires boundary { IsCharBoundary (looked_text text.old) from }
+    ensures place { IsPlaceFrom text.old text.new from context.now.stop result }
+    ensures passed { (i : ℕ) → from ≤ i → i < result.0 → IsSkippedAt context.now (looked_text text.old) i }
+    ensures ticked { look_count text.new ≡ min (look_count text.old + (result.0 - from + 1)) (2 ^ 64 - 1) }
+{
+    match it.before.as_ref() {
+        Some(before) => skip_before(context, text, it, before, from),
+        None => skip_refused(context, text, it, from),
+    }
+}
+
+/// The first byte offset from `from` on that is not known to begin no match by the character before it and the one there, or the end,
+/// and the character there. Each place up to that one costs a look.
+#[inline(always)]
+pub fn skip_before(
+    context: &SearchContext,
+    text: &mut Counted,
+    it: TableSearch,
+    before: &Passing,
+    from: usize,
+) -> (usize, Option<char>)
+    requires before { IsBeforeOf context.now.rules.unicode context.now.matchers.now context.now.states.now context.now.entry
+        context.now.refused.now before.now }
+    requires table { IsTableSearch context.now (looked_text text.old) it }
+    requires text { IsUtf8 (looked_text text.old) }
+    requires range { from ≤ context.now.stop }
+    requires boundary { IsCharBoundary (looked_text text.old) from }
+    ensures place { IsPlaceFrom text.old text.new from context.now.stop result }
+    ensures passed { (i : ℕ) → from ≤ i → i < result.0 → IsSkippedAt context.now (looked_text text.old) i }
+    ensures ticked { look_count text.new ≡ min (look_count text.old + (result.0 - from + 1)) (2 ^ 64 - 1) }
+{
+    let bytes = it.text.as_bytes();
+    let at = before.after_pairs_until(bytes, from);
+    count_places(text, from, at);
+    let (_, after) = text.look(at);
+    (at, after)
+}
+
 /// The place to which `skip_refused` goes from `from` on, also where the search has no table. Where a match may begin with a character
 /// that is not ASCII, starts are passed over one after another: then few bytes are left to pass over together.
 #[inline(always)]
@@ -90,8 +140,10 @@ pub fn skip_firsts(
     ensures ticked { look_count text.new ≡ min (look_count text.old + (result.0 - from + 1)) (2 ^ 64 - 1) }
 {
     if let Some(it) = table {
-        if it.passing.wide {
-            return skip_refused(context, text, it, from);
+        match it.passing.by {
+            By::Chars => {}
+            By::Bytes => return skip_refused(context, text, it, from),
+            By::Before => return skip_before_or_refused(context, text, it, from),
         }
     }
     skip_ascii(text, from, context.stop, context.refused)
@@ -117,8 +169,10 @@ pub fn skip_places(
     ensures passed { (i : ℕ) → from ≤ i → i < result.0 → IsSkippedAt context.now (looked_text text.old) i }
 {
     if let Some(it) = table {
-        if it.passing.wide {
-            return skip_pairs(context, text, it, from, second);
+        match it.passing.by {
+            By::Chars => {}
+            By::Bytes => return skip_pairs(context, text, it, from, second),
+            By::Before => return skip_before_or_refused(context, text, it, from),
         }
     }
     pass_pairs(context, text, from, second)

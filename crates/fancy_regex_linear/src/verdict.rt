@@ -8,7 +8,7 @@ ghost use Rattle.fancy_regex_linear.specs.Verdicts.{IsPassedOver, IsVerdict, IsV
 
 use crate::by_table::{TableSearch, char_before};
 use crate::search::SearchContext;
-use crate::skip::{skip_pairs, skip_refused};
+use crate::skip::{skip_before, skip_pairs, skip_refused};
 use crate::starts::{refuses_all, second_chars};
 use fancy_regex_class::Counted;
 use fancy_regex_table::Sign;
@@ -42,6 +42,9 @@ fn pass_starts(
 {
     if at == 0 {
         return Some(at);
+    }
+    if let Some(before) = it.before.as_ref() {
+        return Some(skip_before(context, text, it, before, at).0);
     }
     if refuses_all(context) {
         return None;

@@ -1,5 +1,6 @@
 pub mod RecallLemmas
 pub mod WeightLemmas
+pub mod MarkLemmas
 pub mod StackLemmas
 pub mod TrackLemmas
 pub mod CostLemmas

@@ -1,5 +1,5 @@
 -- A table of states with marks, and what a visit of each state costs.
-use Rattle.std.specs.Prelude.{◌≡◌, ℕ, ◌+◌, ◌%◌, ◌<◌, ◌≤◌, length, Option, Some, None, max, sum_by, slice_index_or}
+use Rattle.std.specs.Prelude.{◌≡◌, ℕ, ◌+◌, ◌%◌, ◌<◌, ◌≤◌, List, length, Option, Some, None, max, sum_by, slice_index_or}
 use Rattle.fancy_regex_states.specs.Attempts.{NamesBelow}
 use Rattle.fancy_regex_states.specs.First.{state_at}
 use Rattle.fancy_regex_states.specs.declared.state.State.{State}
@@ -64,3 +64,7 @@ pub record IsRightAt (table : PartTable) (q : ℕ) : Type 0 where
 pub record IsTable (table : PartTable) : Type 0 where
   pub right : (q : ℕ) → q < length table.states.items → IsRightAt table q
   pub light : table_weight table ≤ length table.states.items
+
+-- each of these states leads to states that are there
+abbrev pub AreClosed : List State → Type 0
+AreClosed states = (q : ℕ) → q < length states → NamesBelow (length states) (state_at states q)

@@ -30,6 +30,14 @@ pub struct PartContext<'p> {
     pub stop: usize,
 }
 
+/// A byte offset in the text, and the characters around it.
+#[derive(Clone, Copy)]
+struct Place {
+    at: usize,
+    before: Option<char>,
+    after: Option<char>,
+}
+
 /// Executes the state of the number `q` at the byte offset `at`, which costs one look. The error is want of memory.
 #[inline(always)]
 fn step(
@@ -51,31 +59,36 @@ fn step(
     ensures looks { IsOnlyLookedAt text.old text.new }
 {
     let (before, after) = text.look(at);
-    let task = advance(context, q, state, at, before, after, stack)?;
+    let place = Place { at, before, after };
+    let task = advance(context, q, state, place, stack)?;
     Ok(task)
 }
 
-/// Executes the state of the number `q` at the byte offset `at`, between the characters `before` and `after`. The error is want of
-/// memory.
+/// Executes the state of the number `q` at this place. The error is want of memory.
 #[inline(always)]
 fn advance(
     context: &PartContext,
     q: usize,
     state: State,
-    at: usize,
-    before: Option<char>,
-    after: Option<char>,
+    place: Place,
     stack: &mut Vec<Frame>,
 ) -> Result<Task, AllocError>
-    requires { IfSome after (λ c. at + len_utf8 c < 2 ^ 64) }
+    requires { IfSome place.after (λ c. place.at + len_utf8 c < 2 ^ 64) }
     ensures task { IfOk result (λ task. task ≡
-        step_task context.now.matchers.now context.now.rules context.now.stop q state at before after) }
-    ensures frames { OnOk result (top_first stack.new.items ≡ step_frames state at (top_first stack.old.items)) }
+        step_task context.now.matchers.now context.now.rules context.now.stop q state place.at place.before place.after) }
+    ensures frames { OnOk result (top_first stack.new.items ≡ step_frames state place.at (top_first stack.old.items)) }
 {
+    let at = place.at;
     match state {
-        State::Read { leaf, next } => Ok(read(context, leaf, next, at, after)),
+        State::Read { leaf, next } => Ok(read(context, leaf, next, at, place.after)),
         State::Look { test, next } => {
-            if test_holds(context.matchers, context.rules, test, before, after) {
+            if test_holds(
+                context.matchers,
+                context.rules,
+                test,
+                place.before,
+                place.after,
+            ) {
                 Ok(Task::Visit { state: next, at })
             } else {
                 Ok(Task::Answer(None))

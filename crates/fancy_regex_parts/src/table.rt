@@ -1,6 +1,8 @@
 //! The states of parts, which of them are marked, and what it costs to try them.
 
-ghost use Rattle.std.specs.Prelude.{◌≡◌, ◌+◌, ◌-◌, ◌*◌, ◌^◌, ◌<◌, ◌≤◌, ℕ, true, Some, length, min, slice_index_or, IfOk, IfSome};
+ghost use Rattle.std.specs.Prelude.{◌≡◌, ◌+◌, ◌-◌, ◌*◌, ◌^◌, ◌<◌, ◌≤◌, ◌↔◌, ℕ, true, false, Some, length, min, replicate, slice_index_or, IfOk, IfSome, IsSome};
+ghost use Rattle.fancy_regex_parts.specs.Tables.{AreClosed};
+ghost use Rattle.fancy_regex_states.specs.First.{state_at};
 ghost use Rattle.fancy_regex_states.specs.Attempts.{NamesBelow};
 
 use fancy_regex_states::State;
@@ -26,14 +28,34 @@ impl PartTable {
     ghost use Rattle.fancy_regex_states.specs.First.{state_at};
     ghost use Rattle.fancy_regex_parts.specs.Tables.{IsTable, IsRightAt, mark_of, cost_of, due as due_is, owed as owed_is, table_weight};
 
-    /// The table of these states. A state leads to earlier states, but for the heads of loops; `None` where a state leads to one that
-    /// is not there, where states that are not marked lead in a circle, or where the marked states together, or one state, cost more than
-    /// there are states. The error is want of memory.
+    /// The table of these states; `None` exactly where a state leads to one that is not there. A state leads to earlier states, but for
+    /// the heads of loops: so few are marked. Where that does not do, since states that are not marked lead in a circle, or cost more than
+    /// there are states, all are marked. The error is want of memory.
     pub fn new(alloc: Global, states: Vec<State>) -> Result<Option<PartTable>, AllocError>
-        ensures { IfOk result (λ made. IfSome made (λ table. IsTable table × (table.states.items ≡ states.items))) }
+        ensures made { IfOk result (λ made. IfSome made (λ table. IsTable table × (table.states.items ≡ states.items))) }
+        ensures exact { IfOk result (λ made. IsSome made ↔ AreClosed states.items) }
     {
         let marked = marked_states(alloc, &states)?;
-        let (marks, heads) = numbered(alloc, &marked)?;
+        let table = PartTable::with_marks(alloc, states, &marked)?;
+        if table.is_right() {
+            return Ok(Some(table));
+        }
+        if !are_closed(&table.states) {
+            return Ok(None);
+        }
+        let table = PartTable::all_marked(alloc, table.states)?;
+        Ok(Some(table))
+    }
+
+    /// The table of these states with marks on those that are to be marked, and costs that may not be right. The error is want of memory.
+    fn with_marks(
+        alloc: Global,
+        states: Vec<State>,
+        marked: &[bool],
+    ) -> Result<PartTable, AllocError>
+        ensures { IfOk result (λ table. table.states.items ≡ states.items) }
+    {
+        let (marks, heads) = numbered(alloc, marked)?;
         let mut costs = Vec::new(alloc);
         costs.resize(states.len(), 0)?;
         let mut table = PartTable {
@@ -45,11 +67,28 @@ impl PartTable {
         };
         table.set_costs(false);
         table.set_costs(true);
-        if table.is_right() {
-            Ok(Some(table))
-        } else {
-            Ok(None)
+        Ok(table)
+    }
+
+    /// The table of these states with a mark on each: to try one costs one look. The error is want of memory.
+    fn all_marked(alloc: Global, states: Vec<State>) -> Result<PartTable, AllocError>
+        requires { AreClosed states.items }
+        ensures { IfOk result (λ table. IsTable table × (table.states.items ≡ states.items)) }
+    {
+        let mut marks = Vec::new(alloc);
+        let mut heads: Vec<usize> = Vec::new(alloc);
+        for q in 0..states.len() {
+            marks.push(Some(q))?;
+            heads.push(q)?;
         }
+        let costs = ones(alloc, states.len())?;
+        Ok(PartTable {
+            states,
+            marks,
+            heads,
+            costs,
+            most: 1,
+        })
     }
 
     /// The parts' weight, what all marked states cost, at most the last `usize`: over all questions of one memory, a search in them looks
@@ -176,7 +215,8 @@ impl PartTable {
 
 /// Whether each state that this one names is below `count`.
 fn names_below(state: State, count: usize) -> bool
-    ensures { result ≡ true → NamesBelow count state }
+    ensures names { result ≡ true → NamesBelow count state }
+    ensures other { result ≡ false → NamesBelow count state → ⊥ }
 {
     match state {
         State::Read { next, .. }
@@ -188,6 +228,29 @@ fn names_below(state: State, count: usize) -> bool
         State::Atomic { part, same, moved } => part < count && same < count && moved < count,
         State::Match => true,
     }
+}
+
+/// Whether each of these states leads to states that are there.
+fn are_closed(states: &[State]) -> bool
+    ensures closed { result ≡ true → AreClosed states.now }
+    ensures other { result ≡ false → AreClosed states.now → ⊥ }
+{
+    for q in 0..states.len() {
+        if !leads_inside(states, q) {
+            return false;
+        }
+    }
+    true
+}
+
+/// Whether the state of this number leads to states that are there.
+fn leads_inside(states: &[State], q: usize) -> bool
+    requires { q < length states.now }
+    ensures inside { result ≡ true → NamesBelow (length states.now) (state_at states.now q) }
+    ensures other { result ≡ false → NamesBelow (length states.now) (state_at states.now q) → ⊥ }
+{
+    let state = states[q];
+    names_below(state, states.len())
 }
 
 /// For each state whether it is to be marked. The error is want of memory.
@@ -240,6 +303,15 @@ fn note_edge(marked: &mut [bool], entered: &mut [bool], from: usize, to: usize) 
         }
         entered[to] = true;
     }
+}
+
+/// A cost of one look for each of so many states. The error is want of memory.
+fn ones(alloc: Global, count: usize) -> Result<Vec<usize>, AllocError>
+    ensures { IfOk result (λ costs. costs.items ≡ replicate count 1) }
+{
+    let mut costs = Vec::new(alloc);
+    costs.resize(count, 1)?;
+    Ok(costs)
 }
 
 /// The marks of states, and the state of each mark, where these are to be marked. The error is want of memory.

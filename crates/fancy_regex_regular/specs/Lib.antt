@@ -1,3 +1,4 @@
 pub mod TableProps
 pub mod Starts
 pub mod Regulars
+pub mod Supported

@@ -4,6 +4,7 @@
 #![tactic(auto)]
 
 mod memory;
+mod outside;
 mod regular;
 
 pub use memory::RegularMemory;

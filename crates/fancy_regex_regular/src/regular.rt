@@ -1,7 +1,7 @@
 //! Compiled regular patterns, and their searches.
 
-ghost use Rattle.std.specs.Prelude.{◌≡◌, ◌+◌, ◌-◌, ◌*◌, ◌^◌, ◌<◌, ◌≤◌, Bool, length, min, replicate, IfOk, IfSome, IsCharBoundary, option_map, slice_set};
-ghost use Rattle.fancy_regex_tree.specs.Tree.{Tree};
+ghost use Rattle.std.specs.Prelude.{◌≡◌, ◌+◌, ◌-◌, ◌*◌, ◌^◌, ◌<◌, ◌≤◌, ◌↔◌, Bool, length, min, replicate, IfErr, IfOk, IfSome, IsSome, IsCharBoundary, option_map, slice_set};
+ghost use Rattle.fancy_regex_tree.specs.Tree.{Tree, tree_of};
 ghost use Rattle.fancy_regex_linear.specs.Easy.{found_slots, found_at};
 ghost use Rattle.fancy_regex_parts.specs.Silent.{PartsAreSilent};
 ghost use Rattle.fancy_regex_parts.specs.Tables.{IsTable};
@@ -9,10 +9,11 @@ ghost use Rattle.fancy_regex_regular.specs.TableProps.{table_prop, silent_prop};
 ghost use Rattle.fancy_regex_regular.specs.Starts.{last_start as last_start_of};
 
 use crate::memory::RegularMemory;
+use crate::outside::has_groups_outside;
 use fancy_regex_class::{CharClassMatcher, Counted, RunInput, Steps};
 use fancy_regex_info::{CompileError, CompileOptions, Info};
 use fancy_regex_linear::RegularStates;
-use fancy_regex_parts::{PartContext, PartTable, find, parts_are_silent, walk};
+use fancy_regex_parts::{PartContext, PartTable, find, walk};
 use fancy_regex_states::Rules;
 use std::alloc::{AllocError, Global};
 
@@ -35,15 +36,19 @@ pub struct Regular {
 }
 
 impl Regular {
+    ghost use Rattle.fancy_regex_linear.specs.Plain.{classes};
+    ghost use Rattle.fancy_regex_linear.specs.Refusals.{IsClassCause};
+    ghost use Rattle.fancy_regex_regular.specs.Supported.{IsSupported};
     ghost use Rattle.fancy_regex_regular.specs.Regulars.{IsRegularOf, IsContextOf, IsSpan, IsSlots, LooksAtMost, starts_without};
     ghost use Rattle.fancy_regex_info.specs.Analysis.{analysis};
     ghost use Rattle.fancy_regex_info.specs.Infos.{info_of};
+    ghost use Rattle.fancy_regex_info.specs.declared.info.Info.{out-Info};
     ghost use Rattle.fancy_regex_info.specs.Views.{pattern_in};
 
     /// Compiles an analyzed pattern; `None` where the longest match is wanted, or where the pattern does not become states with parts:
     /// where its weight is above 4,000, or it has more than characters, assertions, look-behinds for one character, look-aheads, groups,
-    /// atomic groups, alternations and repeats of these, or a capture group in a look-ahead or in an atomic group. The error is
-    /// `InnerError` with the text of a class that `regex` refuses, or `Memory`.
+    /// atomic groups, alternations and repeats of these, or a capture group in a look-ahead or in an atomic group; else there is one. The
+    /// error is `InnerError` with the text of a class that `regex` refuses, or `Memory`.
     pub fn if_supported(
         alloc: Global,
         info: &Info<'_>,
@@ -52,8 +57,14 @@ impl Regular {
         ensures made { IfOk result (λ found. IfSome found (λ regular. (explicit : Bool) (t : Tree) → info_of info.now ≡ analysis explicit t
             → IsRegularOf regular (pattern_in explicit t))) }
         ensures options { IfOk result (λ found. IfSome found (λ regular. regular.unicode ≡ options.now.unicode)) }
+        ensures exact { IfOk result (λ found. (explicit : Bool) (t : Tree) → info_of info.now ≡ analysis explicit t
+            → (IsSome found ↔ IsSupported options.now.leftmost_longest (pattern_in explicit t))) }
+        ensures refused { IfErr result (IsClassCause options.now.unicode (classes (tree_of (out-Info info.now).expr.now))) }
     {
         if options.leftmost_longest {
+            return Ok(None);
+        }
+        if !has_groups_outside(info.expr, true) {
             return Ok(None);
         }
         let found = RegularStates::new(alloc, info, options)?;
@@ -66,10 +77,6 @@ impl Regular {
             matchers,
         } = made;
         if entry >= states.len() {
-            return Ok(None);
-        }
-        let silent = parts_are_silent(alloc, &states)?;
-        if !silent {
             return Ok(None);
         }
         let built = PartTable::new(alloc, states)?;

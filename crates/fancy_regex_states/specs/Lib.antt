@@ -1,3 +1,4 @@
 pub mod CharTests
 pub mod First
+pub mod Before
 pub mod Attempts

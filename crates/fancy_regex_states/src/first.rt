@@ -13,7 +13,7 @@ use fancy_regex_class::CharClassMatcher;
 use std::alloc::{AllocError, Global};
 
 /// The most states that may be reached without reading; a pattern that reaches more has no table.
-const MOST_STATES: usize = 256;
+pub(crate) const MOST_STATES: usize = 256;
 
 /// The characters that a match can begin with anywhere but at the start of the text, for a pattern whose matches there all
 /// read a character.
@@ -172,7 +172,7 @@ fn add_successors(found: &mut Vec<usize>, state: State) -> Result<(), AllocError
 }
 
 /// Adds a number, unless it is there. The error is want of memory.
-fn add_number(found: &mut Vec<usize>, number: usize) -> Result<(), AllocError>
+pub(crate) fn add_number(found: &mut Vec<usize>, number: usize) -> Result<(), AllocError>
     ensures extends { OnOk result (Extends found.old.items found.new.items) }
     ensures there { OnOk result (Contains found.new.items number) }
 {

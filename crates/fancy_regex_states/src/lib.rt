@@ -2,6 +2,7 @@
 #![tactic(auto)]
 
 mod atom;
+mod before;
 mod char_tests;
 mod first;
 mod rules;
@@ -9,6 +10,7 @@ mod second;
 mod state;
 
 pub use atom::{Leaf, Test};
+pub use before::refused_after;
 pub use char_tests::{is_matched, leaf_matches, test_holds};
 pub use first::FirstChars;
 pub use rules::Rules;

@@ -20,6 +20,16 @@ pub struct Alphabet {
     pub ascii: [u8; 128],
 }
 
+/// What tells characters apart.
+#[derive(Clone, Copy)]
+struct CharTests<'t> {
+    reader: &'t Reader<'t>,
+    /// The leaves of the states.
+    leaves: &'t [Leaf],
+    /// What the assertions ask about a character.
+    asked: Asked,
+}
+
 impl Alphabet {
     ghost use Rattle.fancy_regex_table.specs.Alphabets.{IsAlphabetOf};
     ghost use Rattle.fancy_regex_table.specs.Sorts.{AreAsked};
@@ -30,13 +40,18 @@ impl Alphabet {
         ensures { IfOk result (IsAlphabetOf reader.now.unicode reader.now.matchers.now reader.now.states.now) }
     {
         let leaves = leaves_of(alloc, reader.states)?;
+        let tests = CharTests {
+            reader,
+            leaves: &leaves,
+            asked,
+        };
         let mut samples = Vec::new(alloc);
         samples.push(None)?;
         let mut hashes = Vec::new(alloc);
         let mut ascii = [0; 128];
         for code in 0..128u8 {
             let c = Some(code as char);
-            let class = class_for(reader, &leaves, asked, &mut samples, &mut hashes, c)?;
+            let class = class_for(&tests, &mut samples, &mut hashes, c)?;
             ascii[code as usize] = class as u8;
         }
         Ok(Alphabet {
@@ -88,19 +103,17 @@ fn hash_of(reader: &Reader, leaves: &[Leaf], c: Option<char>) -> u64 {
 /// The number of the character's class, which is added if it is new. `hashes` are those of the samples after the first. The error is
 /// want of memory.
 fn class_for(
-    reader: &Reader,
-    leaves: &[Leaf],
-    asked: Asked,
+    tests: &CharTests,
     samples: &mut Vec<Option<char>>,
     hashes: &mut Vec<u64>,
     c: Option<char>,
 ) -> Result<usize, AllocError>
     ensures kept { KeepsSamples samples.old.items samples.new.items }
     ensures long { length samples.new.items ≤ length samples.old.items + 1 }
-    ensures class { IfOk result (HasClass reader.now.unicode reader.now.matchers.now leaves.now asked samples.new.items c) }
+    ensures class { IfOk result (HasClass tests.now.reader.now.unicode tests.now.reader.now.matchers.now tests.now.leaves.now tests.now.asked samples.new.items c) }
 {
-    let hash = hash_of(reader, leaves, c);
-    if let Some(class) = class_of(reader, leaves, asked, samples, hashes, hash, c) {
+    let hash = hash_of(tests.reader, tests.leaves, c);
+    if let Some(class) = class_of(tests, samples, hashes, hash, c) {
         return Ok(class);
     }
     let class = samples.len();
@@ -111,20 +124,18 @@ fn class_for(
 
 /// The number of a class whose sample has this hash, and is not told apart from the character.
 fn class_of(
-    reader: &Reader,
-    leaves: &[Leaf],
-    asked: Asked,
+    tests: &CharTests,
     samples: &[Option<char>],
     hashes: &[u64],
     hash: u64,
     c: Option<char>,
 ) -> Option<usize>
-    ensures { IfSome result (HasClass reader.now.unicode reader.now.matchers.now leaves.now asked samples.now c) }
+    ensures { IfSome result (HasClass tests.now.reader.now.unicode tests.now.reader.now.matchers.now tests.now.leaves.now tests.now.asked samples.now c) }
 {
     for k in 0..hashes.len() {
         if hashes[k] == hash && k + 1 < samples.len() {
             let sample = samples[k + 1];
-            if agree(reader, leaves, asked, c, sample) {
+            if agree(tests, c, sample) {
                 return Some(k + 1);
             }
         }
@@ -133,17 +144,13 @@ fn class_of(
 }
 
 /// Whether neither the leaves nor the assertions tell the characters apart.
-fn agree(
-    reader: &Reader,
-    leaves: &[Leaf],
-    asked: Asked,
-    one: Option<char>,
-    other: Option<char>,
-) -> bool
-    ensures { result ≡ true → Agree reader.now.unicode reader.now.matchers.now leaves.now asked one other }
+fn agree(tests: &CharTests, one: Option<char>, other: Option<char>) -> bool
+    ensures { result ≡ true
+        → Agree tests.now.reader.now.unicode tests.now.reader.now.matchers.now tests.now.leaves.now tests.now.asked one other }
 {
-    sort_of(asked, reader, one).is_same(sort_of(asked, reader, other))
-        && match_alike(reader, leaves, one, other)
+    let reader = tests.reader;
+    sort_of(tests.asked, reader, one).is_same(sort_of(tests.asked, reader, other))
+        && match_alike(reader, tests.leaves, one, other)
 }
 
 /// Whether the leaves do not tell the characters apart.

@@ -40,23 +40,32 @@ pub struct Home {
     pub begun: Vec<Option<Begun>>,
 }
 
+/// The states of a row that is for places after characters of this sort.
+#[derive(Clone, Copy)]
+pub struct RowStates<'r> {
+    pub before: Sort,
+    /// Those of the first attempt.
+    pub own: &'r [usize],
+    /// Those of the attempts from later starts.
+    pub later: &'r [usize],
+}
+
 /// What the states of a row lead to. The error is want of memory.
 fn read_row(
     alloc: Global,
     pattern: &Pattern,
-    before: Sort,
-    own: &[usize],
-    later: &[usize],
+    row: &RowStates,
     after: Sort,
     steps: &mut usize,
 ) -> Result<Option<Reading>, AllocError>
     ensures { IfOk result (λ found. IfSome found (λ reading. (reading.after ≡ after)
-        × IsReading pattern.now.reader.states.now before own.now later.now reading)) }
+        × IsReading pattern.now.reader.states.now row.now.before row.now.own.now row.now.later.now reading)) }
 {
-    let Some(own) = close(alloc, pattern.reader.states, own, before, after, steps)? else {
+    let states = pattern.reader.states;
+    let Some(own) = close(alloc, states, row.own, row.before, after, steps)? else {
         return Ok(None);
     };
-    let Some(later) = close(alloc, pattern.reader.states, later, before, after, steps)? else {
+    let Some(later) = close(alloc, states, row.later, row.before, after, steps)? else {
         return Ok(None);
     };
     Ok(Some(Reading { after, own, later }))
@@ -66,19 +75,17 @@ fn read_row(
 pub fn readings_of(
     alloc: Global,
     pattern: &Pattern,
-    before: Sort,
-    own: &[usize],
-    later: &[usize],
+    row: &RowStates,
     columns: &[Column],
     steps: &mut usize,
 ) -> Result<Vec<Reading>, AllocError>
-    ensures { IfOk result (λ readings. AreReadings pattern.now.reader.states.now before own.now later.now readings.items) }
+    ensures { IfOk result (λ readings. AreReadings pattern.now.reader.states.now row.now.before row.now.own.now row.now.later.now readings.items) }
 {
     let mut readings: Vec<Reading> = Vec::new(alloc);
     for k in 0..columns.len() {
         let after = columns[k].sort;
         if reading_at(&readings, after).is_none() {
-            if let Some(reading) = read_row(alloc, pattern, before, own, later, after, steps)? {
+            if let Some(reading) = read_row(alloc, pattern, row, after, steps)? {
                 let reads = reading
                     .own
                     .reads
@@ -144,7 +151,12 @@ fn home_of(
     ensures { IfOk result (λ home. (home.before ≡ before) × IsHome (parts_of pattern.now) columns.now home) }
 {
     let entry = [pattern.entry];
-    let readings = readings_of(alloc, pattern, before, &entry, &[], columns, steps)?;
+    let row = RowStates {
+        before,
+        own: &entry,
+        later: &[],
+    };
+    let readings = readings_of(alloc, pattern, &row, columns, steps)?;
     let mut begun = Vec::new(alloc);
     for k in 0..columns.len() {
         let found = begin(alloc, pattern, &readings, columns[k])?;

@@ -8,13 +8,13 @@ ghost use Rattle.fancy_regex_table.specs.declared.columns.Column.{Column as Colu
 ghost use Rattle.fancy_regex_table.specs.declared.row.Row.{Row as RowValue};
 ghost use Rattle.fancy_regex_table.specs.declared.row.Row.TheVariants.{Fresh};
 
-use crate::begun::{Begun, Home, Reading, begun_at, reading_at, readings_of};
+use crate::begun::{Home, Reading, RowStates, begun_at, reading_at, readings_of};
 use crate::columns::Column;
 use crate::pattern::Pattern;
 use crate::row::{Cell, Row};
 use crate::rows::{FreshRow, Rows};
 use crate::sort::Sort;
-use crate::target::{Target, fresh_target, open_target};
+use crate::target::{Beginning, Target, fresh_target, open_target};
 use std::alloc::{AllocError, Global};
 
 /// The most rows.
@@ -29,6 +29,18 @@ pub struct Made {
     pub fresh: Vec<FreshRow>,
     /// Whether these are all rows that a search can come to.
     pub is_whole: bool,
+}
+
+/// What the making of the cells reads and does not change.
+#[derive(Clone, Copy)]
+pub struct MakerContext<'m> {
+    /// Where the table is allocated.
+    pub alloc: Global,
+    pub pattern: &'m Pattern<'m>,
+    /// The classes of characters, with one of each.
+    pub columns: &'m [Column],
+    /// What the attempts come to that begin with the character.
+    pub homes: &'m [Home],
 }
 
 /// The cell of the fresh row with this sort before, if it is known.
@@ -58,50 +70,66 @@ fn is_fresh(row: &Row, before: Sort) -> bool
 
 /// What the states of the row lead to, if it is not fresh. The error is want of memory.
 fn readings_at(
-    alloc: Global,
-    pattern: &Pattern,
+    context: &MakerContext,
     row: &Row,
-    columns: &[Column],
     steps: &mut usize,
 ) -> Result<Vec<Reading>, AllocError>
-    ensures { IfOk result (λ readings. AreReadingsOf pattern.now.reader.states.now row.now readings.items) }
+    ensures { IfOk result (λ readings. AreReadingsOf context.now.pattern.now.reader.states.now row.now readings.items) }
 {
     match row {
-        Row::Fresh { .. } => Ok(Vec::new(alloc)),
+        Row::Fresh { .. } => Ok(Vec::new(context.alloc)),
         Row::Open {
             before,
             own,
             later,
             ..
-        } => readings_of(alloc, pattern, *before, own, later, columns, steps),
+        } => {
+            let states = RowStates {
+                before: *before,
+                own,
+                later,
+            };
+            readings_of(
+                context.alloc,
+                context.pattern,
+                &states,
+                context.columns,
+                steps,
+            )
+        }
     }
 }
 
 /// What the cell of this row and column leads to. The error is want of memory.
 fn target_of(
-    alloc: Global,
-    pattern: &Pattern,
+    context: &MakerContext,
     row: &Row,
     readings: &[Reading],
     column: Column,
-    begun: &Begun,
-    fresh: Cell,
+    beginning: &Beginning,
 ) -> Result<Target, AllocError>
-    ensures { IfOk result (λ target. (rows : List RowValue) → AreReadingsOf pattern.now.reader.states.now row.now readings.now
-        → IsBegun (parts_of pattern.now) (sort_before row.now) column.sort column.sample begun.now
-        → IsRight (parts_of pattern.now) rows (Fresh (sort_before row.now)) column.sort column.sample fresh
-        → IsRightTarget (parts_of pattern.now) rows row.now column.sort column.sample target) }
+    ensures { IfOk result (λ target. (rows : List RowValue) → AreReadingsOf context.now.pattern.now.reader.states.now row.now readings.now
+        → IsBegun (parts_of context.now.pattern.now) (sort_before row.now) column.sort column.sample beginning.now.begun.now
+        → IsRight (parts_of context.now.pattern.now) rows (Fresh (sort_before row.now)) column.sort column.sample beginning.now.fresh
+        → IsRightTarget (parts_of context.now.pattern.now) rows row.now column.sort column.sample target) }
 {
     match row {
         Row::Fresh { .. } => {
-            let target = fresh_target(alloc, begun, column.sort)?;
+            let target = fresh_target(context.alloc, beginning.begun, column.sort)?;
             Ok(target)
         }
         Row::Open { found, .. } => {
             let Some(reading) = reading_at(readings, column.sort) else {
                 return Ok(Target::Cell(Cell::Unknown));
             };
-            let target = open_target(alloc, pattern, *found, reading, column.sample, begun, fresh)?;
+            let target = open_target(
+                context.alloc,
+                context.pattern,
+                *found,
+                reading,
+                column.sample,
+                beginning,
+            )?;
             Ok(target)
         }
     }
@@ -132,62 +160,54 @@ fn cell_to(rows: &mut Rows, target: Target) -> Result<Cell, AllocError>
 
 /// The cell of a row and a column. The error is want of memory.
 fn cell_of(
-    alloc: Global,
-    pattern: &Pattern,
+    context: &MakerContext,
     rows: &mut Rows,
     number: usize,
     readings: &[Reading],
-    columns: &[Column],
     place: usize,
-    homes: &[Home],
     cells: &[Vec<Cell>],
 ) -> Result<Cell, AllocError>
     requires row { number < length rows.old.list.items }
-    requires column { place < length columns.now }
+    requires column { place < length context.now.columns.now }
     ensures grows { BeginsWith rows.new.list.items rows.old.list.items }
-    ensures cell { IfOk result (λ cell. AreHomes (parts_of pattern.now) columns.now homes.now
-        → AreRightRows (parts_of pattern.now) columns.now rows.old.list.items cells.now
+    ensures cell { IfOk result (λ cell. AreHomes (parts_of context.now.pattern.now) context.now.columns.now context.now.homes.now
+        → AreRightRows (parts_of context.now.pattern.now) context.now.columns.now rows.old.list.items cells.now
         → (row : RowValue) → slice_get rows.old.list.items number ≡ Some row
-        → AreReadingsOf pattern.now.reader.states.now row readings.now
-        → (column : ColumnValue) → slice_get columns.now place ≡ Some column
-        → IsRight (parts_of pattern.now) rows.new.list.items row column.sort column.sample cell) }
+        → AreReadingsOf context.now.pattern.now.reader.states.now row readings.now
+        → (column : ColumnValue) → slice_get context.now.columns.now place ≡ Some column
+        → IsRight (parts_of context.now.pattern.now) rows.new.list.items row column.sort column.sample cell) }
 {
     let row = &rows.list[number];
     let before = row.before();
-    let Some(begun) = begun_at(homes, before, place) else {
+    let Some(begun) = begun_at(context.homes, before, place) else {
         return Ok(Cell::Unknown);
     };
     let fresh = fresh_cell(rows, cells, before, place);
-    let column = columns[place];
-    let target = target_of(alloc, pattern, row, readings, column, begun, fresh)?;
+    let beginning = Beginning { begun, fresh };
+    let target = target_of(context, row, readings, context.columns[place], &beginning)?;
     let cell = cell_to(rows, target)?;
     Ok(cell)
 }
 
 /// The cells of a row, one for each column. The error is want of memory.
 pub fn cells_of(
-    alloc: Global,
-    pattern: &Pattern,
+    context: &MakerContext,
     rows: &mut Rows,
     number: usize,
-    columns: &[Column],
-    homes: &[Home],
     cells: &[Vec<Cell>],
     steps: &mut usize,
 ) -> Result<Vec<Cell>, AllocError>
     requires { number < length rows.old.list.items }
     ensures grows { BeginsWith rows.new.list.items rows.old.list.items }
-    ensures made { IfOk result (λ made. AreHomes (parts_of pattern.now) columns.now homes.now
-        → AreRightRows (parts_of pattern.now) columns.now rows.old.list.items cells.now
+    ensures made { IfOk result (λ made. AreHomes (parts_of context.now.pattern.now) context.now.columns.now context.now.homes.now
+        → AreRightRows (parts_of context.now.pattern.now) context.now.columns.now rows.old.list.items cells.now
         → (row : RowValue) → slice_get rows.old.list.items number ≡ Some row
-        → AreRightCells (parts_of pattern.now) columns.now rows.new.list.items row made.items) }
+        → AreRightCells (parts_of context.now.pattern.now) context.now.columns.now rows.new.list.items row made.items) }
 {
-    let readings = readings_at(alloc, pattern, &rows.list[number], columns, steps)?;
-    let mut made = Vec::new(alloc);
-    for k in 0..columns.len() {
-        let cell = cell_of(
-            alloc, pattern, rows, number, &readings, columns, k, homes, cells,
-        )?;
+    let readings = readings_at(context, &rows.list[number], steps)?;
+    let mut made = Vec::new(context.alloc);
+    for k in 0..context.columns.len() {
+        let cell = cell_of(context, rows, number, &readings, k, cells)?;
         made.push(cell)?;
     }
     Ok(made)
@@ -225,14 +245,18 @@ pub fn rows_of(
         MOST_ROWS.min(states.saturating_mul(4).saturating_add(64)),
     )?;
     let fresh = fresh_rows(alloc, homes, &mut rows)?;
+    let context = MakerContext {
+        alloc,
+        pattern,
+        columns,
+        homes,
+    };
     let mut cells = Vec::new(alloc);
     for number in 0..MOST_ROWS {
         if number >= rows.list.len() {
             break;
         }
-        let made = cells_of(
-            alloc, pattern, &mut rows, number, columns, homes, &cells, steps,
-        )?;
+        let made = cells_of(&context, &mut rows, number, &cells, steps)?;
         cells.push(made)?;
     }
     let is_whole = *steps > 0 && cells.len() >= rows.list.len() && rows.has_room();

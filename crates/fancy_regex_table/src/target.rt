@@ -146,21 +146,28 @@ fn later_target(
     })
 }
 
-/// What the cell of a row leads to that is not fresh. `fresh` is the cell of the fresh row with the same sort before, `begun` what an
-/// attempt comes to that begins there. The error is want of memory.
+/// What comes of the attempts and of the searches that begin before a character.
+#[derive(Clone, Copy)]
+pub struct Beginning<'m> {
+    /// What an attempt comes to that begins there.
+    pub begun: &'m Begun,
+    /// The cell of the fresh row with the same sort before.
+    pub fresh: Cell,
+}
+
+/// What the cell of a row leads to that is not fresh. The error is want of memory.
 pub fn open_target(
     alloc: Global,
     pattern: &Pattern,
     found: Found,
     reading: &Reading,
     c: Option<char>,
-    begun: &Begun,
-    fresh: Cell,
+    beginning: &Beginning,
 ) -> Result<Target, AllocError>
     ensures { IfOk result (λ target. (rows : List RowValue) (before : SortValue) (own later : List ℕ)
         → IsReading pattern.now.reader.states.now before own later reading.now
-        → IsBegun (parts_of pattern.now) before reading.now.after c begun.now
-        → IsRight (parts_of pattern.now) rows (Fresh before) reading.now.after c fresh
+        → IsBegun (parts_of pattern.now) before reading.now.after c beginning.now.begun.now
+        → IsRight (parts_of pattern.now) rows (Fresh before) reading.now.after c beginning.now.fresh
         → IsOpenTarget (parts_of pattern.now) rows before own later found reading.now.after c target) }
 {
     let own = step(alloc, &pattern.reader, &reading.own.reads, c)?;
@@ -172,11 +179,11 @@ pub fn open_target(
         Found::Own => Ok(own_target(alloc, own, false, after)),
         Found::Later => Ok(late_target(alloc, own, after)),
         Found::Nothing => {
-            if reading.later.is_end || begun.is_end {
+            if reading.later.is_end || beginning.begun.is_end {
                 return Ok(late_target(alloc, own, after));
             }
             let later = step_beside(alloc, &pattern.reader, &reading.later.reads, c, &own)?;
-            let target = later_target(own, later, begun, fresh, after)?;
+            let target = later_target(own, later, beginning.begun, beginning.fresh, after)?;
             Ok(target)
         }
     }

@@ -16,7 +16,7 @@ by_it : (c : After-pass_counted) → IsTableSearch c.args.context.now (looked_te
 by_it c = rw c.in-Some.is at c.requires.table
 
 at_start : (c : After-pass_counted) → IsAtStart c.args.context.now (looked_text c.args.text.now) false c.args.place c.args.memory.now
-at_start c = subst (λ (b : Bool). IsAtStart c.args.context.now (looked_text c.args.text.now) b c.args.place c.args.memory.now) c.if-anchored.false c.requires.start
+at_start c = subst (λ (b : Bool). IsAtStart c.args.context.now (looked_text c.args.text.now) b c.args.place c.args.memory.now) c.if-mode.false c.requires.start
 
 pub returns-in_ok-load_match-in-Match-clause-settled : goal.returns-in_ok-load_match-in-Match-clause-settled
 returns-in_ok-load_match-in-Match-clause-settled c =
@@ -31,7 +31,7 @@ returns-in_ok-load_match-in-Match-clause-settled c =
     let end : ℕ = c.in-Match.end in
     let range : IsInRange text place.at context.stop (P.Match start end c.in-Match.read) = rw by.text_is at c.in-Match.ensures.range in
     let loaded_is = rw c.pass_counted.ensures.text at c.in_ok-load_match-in-Match.ensures.loaded in
-    let settled : IsSettled context text (look_count c.args.text.now) (look_count c.load_match.new.text) false c.args.span_only place memory c.load_match.new.memory (Found start end) =
+    let settled : IsSettled context text (look_count c.args.text.now) (look_count c.load_match.new.text) false c.args.mode.now.span_only place memory c.load_match.new.memory (Found start end) =
     record {
       says = λ view go explains failed.
           let search_ok = is_search context text c.in-Some.it by view go explains place.at here.utf8 here.inside in
@@ -46,8 +46,8 @@ returns-in_ok-load_match-in-Match-clause-settled c =
           );
       on = tt;
     } in
-    subst (λ (b : Bool). IsSettled context text (look_count c.args.text.now) (look_count c.load_match.new.text) b c.args.span_only place memory c.load_match.new.memory (Found start end))
-    (sym c.if-anchored.false) settled
+    subst (λ (b : Bool). IsSettled context text (look_count c.args.text.now) (look_count c.load_match.new.text) b c.args.mode.now.span_only place memory c.load_match.new.memory (Found start end))
+    (sym c.if-mode.false) settled
 
 pub returns-in-Ended-clause-settled : goal.returns-in-Ended-clause-settled
 returns-in-Ended-clause-settled c =
@@ -59,7 +59,7 @@ returns-in-Ended-clause-settled c =
     let place = c.args.place in
     let memory = c.args.memory.now in
     let is = here.start.1 in
-    let settled : IsSettled context text (look_count c.args.text.now) (look_count c.pass_counted.new.text) false c.args.span_only place memory memory (On None) =
+    let settled : IsSettled context text (look_count c.args.text.now) (look_count c.pass_counted.new.text) false c.args.mode.now.span_only place memory memory (On None) =
     record {
       says = λ view go explains failed.
           let search_ok = is_search context text c.in-Some.it by view go explains place.at here.utf8 here.inside in
@@ -78,8 +78,8 @@ returns-in-Ended-clause-settled c =
         counted = omega (arith, c.in-Ended.ensures.looks, is.high);
       };
     } in
-    subst (λ (b : Bool). IsSettled context text (look_count c.args.text.now) (look_count c.pass_counted.new.text) b c.args.span_only place memory memory (On None))
-    (sym c.if-anchored.false) settled
+    subst (λ (b : Bool). IsSettled context text (look_count c.args.text.now) (look_count c.pass_counted.new.text) b c.args.mode.now.span_only place memory memory (On None))
+    (sym c.if-mode.false) settled
 
 pub returns-in-Idle-clause-settled : goal.returns-in-Idle-clause-settled
 returns-in-Idle-clause-settled c =
@@ -92,7 +92,7 @@ returns-in-Idle-clause-settled c =
     let memory = c.args.memory.now in
     let at : ℕ = c.in-Idle.at in
     let range : IsInRange text place.at context.stop (P.Idle at) = rw by.text_is at c.in-Idle.ensures.range in
-    let settled : IsSettled context text (look_count c.args.text.now) (look_count c.pass_counted.new.text) false c.args.span_only place memory memory (On (Some at)) =
+    let settled : IsSettled context text (look_count c.args.text.now) (look_count c.pass_counted.new.text) false c.args.mode.now.span_only place memory memory (On (Some at)) =
     record {
       says = λ view go explains failed.
           let search_ok = is_search context text c.in-Some.it by view go explains place.at here.utf8 here.inside in
@@ -107,8 +107,8 @@ returns-in-Idle-clause-settled c =
         counted = omega (arith, c.in-Idle.ensures.looks, range.0);
       };
     } in
-    subst (λ (b : Bool). IsSettled context text (look_count c.args.text.now) (look_count c.pass_counted.new.text) b c.args.span_only place memory memory (On (Some at)))
-    (sym c.if-anchored.false) settled
+    subst (λ (b : Bool). IsSettled context text (look_count c.args.text.now) (look_count c.pass_counted.new.text) b c.args.mode.now.span_only place memory memory (On (Some at)))
+    (sym c.if-mode.false) settled
 
 pub returns-in_ok-settled-in-Unknown-clause-settled : goal.returns-in_ok-settled-in-Unknown-clause-settled
 returns-in_ok-settled-in-Unknown-clause-settled c =
@@ -121,10 +121,10 @@ returns-in_ok-settled-in-Unknown-clause-settled c =
     let memory = c.args.memory.now in
     let new = c.by_attempts.new in
     let found = c.in_ok-settled-in-Unknown.settled in
-    let after : IsSettledAfter context text (look_count c.args.text.now) (look_count new.text) c.args.span_only place c.in-Unknown.from memory new.memory found =
-    subst (λ (t : Counted). IsSettledAfter context (looked_text t) (look_count t) (look_count new.text) c.args.span_only place c.in-Unknown.from memory new.memory found)
-    c.in-Unknown.ensures.looks (c.in_ok-settled-in-Unknown.ensures.settled c.args.span_only) in
-    let settled : IsSettled context text (look_count c.args.text.now) (look_count c.by_attempts.new.text) false c.args.span_only place memory c.by_attempts.new.memory c.in_ok-settled-in-Unknown.settled =
+    let after : IsSettledAfter context text (look_count c.args.text.now) (look_count new.text) c.args.mode.now.span_only place c.in-Unknown.from memory new.memory found =
+    subst (λ (t : Counted). IsSettledAfter context (looked_text t) (look_count t) (look_count new.text) c.args.mode.now.span_only place c.in-Unknown.from memory new.memory found)
+    c.in-Unknown.ensures.looks (c.in_ok-settled-in-Unknown.ensures.settled c.args.mode.now.span_only) in
+    let settled : IsSettled context text (look_count c.args.text.now) (look_count c.by_attempts.new.text) false c.args.mode.now.span_only place memory c.by_attempts.new.memory c.in_ok-settled-in-Unknown.settled =
     record {
       says = λ view go explains failed.
           let search_ok = is_search context text c.in-Some.it by view go explains place.at here.utf8 here.inside in
@@ -133,5 +133,5 @@ returns-in_ok-settled-in-Unknown-clause-settled c =
           (λ t. (c.in-Unknown.ensures.passed (parts_of context) context.rules (search_of context text c.in-Some.it by view go explains place.at) t search_ok refl (sym by.text_is) refl refl).early));
       on = after.on;
     } in
-    subst (λ (b : Bool). IsSettled context text (look_count c.args.text.now) (look_count c.by_attempts.new.text) b c.args.span_only place memory c.by_attempts.new.memory c.in_ok-settled-in-Unknown.settled)
-    (sym c.if-anchored.false) settled
+    subst (λ (b : Bool). IsSettled context text (look_count c.args.text.now) (look_count c.by_attempts.new.text) b c.args.mode.now.span_only place memory c.by_attempts.new.memory c.in_ok-settled-in-Unknown.settled)
+    (sym c.if-mode.false) settled

@@ -59,7 +59,7 @@ returns-in_ok-span-in-Unknown-clause-answer c view go explains =
     let text = looked_text c.args.text.now in
     let is = c.in-Unknown.ensures in
     let same = is.3.text in
-    let later = later_says context text go (unset_slots c.args.groups) c.args.start c.in-Unknown.place.at is.1 is.0.start.high c.requires.range.1 (is.2 view go explains) in
+    let later = later_says context text go (unset_slots c.args.groups) c.args.start c.in-Unknown.unknown.place.at is.1 is.0.start.high c.requires.range.1 (is.2 view go explains) in
     let here : Explains context (looked_text c.by_table_alone.new.text) view go = rw same explains in
     let answer = rw same at (c.in_ok-span-in-Unknown.ensures.answer view go here) in
     subst (λ (found : Option FoundMatch). IsAnswer true c.in_ok-span-in-Unknown.span c.from_unknown.new.memory.backtrack.slots.items found) (sym later.0) answer
@@ -70,7 +70,7 @@ returns-in_ok-span-in-Unknown-clause-at_least c view go explains =
     let text = looked_text c.args.text.now in
     let is = c.in-Unknown.ensures in
     let same = is.3.text in
-    let later = later_says context text go (unset_slots c.args.groups) c.args.start c.in-Unknown.place.at is.1 is.0.start.high c.requires.range.1 (is.2 view go explains) in
+    let later = later_says context text go (unset_slots c.args.groups) c.args.start c.in-Unknown.unknown.place.at is.1 is.0.start.high c.requires.range.1 (is.2 view go explains) in
     let here : Explains context (looked_text c.by_table_alone.new.text) view go = rw same explains in
     let least = rw same at (c.in_ok-span-in-Unknown.ensures.at_least view go here) in
     omega (arith, least, later.1, is.3.at_least)
@@ -82,7 +82,7 @@ bound c =
     let context = c.args.context.now in
     let stop : ℕ = context.stop in
     let is = c.in-Unknown.ensures in
-    let at : ℕ = c.in-Unknown.place.at in
+    let at : ℕ = c.in-Unknown.unknown.place.at in
     let high : at ≤ stop = is.0.start.high in
     let all : at - c.args.start + (stop - at) ≡ stop - c.args.start = omega (arith, is.1, high) in
     subst (λ (n : ℕ). look_count c.from_unknown.new.text ≤ look_count c.args.text.now + (n + 1) * length context.states.now + (n + 1)) all

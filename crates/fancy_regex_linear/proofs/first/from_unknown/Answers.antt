@@ -15,7 +15,7 @@ use Rattle.fancy_regex_linear.proofs.first.from_unknown.Goals.{After-settle_unkn
 
 -- the bound, after the start was settled
 bound : (c : After-settle_unknown) → look_count c.settle_unknown.new.text
-    ≤ look_count c.args.text.now + (c.args.context.now.stop - c.args.place.at + 1) * length c.args.context.now.states.now + (c.args.context.now.stop - c.args.place.at)
+    ≤ look_count c.args.text.now + (c.args.context.now.stop - c.args.unknown.now.place.at + 1) * length c.args.context.now.states.now + (c.args.context.now.stop - c.args.unknown.now.place.at)
 bound c =
     let settling = c.settle_unknown.ensures.settling in
     let count : ℕ = length c.args.context.now.states.now in
@@ -24,9 +24,9 @@ bound c =
     let same : visited.count ≡ count = settling.count ∙ c.in_ok-restart.ensures.visited.0 in
     let most = visited_bound_most visited stop settling.base.1 settling.rows in
     let cap : visited_bound visited ≤ (stop + 1) * count = omega (arith, most, ap (λ (n : ℕ). (stop + 1) * n) same) in
-    let first : c.restart.new.self.visited.base * c.restart.new.self.visited.count ≡ c.args.place.at * count =
+    let first : c.restart.new.self.visited.base * c.restart.new.self.visited.count ≡ c.args.unknown.now.place.at * count =
     ap₂ (λ (a b : ℕ). a * b) c.in_ok-restart.ensures.visited.1 c.in_ok-restart.ensures.visited.0 in
-    looks_from (look_count c.settle_unknown.new.text) (look_count c.args.text.now) (visited_bound visited) c.args.place.at stop count (stop - c.args.place.at) c.requires.unknown.start.high
+    looks_from (look_count c.settle_unknown.new.text) (look_count c.args.text.now) (visited_bound visited) c.args.unknown.now.place.at stop count (stop - c.args.unknown.now.place.at) c.requires.unknown.start.high
     (omega (arith, settling.counted, first, c.requires.unknown.start.high)) cap
 
 pub returns-in_err-start-clause-at_most : goal.returns-in_err-start-clause-at_most
@@ -40,7 +40,7 @@ returns-in-On-None-clause-at_most c = bound (goal.at.returns-in-On-None-clause-a
 
 -- what was settled, of a memory that begins anew
 settled : (c : In_ok-start) (view : View) (go : ℕ → Continuation) → Explains c.args.context.now (looked_text c.args.text.now) view go
-    → Says c.args.context.now (looked_text c.args.text.now) (look_count c.args.text.now) (look_count c.settle_unknown.new.text) false true c.args.place
+    → Says c.args.context.now (looked_text c.args.text.now) (look_count c.args.text.now) (look_count c.settle_unknown.new.text) false true c.args.unknown.now.place
     c.restart.new.self c.settle_unknown.new.memory view go c.in_ok-start.field-0
 settled c view go explains =
     c.in_ok-start.ensures.settled.says view go explains (none_visited view.longest go c.restart.new.self.visited c.in_ok-restart.ensures.visited.2)
@@ -71,12 +71,12 @@ returns-in-On-None-clause-at_least c view go explains =
 
 -- the bound, after the search went on with memory
 bound_on : (c : After-earliest_match) → look_count c.earliest_match.new.text
-    ≤ look_count c.args.text.now + (c.args.context.now.stop - c.args.place.at + 1) * length c.args.context.now.states.now + (c.args.context.now.stop - c.args.place.at)
+    ≤ look_count c.args.text.now + (c.args.context.now.stop - c.args.unknown.now.place.at + 1) * length c.args.context.now.states.now + (c.args.context.now.stop - c.args.unknown.now.place.at)
 bound_on c =
     let stop : ℕ = c.args.context.now.stop in
     let on = rw (c.in-On-Some.is, c.in-On-Some.next-is) at c.in_ok-start.ensures.settled.on in
-    looks_anew (look_count c.earliest_match.new.text) (look_count c.args.text.now) c.restart.new.self.visited c.args.place.at stop (length c.args.context.now.states.now)
-    (stop - c.args.place.at) c.requires.unknown.start.high c.in_ok-restart.ensures.visited.1 c.in_ok-restart.ensures.visited.0
+    looks_anew (look_count c.earliest_match.new.text) (look_count c.args.text.now) c.restart.new.self.visited c.args.unknown.now.place.at stop (length c.args.context.now.states.now)
+    (stop - c.args.unknown.now.place.at) c.requires.unknown.start.high c.in_ok-restart.ensures.visited.1 c.in_ok-restart.ensures.visited.0
     (omega (arith, c.earliest_match.ensures.at_most, on.counted, on.after.0, on.after.1))
 
 pub returns-in_err-span-in-On-Some-clause-at_most : goal.returns-in_err-span-in-On-Some-clause-at_most

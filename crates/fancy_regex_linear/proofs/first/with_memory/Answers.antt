@@ -9,10 +9,10 @@ use Rattle.fancy_regex_linear.proofs.first.with_memory.Goals.{After-earliest_mat
 
 -- the bound, after the search
 bound : (c : After-earliest_match) → look_count c.earliest_match.new.text
-    ≤ look_count c.args.text.now + (c.args.context.now.stop - c.args.start + 1) * length c.args.context.now.states.now + (c.args.context.now.stop - c.args.start + 1)
+    ≤ look_count c.args.text.now + (c.args.context.now.stop - c.args.request.now.start + 1) * length c.args.context.now.states.now + (c.args.context.now.stop - c.args.request.now.start + 1)
 bound c =
-    looks_anew (look_count c.earliest_match.new.text) (look_count c.args.text.now) c.restart.new.self.visited c.args.start c.args.context.now.stop (length c.args.context.now.states.now)
-    (c.args.context.now.stop - c.args.start + 1) c.requires.range.0 c.in_ok-restart.ensures.visited.1 c.in_ok-restart.ensures.visited.0 c.earliest_match.ensures.at_most
+    looks_anew (look_count c.earliest_match.new.text) (look_count c.args.text.now) c.restart.new.self.visited c.args.request.now.start c.args.context.now.stop (length c.args.context.now.states.now)
+    (c.args.context.now.stop - c.args.request.now.start + 1) c.requires.range.0 c.in_ok-restart.ensures.visited.1 c.in_ok-restart.ensures.visited.0 c.earliest_match.ensures.at_most
 
 pub returns-in_err-span-clause-at_most : goal.returns-in_err-span-clause-at_most
 returns-in_err-span-clause-at_most c = bound (goal.at.returns-in_err-span-clause-at_most c).After-earliest_match

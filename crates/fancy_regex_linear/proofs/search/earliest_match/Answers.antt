@@ -28,10 +28,10 @@ abbrev spot : (c : After-next_start) → (ℕ → Continuation) → ℕ → Opti
 spot c go = spot_from go c.args.context.now.entry c.args.memory.now.backtrack.slots.items
 
 abbrev all_places : (c : After-next_start) → List ℕ
-all_places c = places (looked_text c.args.text.now) c.args.anchored c.args.start c.args.context.now.stop
+all_places c = places (looked_text c.args.text.now) c.args.mode.now.anchored c.args.start c.args.context.now.stop
 
 abbrev left : (c : After-next_start) → List ℕ
-left c = places_left (looked_text c.args.text.now) c.args.anchored c.args.context.now.stop c.next_start.result
+left c = places_left (looked_text c.args.text.now) c.args.mode.now.anchored c.args.context.now.stop c.next_start.result
 
 -- the starts that are left are those that count
 passed : (c : After-next_start) (view : View) (go : ℕ → Continuation) → Explains c.args.context.now (looked_text c.args.text.now) view go
@@ -117,10 +117,10 @@ returns-in-Found-clause-at_most c = bound (goal.at.returns-in-Found-clause-at_mo
 
 -- what was settled, of the text of the search
 settled_is : (c : In_ok-start) → IsSettled c.args.context.now (looked_text c.args.text.now) (look_count c.next_start.new.text) (look_count c.settle.new.text)
-    c.args.anchored c.args.span_only c.in-Some-next_start.place (record c.starts.memory { visited = c.next_start.new.visited }) c.settle.new.memory c.in_ok-start.field-0
+    c.args.mode.now.anchored c.args.mode.now.span_only c.in-Some-next_start.place (record c.starts.memory { visited = c.next_start.new.visited }) c.settle.new.memory c.in_ok-start.field-0
 settled_is c =
     subst (λ (t : List ℕ). IsSettled c.args.context.now t (look_count c.next_start.new.text) (look_count c.settle.new.text)
-    c.args.anchored c.args.span_only c.in-Some-next_start.place (record c.starts.memory { visited = c.next_start.new.visited }) c.settle.new.memory c.in_ok-start.field-0)
+    c.args.mode.now.anchored c.args.mode.now.span_only c.in-Some-next_start.place (record c.starts.memory { visited = c.next_start.new.visited }) c.settle.new.memory c.in_ok-start.field-0)
     (c.next_start.ensures.looks.text ∙ c.starts.invariant.looks.text) c.in_ok-start.ensures.settled
 
 -- the pairs that are left fail
@@ -157,7 +157,7 @@ returns-in-Found-clause-answer c view go explains failed =
     let over = rw c.in-Some-next_start.is at (passed d view go explains failed) in
     let settled = rw c.in-Found.is at (settled_is (goal.at.returns-in-Found-clause-answer c).In_ok-start) in
     let says = rw inv.1 at (settled.says view go explains (still_fail d view go inv.0)).0 in
-    subst (λ (found : Option FoundMatch). IsAnswer c.args.span_only (Some (c.in-Found.start, c.in-Found.end)) c.settle.new.memory.backtrack.slots.items found) (sym over.0) says
+    subst (λ (found : Option FoundMatch). IsAnswer c.args.mode.now.span_only (Some (c.in-Found.start, c.in-Found.end)) c.settle.new.memory.backtrack.slots.items found) (sym over.0) says
 
 pub returns-in-Found-clause-at_least : goal.returns-in-Found-clause-at_least
 returns-in-Found-clause-at_least c view go explains failed =

@@ -13,10 +13,10 @@ invariant-starts l = record {
   found : (view : View) (go : ℕ → Continuation) → Explains l.context (looked_text l.fn.text) view go
       → AllFail view.longest go (Has l.fn.memory.visited)
       → AllFail view.longest go (Has l.memory.visited) × (l.memory.backtrack.slots.items ≡ l.fn.memory.backtrack.slots.items)
-      × (earliest (spot_from go l.context.entry l.fn.memory.backtrack.slots.items) (places (looked_text l.fn.text) l.anchored l.start l.context.stop)
-      ≡ earliest (spot_from go l.context.entry l.fn.memory.backtrack.slots.items) (places_from (looked_text l.fn.text) l.anchored l.from l.context.stop))
-      × (min (look_count l.fn.text + attempted (spot_from go l.context.entry l.fn.memory.backtrack.slots.items) (places (looked_text l.fn.text) l.anchored l.start l.context.stop)) (2 ^ 64 - 1)
-      ≤ min (look_count l.text + attempted (spot_from go l.context.entry l.fn.memory.backtrack.slots.items) (places_from (looked_text l.fn.text) l.anchored l.from l.context.stop)) (2 ^ 64 - 1));
+      × (earliest (spot_from go l.context.entry l.fn.memory.backtrack.slots.items) (places (looked_text l.fn.text) l.mode.anchored l.start l.context.stop)
+      ≡ earliest (spot_from go l.context.entry l.fn.memory.backtrack.slots.items) (places_from (looked_text l.fn.text) l.mode.anchored l.from l.context.stop))
+      × (min (look_count l.fn.text + attempted (spot_from go l.context.entry l.fn.memory.backtrack.slots.items) (places (looked_text l.fn.text) l.mode.anchored l.start l.context.stop)) (2 ^ 64 - 1)
+      ≤ min (look_count l.text + attempted (spot_from go l.context.entry l.fn.memory.backtrack.slots.items) (places_from (looked_text l.fn.text) l.mode.anchored l.from l.context.stop)) (2 ^ 64 - 1));
   from : IfSome l.from (λ i. (l.start ≤ i) × (i ≤ l.context.stop) × IsCharBoundary (looked_text l.fn.text) i);
   between : IsBetweenAttempts l.context l.memory;
   base : (l.memory.visited.base ≤ l.context.stop) × IfSome l.from (λ i. l.memory.visited.base ≤ i);

@@ -12,7 +12,7 @@ returns-clause-settled c =
     let new : ℕ = look_count c.by_attempt.new.text in
     let memory = c.by_attempt.new.memory in
     let it = c.in_ok-settled-2.settled in
-    subst (λ (m : SearchMemory). IsSettled context (looked_text c.args.text.now) (look_count c.args.text.now) new c.args.anchored c.args.span_only c.args.place m memory it) same.1
-    (subst (λ (n : ℕ). IsSettled context (looked_text c.args.text.now) n new c.args.anchored c.args.span_only c.args.place c.by_table.new.memory memory it) same.0
-    (subst (λ (t : List ℕ). IsSettled context t (look_count c.by_table.new.text) new c.args.anchored c.args.span_only c.args.place c.by_table.new.memory memory it) text
-    (c.in_ok-settled-2.ensures.settled c.args.span_only)))
+    subst (λ (m : SearchMemory). IsSettled context (looked_text c.args.text.now) (look_count c.args.text.now) new c.args.mode.now.anchored c.args.mode.now.span_only c.args.place m memory it) same.1
+    (subst (λ (n : ℕ). IsSettled context (looked_text c.args.text.now) n new c.args.mode.now.anchored c.args.mode.now.span_only c.args.place c.by_table.new.memory memory it) same.0
+    (subst (λ (t : List ℕ). IsSettled context t (look_count c.by_table.new.text) new c.args.mode.now.anchored c.args.mode.now.span_only c.args.place c.by_table.new.memory memory it) text
+    (c.in_ok-settled-2.ensures.settled c.args.mode.now.span_only)))

@@ -13,19 +13,19 @@ use Rattle.fancy_regex_table.proofs.maker.cell_of.Goals as goal
 
 pub returns-clause-cell : goal.returns-clause-cell
 returns-clause-cell c homes right row there readings column is =
-    let parts = parts_of c.args.pattern.now in
+    let parts = parts_of c.args.context.now.pattern.now in
     let rows = c.args.rows.now.list.items in
     let begun = c.in-Some.begun.now in
     let fresh = c.fresh_cell-fresh.result in
     let target = c.in_ok-target.target in
     let read : c.index-row.result.now ≡ row = c.index-row.ensures ∙ get_or_from_slice_get rows c.args.number row c.index-row.result.now there in
     let before : c.before-before.result ≡ sort_before row = c.before-before.ensures ∙ ap sort_before read in
-    let column_is = get_or_from_slice_get c.args.columns.now c.args.place column
+    let column_is = get_or_from_slice_get c.args.context.now.columns.now c.args.place column
     (record { sample = None; sort = record { edge = false; newline = false; carriage_return = false; word = false; matched = no_leaves } }) is in
     let target_is = rw column_is at c.in_ok-target.ensures in
-    cell_right parts c.args.columns.now c.args.homes.now rows c.cell_to.new.rows.list.items row c.args.place column begun c.args.readings.now fresh
-    c.in_ok-cell.cell target homes (subst (λ (b : Sort). IsBegunAt c.args.homes.now b c.args.place begun) before c.in-Some.ensures) is
-    (subst (λ (b : Sort). IsRight parts rows (Fresh b) column.sort column.sample fresh) before (c.fresh_cell-fresh.ensures parts c.args.columns.now right column is))
+    cell_right parts c.args.context.now.columns.now c.args.context.now.homes.now rows c.cell_to.new.rows.list.items row c.args.place column begun c.args.readings.now fresh
+    c.in_ok-cell.cell target homes (subst (λ (b : Sort). IsBegunAt c.args.context.now.homes.now b c.args.place begun) before c.in-Some.ensures) is
+    (subst (λ (b : Sort). IsRight parts rows (Fresh b) column.sort column.sample fresh) before (c.fresh_cell-fresh.ensures parts c.args.context.now.columns.now right column is))
     (subst (λ (r : Row). (all : List Row) → AreReadingsOf parts.states r c.args.readings.now → IsBegun parts (sort_before r) column.sort column.sample begun
     → IsRight parts all (Fresh (sort_before r)) column.sort column.sample fresh → IsRightTarget parts all r column.sort column.sample target) read target_is)
     readings c.in_ok-cell.ensures.cell

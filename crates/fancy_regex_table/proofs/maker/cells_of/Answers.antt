@@ -10,7 +10,7 @@ use Rattle.fancy_regex_table.proofs.maker.cells_of.Goals as goal
 
 pub loop-k-preserved : goal.loop-k-preserved
 loop-k-preserved c =
-    let parts = parts_of c.args.pattern.now in
+    let parts = parts_of c.args.context.now.pattern.now in
     let first = c.args.rows.now.list.items in
     let rows = c.loop-k.rows.list.items in
     let more = c.cell_of.new.rows.list.items in
@@ -21,13 +21,13 @@ loop-k-preserved c =
       grows = begins_both first rows more inv.grows c.in_ok-cell.ensures.grows;
       right = λ homes right row there.
           let read : c.index.result.now ≡ row = c.index.ensures ∙ get_or_from_slice_get first c.args.number row c.index.result.now there in
-          let readings = subst (λ (r : Row). AreReadingsOf c.args.pattern.now.reader.states.now r c.in_ok-readings.readings.items) read c.in_ok-readings.ensures in
+          let readings = subst (λ (r : Row). AreReadingsOf c.args.context.now.pattern.now.reader.states.now r c.in_ok-readings.readings.items) read c.in_ok-readings.ensures in
           rw c.in_ok-push.ensures.items
-          (right_cells_pushed parts c.args.columns.now more row made c.in_ok-cell.cell
-          (cells_more parts c.args.columns.now rows more row made c.in_ok-cell.ensures.grows (inv.right homes right row there))
+          (right_cells_pushed parts c.args.context.now.columns.now more row made c.in_ok-cell.cell
+          (cells_more parts c.args.context.now.columns.now rows more row made c.in_ok-cell.ensures.grows (inv.right homes right row there))
           (λ column h.
-          c.in_ok-cell.ensures.cell homes (right_rows_more parts c.args.columns.now first rows c.args.cells.now inv.grows right) row (inv.grows c.args.number row there)
-          (rw c.deref.ensures.value readings) column (subst (λ (n : ℕ). slice_get c.args.columns.now n ≡ Some column) inv.long h)));
+          c.in_ok-cell.ensures.cell homes (right_rows_more parts c.args.context.now.columns.now first rows c.args.cells.now inv.grows right) row (inv.grows c.args.number row there)
+          (rw c.deref.ensures.value readings) column (subst (λ (n : ℕ). slice_get c.args.context.now.columns.now n ≡ Some column) inv.long h)));
     }
 
 pub returns-in_err-cell-clause-grows : goal.returns-in_err-cell-clause-grows

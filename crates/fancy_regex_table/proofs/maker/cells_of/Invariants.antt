@@ -9,6 +9,6 @@ abbrev pub invariant-loop-k : goal.invariant-loop-k
 invariant-loop-k l = record {
   long : length l.made.items ≡ l.k;
   grows : BeginsWith l.rows.list.items l.fn.rows.list.items;
-  right : AreHomes (parts_of l.pattern) l.columns l.homes → AreRightRows (parts_of l.pattern) l.columns l.fn.rows.list.items l.cells
-      → (row : Row) → slice_get l.fn.rows.list.items l.number ≡ Some row → AreRightCells (parts_of l.pattern) l.columns l.rows.list.items row l.made.items;
+  right : AreHomes (parts_of l.context.pattern.now) l.context.columns.now l.context.homes.now → AreRightRows (parts_of l.context.pattern.now) l.context.columns.now l.fn.rows.list.items l.cells
+      → (row : Row) → slice_get l.fn.rows.list.items l.number ≡ Some row → AreRightCells (parts_of l.context.pattern.now) l.context.columns.now l.rows.list.items row l.made.items;
 }

@@ -7,5 +7,5 @@ abbrev pub invariant-loop-number : goal.invariant-loop-number
 invariant-loop-number l = record {
   long : length l.cells.items ≡ l.number;
   fresh_rows : AreFresh l.rows.list.items l.fresh.items;
-  right : AreHomes (parts_of l.pattern) l.columns l.homes → AreRightRows (parts_of l.pattern) l.columns l.rows.list.items l.cells.items;
+  right : AreHomes (parts_of l.fn.pattern) l.fn.columns l.fn.homes → AreRightRows (parts_of l.fn.pattern) l.fn.columns l.rows.list.items l.cells.items;
 }

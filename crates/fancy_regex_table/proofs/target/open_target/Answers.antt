@@ -36,6 +36,6 @@ returns-in_ok-target-in-Nothing c rows before own later reading begun right s at
     let here = subst (λ (f : Found). IsOpen s at start last own later f) c.in-Nothing.is row in
     let later_is = stepped_beside place later nexts c.in_ok-later-in-Nothing.later.items c.args.reading.now.later reading.later_closed
     (rw (c.deref-in-Nothing.ensures.value, c.deref-in-Nothing-2.ensures.value) at c.in_ok-later-in-Nothing.ensures) c.if-reading-2.false in
-    let begun_is = begun s at next place ∙ ap (λ (b : Bool). or_else (first_end s.go next c.args.begun.now.nexts.items) (end_if b at)) c.if-begun.false in
+    let begun_is = begun s at next place ∙ ap (λ (b : Bool). or_else (first_end s.go next c.args.beginning.now.begun.now.nexts.items) (end_if b at)) c.if-beginning.false in
     c.in_ok-target-in-Nothing.ensures parts s rows before c.args.c at next start last own later place here own_is later_is begun_is
     (λ early. right s at next start last place early)

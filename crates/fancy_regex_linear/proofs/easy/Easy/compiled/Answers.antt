@@ -1,4 +1,4 @@
-use Rattle.std.proofs.Common.{◌≡◌, ◌∙◌, ◌++◌, ap, [], ◌∷◌, List, Bool, ℕ, ◌+◌, ◌==◌, not, if◌then◌else◌, length, subst, arith, rules}
+use Rattle.std.proofs.Common.{◌≡◌, ◌∙◌, ◌++◌, ap, [], ◌∷◌, List, Bool, ℕ, ◌+◌, ◌==◌, not, if◌then◌else◌, length, subst, sym, arith, rules}
 use Rattle.fancy_regex_tree.specs.Tree.{Tree, tree_of}
 use Rattle.fancy_regex_info.specs.Analysis.{analysis}
 use Rattle.fancy_regex_info.specs.Infos.{info_of}
@@ -6,6 +6,9 @@ use Rattle.fancy_regex_info.specs.Views.{pattern_in}
 use Rattle.fancy_regex_info.specs.declared.info.Info.{out-Info}
 use Rattle.fancy_regex_linear.specs.Re.{shape}
 use Rattle.fancy_regex_linear.specs.Program.{emitted}
+use Rattle.std.specs.Option.{ForSome}
+use Rattle.fancy_regex_linear.specs.Before.{IsBeforeOf}
+use Rattle.fancy_regex_linear.proofs.PassingLemmas.{before_is}
 use Rattle.fancy_regex_linear.specs.Plain.{IsPlain, IsRegular, classes, re_of}
 use Rattle.fancy_regex_meaning.specs.Groups.{group_count}
 use Rattle.fancy_regex_linear.specs.Easy.{HaveMatchers}
@@ -32,8 +35,14 @@ invariant_of-result c = record {
   marks = ∣ rw c.passing_of-passing.ensures.first (rw c.deref-3.ensures.value at c.refused_ascii-refused.ensures c.emit.new.states.items c.in_ok-entry.entry ∣ rw (c.deref.ensures.value, c.deref-2.ensures.value) at c.in_ok-first.ensures ∣₁) ∣₁;
   seconds = c.passing_of-passing.ensures.second c.args.options.now.unicode c.translated.new.self.matchers.items c.emit.new.states.items c.in_ok-entry.entry
       ∣ rw (c.deref.ensures.value, c.deref-2.ensures.value) at c.in_ok-first.ensures ∣₁;
-  wides = rw c.deref-4.ensures.value at c.passing_of-passing.ensures.wide c.emit.new.states.items c.in_ok-entry.entry ∣ rw (c.deref.ensures.value, c.deref-2.ensures.value) at c.in_ok-first.ensures ∣₁;
-  cells = ∣ rw (c.deref-5.ensures.value, c.deref-6.ensures.value) at c.in_ok-rows.ensures ∣₁;
+  wides = rw c.deref-6.ensures.value at c.passing_of-passing.ensures.wide c.emit.new.states.items c.in_ok-entry.entry ∣ rw (c.deref.ensures.value, c.deref-2.ensures.value) at c.in_ok-first.ensures ∣₁;
+  befores = subst (λ (firsts : List Bool). ForSome c.before_for-before.result
+      (IsBeforeOf c.args.options.now.unicode c.translated.new.self.matchers.items c.emit.new.states.items c.in_ok-entry.entry firsts))
+      (sym c.passing_of-passing.ensures.first)
+      (before_is c.args.options.now.unicode c.translated.new.self.matchers.items c.emit.new.states.items c.in_ok-entry.entry c.refused_ascii-refused.result
+      c.in_ok-refused_before.refused_before c.before_for-before.result (rw (c.deref-4.ensures.value, c.deref-5.ensures.value) at c.in_ok-refused_before.ensures)
+      c.before_for-before.ensures);
+  cells = ∣ rw (c.deref-7.ensures.value, c.deref-8.ensures.value) at c.in_ok-rows.ensures ∣₁;
 }
 
 pub returns-clause-made : goal.returns-clause-made

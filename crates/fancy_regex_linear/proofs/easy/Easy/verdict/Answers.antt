@@ -32,6 +32,7 @@ table_verdict-requires-clause-table c =
       passing = ap (λ p. p.first) serves.passing;
       seconds = rw (serves.passing, c.deref.ensures.value, c.deref-2.ensures.value, c.rules.ensures) self.seconds;
       wide = rw (serves.passing, c.deref.ensures.value, c.deref-2.ensures.value, c.rules.ensures) self.wides;
+      before = rw (serves.before, c.deref.ensures.value, c.deref-2.ensures.value, c.rules.ensures) self.befores;
       text_is = serves.text_is ∙ sym c.new-counted.ensures.text;
       first = ap (λ r. r.longest) c.rules.ensures ∙ serves.first;
       start_shown = ap (λ r. r.no_start_text) c.rules.ensures ∙ serves.start_shown;

@@ -15,7 +15,7 @@ returns c holds =
     let less : c.owed.result < c.cost-cost.result = ltb-true _ _ holds in
     let paid : owed table c.index-state.result.now + 1 ≤ cost_of table c.args.q = omega (arith, less, c.owed.ensures, c.cost-cost.ensures) in
     record {
-      closed = subst (NamesBelow (length table.states.items)) state (subst (λ (n : ℕ). NamesBelow n c.index-state.result.now) count (c.names_below.ensures c.if-not-names_below.false));
+      closed = subst (NamesBelow (length table.states.items)) state (subst (λ (n : ℕ). NamesBelow n c.index-state.result.now) count (c.names_below.ensures.names c.if-not-names_below.false));
       marked = c.has_mark.ensures c.if-not-has_mark.false;
       cheap = omega (arith, c.cost-cost.ensures, c.if-cost-len.false, c.len-2.ensures, table.states.ok.0);
       paid = subst (λ s. owed table s + 1 ≤ cost_of table c.args.q) state paid;

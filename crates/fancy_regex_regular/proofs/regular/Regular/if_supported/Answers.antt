@@ -1,26 +1,71 @@
-use Rattle.std.proofs.Common.{◌∙◌, ℕ, ◌==◌, length, not, ap, arith}
+use Rattle.std.proofs.Common.{◌∙◌, ℕ, ◌==◌, length, not, sym, ap, arith, true≢false, refl}
+use Rattle.fancy_regex_tree.specs.Tree.{tree_of}
 use Rattle.fancy_regex_info.specs.Infos.{info_of}
+use Rattle.fancy_regex_info.specs.declared.info.Info.{out-Info}
+use Rattle.fancy_regex_info.specs.Views.{pattern_in}
 use Rattle.fancy_regex_regular.proofs.BuildLemmas.{groups_are, first_is}
+use Rattle.fancy_regex_regular.proofs.ExactLemmas.{entry_inside, states_closed, silent_of, made_in, is_supported, outside_of}
 use Rattle.fancy_regex_regular.proofs.regular.Regular.if_supported.Goals as goal
 
 pub invariant_of-result-clause-right : goal.invariant_of-result-clause-right
-invariant_of-result-clause-right c = (rw c.in-Some-built.is at c.in_ok-built.ensures).0
+invariant_of-result-clause-right c = (rw c.in-Some-built.is at c.in_ok-built.ensures.made).0
 
 pub invariant_of-result-clause-inside : goal.invariant_of-result-clause-inside
 invariant_of-result-clause-inside c =
-    let same = (rw c.in-Some-built.is at c.in_ok-built.ensures).1 in
+    let same = (rw c.in-Some-built.is at c.in_ok-built.ensures.made).1 in
     omega (arith, c.if-entry-len.false, c.len.ensures, c.in-Some.made.states.ok.0, ap length same)
 
 pub invariant_of-result-clause-silent : goal.invariant_of-result-clause-silent
 invariant_of-result-clause-silent c =
-    let same = (rw c.in-Some-built.is at c.in_ok-built.ensures).1 in
-    rw same ((rw c.deref.ensures.value at c.in_ok-silent.ensures) c.if-not-silent.false)
+    let same = (rw c.in-Some-built.is at c.in_ok-built.ensures.made).1 in
+    rw same
+    (silent_of c.args.options.now.unicode (tree_of (out-Info c.args.info.now).expr.now) c.in-Some.made.states.items c.in-Some.made.entry
+    (sym c.has_groups_outside.ensures ∙ c.if-not-has_groups_outside.false) (rw c.in-Some.is at c.in_ok-found.ensures.program))
 
 pub returns-in-Some-built-clause-made : goal.returns-in-Some-built-clause-made
 returns-in-Some-built-clause-made c = λ explicit t is.
-    let same = (rw c.in-Some-built.is at c.in_ok-built.ensures).1 in
+    let same = (rw c.in-Some-built.is at c.in_ok-built.ensures.made).1 in
     record {
-      states = rw same ((rw c.in-Some.is at c.in_ok-found.ensures) explicit t is);
+      states = rw same ((rw c.in-Some.is at c.in_ok-found.ensures.made) explicit t is);
       groups = c.end_group.ensures ∙ groups_are (info_of c.args.info.now) explicit t is;
       whole = ap (λ (n : ℕ). not (n == 0)) (c.start_group.ensures ∙ first_is (info_of c.args.info.now) explicit t is);
     }
+
+pub returns-in-Some-built-clause-exact : goal.returns-in-Some-built-clause-exact
+returns-in-Some-built-clause-exact c explicit t is =
+    let made = ((rw c.in-Some.is at c.in_ok-found.ensures.exact) explicit t is).0 refl in (
+      λ some. is_supported c.args.info.now c.args.options.now.leftmost_longest explicit t is c.if-options.false
+          (sym c.has_groups_outside.ensures ∙ c.if-not-has_groups_outside.false) made,
+      λ supported. refl,
+    )
+
+pub returns-in-None-built-clause-exact : goal.returns-in-None-built-clause-exact
+returns-in-None-built-clause-exact c explicit t is =
+    let states = (rw c.in-Some.is at c.in_ok-found.ensures.made) explicit t is in
+    let closed = states_closed c.args.options.now.unicode c.in-Some.made.states.items c.in-Some.made.entry c.in-Some.made.matchers.items (pattern_in explicit t) states in
+    (λ some. absurd (true≢false (sym some)), λ supported. absurd (true≢false (sym ((rw c.in-None-built.is at c.in_ok-built.ensures.exact).1 closed))))
+
+pub returns-then-entry-len-clause-exact : goal.returns-then-entry-len-clause-exact
+returns-then-entry-len-clause-exact c explicit t is =
+    let states = (rw c.in-Some.is at c.in_ok-found.ensures.made) explicit t is in
+    let inside = entry_inside c.args.options.now.unicode c.in-Some.made.states.items c.in-Some.made.entry c.in-Some.made.matchers.items (pattern_in explicit t) states in
+    (λ some. absurd (true≢false (sym some)), λ supported. absurd (omega (arith, inside, c.if-entry-len.true, c.len.ensures, c.in-Some.made.states.ok.0)))
+
+pub returns-in_default-clause-exact : goal.returns-in_default-clause-exact
+returns-in_default-clause-exact c explicit t is = (
+  λ some. absurd (true≢false (sym some)),
+  λ supported. absurd (true≢false (sym (((rw c.in_default.is at c.in_ok-found.ensures.exact) explicit t is).1
+      (made_in c.args.options.now.leftmost_longest explicit t supported)))),
+)
+
+pub returns-then-not-has_groups_outside-clause-exact : goal.returns-then-not-has_groups_outside-clause-exact
+returns-then-not-has_groups_outside-clause-exact c explicit t is = (
+  λ some. absurd (true≢false (sym some)),
+  λ supported. absurd (true≢false
+      (sym (outside_of c.args.info.now c.args.options.now.leftmost_longest explicit t is supported)
+      ∙ sym c.has_groups_outside.ensures ∙ c.if-not-has_groups_outside.true)),
+)
+
+pub returns-then-options-clause-exact : goal.returns-then-options-clause-exact
+returns-then-options-clause-exact c explicit t is =
+    (λ some. absurd (true≢false (sym some)), λ supported. absurd (true≢false (sym c.if-options.true ∙ supported.first)))

@@ -10,10 +10,10 @@ loop-code-preserved c =
       wide = length-set c.loop-code.ascii c.loop-code.code c.in_ok-class.class ∙ inv.wide;
       long = omega (arith, c.class_for.ensures.long, inv.long);
       end = c.class_for.ensures.kept 0 None inv.end;
-      classes = classes_more c.args.reader.now.unicode c.args.reader.now.matchers.now c.in_ok-leaves.leaves.items c.args.asked
+      classes = classes_more c.args.reader.now.unicode c.args.reader.now.matchers.now c.deref.result.now c.args.asked
           c.loop-code.samples.items c.class_for.new.samples.items c.loop-code.ascii c.loop-code.code c.in_ok-class.class
           (omega (arith, inv.wide, c.loop-code-test.true)) c.class_for.ensures.kept inv.classes
-          (rw c.deref.ensures.value at c.in_ok-class.ensures.class);
+          c.in_ok-class.ensures.class;
     }
 
 pub returns : goal.returns
@@ -23,11 +23,11 @@ returns c = record {
   classes = λ code lt.
       sampled c.args.reader.now.unicode c.args.reader.now.matchers.now c.args.reader.now.states.now c.in_ok-leaves.leaves.items c.args.asked
       c.loop-code.samples.items code (get_or c.loop-code.ascii code 0) c.in_ok-leaves.ensures
-      (c.loop-code.invariant.classes code (omega (arith, lt, c.loop-code-test.false)));
+      (rw c.deref.ensures.value at (c.loop-code.invariant.classes code (omega (arith, lt, c.loop-code-test.false))));
 }
 
 pub overflow_cast-ascii : goal.overflow_cast-ascii
 overflow_cast-ascii c =
-    let here = rw c.deref.ensures.value at c.in_ok-class.ensures.class in
+    let here = c.in_ok-class.ensures.class in
     let within = slice_get_within c.class_for.new.samples.items c.in_ok-class.class here.sample here.is_there in
     omega (arith, within, c.class_for.ensures.long, c.loop-code.invariant.long, c.loop-code-test.true)

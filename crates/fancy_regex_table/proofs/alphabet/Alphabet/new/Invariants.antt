@@ -9,5 +9,5 @@ invariant-loop-code l = record {
   long : length l.samples.items ≤ l.code + 1;
   end : slice_get l.samples.items 0 ≡ Some None;
   classes : (c : ℕ) → c < l.code
-      → HasClass l.reader.unicode l.reader.matchers.now l.leaves.items l.asked l.samples.items (Some c) (get_or l.ascii c 0);
+      → HasClass l.tests.reader.now.unicode l.tests.reader.now.matchers.now l.tests.leaves.now l.tests.asked l.samples.items (Some c) (get_or l.ascii c 0);
 }

@@ -1,6 +1,6 @@
 use Rattle.std.proofs.Common.{◌-◌}
 use Rattle.fancy_regex_linear.specs.Alone.{IsOnWay}
-use Rattle.fancy_regex_linear.proofs.alone.by_table_alone.Given as goal
+use Rattle.fancy_regex_linear.proofs.alone.by_starts_alone.Given as goal
 
 abbrev pub invariant-starts : goal.invariant-starts
 invariant-starts l = record { way : IsOnWay l.context l.fn.text l.text l.from l.at }

@@ -2,10 +2,10 @@ use Rattle.std.proofs.Common.{◌≡◌, Option, None, sym, ap, arith}
 use Rattle.std.specs.Prelude.{option_map}
 use Rattle.fancy_regex_meaning.specs.Groups.{Pattern}
 use Rattle.fancy_regex_class.specs.RunInputs.{match_slots}
-use Rattle.fancy_regex_linear.specs.EasyPatterns.{IsEasyOf, match_for, span_of_match}
+use Rattle.fancy_regex_linear.specs.EasyPatterns.{IsEasyOf, match_for}
 use Rattle.fancy_regex_linear.proofs.AnswerLemmas.{none_past, none_tried}
-use Rattle.fancy_regex_linear.proofs.easy.Easy.span_in.Goals as goal
-use Rattle.fancy_regex_linear.proofs.easy.Easy.span_in.Goals.{Then-input}
+use Rattle.fancy_regex_linear.proofs.easy.Easy.search_in.Goals as goal
+use Rattle.fancy_regex_linear.proofs.easy.Easy.search_in.Goals.{Then-input}
 
 -- past the end of the range the definitions have no match
 none : (c : Then-input) (pattern : Pattern) → IsEasyOf c.args.self.now pattern → match_for c.args.self.now c.args.text.now c.args.input.now pattern ≡ None
@@ -13,11 +13,7 @@ none c pattern is = none_past c.args.self.now.unicode c.args.self.now.longest c.
 
 pub returns-then-input-clause-answer : goal.returns-then-input-clause-answer
 returns-then-input-clause-answer c pattern is =
-    sym (ap (option_map span_of_match) (none (goal.at.returns-then-input-clause-answer c).Then-input pattern is))
-
-pub returns-then-input-clause-slots : goal.returns-then-input-clause-slots
-returns-then-input-clause-slots c kept pattern is =
-    sym (ap (option_map (match_slots pattern)) (none (goal.at.returns-then-input-clause-slots c).Then-input pattern is))
+    sym (ap (option_map (match_slots pattern)) (none (goal.at.returns-then-input-clause-answer c).Then-input pattern is))
 
 pub returns-then-input-clause-at_least : goal.returns-then-input-clause-at_least
 returns-then-input-clause-at_least c pattern is =
