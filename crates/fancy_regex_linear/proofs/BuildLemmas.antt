@@ -80,6 +80,11 @@ module _ (unicode : Bool) where
     read = All-cons (IsRead unicode) (class, casei) [] r (All-nil (IsRead unicode));
   }
 
+  -- no matcher more
+  pub extends_none : (ms : List CharClassMatcher) (cs : List (Text × Bool)) → cs ≡ [] → Extends unicode ms ms cs
+  extends_none ms cs none =
+      rw none (record { count = omega arith; serve = λ ds s. rw (append-nil ds) s; read = All-nil (IsRead unicode) })
+
   -- first these classes, and then those
   pub extends_both : (a b c : List CharClassMatcher) (cs ds : List (Text × Bool)) → Extends unicode a b cs → Extends unicode b c ds
       → Extends unicode a c (cs ++ ds)

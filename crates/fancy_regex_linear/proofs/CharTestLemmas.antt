@@ -12,21 +12,22 @@ use Rattle.regex_hir.specs.Text.{is_some_and, byte_before, char_at, char_before}
 use Rattle.regex_hir.proofs.TextLemmas.{char_at_from, char_at_parts, char_at_fits, char_before-zero, byte_before-zero, byte_before-add-one}
 use Rattle.regex_hir.proofs.Utf8Lemmas.{char_at_cases, IsOneByteAt, IsTwoBytesAt, IsThreeBytesAt, IsFourBytesAt}
 use Rattle.fancy_regex_tree.specs.Tree.{Text}
+use Rattle.fancy_regex_tree.specs.declared.expr.Assertion.TheVariants as A
 use Rattle.fancy_regex_meaning.specs.Positions.{is_after_byte, is_before_byte, is_at_end}
-use Rattle.fancy_regex_meaning.specs.Ways.{Setting}
+use Rattle.fancy_regex_meaning.specs.Ways.{Setting, holds}
 use Rattle.fancy_regex_class.specs.Classes.{in_class}
 use Rattle.fancy_regex_class.specs.Matchers.{has}
 use Rattle.fancy_regex_class.specs.declared.class.CharClassMatcher.{CharClassMatcher}
 use Rattle.fancy_regex_class.proofs.AdjacentCharLemmas.{char_before_past}
 use Rattle.fancy_regex_states.specs.Attempts.{ShowsAll}
-use Rattle.fancy_regex_states.specs.CharTests.{leaf_matches_char, is_char, passes}
+use Rattle.fancy_regex_states.specs.CharTests.{leaf_matches_char, is_char, begins_line, passes}
 use Rattle.fancy_regex_linear.specs.SettingView.{leaf_matches, test_holds, view_of}
 use Rattle.fancy_regex_linear.specs.Easy.{HaveMatchers, rules_for}
 use Rattle.fancy_regex_class.specs.RunInputs.{setting_for}
 use Rattle.fancy_regex_states.specs.declared.atom.Leaf.{Leaf}
 use Rattle.fancy_regex_states.specs.declared.atom.Leaf.TheVariants.{Any, Char, Folded, Class}
 use Rattle.fancy_regex_states.specs.declared.atom.Test.{Test}
-use Rattle.fancy_regex_states.specs.declared.atom.Test.TheVariants.{StartText, EndText, StartLine, EndLine, WordBoundary, NotWordBoundary, LeftWordBoundary, RightWordBoundary, LookAhead, LookAheadNeg, LookBehind, LookBehindNeg}
+use Rattle.fancy_regex_states.specs.declared.atom.Test.TheVariants.{StartText, EndText, StartLine, EndLine, WordBoundary, NotWordBoundary, LeftWordBoundary, RightWordBoundary, LeftWordHalfBoundary, RightWordHalfBoundary, StartLineOniguruma, Never, LookAhead, LookAheadNeg, LookBehind, LookBehindNeg}
 use Rattle.fancy_regex_class.specs.declared.input.RunInput.{RunInput}
 use Rattle.fancy_regex_meaning.proofs.NextBoundaryLemmas.{char_of}
 
@@ -184,14 +185,17 @@ module _ (text : List ℕ) (p : ℕ) (u : IsUtf8 text) (b : IsCharBoundary text 
           rw nothing refl
     ]
 
-    tests_same : (test : Test) → test_holds s cs test p ≡ passes ms (rules_for unicode longest input) test (char_before text p) (char_at text p)
-    tests_same StartText = ap (λ x. x && not input.no_start_text) start_is
-    tests_same EndText = ap (λ x. x && not input.no_end_text) end_is
-    tests_same (StartLine crlf) =
+    line_same : (crlf : Bool) → holds s (A.StartLine crlf) p ≡ begins_line crlf (char_before text p) (char_at text p)
+    line_same crlf =
         ap (λ x. x || is_after_byte text 10 p || (crlf && is_after_byte text 13 p && not (is_before_byte text 10 p))) start_is
         ∙ ap (λ x. is_none (char_before text p) || x || (crlf && is_after_byte text 13 p && not (is_before_byte text 10 p))) (after_is 10 (omega arith))
         ∙ ap (λ x. is_none (char_before text p) || is_char 10 (char_before text p) || (crlf && x && not (is_before_byte text 10 p))) (after_is 13 (omega arith))
         ∙ ap (λ x. is_none (char_before text p) || is_char 10 (char_before text p) || (crlf && is_char 13 (char_before text p) && not x)) (before_is 10 (omega arith))
+
+    tests_same : (test : Test) → test_holds s cs test p ≡ passes ms (rules_for unicode longest input) test (char_before text p) (char_at text p)
+    tests_same StartText = ap (λ x. x && not input.no_start_text) start_is
+    tests_same EndText = ap (λ x. x && not input.no_end_text) end_is
+    tests_same (StartLine crlf) = line_same crlf
     tests_same (EndLine false) = ap₂ ◌||◌ end_is (before_is 10 (omega arith))
     tests_same (EndLine true) =
         ap (λ x. x || is_before_byte text 13 p || (is_before_byte text 10 p && not (is_after_byte text 13 p))) end_is
@@ -202,6 +206,10 @@ module _ (text : List ℕ) (p : ℕ) (u : IsUtf8 text) (b : IsCharBoundary text 
     tests_same NotWordBoundary = refl
     tests_same LeftWordBoundary = refl
     tests_same RightWordBoundary = refl
+    tests_same LeftWordHalfBoundary = refl
+    tests_same RightWordHalfBoundary = refl
+    tests_same (StartLineOniguruma crlf) = ap₂ (λ x y. x && not y) (line_same crlf) (ap₂ ◌&&◌ end_is (after_is 10 (omega arith)))
+    tests_same Never = refl
     tests_same (LookAhead leaf) = after_same leaf
     tests_same (LookAheadNeg leaf) = ap not (after_same leaf)
     tests_same (LookBehind leaf) = before_same leaf

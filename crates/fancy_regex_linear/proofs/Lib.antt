@@ -25,6 +25,7 @@ pub mod RegularAnswerLemmas
 pub mod CharTestLemmas
 pub mod AnswerLemmas
 pub mod ShapeLemmas
+pub mod NoClassLemmas
 pub mod BuildLemmas
 pub mod TranslationLemmas
 pub mod RegularStateLemmas

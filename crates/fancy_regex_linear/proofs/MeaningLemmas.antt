@@ -236,10 +236,10 @@ module _ (s : Setting) (groups : List Tree) (unicode : Bool) (call : ℕ → Mov
   assertion_same A.NotWordBoundary p w q = stay_same _ w
   assertion_same A.LeftWordBoundary p w q = stay_same _ w
   assertion_same A.RightWordBoundary p w q = stay_same _ w
-  assertion_same A.LeftWordHalfBoundary p w q = absurd p
-  assertion_same A.RightWordHalfBoundary p w q = absurd p
+  assertion_same A.LeftWordHalfBoundary p w q = stay_same _ w
+  assertion_same A.RightWordHalfBoundary p w q = stay_same _ w
+  assertion_same (A.StartLineOniguruma crlf) p w q = stay_same _ w
   assertion_same (A.EndTextIgnoreTrailingNewlines crlf) p w q = absurd p
-  assertion_same (A.StartLineOniguruma crlf) p w q = absurd p
 
   pub literal_same : (d : ℕ) (casei : Bool) → Same len (character s (ways.is_literal s d casei)) (plain.ways view len (read (if casei then Folded (folded unicode d) else Char d)))
   unfolding plain.ways

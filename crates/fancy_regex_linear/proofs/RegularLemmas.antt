@@ -8,7 +8,7 @@ use Rattle.std.proofs.lemmas.Bool.{and_parts, cases_lt}
 use Rattle.std.proofs.lemmas.List.{map-append}
 use Rattle.std.proofs.lemmas.List.Folds.{find-append}
 use Rattle.std.proofs.lemmas.Option.{none-some, same_Some}
-use Rattle.fancy_regex_tree.specs.Tree.{Tree, Trees, Text, empty, any, assertion, literal, concat, alt, group, look_around, repeat, delegate, atomic_group, no_trees, more_trees}
+use Rattle.fancy_regex_tree.specs.Tree.{Tree, Trees, Text, empty, any, assertion, literal, concat, alt, group, look_around, repeat, delegate, atomic_group, verb, no_trees, more_trees}
 use Rattle.fancy_regex_tree.specs.declared.expr.LookAround.{LookAround}
 use Rattle.fancy_regex_tree.specs.declared.expr.LookAround.TheVariants.{LookAhead, LookAheadNeg, LookBehind, LookBehindNeg}
 use Rattle.regex_hir.specs.Text.{char_at}
@@ -363,6 +363,7 @@ module _ (s : Setting) (groups : List Tree) (unicode : Bool) (call : ℕ → Mov
         (λ made. repeat_firsts s lo hi greedy (is_unbounded hi) (meaning s groups call n t).from (plain.ways view len (re_of unicode groups n k t))
         (ways_end view len (re_of unicode groups n k t)) (ways_alike view len (re_of unicode groups n k t))
         (tree_firsts n k t p (all_stand s groups unicode call cs false same_fold k lo hi t made h))) w q
+    tree_firsts n k (verb v) p h w q = λ wanted. refl
     tree_firsts n k _ p h w q = absurd p
 
     row_firsts : (n k : ℕ) (ts : Trees) → AreRegular ts → StandAt s groups unicode call cs false same_fold k (row_classes ts)

@@ -3,7 +3,7 @@ use Rattle.std.proofs.Common.{◌≡◌, ℕ, zero, suc, ◌+◌, ◌-◌, ◌==
 use Rattle.std.specs.List.{flat_map}
 use Rattle.std.specs.Char.{len_utf8}
 use Rattle.regex_hir.specs.Text.{char_at}
-use Rattle.fancy_regex_tree.specs.Tree.{Tree, Trees, empty, any, assertion, literal, concat, alt, group, look_around, repeat, delegate, atomic_group, no_trees, more_trees}
+use Rattle.fancy_regex_tree.specs.Tree.{Tree, Trees, empty, any, assertion, literal, concat, alt, group, look_around, repeat, delegate, atomic_group, verb, no_trees, more_trees}
 use Rattle.fancy_regex_tree.specs.declared.expr.LookAround.{LookAround}
 use Rattle.fancy_regex_tree.specs.declared.expr.LookAround.TheVariants.{LookAhead, LookAheadNeg, LookBehind, LookBehindNeg}
 use Rattle.fancy_regex_meaning.specs.Groups.{group_count}
@@ -96,6 +96,7 @@ module _ (s : Setting) (groups : List Tree) (call : ℕ → Moves) where
     regular_keeps_start n (group t) p w =
         Each-map (λ v. v.match_start ≡ w.match_start) (λ v. v.match_start ≡ w.match_start) (λ v. ways.set_pair n (w.position, v.position) v) (λ v e. e) ((meaning s groups call (n + 1) t).from w) (regular_keeps_start (n + 1) t p w)
     regular_keeps_start n (repeat t lo hi greedy) p w = repeat_keeps s lo (bound_of hi) greedy (meaning s groups call n t).from (regular_keeps_start n t p) w
+    regular_keeps_start n (verb v) p w = tt
     regular_keeps_start n _ p w = absurd p
 
     row_keeps : (n : ℕ) (ts : Trees) → AreRegular ts → KeepsStart (all_of (meanings s groups call n ts))

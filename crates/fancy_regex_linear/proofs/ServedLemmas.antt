@@ -28,10 +28,10 @@ served A.WordBoundary e = tt
 served A.NotWordBoundary e = tt
 served A.LeftWordBoundary e = tt
 served A.RightWordBoundary e = tt
-served A.LeftWordHalfBoundary e = absurd (true≢false (sym e))
-served A.RightWordHalfBoundary e = absurd (true≢false (sym e))
+served A.LeftWordHalfBoundary e = tt
+served A.RightWordHalfBoundary e = tt
+served (A.StartLineOniguruma crlf) e = tt
 served (A.EndTextIgnoreTrailingNewlines crlf) e = absurd (true≢false (sym e))
-served (A.StartLineOniguruma crlf) e = absurd (true≢false (sym e))
 
 module _ (reads : ℕ → Bool) where
   mutual

@@ -1,8 +1,10 @@
 -- Plain trees, and the patterns of two branches at most that they become.
 use Rattle.std.specs.Prelude.{◌≢◌, ℕ, ◌+◌, Bool, true, false, not, ◌&&◌, List, [], ◌∷◌, ◌++◌, length, Option, Some, None, slice_index, if◌then◌else◌, ◌==◌}
-use Rattle.fancy_regex_tree.specs.Tree.{Tree, Trees, Text, empty, any, assertion, literal, concat, alt, group, look_around, repeat, delegate, atomic_group, no_trees, more_trees}
+use Rattle.fancy_regex_tree.specs.Tree.{Tree, Trees, Text, empty, any, assertion, literal, concat, alt, group, look_around, repeat, delegate, atomic_group, verb, no_trees, more_trees}
 use Rattle.fancy_regex_tree.specs.declared.expr.Assertion.{Assertion}
 use Rattle.fancy_regex_tree.specs.declared.expr.Assertion.TheVariants as A
+use Rattle.fancy_regex_tree.specs.declared.expr.BacktrackingControlVerb.{BacktrackingControlVerb}
+use Rattle.fancy_regex_tree.specs.declared.expr.BacktrackingControlVerb.TheVariants.{Fail}
 use Rattle.fancy_regex_tree.specs.declared.expr.LookAround.{LookAround}
 use Rattle.fancy_regex_tree.specs.declared.expr.LookAround.TheVariants as L
 use Rattle.fancy_regex_meaning.specs.Groups.{group_count}
@@ -13,7 +15,7 @@ use Rattle.fancy_regex_linear.specs.Re.{Re}
 use Rattle.fancy_regex_states.specs.declared.atom.Leaf.{Leaf}
 use Rattle.fancy_regex_states.specs.declared.atom.Leaf.TheVariants.{Any, Char, Folded, Class}
 use Rattle.fancy_regex_states.specs.declared.atom.Test.{Test}
-use Rattle.fancy_regex_states.specs.declared.atom.Test.TheVariants.{StartText, EndText, StartLine, EndLine, WordBoundary, NotWordBoundary, LeftWordBoundary, RightWordBoundary, LookAhead, LookAheadNeg, LookBehind, LookBehindNeg}
+use Rattle.fancy_regex_states.specs.declared.atom.Test.TheVariants.{StartText, EndText, StartLine, EndLine, WordBoundary, NotWordBoundary, LeftWordBoundary, RightWordBoundary, LeftWordHalfBoundary, RightWordHalfBoundary, StartLineOniguruma, Never, LookAhead, LookAheadNeg, LookBehind, LookBehindNeg}
 
 -- the test of an assertion that the linear engine supports
 abbrev pub test_of : Assertion → Option Test
@@ -25,10 +27,10 @@ test_of A.WordBoundary = Some WordBoundary
 test_of A.NotWordBoundary = Some NotWordBoundary
 test_of A.LeftWordBoundary = Some LeftWordBoundary
 test_of A.RightWordBoundary = Some RightWordBoundary
-test_of A.LeftWordHalfBoundary = None
-test_of A.RightWordHalfBoundary = None
+test_of A.LeftWordHalfBoundary = Some LeftWordHalfBoundary
+test_of A.RightWordHalfBoundary = Some RightWordHalfBoundary
+test_of (A.StartLineOniguruma crlf) = Some (StartLineOniguruma crlf)
 test_of (A.EndTextIgnoreTrailingNewlines crlf) = None
-test_of (A.StartLineOniguruma crlf) = None
 
 abbrev pub IsServed : Option Test → Type 0
 IsServed None = ⊥
@@ -60,7 +62,12 @@ abbrev mutual
   ArePlain no_trees = Unit {0}
   ArePlain (more_trees t ts) = IsPlain t × ArePlain ts
 
--- Trees that become a pattern with parts: plain ones, look-aheads and atomic groups over any such tree.
+-- the verb that never matches
+abbrev pub IsFail : BacktrackingControlVerb → Type 0
+IsFail Fail = Unit {0}
+IsFail _ = ⊥
+
+-- Trees that become a pattern with parts: plain ones, those that never match, look-aheads and atomic groups over any such tree.
 abbrev mutual
   pub IsRegular : Tree → Type 0
   IsRegular empty = Unit {0}
@@ -76,6 +83,7 @@ abbrev mutual
   IsRegular (look_around t L.LookBehind) = IsOneChar t
   IsRegular (look_around t L.LookBehindNeg) = IsOneChar t
   IsRegular (atomic_group t) = IsRegular t
+  IsRegular (verb v) = IsFail v
   IsRegular (repeat t lo hi greedy) = IsRegular t
   IsRegular _ = ⊥
 
@@ -155,6 +163,7 @@ module _ (unicode : Bool) (groups : List Tree) where
     re_of n k (group t) = re.group n (re_of (n + 1) k t)
     re_of n k (look_around t how) = looked how (char_leaf unicode k t) (re_of n k t)
     re_of n k (atomic_group t) = re.atomic (re_of n k t)
+    re_of n k (verb v) = re.test Never
     re_of n k (repeat t lo hi greedy) =
         unless (has_no_iteration lo hi) (re.repeat lo hi greedy (not (may_be_empty groups t)) (re_of n k t))
     re_of n k _ = re.nothing

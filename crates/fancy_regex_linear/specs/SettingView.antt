@@ -9,7 +9,7 @@ use Rattle.fancy_regex_states.specs.Attempts.{View}
 use Rattle.fancy_regex_states.specs.declared.atom.Leaf.{Leaf}
 use Rattle.fancy_regex_states.specs.declared.atom.Leaf.TheVariants.{Any, Char, Folded, Class}
 use Rattle.fancy_regex_states.specs.declared.atom.Test.{Test}
-use Rattle.fancy_regex_states.specs.declared.atom.Test.TheVariants.{StartText, EndText, StartLine, EndLine, WordBoundary, NotWordBoundary, LeftWordBoundary, RightWordBoundary, LookAhead, LookAheadNeg, LookBehind, LookBehindNeg}
+use Rattle.fancy_regex_states.specs.declared.atom.Test.TheVariants.{StartText, EndText, StartLine, EndLine, WordBoundary, NotWordBoundary, LeftWordBoundary, RightWordBoundary, LeftWordHalfBoundary, RightWordHalfBoundary, StartLineOniguruma, Never, LookAhead, LookAheadNeg, LookBehind, LookBehindNeg}
 
 -- whether the leaf matches the character, where the classes are these
 abbrev pub leaf_matches : Setting → List (Text × Bool) → Leaf → ℕ → Bool
@@ -28,6 +28,10 @@ test_holds s cs WordBoundary p = holds s A.WordBoundary p
 test_holds s cs NotWordBoundary p = holds s A.NotWordBoundary p
 test_holds s cs LeftWordBoundary p = holds s A.LeftWordBoundary p
 test_holds s cs RightWordBoundary p = holds s A.RightWordBoundary p
+test_holds s cs LeftWordHalfBoundary p = holds s A.LeftWordHalfBoundary p
+test_holds s cs RightWordHalfBoundary p = holds s A.RightWordHalfBoundary p
+test_holds s cs (StartLineOniguruma crlf) p = holds s (A.StartLineOniguruma crlf) p
+test_holds s cs Never p = false
 test_holds s cs (LookAhead leaf) p = is_some_and (char_at s.text p) (leaf_matches s cs leaf)
 test_holds s cs (LookAheadNeg leaf) p = not (is_some_and (char_at s.text p) (leaf_matches s cs leaf))
 test_holds s cs (LookBehind leaf) p = is_some_and (char_before s.text p) (leaf_matches s cs leaf)

@@ -19,7 +19,7 @@ use crate::node::{Node, Quantifier};
 use fancy_regex_class::{CharClassMatcher, ClassError, fold};
 use fancy_regex_info::CompileError;
 use fancy_regex_states::{Leaf, Test};
-use fancy_regex_tree::{Assertion, Expr, LookAround};
+use fancy_regex_tree::{Assertion, BacktrackingControlVerb, Expr, LookAround};
 use std::alloc::{AllocError, Global};
 
 /// The state of the translation. For a tree that is not easy the result has no meaning.
@@ -73,10 +73,10 @@ fn test_of(assertion: Assertion) -> Option<Test>
         Assertion::NotWordBoundary => Some(Test::NotWordBoundary),
         Assertion::LeftWordBoundary => Some(Test::LeftWordBoundary),
         Assertion::RightWordBoundary => Some(Test::RightWordBoundary),
-        Assertion::LeftWordHalfBoundary
-        | Assertion::RightWordHalfBoundary
-        | Assertion::EndTextIgnoreTrailingNewlines { .. }
-        | Assertion::StartLineOniguruma { .. } => None,
+        Assertion::LeftWordHalfBoundary => Some(Test::LeftWordHalfBoundary),
+        Assertion::RightWordHalfBoundary => Some(Test::RightWordHalfBoundary),
+        Assertion::StartLineOniguruma { crlf } => Some(Test::StartLineOniguruma { crlf }),
+        Assertion::EndTextIgnoreTrailingNewlines { .. } => None,
     }
 }
 
@@ -201,6 +201,7 @@ impl Translator {
             } => self.repeat(child, *lo, *hi, *greedy),
             Expr::LookAround(child, look) => self.look_around(child, *look),
             Expr::AtomicGroup(child) => self.atomic(child),
+            Expr::BacktrackingControlVerb(_) => Ok(Translated::still(Node::Look(Test::Never))),
             _ => Ok(Translated::still(Node::Empty)),
         }
     }
@@ -501,6 +502,7 @@ pub fn is_regular(expr: &Expr) -> bool
         Expr::Assertion(assertion) => test_of(*assertion).is_some(),
         Expr::Concat(children) => are_regular(children),
         Expr::Alt(children) => !children.is_empty() && are_regular(children),
+        Expr::BacktrackingControlVerb(BacktrackingControlVerb::Fail) => true,
         Expr::Group(child) | Expr::AtomicGroup(child) => is_regular(child),
         Expr::Repeat { child, .. } => is_regular(child),
         Expr::LookAround(child, LookAround::LookAhead | LookAround::LookAheadNeg) => {

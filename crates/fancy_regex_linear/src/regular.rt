@@ -36,9 +36,9 @@ impl RegularStates {
     ghost use Rattle.fancy_regex_info.specs.declared.info.Info.{out-Info};
     ghost use Rattle.fancy_regex_info.specs.Views.{pattern_in};
 
-    /// The states of an analyzed pattern; `None` where its weight is above 4,000, or where it has more than characters, assertions,
-    /// look-behinds for one character, look-aheads, groups, atomic groups, alternations and repeats of these. The error is
-    /// `InnerError` with the text of a class that `regex` refuses, or `Memory`.
+    /// The states of an analyzed pattern; `None` where its weight is above 4,000, or where it has more than characters, assertions but
+    /// `\Z`, `(*FAIL)`, look-behinds for one character, look-aheads, groups, atomic groups, alternations and repeats of these. The error
+    /// is `InnerError` with the text of a class that `regex` refuses, or `Memory`.
     pub fn new(
         alloc: Global,
         info: &Info<'_>,

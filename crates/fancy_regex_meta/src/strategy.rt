@@ -1,5 +1,5 @@
 //! What executes a compiled pattern: the linear-time matcher in bounded steps, or a backtracking program. A pattern that is easy but for
-//! look-arounds for one character keeps its program, and is searched by the matcher.
+//! look-arounds for one character or half boundaries keeps its program, and is searched by the matcher.
 
 ghost use Rattle.std.specs.Prelude.{◌≡◌, ◌≤◌, ◌+◌, ◌-◌, ◌*◌, ◌^◌, ◌<◌, ℕ, Option, min, true, false, not, is_some, length, IfOk, IfErr, IfSome, option_map, IsCharBoundary};
 ghost use Rattle.fancy_regex_tree.specs.Tree.{Tree, tree_of};

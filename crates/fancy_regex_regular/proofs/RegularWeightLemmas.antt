@@ -1,7 +1,7 @@
 -- The states of a regular pattern weigh at most twice as much as its tree, and a search looks at the text accordingly.
 use Rattle.std.proofs.Common.{◌≡◌, ◌≢◌, ℕ, ◌+◌, ◌*◌, ◌-◌, ◌<◌, ◌≤◌, max, Bool, true, false, cond, not, List, [], ◌∷◌, length, Option, Some, None, if◌then◌else◌, refl, ap, arith}
 use Rattle.std.proofs.Math.Nat.{mul-le-mul_left}
-use Rattle.fancy_regex_tree.specs.Tree.{Tree, Trees, empty, any, assertion, literal, concat, alt, group, look_around, repeat, delegate, atomic_group, no_trees, more_trees}
+use Rattle.fancy_regex_tree.specs.Tree.{Tree, Trees, empty, any, assertion, literal, concat, alt, group, look_around, repeat, delegate, atomic_group, verb, no_trees, more_trees}
 use Rattle.fancy_regex_tree.specs.declared.expr.LookAround.{LookAround}
 use Rattle.fancy_regex_tree.specs.declared.expr.LookAround.TheVariants as L
 use Rattle.fancy_regex_meaning.specs.Groups.{Pattern, group_count}
@@ -90,6 +90,7 @@ module _ (unicode : Bool) (groups : List Tree) where
     regular_light n k (atomic_group t) p = omega (arith, regular_light n k t p)
     regular_light n k (repeat t lo hi greedy) p =
         out_light (has_no_iteration lo hi) _ _ (repeat_light (is_unbounded hi) (may_be_empty groups t) lo hi _ _ (regular_light n k t p))
+    regular_light n k (verb v) p = omega arith
     regular_light n k _ p = absurd p
 
     regular_row : (n k : ℕ) (ts : Trees) → AreRegular ts → weight (row_of unicode groups n k ts) ≤ 2 * weights groups ts

@@ -46,9 +46,9 @@ impl Regular {
     ghost use Rattle.fancy_regex_info.specs.Views.{pattern_in};
 
     /// Compiles an analyzed pattern; `None` where the longest match is wanted, or where the pattern does not become states with parts:
-    /// where its weight is above 4,000, or it has more than characters, assertions, look-behinds for one character, look-aheads, groups,
-    /// atomic groups, alternations and repeats of these, or a capture group in a look-ahead or in an atomic group; else there is one. The
-    /// error is `InnerError` with the text of a class that `regex` refuses, or `Memory`.
+    /// where its weight is above 4,000, or it has more than characters, assertions but `\Z`, `(*FAIL)`, look-behinds for one character,
+    /// look-aheads, groups, atomic groups, alternations and repeats of these, or a capture group in a look-ahead or in an atomic group;
+    /// else there is one. The error is `InnerError` with the text of a class that `regex` refuses, or `Memory`.
     pub fn if_supported(
         alloc: Global,
         info: &Info<'_>,

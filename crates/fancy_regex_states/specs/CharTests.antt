@@ -6,7 +6,7 @@ use Rattle.fancy_regex_class.specs.Classes.{in_class, folded}
 use Rattle.fancy_regex_states.specs.declared.atom.Leaf.{Leaf}
 use Rattle.fancy_regex_states.specs.declared.atom.Leaf.TheVariants.{Any, Char, Folded, Class}
 use Rattle.fancy_regex_states.specs.declared.atom.Test.{Test}
-use Rattle.fancy_regex_states.specs.declared.atom.Test.TheVariants.{StartText, EndText, StartLine, EndLine, WordBoundary, NotWordBoundary, LeftWordBoundary, RightWordBoundary, LookAhead, LookAheadNeg, LookBehind, LookBehindNeg}
+use Rattle.fancy_regex_states.specs.declared.atom.Test.TheVariants.{StartText, EndText, StartLine, EndLine, WordBoundary, NotWordBoundary, LeftWordBoundary, RightWordBoundary, LeftWordHalfBoundary, RightWordHalfBoundary, StartLineOniguruma, Never, LookAhead, LookAheadNeg, LookBehind, LookBehindNeg}
 use Rattle.fancy_regex_class.specs.declared.class.CharClassMatcher.{CharClassMatcher}
 use Rattle.fancy_regex_states.specs.declared.rules.Rules.{Rules}
 
@@ -28,12 +28,15 @@ is_word_char unicode = in_class unicode (codes "\\w") false
 abbrev pub is_char : ℕ → Option ℕ → Bool
 is_char d o = is_some_and o (λ c. c == d)
 
+-- a line begins between two characters
+abbrev pub begins_line : Bool → Option ℕ → Option ℕ → Bool
+begins_line crlf before after = is_none before || is_char 10 before || (crlf && is_char 13 before && not (is_char 10 after))
+
 -- whether the assertion holds between two characters
 abbrev pub passes : List CharClassMatcher → Rules → Test → Option ℕ → Option ℕ → Bool
 passes matchers rules StartText before after = is_none before && not rules.no_start_text
 passes matchers rules EndText before after = is_none after && not rules.no_end_text
-passes matchers rules (StartLine crlf) before after =
-    is_none before || is_char 10 before || (crlf && is_char 13 before && not (is_char 10 after))
+passes matchers rules (StartLine crlf) before after = begins_line crlf before after
 passes matchers rules (EndLine false) before after = is_none after || is_char 10 after
 passes matchers rules (EndLine true) before after =
     is_none after || is_char 13 after || (is_char 10 after && not (is_char 13 before))
@@ -47,6 +50,10 @@ passes matchers rules LeftWordBoundary before after =
     not (is_some_and before (is_word_char rules.unicode)) && is_some_and after (is_word_char rules.unicode)
 passes matchers rules RightWordBoundary before after =
     is_some_and before (is_word_char rules.unicode) && not (is_some_and after (is_word_char rules.unicode))
+passes matchers rules LeftWordHalfBoundary before after = not (is_some_and before (is_word_char rules.unicode))
+passes matchers rules RightWordHalfBoundary before after = not (is_some_and after (is_word_char rules.unicode))
+passes matchers rules (StartLineOniguruma crlf) before after = begins_line crlf before after && not (is_none after && is_char 10 before)
+passes matchers rules Never before after = false
 passes matchers rules (LookAhead leaf) before after = is_some_and after (leaf_matches_char rules.unicode matchers leaf)
 passes matchers rules (LookAheadNeg leaf) before after = not (is_some_and after (leaf_matches_char rules.unicode matchers leaf))
 passes matchers rules (LookBehind leaf) before after = is_some_and before (leaf_matches_char rules.unicode matchers leaf)

@@ -32,6 +32,14 @@ pub enum Test {
     LeftWordBoundary,
     /// The end of a word.
     RightWordBoundary,
+    /// No word character stands before.
+    LeftWordHalfBoundary,
+    /// No word character follows.
+    RightWordHalfBoundary,
+    /// The start of a line, but not the end of the text after `\n`; with `crlf` also `\r` and `\r\n` end a line.
+    StartLineOniguruma { crlf: bool },
+    /// It holds nowhere.
+    Never,
     /// A character follows that the leaf matches.
     LookAhead(Leaf),
     /// No character follows that the leaf matches.

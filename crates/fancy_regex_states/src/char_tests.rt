@@ -2,7 +2,7 @@
 
 ghost use Rattle.std.specs.Prelude.{◌≡◌, true};
 ghost use Rattle.regex_hir.specs.Text.{is_some_and};
-ghost use Rattle.fancy_regex_states.specs.CharTests.{IsAsciiLeaf, leaf_matches_char, passes, is_word_char, is_char as is_char_of};
+ghost use Rattle.fancy_regex_states.specs.CharTests.{IsAsciiLeaf, leaf_matches_char, passes, is_word_char, is_char as is_char_of, begins_line as begins_line_of};
 
 use crate::atom::{Leaf, Test};
 use crate::rules::Rules;
@@ -59,6 +59,16 @@ fn is_word_at(rules: Rules, c: Option<char>) -> bool
     }
 }
 
+/// Whether a line begins between the characters `before` and `after`; with `crlf` also `\r` and `\r\n` end a line.
+#[inline(always)]
+fn begins_line(crlf: bool, before: Option<char>, after: Option<char>) -> bool
+    ensures { result ≡ begins_line_of crlf before after }
+{
+    before.is_none()
+        || is_char('\n', before)
+        || (crlf && is_char('\r', before) && !is_char('\n', after))
+}
+
 /// Whether there is a character that the leaf matches; `None` is the start or the end of the text.
 #[inline(always)]
 pub fn is_matched(matchers: &[CharClassMatcher], unicode: bool, leaf: Leaf, c: Option<char>) -> bool
@@ -84,11 +94,7 @@ pub fn test_holds(
     match test {
         Test::StartText => before.is_none() && !rules.no_start_text,
         Test::EndText => after.is_none() && !rules.no_end_text,
-        Test::StartLine { crlf } => {
-            before.is_none()
-                || is_char('\n', before)
-                || (crlf && is_char('\r', before) && !is_char('\n', after))
-        }
+        Test::StartLine { crlf } => begins_line(crlf, before, after),
         Test::EndLine { crlf: false } => after.is_none() || is_char('\n', after),
         Test::EndLine { crlf: true } => {
             after.is_none()
@@ -99,6 +105,12 @@ pub fn test_holds(
         Test::NotWordBoundary => is_word_at(rules, before) == is_word_at(rules, after),
         Test::LeftWordBoundary => !is_word_at(rules, before) && is_word_at(rules, after),
         Test::RightWordBoundary => is_word_at(rules, before) && !is_word_at(rules, after),
+        Test::LeftWordHalfBoundary => !is_word_at(rules, before),
+        Test::RightWordHalfBoundary => !is_word_at(rules, after),
+        Test::StartLineOniguruma { crlf } => {
+            begins_line(crlf, before, after) && !(after.is_none() && is_char('\n', before))
+        }
+        Test::Never => false,
         Test::LookAhead(leaf) => is_matched(matchers, rules.unicode, leaf, after),
         Test::LookAheadNeg(leaf) => !is_matched(matchers, rules.unicode, leaf, after),
         Test::LookBehind(leaf) => is_matched(matchers, rules.unicode, leaf, before),

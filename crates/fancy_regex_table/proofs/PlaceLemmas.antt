@@ -10,7 +10,7 @@ use Rattle.fancy_regex_states.specs.CharTests.{leaf_matches_char, passes}
 use Rattle.fancy_regex_states.specs.First.{state_at}
 use Rattle.fancy_regex_states.specs.declared.atom.Leaf.{Leaf}
 use Rattle.fancy_regex_states.specs.declared.atom.Test.{Test}
-use Rattle.fancy_regex_states.specs.declared.atom.Test.TheVariants.{StartText, EndText, StartLine, EndLine, WordBoundary, NotWordBoundary, LeftWordBoundary, RightWordBoundary, LookAhead, LookAheadNeg, LookBehind, LookBehindNeg}
+use Rattle.fancy_regex_states.specs.declared.atom.Test.TheVariants.{StartText, EndText, StartLine, EndLine, WordBoundary, NotWordBoundary, LeftWordBoundary, RightWordBoundary, LeftWordHalfBoundary, RightWordHalfBoundary, StartLineOniguruma, Never, LookAhead, LookAheadNeg, LookBehind, LookBehindNeg}
 use Rattle.fancy_regex_states.specs.declared.rules.Rules.{Rules}
 use Rattle.fancy_regex_states.specs.declared.state.State.{State}
 use Rattle.fancy_regex_states.specs.declared.state.State.TheVariants as S
@@ -63,6 +63,13 @@ passes_between matchers asked rules one other start end WordBoundary a = let w :
 passes_between matchers asked rules one other start end NotWordBoundary a = let w : asked.words ≡ true = a.words refl in rw w refl
 passes_between matchers asked rules one other start end LeftWordBoundary a = let w : asked.words ≡ true = a.words refl in rw w refl
 passes_between matchers asked rules one other start end RightWordBoundary a = let w : asked.words ≡ true = a.words refl in rw w refl
+passes_between matchers asked rules one other start end LeftWordHalfBoundary a = let w : asked.words ≡ true = a.words refl in rw w refl
+passes_between matchers asked rules one other start end RightWordHalfBoundary a = let w : asked.words ≡ true = a.words refl in rw w refl
+passes_between matchers asked rules one other start end (StartLineOniguruma crlf) a =
+    let e : asked.edges ≡ true = a.edges refl in
+    let l : asked.lines ≡ true = a.lines refl in
+    rw (e, l) refl
+passes_between matchers asked rules one other start end Never a = refl
 passes_between matchers asked rules one other start end (LookAhead leaf) a = matched_in rules.unicode matchers other leaf asked.leaves a.leaf
 passes_between matchers asked rules one other start end (LookAheadNeg leaf) a = ap not (matched_in rules.unicode matchers other leaf asked.leaves a.leaf)
 passes_between matchers asked rules one other start end (LookBehind leaf) a = matched_in rules.unicode matchers one leaf asked.leaves a.leaf

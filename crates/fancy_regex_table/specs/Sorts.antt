@@ -4,7 +4,7 @@ use Rattle.regex_hir.specs.Text.{is_some_and}
 use Rattle.fancy_regex_states.specs.CharTests.{is_char, is_word_char}
 use Rattle.fancy_regex_states.specs.First.{state_at}
 use Rattle.fancy_regex_states.specs.declared.atom.Test.{Test}
-use Rattle.fancy_regex_states.specs.declared.atom.Test.TheVariants.{StartText, EndText, StartLine, EndLine, WordBoundary, NotWordBoundary, LeftWordBoundary, RightWordBoundary, LookAhead, LookAheadNeg, LookBehind, LookBehindNeg}
+use Rattle.fancy_regex_states.specs.declared.atom.Test.TheVariants.{StartText, EndText, StartLine, EndLine, WordBoundary, NotWordBoundary, LeftWordBoundary, RightWordBoundary, LeftWordHalfBoundary, RightWordHalfBoundary, StartLineOniguruma, Never, LookAhead, LookAheadNeg, LookBehind, LookBehindNeg}
 use Rattle.fancy_regex_states.specs.declared.state.State.{State}
 use Rattle.fancy_regex_states.specs.declared.state.State.TheVariants as S
 use Rattle.fancy_regex_class.specs.declared.class.CharClassMatcher.{CharClassMatcher}
@@ -23,17 +23,25 @@ sort_at matchers asked unicode c = record {
   matched = matching_set unicode matchers asked.leaves c;
 }
 
+-- a line begins between characters of these sorts
+abbrev pub line_begins_between : Bool → Sort → Sort → Bool
+line_begins_between crlf before after = before.edge || before.newline || (crlf && before.carriage_return && not after.newline)
+
 -- whether the assertion holds between characters of these sorts
 abbrev pub holds_between : Test → Sort → Sort → Bool
 holds_between StartText before after = before.edge
 holds_between EndText before after = after.edge
-holds_between (StartLine crlf) before after = before.edge || before.newline || (crlf && before.carriage_return && not after.newline)
+holds_between (StartLine crlf) before after = line_begins_between crlf before after
 holds_between (EndLine false) before after = after.edge || after.newline
 holds_between (EndLine true) before after = after.edge || after.carriage_return || (after.newline && not before.carriage_return)
 holds_between WordBoundary before after = not before.word && after.word || before.word && not after.word
 holds_between NotWordBoundary before after = not before.word && not after.word || before.word && after.word
 holds_between LeftWordBoundary before after = not before.word && after.word
 holds_between RightWordBoundary before after = before.word && not after.word
+holds_between LeftWordHalfBoundary before after = not before.word
+holds_between RightWordHalfBoundary before after = not after.word
+holds_between (StartLineOniguruma crlf) before after = line_begins_between crlf before after && not (after.edge && before.newline)
+holds_between Never before after = false
 holds_between (LookAhead leaf) before after = has_leaf after.matched leaf
 holds_between (LookAheadNeg leaf) before after = not (has_leaf after.matched leaf)
 holds_between (LookBehind leaf) before after = has_leaf before.matched leaf
@@ -45,12 +53,14 @@ asks_for_edges StartText = true
 asks_for_edges EndText = true
 asks_for_edges (StartLine crlf) = true
 asks_for_edges (EndLine crlf) = true
+asks_for_edges (StartLineOniguruma crlf) = true
 asks_for_edges _ = false
 
 -- the assertion asks where lines end
 abbrev pub asks_for_lines : Test → Bool
 asks_for_lines (StartLine crlf) = true
 asks_for_lines (EndLine crlf) = true
+asks_for_lines (StartLineOniguruma crlf) = true
 asks_for_lines _ = false
 
 -- the assertion asks for word characters
@@ -59,6 +69,8 @@ asks_for_words WordBoundary = true
 asks_for_words NotWordBoundary = true
 asks_for_words LeftWordBoundary = true
 asks_for_words RightWordBoundary = true
+asks_for_words LeftWordHalfBoundary = true
+asks_for_words RightWordHalfBoundary = true
 asks_for_words _ = false
 
 -- the leaf that the assertion asks about is in the set

@@ -3,7 +3,7 @@
 ghost use Rattle.std.specs.Prelude.{◌≡◌, ◌<◌, ℕ, Bool, true, IfSome};
 ghost use Rattle.regex_hir.specs.Text.{is_some_and};
 ghost use Rattle.fancy_regex_states.specs.CharTests.{is_char as is_char_of, is_word_char as is_word_code};
-ghost use Rattle.fancy_regex_table.specs.Sorts.{sort_at, holds_between, asks_for_edges as asks_edges, asks_for_lines as asks_lines, asks_for_words as asks_words, asked_with, AreAsked, AsksLeaf, AsksMore, IsAsked};
+ghost use Rattle.fancy_regex_table.specs.Sorts.{sort_at, holds_between, line_begins_between, asks_for_edges as asks_edges, asks_for_lines as asks_lines, asks_for_words as asks_words, asked_with, AreAsked, AsksLeaf, AsksMore, IsAsked};
 ghost use Rattle.fancy_regex_table.specs.LeafSets.{HasAll};
 ghost use Rattle.fancy_regex_table.specs.declared.sort.Asked.{Asked as AskedValue};
 
@@ -87,6 +87,13 @@ fn is_word_char(unicode: bool, c: Option<char>) -> bool
     }
 }
 
+/// Whether a line begins between characters of these sorts.
+fn begins_line(crlf: bool, before: Sort, after: Sort) -> bool
+    ensures { result ≡ line_begins_between crlf before after }
+{
+    before.edge || before.newline || (crlf && before.carriage_return && !after.newline)
+}
+
 /// Whether the assertion holds between characters of these sorts, where no end of the text is hidden.
 pub fn holds(test: Test, before: Sort, after: Sort) -> bool
     ensures { result ≡ holds_between test before after }
@@ -94,9 +101,7 @@ pub fn holds(test: Test, before: Sort, after: Sort) -> bool
     match test {
         Test::StartText => before.edge,
         Test::EndText => after.edge,
-        Test::StartLine { crlf } => {
-            before.edge || before.newline || (crlf && before.carriage_return && !after.newline)
-        }
+        Test::StartLine { crlf } => begins_line(crlf, before, after),
         Test::EndLine { crlf: false } => after.edge || after.newline,
         Test::EndLine { crlf: true } => {
             after.edge || after.carriage_return || (after.newline && !before.carriage_return)
@@ -105,6 +110,12 @@ pub fn holds(test: Test, before: Sort, after: Sort) -> bool
         Test::NotWordBoundary => before.word == after.word,
         Test::LeftWordBoundary => !before.word && after.word,
         Test::RightWordBoundary => before.word && !after.word,
+        Test::LeftWordHalfBoundary => !before.word,
+        Test::RightWordHalfBoundary => !after.word,
+        Test::StartLineOniguruma { crlf } => {
+            begins_line(crlf, before, after) && !(after.edge && before.newline)
+        }
+        Test::Never => false,
         Test::LookAhead(leaf) => after.matched.has(leaf),
         Test::LookAheadNeg(leaf) => !after.matched.has(leaf),
         Test::LookBehind(leaf) => before.matched.has(leaf),
@@ -117,7 +128,11 @@ fn asks_for_edges(test: Test) -> bool
     ensures { result ≡ asks_edges test }
 {
     match test {
-        Test::StartText | Test::EndText | Test::StartLine { .. } | Test::EndLine { .. } => true,
+        Test::StartText
+        | Test::EndText
+        | Test::StartLine { .. }
+        | Test::EndLine { .. }
+        | Test::StartLineOniguruma { .. } => true,
         _ => false,
     }
 }
@@ -127,7 +142,7 @@ fn asks_for_lines(test: Test) -> bool
     ensures { result ≡ asks_lines test }
 {
     match test {
-        Test::StartLine { .. } | Test::EndLine { .. } => true,
+        Test::StartLine { .. } | Test::EndLine { .. } | Test::StartLineOniguruma { .. } => true,
         _ => false,
     }
 }
@@ -140,7 +155,9 @@ fn asks_for_words(test: Test) -> bool
         Test::WordBoundary
         | Test::NotWordBoundary
         | Test::LeftWordBoundary
-        | Test::RightWordBoundary => true,
+        | Test::RightWordBoundary
+        | Test::LeftWordHalfBoundary
+        | Test::RightWordHalfBoundary => true,
         _ => false,
     }
 }

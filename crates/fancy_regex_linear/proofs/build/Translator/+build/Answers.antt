@@ -8,7 +8,8 @@ use Rattle.fancy_regex_linear.specs.Plain.{classes, re_of}
 use Rattle.fancy_regex_linear.specs.Refusals.{IsClassCause}
 use Rattle.fancy_regex_linear.specs.Translation.{all_trees, all_move}
 use Rattle.fancy_regex_linear.proofs.PlainLemmas.{one_char_groups, one_char_classes, body_regular, sound_asking, never_asking, flag_is}
-use Rattle.fancy_regex_linear.proofs.BuildLemmas.{look_is, asking_is, row_none, row_sound, branches_sound, cause_in_row, if_ok, nodes_step, row_whole, row_is, branches_is, row_moves, all_moves, branches_move}
+use Rattle.fancy_regex_linear.proofs.BuildLemmas.{extends_none, look_is, asking_is, row_none, row_sound, branches_sound, cause_in_row, if_ok, nodes_step, row_whole, row_is, branches_is, row_moves, all_moves, branches_move}
+use Rattle.fancy_regex_linear.proofs.NoClassLemmas.{NoClass, no_classes}
 use Rattle.std.proofs.lemmas.List.{map-append, length-map}
 use Rattle.fancy_regex_linear.proofs.ShapeLemmas.{tree_concat, tree_alt, shape_concat, shape_alt, shape_repeat}
 use Rattle.fancy_regex_linear.proofs.build.Translator.+build.Goals as goal
@@ -27,6 +28,19 @@ translated-returns-in-Alt-clause-shape t c =
     let e : tree_of c.args.expr.now ≡ alt (all_trees c.deref-in-Alt.result.now) =
     ap tree_of c.in-Alt.is ∙ tree_alt c.in-Alt.children ∙ ap (λ es. alt (all_trees es)) (sym c.deref-in-Alt.ensures.value) in
     rw e (if_ok c.branches.result (λ translated h p groups. h p.1 groups) c.branches.ensures.shape)
+
+pub translated-returns-in_default-clause-matchers : goal.translated-returns-in_default-clause-matchers
+translated-returns-in_default-clause-matchers t c =
+    let other : NoClass c.args.expr.now = record {
+      delegate = c.in_default.not-Delegate;
+      concat = c.in_default.not-Concat;
+      alt = c.in_default.not-Alt;
+      group = c.in_default.not-Group;
+      look_around = c.in_default.not-LookAround;
+      repeat = c.in_default.not-Repeat;
+      atomic = c.in_default.not-AtomicGroup;
+    } in
+    extends_none c.args.self.now.unicode c.args.self.now.matchers.items (classes (tree_of c.args.expr.now)) (no_classes c.args.expr.now other)
 
 pub repeat-returns-clause-shape : goal.repeat-returns-clause-shape
 repeat-returns-clause-shape t c = λ regular groups.
