@@ -21,19 +21,19 @@ enum Ending {
 struct Run(Text, Text, usize, Allowance, Ending);
 
 /// Little, however far the start goes on.
-const LITTLE: Allowance = Allowance {
+const LITTLE: Allowance = Allowance::Bounded {
     first: 100,
     per_byte: 0,
 };
 
 /// Little at first, and more where the start goes on.
-const STEADY: Allowance = Allowance {
+const STEADY: Allowance = Allowance::Bounded {
     first: 100,
     per_byte: 64,
 };
 
 /// Much at first.
-const MUCH: Allowance = Allowance {
+const MUCH: Allowance = Allowance::Bounded {
     first: 100_000,
     per_byte: 64,
 };

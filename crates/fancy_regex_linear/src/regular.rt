@@ -1,6 +1,6 @@
 //! The states of patterns with parts.
 
-ghost use Rattle.std.specs.Prelude.{◌≡◌, ◌∷◌, ◌↔◌, [], ℕ, Bool, List, IfErr, IfOk, IfSome, IsSome};
+ghost use Rattle.std.specs.Prelude.{◌≡◌, ◌∷◌, ◌↔◌, [], ℕ, true, Bool, List, IfErr, IfOk, IfSome, IsSome};
 ghost use Rattle.fancy_regex_tree.specs.Tree.{Tree, tree_of};
 ghost use Rattle.fancy_regex_states.specs.declared.state.State.TheVariants.{Match};
 
@@ -27,7 +27,7 @@ pub struct RegularStates {
 }
 
 impl RegularStates {
-    ghost use Rattle.fancy_regex_linear.specs.Plain.{classes, re_of};
+    ghost use Rattle.fancy_regex_linear.specs.Plain.{IsRegular, classes, re_of};
     ghost use Rattle.fancy_regex_linear.specs.Program.{emitted};
     ghost use Rattle.fancy_regex_linear.specs.Refusals.{IsClassCause};
     ghost use Rattle.fancy_regex_linear.specs.RegularStates.{AreRegularStates, IsMadeFor};
@@ -36,9 +36,21 @@ impl RegularStates {
     ghost use Rattle.fancy_regex_info.specs.declared.info.Info.{out-Info};
     ghost use Rattle.fancy_regex_info.specs.Views.{pattern_in};
 
-    /// The states of an analyzed pattern; `None` where its weight is above 4,000, or where it has more than characters, assertions but
-    /// `\Z`, `(*FAIL)`, look-behinds for one character, look-aheads, groups, atomic groups, alternations and repeats of these. The error
-    /// is `InnerError` with the text of a class that `regex` refuses, or `Memory`.
+    /// Whether an analyzed pattern becomes such states: its weight is at most 4,000, and it has no more than characters, assertions but
+    /// `\Z`, `(*FAIL)`, look-behinds for one character, look-aheads, groups, atomic groups, alternations and repeats of these.
+    pub fn are_made_for(info: &Info<'_>) -> bool
+        ensures regular { result ≡ true → IsRegular (tree_of (out-Info info.now).expr.now) }
+        ensures exact { (explicit : Bool) (t : Tree) → info_of info.now ≡ analysis explicit t
+            → (result ≡ true ↔ IsMadeFor (pattern_in explicit t)) }
+    {
+        if info.weight > GREATEST_WEIGHT {
+            return false;
+        }
+        is_regular(info.expr)
+    }
+
+    /// The states of an analyzed pattern; `None` where it becomes none (`are_made_for`). The error is `InnerError` with the text of a
+    /// class that `regex` refuses, or `Memory`.
     pub fn new(
         alloc: Global,
         info: &Info<'_>,
@@ -53,10 +65,7 @@ impl RegularStates {
             → (IsSome found ↔ IsMadeFor (pattern_in explicit t))) }
         ensures refused { IfErr result (IsClassCause options.now.unicode (classes (tree_of (out-Info info.now).expr.now))) }
     {
-        if info.weight > GREATEST_WEIGHT {
-            return Ok(None);
-        }
-        if !is_regular(info.expr) {
+        if !RegularStates::are_made_for(info) {
             return Ok(None);
         }
         let explicit = info.start_group() == 0;

@@ -1,3 +1,4 @@
+pub mod Allowances
 pub mod Steps
 pub mod Advances
 pub mod Endings

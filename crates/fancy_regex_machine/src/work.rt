@@ -1,25 +1,34 @@
 //! How much work a run may do.
 
+ghost use Rattle.std.specs.Prelude.{IsTrue};
+ghost use Rattle.fancy_regex_machine.specs.Allowances.{IsBounded};
+
 use fancy_regex_class::Steps;
 use fancy_regex_prefilter::cursor::Cursor;
 
-/// How much work a run may do, so that its time grows no faster than its text. Each time that the run goes back counts one, and one
-/// more for each byte that it goes back by, since it reads a byte again only after it has gone back over it. Each look of a delegated part
-/// at the text counts one.
+/// How much work a run may do. Each time that the run goes back counts one, and one more for each byte that it goes back by, since it reads
+/// a byte again only after it has gone back over it. Each look of a delegated part at the text counts one.
 #[derive(Clone, Copy, Debug)]
-pub struct Allowance {
-    /// The work that may be done before the start goes on.
-    pub first: u64,
-    /// The work that may be done besides for each byte that the start goes on by.
-    pub per_byte: u64,
+pub enum Allowance {
+    /// As much as it takes.
+    Unbounded,
+    /// So much that the time of the run grows no faster than its text.
+    Bounded {
+        /// The work that may be done before the start goes on.
+        first: u64,
+        /// The work that may be done besides for each byte that the start goes on by.
+        per_byte: u64,
+    },
 }
 
 impl Allowance {
-    /// More work than any run does.
-    pub const UNBOUNDED: Allowance = Allowance {
-        first: u64::MAX,
-        per_byte: 0,
-    };
+    /// Whether a run may use it up.
+    #[inline(always)]
+    pub(crate) fn is_bounded(self) -> bool
+        ensures { IsTrue result → IsBounded self }
+    {
+        matches!(self, Allowance::Bounded { .. })
+    }
 }
 
 /// What is left of the work that a run may do.
@@ -38,15 +47,19 @@ pub(crate) struct Work {
 impl Work {
     /// What a run that begins at this start may do.
     pub fn new(allowance: Allowance, start: usize) -> Work {
+        let (left, per_byte) = match allowance {
+            Allowance::Unbounded => (u64::MAX, 0),
+            Allowance::Bounded { first, per_byte } => (first, per_byte),
+        };
         Work {
-            left: allowance.first,
-            per_byte: allowance.per_byte,
+            left,
+            per_byte,
             start,
             looks: 0,
         }
     }
 
-    /// Whether no work is left.
+    /// Whether no work is left, if the allowance is bounded.
     #[inline(always)]
     pub fn is_exhausted(&self) -> bool {
         self.left == 0

@@ -18,6 +18,7 @@ ghost use Rattle.fancy_regex_info.specs.declared.info.Info.{out-Info};
 ghost use Rattle.fancy_regex_class.specs.RunInputs.{setting_for};
 ghost use Rattle.fancy_regex_linear.specs.Refusals.{IsTaken, IsCause};
 ghost use Rattle.fancy_regex_linear.specs.EasyPatterns.{IsEasyOf};
+ghost use Rattle.fancy_regex_machine.specs.Allowances.{IsBounded};
 ghost use Rattle.fancy_regex_meta.specs.declared.options.RegexOptions.{RegexOptions};
 ghost use Rattle.fancy_regex_meta.specs.Refusals.{compile_options_of, IsCompileRefusal};
 ghost use Rattle.fancy_regex_info.specs.declared.error.CompileError.TheVariants as errors;
@@ -191,7 +192,7 @@ fn hard_strategy(
 /// What a run of a program from this byte offset on may do, where states answer in its place.
 fn allowance_from(text: &str, first: usize) -> Allowance {
     let rest = text.len().saturating_sub(first) as u64;
-    Allowance {
+    Allowance::Bounded {
         first: FIRST_WORK.saturating_add(rest.saturating_mul(WORK_PER_TEXT_BYTE)),
         per_byte: WORK_PER_START_BYTE,
     }
@@ -223,6 +224,7 @@ fn run_program(
     ensures stays { IfOk result (λ told. IfOk told (λ _. (o : RegexOptions)
         → RunsUnder (strategies.Program run.now.prog.now run.now.options.now) o
         → StrategyStaysInLimits (strategies.Program run.now.prog.now run.now.options.now) o text.now input.now)) }
+    ensures bounded { IfErr result (λ _. IsBounded run.now.allowance) }
 {
     match wanted {
         MatchDetail::Span => {
@@ -398,14 +400,13 @@ impl Strategy {
                 let run = ProgramRun {
                     prog,
                     options: run_options,
-                    allowance: Allowance::UNBOUNDED,
+                    allowance: Allowance::Unbounded,
                 };
                 let memory = &mut memory.program;
                 match run_program(alloc, &run, text, input, wanted, memory) {
                     Ok(Ok(found)) => Ok(found),
                     Ok(Err(error)) => Err(Error::from(error)),
-                    // Unreachable in practice: the run would have gone back 2^64 times, or by so many bytes.
-                    Err(Exhausted) => Err(Error::Memory),
+                    Err(Exhausted) => unreachable!(),
                 }
             }
             Strategy::Regular {

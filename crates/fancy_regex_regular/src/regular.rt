@@ -1,6 +1,6 @@
 //! Compiled regular patterns, and their searches.
 
-ghost use Rattle.std.specs.Prelude.{◌≡◌, ◌+◌, ◌-◌, ◌*◌, ◌^◌, ◌<◌, ◌≤◌, ◌↔◌, Bool, length, min, replicate, IfErr, IfOk, IfSome, IsSome, IsCharBoundary, option_map, slice_set};
+ghost use Rattle.std.specs.Prelude.{◌≡◌, ◌+◌, ◌-◌, ◌*◌, ◌^◌, ◌<◌, ◌≤◌, ◌↔◌, Bool, true, length, min, replicate, IfErr, IfOk, IfSome, IsSome, IsCharBoundary, option_map, slice_set};
 ghost use Rattle.fancy_regex_tree.specs.Tree.{Tree, tree_of};
 ghost use Rattle.fancy_regex_linear.specs.Easy.{found_slots, found_at};
 ghost use Rattle.fancy_regex_parts.specs.Silent.{PartsAreSilent};
@@ -38,17 +38,32 @@ pub struct Regular {
 impl Regular {
     ghost use Rattle.fancy_regex_linear.specs.Plain.{classes};
     ghost use Rattle.fancy_regex_linear.specs.Refusals.{IsClassCause};
-    ghost use Rattle.fancy_regex_regular.specs.Supported.{IsSupported};
+    ghost use Rattle.fancy_regex_regular.specs.Supported.{IsSupported, groups_outside};
     ghost use Rattle.fancy_regex_regular.specs.Regulars.{IsRegularOf, IsContextOf, IsSpan, IsSlots, LooksAtMost, starts_without};
     ghost use Rattle.fancy_regex_info.specs.Analysis.{analysis};
     ghost use Rattle.fancy_regex_info.specs.Infos.{info_of};
     ghost use Rattle.fancy_regex_info.specs.declared.info.Info.{out-Info};
     ghost use Rattle.fancy_regex_info.specs.Views.{pattern_in};
 
-    /// Compiles an analyzed pattern; `None` where the longest match is wanted, or where the pattern does not become states with parts:
-    /// where its weight is above 4,000, or it has more than characters, assertions but `\Z`, `(*FAIL)`, look-behinds for one character,
-    /// look-aheads, groups, atomic groups, alternations and repeats of these, or a capture group in a look-ahead or in an atomic group;
-    /// else there is one. The error is `InnerError` with the text of a class that `regex` refuses, or `Memory`.
+    /// Whether an analyzed pattern is searched by states with parts under these options: the first match is wanted, not the longest, the
+    /// weight is at most 4,000, and the pattern has no more than characters, assertions but `\Z`, `(*FAIL)`, look-behinds for one character,
+    /// look-aheads, groups, atomic groups, alternations and repeats of these, and no capture group in a look-ahead or in an atomic group.
+    pub fn supports(info: &Info<'_>, options: &CompileOptions) -> bool
+        ensures outside { result ≡ true → groups_outside true (tree_of (out-Info info.now).expr.now) ≡ true }
+        ensures exact { (explicit : Bool) (t : Tree) → info_of info.now ≡ analysis explicit t
+            → (result ≡ true ↔ IsSupported options.now.leftmost_longest (pattern_in explicit t)) }
+    {
+        if options.leftmost_longest {
+            return false;
+        }
+        if !has_groups_outside(info.expr, true) {
+            return false;
+        }
+        RegularStates::are_made_for(info)
+    }
+
+    /// Compiles an analyzed pattern; `None` where it is not searched so (`supports`). The error is `InnerError` with the text of a class
+    /// that `regex` refuses, or `Memory`.
     pub fn if_supported(
         alloc: Global,
         info: &Info<'_>,
@@ -61,10 +76,7 @@ impl Regular {
             → (IsSome found ↔ IsSupported options.now.leftmost_longest (pattern_in explicit t))) }
         ensures refused { IfErr result (IsClassCause options.now.unicode (classes (tree_of (out-Info info.now).expr.now))) }
     {
-        if options.leftmost_longest {
-            return Ok(None);
-        }
-        if !has_groups_outside(info.expr, true) {
+        if !Regular::supports(info, options) {
             return Ok(None);
         }
         let found = RegularStates::new(alloc, info, options)?;

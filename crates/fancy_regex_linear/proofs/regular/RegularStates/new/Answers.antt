@@ -12,14 +12,13 @@ use Rattle.fancy_regex_states.specs.declared.state.State.{State}
 use Rattle.fancy_regex_states.specs.declared.state.State.TheVariants.{Match as End}
 use Rattle.fancy_regex_linear.proofs.TranslationLemmas.{program_is, shape_is, serves_all}
 use Rattle.fancy_regex_linear.proofs.RegularStateLemmas.{are_states}
-use Rattle.fancy_regex_linear.proofs.ExactLemmas.{is_made_for, not_regular, too_heavy}
 use Rattle.fancy_regex_linear.proofs.ServedLemmas.{info_is_of}
 use Rattle.fancy_regex_linear.proofs.regular.RegularStates.new.Goals as goal
 
 pub returns-clause-made : goal.returns-clause-made
 returns-clause-made c explicit t is =
     let of = info_is_of c.args.info.now explicit t is in
-    let regular : IsRegular t = subst IsRegular of.tree (c.is_regular.ensures.regular c.if-not-is_regular.false) in
+    let regular : IsRegular t = subst IsRegular of.tree (c.are_made_for.ensures.regular c.if-not-are_made_for.false) in
     let unicode = c.args.options.now.unicode in
     let begins : (c.start_group-explicit.result == 0) ≡ explicit = ap (λ (n : ℕ). n == 0) c.start_group-explicit.ensures ∙ of.start in
     let first : c.new-translator.result.next_group ≡ (if explicit then 0 else 1) = c.new-translator.ensures.first ∙ ap (λ b. if b then 0 else 1) begins in
@@ -43,22 +42,18 @@ returns-clause-program c groups =
     let made : emitted (shape c.in_ok-translated.translated.node) (End ∷ []) 0 ≡ (c.emit.new.states.items, c.in_ok-entry.entry) = rw one at c.in_ok-entry.ensures.made in
     let tree = tree_of (out-Info c.args.info.now).expr.now in
     let same : shape c.in_ok-translated.translated.node ≡ re_of c.args.options.now.unicode groups translator.result.next_group 0 tree =
-    c.in_ok-translated.ensures.shape (c.is_regular.ensures.regular c.if-not-is_regular.false) groups
+    c.in_ok-translated.ensures.shape (c.are_made_for.ensures.regular c.if-not-are_made_for.false) groups
     ∙ ap₂ (λ (u : Bool) (k : ℕ). re_of u groups translator.result.next_group k tree) translator.ensures.unicode
     (ap (λ (ms : List CharClassMatcher). length ms) translator.ensures.matchers) in
     (translator.result.next_group, subst (λ (x : Re). emitted x (End ∷ []) 0 ≡ (c.emit.new.states.items, c.in_ok-entry.entry)) same made)
 
 pub returns-clause-exact : goal.returns-clause-exact
 returns-clause-exact c explicit t is =
-    (λ some. is_made_for c.args.info.now explicit t is (c.is_regular.ensures.regular c.if-not-is_regular.false) (omega (arith, c.if-info.false)), λ made. refl)
+    (λ some. (c.are_made_for.ensures.exact explicit t is).0 c.if-not-are_made_for.false, λ made. refl)
 
-pub returns-then-not-is_regular-clause-exact : goal.returns-then-not-is_regular-clause-exact
-returns-then-not-is_regular-clause-exact c explicit t is =
-    (λ some. absurd (true≢false (sym some)), λ made. absurd (not_regular c.args.info.now explicit t is (c.is_regular.ensures.other c.if-not-is_regular.true) made))
-
-pub returns-then-info-clause-exact : goal.returns-then-info-clause-exact
-returns-then-info-clause-exact c explicit t is =
-    (λ some. absurd (true≢false (sym some)), λ made. absurd (too_heavy c.args.info.now explicit t is (omega (arith, c.if-info.true)) made))
+pub returns-then-not-are_made_for-clause-exact : goal.returns-then-not-are_made_for-clause-exact
+returns-then-not-are_made_for-clause-exact c explicit t is =
+    (λ some. absurd (true≢false (sym some)), λ made. absurd (true≢false (sym ((c.are_made_for.ensures.exact explicit t is).1 made) ∙ c.if-not-are_made_for.true)))
 
 pub returns-in_err-translated-clause-refused : goal.returns-in_err-translated-clause-refused
 returns-in_err-translated-clause-refused c = rw c.new-translator.ensures.unicode at c.in_err-translated.ensures.refused

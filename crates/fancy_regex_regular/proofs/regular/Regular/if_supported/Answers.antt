@@ -4,7 +4,7 @@ use Rattle.fancy_regex_info.specs.Infos.{info_of}
 use Rattle.fancy_regex_info.specs.declared.info.Info.{out-Info}
 use Rattle.fancy_regex_info.specs.Views.{pattern_in}
 use Rattle.fancy_regex_regular.proofs.BuildLemmas.{groups_are, first_is}
-use Rattle.fancy_regex_regular.proofs.ExactLemmas.{entry_inside, states_closed, silent_of, made_in, is_supported, outside_of}
+use Rattle.fancy_regex_regular.proofs.ExactLemmas.{entry_inside, states_closed, silent_of, made_in}
 use Rattle.fancy_regex_regular.proofs.regular.Regular.if_supported.Goals as goal
 
 pub invariant_of-result-clause-right : goal.invariant_of-result-clause-right
@@ -20,7 +20,7 @@ invariant_of-result-clause-silent c =
     let same = (rw c.in-Some-built.is at c.in_ok-built.ensures.made).1 in
     rw same
     (silent_of c.args.options.now.unicode (tree_of (out-Info c.args.info.now).expr.now) c.in-Some.made.states.items c.in-Some.made.entry
-    (sym c.has_groups_outside.ensures ∙ c.if-not-has_groups_outside.false) (rw c.in-Some.is at c.in_ok-found.ensures.program))
+    (c.supports.ensures.outside c.if-not-supports.false) (rw c.in-Some.is at c.in_ok-found.ensures.program))
 
 pub returns-in-Some-built-clause-made : goal.returns-in-Some-built-clause-made
 returns-in-Some-built-clause-made c = λ explicit t is.
@@ -33,11 +33,7 @@ returns-in-Some-built-clause-made c = λ explicit t is.
 
 pub returns-in-Some-built-clause-exact : goal.returns-in-Some-built-clause-exact
 returns-in-Some-built-clause-exact c explicit t is =
-    let made = ((rw c.in-Some.is at c.in_ok-found.ensures.exact) explicit t is).0 refl in (
-      λ some. is_supported c.args.info.now c.args.options.now.leftmost_longest explicit t is c.if-options.false
-          (sym c.has_groups_outside.ensures ∙ c.if-not-has_groups_outside.false) made,
-      λ supported. refl,
-    )
+    (λ some. (c.supports.ensures.exact explicit t is).0 c.if-not-supports.false, λ supported. refl)
 
 pub returns-in-None-built-clause-exact : goal.returns-in-None-built-clause-exact
 returns-in-None-built-clause-exact c explicit t is =
@@ -58,14 +54,6 @@ returns-in_default-clause-exact c explicit t is = (
       (made_in c.args.options.now.leftmost_longest explicit t supported)))),
 )
 
-pub returns-then-not-has_groups_outside-clause-exact : goal.returns-then-not-has_groups_outside-clause-exact
-returns-then-not-has_groups_outside-clause-exact c explicit t is = (
-  λ some. absurd (true≢false (sym some)),
-  λ supported. absurd (true≢false
-      (sym (outside_of c.args.info.now c.args.options.now.leftmost_longest explicit t is supported)
-      ∙ sym c.has_groups_outside.ensures ∙ c.if-not-has_groups_outside.true)),
-)
-
-pub returns-then-options-clause-exact : goal.returns-then-options-clause-exact
-returns-then-options-clause-exact c explicit t is =
-    (λ some. absurd (true≢false (sym some)), λ supported. absurd (true≢false (sym c.if-options.true ∙ supported.first)))
+pub returns-then-not-supports-clause-exact : goal.returns-then-not-supports-clause-exact
+returns-then-not-supports-clause-exact c explicit t is =
+    (λ some. absurd (true≢false (sym some)), λ supported. absurd (true≢false (sym ((c.supports.ensures.exact explicit t is).1 supported) ∙ c.if-not-supports.true)))
