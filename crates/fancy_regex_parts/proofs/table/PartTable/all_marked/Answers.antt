@@ -25,8 +25,7 @@ returns c =
     let invariant = c.loop-q.invariant in
     let states = c.args.states in
     let all : c.loop-q.q ≡ length states.items = omega (arith, c.len-q-end.ensures, c.loop-q-test.false, c.loop-q.auto.q-end, states.ok.0) in
-    let count : c.len.result ≡ length states.items = omega (arith, c.len.ensures, states.ok.0) in
-    (
+    let count : c.len.result ≡ length states.items = omega (arith, c.len.ensures, states.ok.0) in (
       all_marked_right _
           (record {
             count = invariant.heads_len ∙ all;
