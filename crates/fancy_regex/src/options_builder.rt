@@ -181,8 +181,9 @@ impl RegexOptionsBuilder {
         self
     }
 
-    /// How often one search by a program may backtrack before it fails with `BacktrackLimitExceeded`. A search that runs no program has
-    /// no limit, nor has one of a pattern with states that answer where its program reads too much. Default: 1,000,000.
+    /// How often one search by a program may backtrack before it fails with `BacktrackLimitExceeded`. Searches that run no program never
+    /// fail so. Nor do those of a regex that keeps states beside its program; docs/SECURITY.md says which patterns have such states.
+    /// Default: 1,000,000.
     ///
     /// ```
     /// let mut options = RegexOptionsBuilder::new();
@@ -301,8 +302,8 @@ impl RegexOptionsBuilder {
         self
     }
 
-    /// The match is the longest at the leftmost start that has one (of several, the first in priority order), not the first
-    /// in priority order. Default: false.
+    /// At the leftmost start that has a match, the longest match is found, and not the first in priority order. Of several that are as
+    /// long it is the first in that order. Default: false.
     ///
     /// ```
     /// let mut options = RegexOptionsBuilder::new();

@@ -52,7 +52,7 @@ static RUNS: [Run; 11] = [
         Ending::NoMatch,
     ),
     Run("(?=.*x)a", "a", 10_000, MUCH, Ending::Exhausted),
-    // what a look-ahead reads is read again behind it
+    // what a look-ahead reads is read again after it
     Run("(?:(?=a*+)a)*c", "a", 10_000, MUCH, Ending::Exhausted),
     // the linear engine searches the body
     Run("(?=(?:a|aa)*b)a", "aab", 1, LITTLE, Ending::Found(0, 1)),

@@ -30,14 +30,14 @@ const UNICODE: u32 = FLAG_UNICODE;
 const ONIGURUMA: u32 = FLAG_UNICODE | FLAG_MULTI | FLAG_ONIGURUMA_MODE;
 
 static SEARCHES: [Search; 19] = [
-    // no word character before, and none behind
+    // no word character before, and none after
     Search("\\b{start-half}a", UNICODE, "ba a", Answer::Match(3, 4)),
     Search("\\b{start-half}-", UNICODE, "a--", Answer::Match(2, 3)),
     Search("a\\b{end-half}", UNICODE, "ab a", Answer::Match(3, 4)),
     Search("-\\b{end-half}", UNICODE, "-a--", Answer::Match(2, 3)),
     Search("a\\b{end-half}", UNICODE, "aé", Answer::Nothing),
     Search("a\\b{end-half}", ASCII, "aé", Answer::Match(0, 1)),
-    // the start of a line, but not the end of the text behind a newline
+    // the start of a line, but not the end of the text after a newline
     Search("^", ONIGURUMA, "", Answer::Match(0, 0)),
     Search("\\n^", ONIGURUMA, "a\n", Answer::Nothing),
     Search("\\n^", ONIGURUMA, "a\nb", Answer::Match(1, 2)),

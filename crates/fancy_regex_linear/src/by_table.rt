@@ -138,7 +138,7 @@ fn load_match(
 }
 
 /// Settles the starts up to `read` and that one, where the table has read the text up to there and no match starts before `from`, by
-/// attempts. Each place behind the first at which the table has tested a row costs one look: the last is looked at here. The error is
+/// attempts. Each place after the first at which the table has tested a row costs one look: the last is looked at here. The error is
 /// want of memory.
 pub fn by_attempts(
     context: &SearchContext,
@@ -164,8 +164,8 @@ pub fn by_attempts(
     }
 }
 
-/// Ends a pass of the table from `start` that told no more than where it stopped: the character at that place, `read`. Each place behind
-/// the first at which the table has tested a row costs one look: the last is looked at here.
+/// Ends a pass of the table from `start` that told no more than where it stopped, at `read`. Answers the character there. Each place after
+/// `start`, up to `read`, costs one look: the last is looked at here.
 #[inline(always)]
 fn end_pass(text: &mut Counted, start: usize, read: usize) -> Option<char>
     requires range { (start < read) × (read ≤ length (looked_text text.old)) }

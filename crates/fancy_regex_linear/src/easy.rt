@@ -121,9 +121,10 @@ impl Easy {
         Ok(easy)
     }
 
-    /// Compiles an analyzed pattern that the linear engine supports and serves best: one of a weight of 4,000 at most, whose
-    /// look-arounds are for one character, all of whose matches read a character, and whose table has all rows. `None` is any other.
-    /// The errors are those of `new`.
+    /// Compiles an analyzed pattern that the linear engine supports and serves best. It weighs 4,000 at most, and has what is easy, half
+    /// word boundaries, starts of lines of Oniguruma mode and look-arounds for one character alone. All its matches read a character, and
+    /// its table has all rows. `None` is any other pattern, and any where the longest match is wanted. No clause says which patterns are
+    /// taken, nor what an error tells.
     pub fn if_supported(
         alloc: Global,
         info: &Info<'_>,
@@ -297,6 +298,9 @@ impl Easy {
             return Ok(None);
         }
         if !input.anchored {
+            if self.before.is_some() {
+                return self.find_by_before(text, input, steps, memory);
+            }
             if let Some(it) = self.table_search(text, input) {
                 // Read so that the proof knows that the counter is a `u64`, which no look lowers.
                 let _before = steps.count();
@@ -315,6 +319,37 @@ impl Easy {
         }
         let attempt = self.span_with_memory(text, input, steps, memory, true)?;
         Ok(attempt)
+    }
+
+    /// Searches for the span as `find_span_in` does, by the characters before starts as far as the table tells. The error is want of
+    /// memory.
+    // Not inlined: so the other search keeps its values in registers.
+    #[inline(never)]
+    fn find_by_before(
+        &self,
+        text: &str,
+        input: &RunInput,
+        steps: &mut Steps,
+        memory: &mut SearchMemory,
+    ) -> Result<Option<(usize, usize)>, AllocError>
+        requires first { IsCharBoundary text.now input.now.first }
+        requires range { (input.now.first ≤ input.now.range.end) × (input.now.range.end ≤ length text.now) }
+        requires many { input.now.anchored ≡ false }
+        ensures answer { IfOk result (IsMatchSpan self.now text.now input.now) }
+        ensures at_most { LooksAtMost self.now input.now steps.old steps.new }
+        ensures at_least { IfOk result (λ _. LooksAtLeast self.now text.now input.now steps.old steps.new) }
+        ensures counts { steps.old ≤ steps.new }
+    {
+        let Some(it) = self.table_search(text, input) else {
+            let found = self.span_with_memory(text, input, steps, memory, true)?;
+            return Ok(found);
+        };
+        // Read so that the proof knows that the counter is a `u64`, which no look lowers.
+        let _before = steps.count();
+        let context = self.context(input);
+        let mut counted = Counted::new(text, steps);
+        let span = by_table_first(&context, &mut counted, input.first, it, self.groups, memory)?;
+        Ok(span)
     }
 
     /// Whether `search_in` finds a match. Where the table tells it, the text is read up to the first sign of a match alone; nothing is

@@ -21,7 +21,8 @@ pub enum By {
     Before,
 }
 
-/// The characters at which starts are passed over.
+/// The characters at which starts are passed over. Where starts are passed over by the characters before them, `first` and `wide` are of
+/// those, and `second` is of the characters at starts.
 #[derive(Clone, Copy)]
 pub struct Passing {
     /// For each ASCII character whether it is known that no match begins with it, after another character.
@@ -63,9 +64,9 @@ impl Passing {
         }
     }
 
-    /// The characters before starts by which starts are passed over, where no match begins after those that are marked, nor after one that
-    /// is not ASCII; `None` where they are as common as the first or the second characters of matches, or not in few ranges. The second ones
-    /// of these are the first ones of matches.
+    /// How starts are passed over by the characters before them: no match begins after a character that is marked in `refused`, nor after
+    /// one that is not ASCII. `first` and `second` are the marks of the first and the second characters of matches. `None` where the
+    /// characters before that are not marked are as common as the first or the second ones of matches, or not in few ranges.
     pub fn before_of(
         refused: &Option<[bool; 128]>,
         first: &[bool; 128],

@@ -1,4 +1,4 @@
-//! Starts that are passed over sixteen at a time, by what stands there and after it.
+//! Starts that are passed over sixteen at a time, by what stands there, after it and before it.
 
 ghost use Rattle.std.specs.Prelude.{min, ◌≡◌, ◌^◌, ◌*◌, ℕ, ◌+◌, ◌-◌, ◌<◌, ◌≤◌, IfSome, IsCharBoundary, IsUtf8};
 ghost use Rattle.std.specs.Char.{len_utf8};
@@ -15,8 +15,8 @@ use crate::search::SearchContext;
 use crate::starts::pass_pairs;
 use fancy_regex_class::{Counted, count_places, skip_ascii};
 
-/// The first byte offset from `from` on whose character is not known to begin no match, and the character there. Each character up to
-/// that one costs a look.
+/// Passes over starts from `from` on at which a character stands that no match begins with. Answers the byte offset of the first start that
+/// is left, or the end, and the character there. Each byte offset up to that one costs a look.
 #[inline(always)]
 pub fn skip_refused(
     context: &SearchContext,
@@ -40,8 +40,8 @@ pub fn skip_refused(
     (at, after)
 }
 
-/// The first byte offset from `from` on whose character is not known to begin no match, nor to be followed by one that is second in no
-/// match, and the character there. Each character up to that one costs two looks at most, its own and that of the one after it.
+/// Passes over starts as `skip_refused` does, and also those at which an ASCII character stands before one that is second in no match.
+/// The answer is of the same kind. Each byte offset before it costs one look or two, its own and that of the one after it.
 #[inline(always)]
 pub fn skip_pairs(
     context: &SearchContext,
@@ -73,7 +73,7 @@ pub fn skip_pairs(
     (at, after)
 }
 
-/// The place to which `skip_before` goes, if the search has characters before starts, and else that of `skip_refused`.
+/// Goes on as `skip_before` does, if the search has characters before starts, and else as `skip_refused` does.
 #[inline(never)]
 fn skip_before_or_refused(
     context: &SearchContext,
@@ -95,8 +95,9 @@ fn skip_before_or_refused(
     }
 }
 
-/// The first byte offset from `from` on that is not known to begin no match by the character before it and the one there, or the end,
-/// and the character there. Each place up to that one costs a look.
+/// Passes over starts from `from` on that stand after a character after which no match begins, or at which a character stands that no
+/// match begins with. Answers the byte offset of the first start that is left, or the end, and the character there. Each byte offset up to
+/// that one costs a look.
 #[inline(always)]
 pub fn skip_before(
     context: &SearchContext,
@@ -122,8 +123,8 @@ pub fn skip_before(
     (at, after)
 }
 
-/// The place to which `skip_refused` goes from `from` on, also where the search has no table. Where a match may begin with a character
-/// that is not ASCII, starts are passed over one after another: then few bytes are left to pass over together.
+/// Passes over starts as `skip_before_or_refused` does, or one after another where the search has no table, or where the pattern says so
+/// (`By::Chars`): then a match may begin with a character that is not ASCII, and few bytes can be passed over together.
 #[inline(always)]
 pub fn skip_firsts(
     context: &SearchContext,
@@ -149,7 +150,8 @@ pub fn skip_firsts(
     skip_ascii(text, from, context.stop, context.refused)
 }
 
-/// The place to which `skip_pairs` goes from `from` on, also where the search has no table, as for `skip_firsts`.
+/// Passes over starts as `skip_firsts` does, where second characters of matches are known: these are tested too, unless starts are passed
+/// over by the characters before them.
 #[inline(always)]
 pub fn skip_places(
     context: &SearchContext,

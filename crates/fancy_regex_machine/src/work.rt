@@ -7,12 +7,13 @@ use fancy_regex_class::Steps;
 use fancy_regex_prefilter::cursor::Cursor;
 
 /// How much work a run may do. Each time that the run goes back counts one, and one more for each byte that it goes back by, since it reads
-/// a byte again only after it has gone back over it. Each look of a delegated part at the text counts one.
+/// a byte again only after it has gone back over it. Each look of a delegated part at the text counts one. That is what the code counts;
+/// no clause speaks of it.
 #[derive(Clone, Copy, Debug)]
 pub enum Allowance {
     /// As much as it takes.
     Unbounded,
-    /// So much that the time of the run grows no faster than its text.
+    /// As much as is said here. It is meant to keep the time of a run in proportion to its text, which is not proved.
     Bounded {
         /// The work that may be done before the start goes on.
         first: u64,
@@ -22,7 +23,7 @@ pub enum Allowance {
 }
 
 impl Allowance {
-    /// Whether a run may use it up.
+    /// Whether it has a bound, so that a run may use it up.
     #[inline(always)]
     pub(crate) fn is_bounded(self) -> bool
         ensures { IsTrue result → IsBounded self }
@@ -59,7 +60,7 @@ impl Work {
         }
     }
 
-    /// Whether no work is left, if the allowance is bounded.
+    /// Whether no work is left. Where the allowance has no bound this says nothing.
     #[inline(always)]
     pub fn is_exhausted(&self) -> bool {
         self.left == 0

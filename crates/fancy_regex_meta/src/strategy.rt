@@ -1,5 +1,6 @@
 //! What executes a compiled pattern: the linear-time matcher in bounded steps, or a backtracking program. A pattern that is easy but for
-//! look-arounds for one character or half boundaries keeps its program, and is searched by the matcher.
+//! look-arounds for one character, half word boundaries or starts of lines of Oniguruma mode keeps its program, and may be searched by the
+//! matcher. One with look-aheads or atomic groups may keep states beside its program.
 
 ghost use Rattle.std.specs.Prelude.{◌≡◌, ◌≤◌, ◌+◌, ◌-◌, ◌*◌, ◌^◌, ◌<◌, ℕ, Option, min, true, false, not, is_some, length, IfOk, IfErr, IfSome, option_map, IsCharBoundary};
 ghost use Rattle.fancy_regex_tree.specs.Tree.{Tree, tree_of};
@@ -148,7 +149,7 @@ fn regular_states(
     }
 }
 
-/// The options of a run that its allowance bounds in place of the limit on backtracks.
+/// These options with the greatest limit on backtracks, for runs that are to end by their allowance. No clause says that they do.
 fn unlimited(run_options: RunOptions) -> RunOptions
     ensures { result ≡ unlimited_run run_options }
 {

@@ -21,7 +21,7 @@ use std::alloc::{AllocError, Global};
 use std::fmt;
 
 /// A part of a pattern of which only the first match matters, or only whether there is one, with the states that it is searched with.
-/// The linear engine searches it, in a number of looks that the contract of that engine bounds.
+/// The linear engine searches it. No clause of this type says in how many looks.
 #[derive(Drop)]
 pub struct Delegate {
     pub(crate) alloc: Global,
@@ -46,7 +46,7 @@ impl Delegate {
     }
 
     /// Whether it only matters that the part matches, and not where the match ends. The part is searched with lazy quantifiers then,
-    /// so that a search reads no more than it has to.
+    /// so that a search may end early; no clause says that it does.
     pub fn for_any(&self) -> bool
         ensures { result ≡ self.now.for_any }
     {
@@ -83,8 +83,9 @@ impl Delegate {
 
     /// The byte offset at which the first match of the part from `input.first` on ends, whatever ends it; `None` if it does not match
     /// there. Where `for_any` says that only a match matters, it is the first one with each quantifier lazy. The input is to be
-    /// anchored, and to range over the whole text. `steps` grows by one for each look. What earlier searches left in the memory changes no
-    /// answer, and nothing is allocated where it has the room. The error is want of memory; the memory may be used again.
+    /// anchored, and to range over the whole text. What earlier searches left in the memory changes no answer. The linear
+    /// engine counts its looks in `steps`; no clause says by how much it grows, nor what is allocated. The error is want of memory; the
+    /// memory may be used again.
     pub fn end(
         &self,
         text: &str,

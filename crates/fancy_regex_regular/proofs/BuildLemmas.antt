@@ -12,7 +12,7 @@ counted : (explicit : Bool) (t : Tree) → (pattern_in explicit t).first_group +
 counted true t = omega (arith, groups_are_counted t)
 counted false t = omega (arith, groups_are_counted t)
 
--- the number of the next group behind a whole tree is that of its groups
+-- the number of the next group after a whole tree is that of its groups
 pub groups_are : (x : InfoTree) (explicit : Bool) (t : Tree) → x ≡ analysis explicit t → (properties_in x).end ≡ length (pattern_in explicit t).groups
 groups_are x explicit t is = ap (λ f. f.end) (root_is x explicit t is).facts_are ∙ counted explicit t
 

@@ -37,7 +37,7 @@ IsSlots regular text input found = (pattern : Pattern) → IsRegularOf regular p
     → found ≡ option_map (match_slots pattern) (first_match (setting_for regular.unicode text input) pattern (search_for false input))
 
 -- A search looks at the text at most four times as often as the pattern weighs at each place from the first start to the end of the
--- text, since look-aheads see behind the range.
+-- text, since look-aheads see past the range.
 abbrev pub LooksAtMost : Regular → List ℕ → RunInput → ℕ → ℕ → Type 0
 LooksAtMost regular text input old new = (pattern : Pattern) → IsRegularOf regular pattern
     → new ≤ old + 4 * tree_weight pattern.groups pattern.tree * (length text - input.first + 1)

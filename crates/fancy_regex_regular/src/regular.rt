@@ -45,9 +45,10 @@ impl Regular {
     ghost use Rattle.fancy_regex_info.specs.declared.info.Info.{out-Info};
     ghost use Rattle.fancy_regex_info.specs.Views.{pattern_in};
 
-    /// Whether an analyzed pattern is searched by states with parts under these options: the first match is wanted, not the longest, the
-    /// weight is at most 4,000, and the pattern has no more than characters, assertions but `\Z`, `(*FAIL)`, look-behinds for one character,
-    /// look-aheads, groups, atomic groups, alternations and repeats of these, and no capture group in a look-ahead or in an atomic group.
+    /// Whether an analyzed pattern becomes states with parts under these options. The first match is wanted then, not the longest, and the
+    /// weight is at most 4,000. The pattern has no more than characters, assertions but `\Z`, `(*FAIL)`, look-behinds for one character,
+    /// look-aheads, groups, atomic groups, alternations and repeats of these. No capture group is in a look-ahead or in an atomic group,
+    /// but in a repeat that has no iteration.
     pub fn supports(info: &Info<'_>, options: &CompileOptions) -> bool
         ensures outside { result ≡ true → groups_outside true (tree_of (out-Info info.now).expr.now) ≡ true }
         ensures exact { (explicit : Bool) (t : Tree) → info_of info.now ≡ analysis explicit t
@@ -62,8 +63,8 @@ impl Regular {
         RegularStates::are_made_for(info)
     }
 
-    /// Compiles an analyzed pattern; `None` where it is not searched so (`supports`). The error is `InnerError` with the text of a class
-    /// that `regex` refuses, or `Memory`.
+    /// Compiles an analyzed pattern; `None` exactly where it becomes no such states (`supports`), if there is no error. The error is
+    /// `InnerError` with the text of a class that `regex` refuses, or `Memory`.
     pub fn if_supported(
         alloc: Global,
         info: &Info<'_>,
@@ -107,8 +108,8 @@ impl Regular {
 
     /// Searches the text, and answers the capture groups of the first match: two byte offsets for each group, both `usize::MAX` if the
     /// group is unset; `None` if there is no match. The memory may have been used by other searches before, of this pattern or another:
-    /// the answer is the same. Where it has the room, only the answer is allocated. The error is want of memory; the memory may be used
-    /// again.
+    /// the answer is the same. No clause says how often the search looks at the text, nor what it allocates. The error is want of memory;
+    /// the memory may be used again.
     pub fn search_in(
         &self,
         alloc: Global,
@@ -152,10 +153,11 @@ impl Regular {
         Ok(Some(self.places(slots, start, end)))
     }
 
-    /// Where the first match of a search starts and ends, as byte offsets; `None` if there is none. `steps` grows by one for each look at
-    /// the text, also after an error: by at least one for each start that has no match, and by at most four times the pattern's weight
-    /// for each place from the first start to the end of the text. The memory may have been used by other searches before, of this
-    /// pattern or another. The error is want of memory; the memory may be used again.
+    /// Where the first match of a search starts and ends, as byte offsets; `None` if there is none. `steps` counts the looks at the text.
+    /// It never falls, and grows by at most four times the pattern's weight for each place from the first start to the end of the text,
+    /// also where memory runs out. Where there is an answer it grows by at least one for each start that has no match, up to the one that
+    /// is found, unless it comes to the last `u64`. The memory may have been used by other searches before, of this pattern or another.
+    /// The error is want of memory; the memory may be used again.
     pub fn find_span_in(
         &self,
         text: &str,
