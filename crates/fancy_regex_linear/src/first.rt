@@ -114,7 +114,8 @@ fn from_unknown(
     requires table { IsTableSearch context.now (looked_text text.old) it }
     ensures answer { IfOk result (λ span. (view : View) (go : ℕ → Continuation) → Explains context.now (looked_text text.old) view go
         → IsAnswer true span memory.new.backtrack.slots.items
-        (earliest (spot_from go context.now.entry (unset_slots groups)) (places (looked_text text.old) false unknown.now.place.at context.now.stop))) }
+        (earliest (spot_from go context.now.entry (unset_slots groups))
+        (places (looked_text text.old) false unknown.now.place.at context.now.stop))) }
     ensures at_most { look_count text.new ≤ look_count text.old
         + (context.now.stop - unknown.now.place.at + 1) * length context.now.states.now + (context.now.stop - unknown.now.place.at) }
     ensures at_least { IfOk result (λ _. (view : View) (go : ℕ → Continuation) → Explains context.now (looked_text text.old) view go

@@ -117,7 +117,8 @@ fn add_successors(found: &mut Vec<usize>, state: State, before: Before) -> Resul
 
 /// Whether the assertion may hold after this.
 fn may_hold(test: Test, before: Before) -> bool
-    ensures { result ≡ false → (c : ℕ) → IsMeant before.entry.character c → may_pass before.entry.unicode before.entry.matchers.now test c ≡ false }
+    ensures { result ≡ false → (c : ℕ) → IsMeant before.entry.character c
+        → may_pass before.entry.unicode before.entry.matchers.now test c ≡ false }
 {
     match test {
         Test::StartText => false,
@@ -147,7 +148,8 @@ fn ends_line(crlf: bool, c: char) -> bool
 
 /// Whether the leaf may match this.
 fn may_match(leaf: Leaf, before: Before) -> bool
-    ensures { result ≡ false → (c : ℕ) → IsMeant before.entry.character c → leaf_matches_char before.entry.unicode before.entry.matchers.now leaf c ≡ false }
+    ensures { result ≡ false → (c : ℕ) → IsMeant before.entry.character c
+        → leaf_matches_char before.entry.unicode before.entry.matchers.now leaf c ≡ false }
 {
     match before.character {
         Some(c) => leaf_matches(before.matchers, before.unicode, leaf, c),

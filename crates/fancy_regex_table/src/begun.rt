@@ -79,7 +79,8 @@ pub fn readings_of(
     columns: &[Column],
     steps: &mut usize,
 ) -> Result<Vec<Reading>, AllocError>
-    ensures { IfOk result (λ readings. AreReadings pattern.now.reader.states.now row.now.before row.now.own.now row.now.later.now readings.items) }
+    ensures { IfOk result (λ readings.
+        AreReadings pattern.now.reader.states.now row.now.before row.now.own.now row.now.later.now readings.items) }
 {
     let mut readings: Vec<Reading> = Vec::new(alloc);
     for k in 0..columns.len() {
