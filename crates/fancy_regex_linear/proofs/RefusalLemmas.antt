@@ -14,7 +14,7 @@ use Rattle.fancy_regex_states.specs.Before.{may_pass, CannotBeginAfter, IsSilent
 use Rattle.fancy_regex_states.specs.Before as B
 use Rattle.fancy_regex_states.specs.First.{state_at, MayHold, Leads, Reaches, here, onward, CannotRead, CannotBegin, CannotGoOn, CannotFollow, IsTableOf, RefusesSecond}
 use Rattle.fancy_regex_states.specs.declared.atom.Test.{Test}
-use Rattle.fancy_regex_states.specs.declared.atom.Test.TheVariants.{StartText, EndText, StartLine, EndLine, WordBoundary, NotWordBoundary, LeftWordBoundary, RightWordBoundary, LookAhead, LookAheadNeg, LookBehind, LookBehindNeg}
+use Rattle.fancy_regex_states.specs.declared.atom.Test.TheVariants.{StartText, EndText, StartLine, EndLine, WordBoundary, NotWordBoundary, LeftWordBoundary, RightWordBoundary, LeftWordHalfBoundary, RightWordHalfBoundary, StartLineOniguruma, Never, LookAhead, LookAheadNeg, LookBehind, LookBehindNeg}
 use Rattle.fancy_regex_states.specs.declared.first.FirstChars.{FirstChars}
 use Rattle.fancy_regex_states.specs.declared.rules.Rules.{Rules}
 use Rattle.fancy_regex_states.specs.declared.state.State.{State}
@@ -187,6 +187,10 @@ module _ (view : View) (stop : ℕ) (states : List State) (go : ℕ → Continua
   never_holds LeftWordBoundary never = absurd (true≢false never)
   never_holds RightWordBoundary never = absurd (true≢false never)
   never_holds (LookAhead leaf) never = absurd (true≢false never)
+  never_holds LeftWordHalfBoundary never = absurd (true≢false never)
+  never_holds RightWordHalfBoundary never = absurd (true≢false never)
+  never_holds (StartLineOniguruma crlf) never = absurd (true≢false never)
+  never_holds Never never = absurd (true≢false never)
   never_holds (LookAheadNeg leaf) never = absurd (true≢false never)
 
   may_or_not : (check : Test) → (view.holds check at ≡ false) ⊎ May check

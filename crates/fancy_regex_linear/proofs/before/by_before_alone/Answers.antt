@@ -8,7 +8,7 @@ use Rattle.fancy_regex_linear.specs.Settled.{parts_of}
 use Rattle.fancy_regex_linear.proofs.AloneLemmas.{all_fail_on, unknown_says, looked_then, none_then}
 use Rattle.fancy_regex_linear.proofs.SettleLemmas.{search_of, is_search, fail_by, end_by}
 use Rattle.fancy_regex_linear.proofs.before.by_before_alone.Goals as goal
-use Rattle.fancy_regex_linear.proofs.before.by_before_alone.Goals.{After-pass_before, After-pass_counted}
+use Rattle.fancy_regex_linear.proofs.before.by_before_alone.Goals.{After-pass_before-start, After-pass_counted}
 
 pub starts-init : goal.starts-init
 starts-init c = record {
@@ -24,29 +24,29 @@ starts-init c = record {
 }
 
 -- the search has looked at the place where it stands
-here : (c : After-pass_before) → IsLookedAt c.args.context.now c.args.text.now c.pass_before.new.text c.args.from (c.pass_before.result.0, c.pass_before.result.1)
+here : (c : After-pass_before-start) → IsLookedAt c.args.context.now c.args.text.now c.pass_before-start.new.text c.args.from (c.pass_before-start.result.0, c.pass_before-start.result.1)
 here c =
-    looked_then c.args.context.now c.args.text.now c.starts.text c.pass_before.new.text c.args.from c.starts.at (c.pass_before.result.0, c.pass_before.result.1) c.starts.invariant.way
-    c.pass_before.ensures
+    looked_then c.args.context.now c.args.text.now c.starts.text c.pass_before-start.new.text c.args.from c.starts.at (c.pass_before-start.result.0, c.pass_before-start.result.1) c.starts.invariant.way
+    c.pass_before-start.ensures
 
 -- what the pass says of the starts from there on
-range_of : (c : After-pass_counted) → IsInRange (looked_text c.args.text.now) c.pass_before.result.0 c.args.context.now.stop c.pass_counted.result
+range_of : (c : After-pass_counted) → IsInRange (looked_text c.args.text.now) c.pass_before-start.result.0 c.args.context.now.stop c.pass_counted.result
 range_of c = rw c.requires.table.text_is at c.pass_counted.ensures.range
 
 pub returns-then-not-is_ascii : goal.returns-then-not-is_ascii
 returns-then-not-is_ascii c =
-    let at = here (goal.at.returns-then-not-is_ascii c).After-pass_before in
-    unknown_says c.args.context.now c.args.text.now c.pass_before.new.text c.args.from c.pass_before.result.0 c.pass_before.result.0 (c.pass_before.result.0, c.pass_before.result.1) c.unknown.result c.requires.text
+    let at = here (goal.at.returns-then-not-is_ascii c).After-pass_before-start in
+    unknown_says c.args.context.now c.args.text.now c.pass_before-start.new.text c.args.from c.pass_before-start.result.0 c.pass_before-start.result.0 (c.pass_before-start.result.0, c.pass_before-start.result.1) c.unknown.result c.requires.text
     c.requires.range.1 at (omega arith, omega arith, at.range.1) (λ view go explains p low less boundary. absurd (omega (arith, low, less)))
-    (λ i low high. let same : c.pass_before.result.0 ≡ i = omega (arith, low, high) in subst (IsCharBoundary (looked_text c.args.text.now)) same at.boundary) c.unknown.ensures
+    (λ i low high. let same : c.pass_before-start.result.0 ≡ i = omega (arith, low, high) in subst (IsCharBoundary (looked_text c.args.text.now)) same at.boundary) c.unknown.ensures
 
 pub returns-in-Match : goal.returns-in-Match
 returns-in-Match c =
-    let at = here (goal.at.returns-in-Match c).After-pass_before in
+    let at = here (goal.at.returns-in-Match c).After-pass_before-start in
     let context = c.args.context.now in
     let text = looked_text c.args.text.now in
     let by = c.requires.table in
-    let start : ℕ = c.pass_before.result.0 in
+    let start : ℕ = c.pass_before-start.result.0 in
     let first : ℕ = c.in-Match.first in
     let end : ℕ = c.in-Match.end in
     let range : IsInRange text start context.stop (P.Match first end c.in-Match.read) = rw by.text_is at c.in-Match.ensures.range in
@@ -73,11 +73,11 @@ returns-in-Match c =
 
 pub returns-in-Ended : goal.returns-in-Ended
 returns-in-Ended c =
-    let at = here (goal.at.returns-in-Ended c).After-pass_before in
+    let at = here (goal.at.returns-in-Ended c).After-pass_before-start in
     let context = c.args.context.now in
     let text = looked_text c.args.text.now in
     let by = c.requires.table in
-    let start : ℕ = c.pass_before.result.0 in
+    let start : ℕ = c.pass_before-start.result.0 in
     let counts = c.pass_counted.ensures in
     record {
       fails = all_fail_on context text c.args.from start (context.stop + 1) at.fails (λ view go explains.
@@ -94,11 +94,11 @@ returns-in-Ended c =
 
 pub starts-preserved : goal.starts-preserved
 starts-preserved c =
-    let at = here (goal.at.starts-preserved c).After-pass_before in
+    let at = here (goal.at.starts-preserved c).After-pass_before-start in
     let context = c.args.context.now in
     let text = looked_text c.args.text.now in
     let by = c.requires.table in
-    let start : ℕ = c.pass_before.result.0 in
+    let start : ℕ = c.pass_before-start.result.0 in
     let next : ℕ = c.in-Idle.next in
     let range : IsInRange text start context.stop (P.Idle next) = rw by.text_is at c.in-Idle.ensures.range in
     let counts = c.pass_counted.ensures in
@@ -119,16 +119,16 @@ starts-preserved c =
 
 pub returns-in-Unknown : goal.returns-in-Unknown
 returns-in-Unknown c =
-    let at = here (goal.at.returns-in-Unknown c).After-pass_before in
+    let at = here (goal.at.returns-in-Unknown c).After-pass_before-start in
     let context = c.args.context.now in
     let text = looked_text c.args.text.now in
     let by = c.requires.table in
-    let start : ℕ = c.pass_before.result.0 in
+    let start : ℕ = c.pass_before-start.result.0 in
     let from : ℕ = c.in-Unknown.from in
     let read : ℕ = c.in-Unknown.read in
     let range : IsInRange text start context.stop (P.Unknown from read) = rw by.text_is at c.in-Unknown.ensures.range in
     subst (λ (t : Counted). AloneSays context c.args.text.now t c.args.from c.unknown-in-Unknown.result) (sym c.in-Unknown.ensures.looks)
-    (unknown_says context c.args.text.now c.pass_before.new.text c.args.from from read (start, c.pass_before.result.1) c.unknown-in-Unknown.result c.requires.text c.requires.range.1 at
+    (unknown_says context c.args.text.now c.pass_before-start.new.text c.args.from from read (start, c.pass_before-start.result.1) c.unknown-in-Unknown.result c.requires.text c.requires.range.1 at
     (range.0, range.1, range.2)
     (λ view go explains.
     fail_by context text c.args.it by view go explains start from

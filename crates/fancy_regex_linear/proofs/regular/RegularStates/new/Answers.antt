@@ -1,4 +1,4 @@
-use Rattle.std.proofs.Common.{◌≡◌, ◌∙◌, ap, ap₂, [], ◌∷◌, Bool, List, ℕ, ◌==◌, if◌then◌else◌, ◌++◌, length, sym, subst, arith, refl, true≢false}
+use Rattle.std.proofs.Common.{◌≡◌, ◌∙◌, ap, ap₂, [], ◌∷◌, Bool, List, ℕ, ◌==◌, if◌then◌else◌, ◌++◌, length, sym, subst, rules, refl, true≢false}
 use Rattle.fancy_regex_tree.specs.Tree.{Tree, tree_of}
 use Rattle.fancy_regex_class.specs.declared.class.CharClassMatcher.{CharClassMatcher}
 use Rattle.fancy_regex_info.specs.declared.info.Info.{out-Info}
@@ -7,6 +7,7 @@ use Rattle.fancy_regex_linear.specs.Program.{emitted, IsSound}
 use Rattle.fancy_regex_linear.specs.Plain.{IsRegular, classes, re_of}
 use Rattle.fancy_regex_info.specs.Views.{pattern_in}
 use Rattle.fancy_regex_linear.specs.Easy.{HaveMatchers}
+use Rattle.fancy_regex_linear.specs.Refusals.{IsClassCause}
 use Rattle.fancy_regex_linear.specs.Translation.{Extends}
 use Rattle.fancy_regex_states.specs.declared.state.State.{State}
 use Rattle.fancy_regex_states.specs.declared.state.State.TheVariants.{Match as End}
@@ -56,4 +57,7 @@ returns-then-not-are_made_for-clause-exact c explicit t is =
     (λ some. absurd (true≢false (sym some)), λ made. absurd (true≢false (sym ((c.are_made_for.ensures.exact explicit t is).1 made) ∙ c.if-not-are_made_for.true)))
 
 pub returns-in_err-translated-clause-refused : goal.returns-in_err-translated-clause-refused
-returns-in_err-translated-clause-refused c = rw c.new-translator.ensures.unicode at c.in_err-translated.ensures.refused
+returns-in_err-translated-clause-refused c =
+    let cause : IsClassCause c.args.options.now.unicode (classes (tree_of (out-Info c.args.info.now).expr.now)) c.in_err-translated.field-0.0 =
+    rw c.new-translator.ensures.unicode at c.in_err-translated.ensures.refused in
+    search rules
