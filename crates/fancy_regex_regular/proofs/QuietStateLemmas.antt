@@ -415,7 +415,7 @@ both_part_made both ih states w noted =
     after p (with n (λ all. Leads false all body.1) n.also.0)
 
 emitted_both_made : (b : Bool) (t : Re) → Fit b t → EmitsBoth b (emitted_both t)
-unfolding emitted_both emitted_both_asking
+unfolding emitted_both emitted_both_asking after
 emitted_both_made b nothing fit states w same moved noted s m = unchanged w states (λ all. Leads b all same × Leads b all moved) noted (s, m)
 emitted_both_made b (read leaf) fit states w same moved noted s m =
     let p = pushed_one b states w (S.Read leaf moved) noted m in
@@ -450,7 +450,7 @@ emitted_both_made b (atomic a) fit states w same moved noted s m =
     (d.also, onward b d same s, onward b d moved m) (d.also, onward b d moved m, onward b d moved m))
 
 emitted_made : (b : Bool) (t : Re) → Fit b t → Emits b (emitted t)
-unfolding emitted
+unfolding emitted after
 emitted_made b nothing fit states w next noted leads = unchanged w states (λ all. Leads b all next) noted leads
 emitted_made b (read leaf) fit states w next noted leads = pushed_one b states w (S.Read leaf next) noted leads
 emitted_made b (test check) fit states w next noted leads = pushed_one b states w (S.Look check next) noted leads

@@ -35,11 +35,11 @@ pub returns-in-Some-built-clause-exact : goal.returns-in-Some-built-clause-exact
 returns-in-Some-built-clause-exact c explicit t is =
     (λ some. (c.supports.ensures.exact explicit t is).0 c.if-not-supports.false, λ supported. refl)
 
-pub returns-in-None-built-clause-exact : goal.returns-in-None-built-clause-exact
-returns-in-None-built-clause-exact c explicit t is =
+pub returns-in-None-clause-exact : goal.returns-in-None-clause-exact
+returns-in-None-clause-exact c explicit t is =
     let states = (rw c.in-Some.is at c.in_ok-found.ensures.made) explicit t is in
     let closed = states_closed c.args.options.now.unicode c.in-Some.made.states.items c.in-Some.made.entry c.in-Some.made.matchers.items (pattern_in explicit t) states in
-    (λ some. absurd (true≢false (sym some)), λ supported. absurd (true≢false (sym ((rw c.in-None-built.is at c.in_ok-built.ensures.exact).1 closed))))
+    (λ some. absurd (true≢false (sym some)), λ supported. absurd (true≢false (sym ((rw c.in-None.is at c.in_ok-built.ensures.exact).1 closed))))
 
 pub returns-then-entry-len-clause-exact : goal.returns-then-entry-len-clause-exact
 returns-then-entry-len-clause-exact c explicit t is =
