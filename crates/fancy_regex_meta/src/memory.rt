@@ -17,7 +17,6 @@ use std::alloc::Global;
 ///     assert!(rt; found.is_some());
 /// }
 /// ```
-#[derive(Drop)]
 pub struct MetaMemory {
     /// For patterns that the linear-time matcher runs.
     pub easy: SearchMemory,
@@ -25,6 +24,17 @@ pub struct MetaMemory {
     pub program: RunMemory,
     /// For patterns whose look-aheads and atomic groups are parts.
     pub parts: RegularMemory,
+}
+
+// Written, not derived: so a crate in which such a value may be dropped uses this proof, and has none to make of each type inside.
+impl Drop for MetaMemory {
+    fn drop(self) {
+        let MetaMemory {
+            easy: _easy,
+            program: _program,
+            parts: _parts,
+        } = self;
+    }
 }
 
 impl MetaMemory {

@@ -22,7 +22,6 @@ use fancy_regex_tree::{ExprTree, NamedGroups};
 use std::alloc::Global;
 
 /// A compiled pattern. No search changes it.
-#[derive(Drop)]
 pub struct MetaRegex {
     /// The text of the pattern.
     pattern: String,
@@ -37,6 +36,19 @@ pub struct MetaRegex {
     pub ghost made: { ∥ IsCompiledFrom (string_bytes pattern) options groups strategy ∥₁ },
     pub ghost served: { is_easy_strategy strategy ≡ pattern_uses_easy options (string_bytes pattern) },
     pub ghost named: { AreGroupNumbersOf named_groups (names_in options (string_bytes pattern)) },
+}
+
+// Written, not derived: so a crate in which such a value may be dropped uses this proof, and has none to make of each type inside.
+impl Drop for MetaRegex {
+    fn drop(self) {
+        let MetaRegex {
+            pattern: _pattern,
+            options: _options,
+            named_groups: _named_groups,
+            groups: _groups,
+            strategy: _strategy,
+        } = self;
+    }
 }
 
 /// The number of groups of a tree, group 0 included, and what executes it. Errors: `CompileError` if the tree is refused, or

@@ -18,7 +18,6 @@ use fancy_regex_states::Rules;
 use std::alloc::{AllocError, Global};
 
 /// A compiled pattern whose look-aheads and atomic groups are parts: states that are asked at a place, whose answers are remembered.
-#[derive(Drop)]
 pub struct Regular {
     /// The states of the pattern and of its parts.
     table: PartTable,
@@ -33,6 +32,20 @@ pub struct Regular {
     ghost right: { IsTable table } by { table_prop table },
     ghost inside: { entry < length table.states.items },
     ghost silent: { PartsAreSilent table.states.items } by { silent_prop table.states.items },
+}
+
+// Written, not derived: so a crate in which such a value may be dropped uses this proof, and has none to make of each type inside.
+impl Drop for Regular {
+    fn drop(self) {
+        let Regular {
+            table: _table,
+            entry: _entry,
+            matchers: _matchers,
+            groups: _groups,
+            whole: _whole,
+            unicode: _unicode,
+        } = self;
+    }
 }
 
 impl Regular {
