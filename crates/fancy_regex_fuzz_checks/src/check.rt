@@ -20,6 +20,8 @@ pub enum Check {
     Engine,
     /// So does the machine, which runs every pattern.
     Machine,
+    /// So do the states with parts, where the pattern has such states and may match the empty string.
+    States,
     /// The linear engine has the same matches with its table and without, from several places on.
     Table,
     /// The ends of an iteration's matches increase, and its first match is that of `find`.
@@ -51,7 +53,7 @@ pub enum Check {
 }
 
 /// All checks of a pattern that is built.
-pub static CHECKS: [Check; 21] = [
+pub static CHECKS: [Check; 22] = [
     Check::Plain,
     Check::Whole,
     Check::Part,
@@ -59,6 +61,7 @@ pub static CHECKS: [Check; 21] = [
     Check::Groups,
     Check::Engine,
     Check::Machine,
+    Check::States,
     Check::Table,
     Check::Ends,
     Check::Next,

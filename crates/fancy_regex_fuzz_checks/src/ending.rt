@@ -10,6 +10,7 @@ use crate::refused::refused_alike;
 use crate::replacing::{expansions_agree, fixed_between_pieces, template_is_expanded};
 use crate::searches::{begins_alike, keeps_its_bound, part_alike, whole_alike};
 use crate::sets::twice_in_a_set;
+use crate::states::states_agree;
 use crate::tables::tables_alike;
 use crate::variants::{finds_itself, longest_ends_after, reprints_alike, seeks_alike};
 use fancy_regex::{Error, Regex, Result};
@@ -90,6 +91,7 @@ fn holds(alloc: Global, case: Case<'_>, regex: &Regex, check: Check) -> Result<b
         Check::Groups => groups_agree(alloc, case, regex),
         Check::Engine => engine_agrees(alloc, case, regex),
         Check::Machine => machine_agrees(alloc, case, regex),
+        Check::States => states_agree(alloc, case, regex),
         Check::Table => tables_alike(alloc, case),
         Check::Ends => ends_increase(alloc, case, regex),
         Check::Next => next_is_found(alloc, case, regex),

@@ -109,7 +109,7 @@ fn places_by_machine(
 }
 
 /// The input of the engines for a search; `None` if the search begins after its range.
-fn run_input(input: RegexInput<&str>) -> Option<RunInput> {
+pub fn run_input(input: RegexInput<&str>) -> Option<RunInput> {
     if input.is_done() {
         return None;
     }
@@ -117,7 +117,7 @@ fn run_input(input: RegexInput<&str>) -> Option<RunInput> {
 }
 
 /// Whether these are the offsets of the groups that the regex finds in the case's part.
-fn has_places(
+pub fn has_places(
     alloc: Global,
     case: Case<'_>,
     regex: &Regex,

@@ -20,6 +20,7 @@ mod searches;
 mod sets;
 pub mod setting;
 pub mod shrink;
+mod states;
 mod tables;
 pub mod text;
 mod variants;
