@@ -2,7 +2,7 @@
 
 use crate::compiled::Text;
 use fancy_regex_analysis::analyze;
-use fancy_regex_class::{RunInput, Span};
+use fancy_regex_class::{RunInput, Span, Steps};
 use fancy_regex_info::{AnalyzeContext, CompileOptions};
 use fancy_regex_regular::{Regular, RegularMemory};
 use fancy_regex_tree::{Expr, FLAG_MULTI, FLAG_ONIGURUMA_MODE, FLAG_UNICODE};
@@ -68,6 +68,9 @@ fn compiled(alloc: Global, pattern: &str, flags: u32) -> Option<Option<Regular>>
 
 /// Whether a search from the start of the text, in memory that other searches used, has this answer.
 fn answers(regular: &Regular, text: &str, memory: &mut RegularMemory, answer: Answer) -> bool {
+    if !text.is_char_boundary(0) {
+        return false;
+    }
     let input = RunInput {
         first: 0,
         continue_at: None,
@@ -79,7 +82,10 @@ fn answers(regular: &Regular, text: &str, memory: &mut RegularMemory, answer: An
         no_start_text: false,
         no_end_text: false,
     };
-    match (regular.find_span_in(text, &input, memory), answer) {
+    match (
+        regular.find_span_in(text, &input, &mut Steps::new(), memory),
+        answer,
+    ) {
         (Ok(Some(span)), Answer::Match(start, end)) => span == (start, end),
         (Ok(None), Answer::Nothing) => true,
         _ => false,

@@ -24,7 +24,9 @@ pub enum Allowance {
 
 impl Allowance {
     /// Whether it has a bound, so that a run may use it up.
-    #[inline(always)]
+    // Not inlined: so a step tests no more than whether work is left.
+    #[cold]
+    #[inline(never)]
     pub(crate) fn is_bounded(self) -> bool
         ensures { IsTrue result → IsBounded self }
     {
