@@ -46,13 +46,34 @@ static SEARCHES: [Search; 19] = [
     Search("a*(*FAIL)", UNICODE, "aa", Answer::Nothing),
     Search("a(*FAIL)|b", UNICODE, "ab", Answer::Match(1, 2)),
     Search("(?!a(*FAIL))a", UNICODE, "a", Answer::Match(0, 1)),
+    // a group in a part
+    Search("(?=(a))a", UNICODE, "a", Answer::Match(0, 1)),
     // what has no states
-    Search("(?=(a))a", UNICODE, "a", Answer::NoStates),
     Search("(a)\\1", UNICODE, "aa", Answer::NoStates),
     Search("(?<=ab)c", UNICODE, "abc", Answer::NoStates),
     Search("a\\Kb", UNICODE, "ab", Answer::NoStates),
     Search("(?>a*)\\R", UNICODE, "a\n", Answer::NoStates),
     Search("(?>a*)\\Z", UNICODE, "a\n", Answer::NoStates),
+];
+
+/// A pattern, a text, and the slots of the first match.
+struct Groups(Text, Text, [usize; 6], usize);
+
+/// No place.
+const UNSET: usize = usize::MAX;
+
+/// Groups in look-aheads and atomic groups, as the backtracking program has them.
+static GROUPS: [Groups; 7] = [
+    // of the last iteration
+    Groups("(a(?=b|(c)))+", "abac", [0, 1, 0, 1, UNSET, UNSET], 6),
+    Groups("(a(?=b|(c))b?)+", "abac", [0, 3, 2, 3, 3, 4], 6),
+    // the first way of a part stays
+    Groups("(?=(a|ab)(?!x))ab", "abx", [0, 2, 0, 1, UNSET, UNSET], 4),
+    Groups("(?=(a|ab)(?!x))ab", "aba", [0, 2, 0, 1, UNSET, UNSET], 4),
+    Groups("(?>(a)|b)+c", "abc", [0, 3, 0, 1, UNSET, UNSET], 4),
+    Groups("(?:(?=(.*))a)*b", "aab", [0, 3, 1, 3, UNSET, UNSET], 4),
+    // what must not be is not written
+    Groups("(?!(b))a", "a", [0, 1, UNSET, UNSET, UNSET, UNSET], 4),
 ];
 
 /// The states of a pattern, if it has some. `None` for a pattern that is refused.
@@ -66,12 +87,9 @@ fn compiled(alloc: Global, pattern: &str, flags: u32) -> Option<Option<Regular>>
     Regular::if_supported(alloc, &info, &options).ok()
 }
 
-/// Whether a search from the start of the text, in memory that other searches used, has this answer.
-fn answers(regular: &Regular, text: &str, memory: &mut RegularMemory, answer: Answer) -> bool {
-    if !text.is_char_boundary(0) {
-        return false;
-    }
-    let input = RunInput {
+/// A search from the start of the text to its end.
+fn whole(text: &str) -> RunInput {
+    RunInput {
         first: 0,
         continue_at: None,
         range: Span {
@@ -81,7 +99,15 @@ fn answers(regular: &Regular, text: &str, memory: &mut RegularMemory, answer: An
         anchored: false,
         no_start_text: false,
         no_end_text: false,
-    };
+    }
+}
+
+/// Whether a search from the start of the text, in memory that other searches used, has this answer.
+fn answers(regular: &Regular, text: &str, memory: &mut RegularMemory, answer: Answer) -> bool {
+    let input = whole(text);
+    if input.range.end > text.len() || !text.is_char_boundary(input.first) {
+        return false;
+    }
     match (
         regular.find_span_in(text, &input, &mut Steps::new(), memory),
         answer,
@@ -98,6 +124,29 @@ fn holds(alloc: Global, row: &Search, memory: &mut RegularMemory) -> bool {
         (Some(None), Answer::NoStates) => true,
         (Some(Some(regular)), answer) => answers(&regular, row.2, memory, answer),
         _ => false,
+    }
+}
+
+/// Whether the first match of a pattern has these slots.
+fn has_groups(alloc: Global, row: &Groups, memory: &mut RegularMemory) -> bool {
+    let Some(Some(regular)) = compiled(alloc, row.0, UNICODE) else {
+        return false;
+    };
+    let input = whole(row.1);
+    if input.range.end > row.1.len() || !row.1.is_char_boundary(input.first) {
+        return false;
+    }
+    match regular.search_in(alloc, row.1, &input, memory) {
+        Ok(Some(slots)) => row.2.get(..row.3) == Some(slots.as_slice()),
+        _ => false,
+    }
+}
+
+#[test]
+fn parts_write_their_groups(rt: HostRuntime) {
+    let mut memory = RegularMemory::new(rt.alloc());
+    for (number, row) in GROUPS.iter().enumerate() {
+        assert!(rt; has_groups(rt.alloc(), row, &mut memory), "row {number}");
     }
 }
 

@@ -21,7 +21,7 @@ use Rattle.fancy_regex_parts.specs.Ways.{Explains, Falls, first_way, answer_end,
 abbrev ends_at : Option Trace → Option ℕ
 ends_at = option_map (λ t. t.end)
 
--- behind a test
+-- after a test
 guarded : (b c : Bool) (r : AttemptResult) → b ≡ c → answer_end (guard b r) ≡ (if c then answer_end r else None)
 guarded true true r e = refl
 guarded true false r e = absurd (true≢false e)
@@ -39,7 +39,7 @@ chosen false None b e = refl
 chosen false (Some t) None e = refl
 chosen false (Some t) (Some u) e = refl
 
--- behind a write
+-- after a write
 written : (slot i : ℕ) (a : Option Trace) → ends_at (write slot i a) ≡ ends_at a
 written slot i None = refl
 written slot i (Some t) = refl
@@ -48,14 +48,14 @@ prefixed : (ws : List (ℕ × ℕ)) (a : Option Trace) → ends_at (after_writes
 prefixed ws None = refl
 prefixed ws (Some t) = refl
 
--- behind a part that is asked
+-- after a part that is asked
 asked_is : (negated : Bool) (part rest : Option Trace) → ends_at (asked_answer negated part rest) ≡ if_asked negated (ends_at part) (ends_at rest)
 asked_is false None rest = refl
 asked_is false (Some t) rest = prefixed t.writes rest
 asked_is true None rest = refl
 asked_is true (Some t) rest = refl
 
--- behind an atomic group
+-- after an atomic group
 module _ (go : ℕ → Continuation) (i same moved : ℕ) where
   one_go : (b : Bool) (e : ℕ) → (if b then go moved e else go same e) ≡ go (if b then moved else same) e
   one_go true e = refl

@@ -8,5 +8,6 @@ pub mod VisitLemmas
 pub mod LoopLemmas
 pub mod EmittedLemmas
 pub mod FindLemmas
-pub mod SilentLemmas
+pub mod BetweenLemmas
+pub mod FillLemmas
 pub mod WalkLemmas

@@ -112,7 +112,7 @@ module _ (text : List ℕ) (base : ℕ) {old new : Recall} where
         | inr other ↦ ends j e (sym (stored.others j other) ∙ is)
       ]
 
--- the text is small, and so is the place behind a character of it
+-- the text is small, and so is the place after a character of it
 pub small_after : (text : List ℕ) (at : ℕ) (after : Option ℕ) → length text < 2 ^ 63 → IfSome after (λ c. IsCharBoundary text (at + len_utf8 c))
     → IfSome after (λ c. at + len_utf8 c < 2 ^ 64)
 small_after text at None small h = tt

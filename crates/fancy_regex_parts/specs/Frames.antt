@@ -39,7 +39,7 @@ module _ (matchers : List CharClassMatcher) (rules : Rules) where
   read_task leaf next at (Some c) =
       if leaf_matches_char rules.unicode matchers leaf c then Visit next (at + len_utf8 c) else Answer None
 
-  -- what is done next behind a state, which has the number q
+  -- what is done next after a state, which has the number q
   abbrev pub step_task : ℕ → ℕ → State → ℕ → Option ℕ → Option ℕ → Task
   step_task stop q (S.Read leaf next) at before after = read_task leaf next at after
   step_task stop q (S.Look check next) at before after = if passes matchers rules check before after then Visit next at else Answer None

@@ -4,5 +4,5 @@ pub mod Tables
 pub mod Frames
 pub mod Layers
 pub mod Find
-pub mod Silent
+pub mod Does
 pub mod Walk

@@ -13,7 +13,7 @@ use Rattle.fancy_regex_parts.specs.declared.table.PartTable.{PartTable}
 abbrev pub mark_of : PartTable → ℕ → Option ℕ
 mark_of table q = slice_index_or table.marks.items q None
 
--- how many looks it takes to try a state, where those at the marked states behind it are not counted
+-- how many looks it takes to try a state, where those at the marked states after it are not counted
 abbrev pub cost_of : PartTable → ℕ → ℕ
 cost_of table q = slice_index_or table.costs.items q 0
 
@@ -25,7 +25,7 @@ due_of None cost = cost
 abbrev pub due : PartTable → ℕ → ℕ
 due table q = due_of (mark_of table q) (cost_of table q)
 
--- what is due for the states that this one leads to; behind an atomic group one of the two is tried
+-- what is due for the states that this one leads to; after an atomic group one of the two is tried
 abbrev pub owed : PartTable → State → ℕ
 owed table (S.Read leaf next) = due table next
 owed table (S.Look check next) = due table next
@@ -57,7 +57,7 @@ pub record IsRightAt (table : PartTable) (q : ℕ) : Type 0 where
       → (mark < length table.heads.items) × (slice_index_or table.heads.items mark 0 ≡ q) × (cost_of table q ≤ table.most)
   -- it costs no more than there are states
   pub cheap : cost_of table q ≤ length table.states.items
-  -- its cost is enough for it and those behind it
+  -- its cost is enough for it and those after it
   pub paid : owed table (state_at table.states.items q) + 1 ≤ cost_of table q
 
 -- all states are right, and the parts weigh no more than there are states

@@ -38,7 +38,7 @@ if_asked false None next = None
 if_asked true (Some e) next = None
 if_asked true None next = next
 
--- where it goes on behind a part that began at i and ends at e: `same` where it matched the empty string, `moved` where it did not
+-- where it goes on after a part that began at i and ends at e: `same` where it matched the empty string, `moved` where it did not
 abbrev pub state_after : ℕ → ℕ → ℕ → ℕ → ℕ
 state_after i same moved e = if nat_lt i e then moved else same
 

@@ -1,16 +1,17 @@
-//! A walk along the way of a match, which writes its slots.
+//! A walk along the way of a match and into its parts, which writes its slots.
 
-ghost use Rattle.std.specs.Prelude.{◌≡◌, ◌+◌, ◌-◌, ◌*◌, ◌^◌, ◌<◌, ◌≤◌, ℕ, true, length, min, max, vec_len, slice_set, IfOk, IfSome, OnOk, IsCharBoundary};
+ghost use Rattle.std.specs.Prelude.{◌≡◌, ◌+◌, ◌-◌, ◌*◌, ◌^◌, ◌<◌, ◌≤◌, ◌∷◌, ◌++◌, ℕ, List, Some, length, max, min, replicate, vec_len, IfOk, IfSome, OnOk};
 ghost use Rattle.std.specs.Char.{len_utf8};
-ghost use Rattle.regex_hir.specs.Text.{char_at};
 ghost use Rattle.fancy_regex_class.specs.Looks.{looked_text, look_count};
+ghost use Rattle.regex_hir.specs.Text.{char_at};
+ghost use Rattle.fancy_regex_states.specs.First.{state_at};
 ghost use Rattle.fancy_regex_states.specs.Attempts.{View, Continuation, Trace, NamesBelow};
 ghost use Rattle.fancy_regex_parts.specs.Ways.{Ways, ways_of};
-ghost use Rattle.fancy_regex_parts.specs.Tables.{IsTable, due, owed, known_cost, table_weight};
+ghost use Rattle.fancy_regex_parts.specs.Tables.{IsTable, cost_of, due, owed, known_cost, table_weight};
 ghost use Rattle.fancy_regex_parts.specs.Frames.{IsPlace};
 ghost use Rattle.fancy_regex_parts.specs.Layers.{HasWays, IsOnlyLookedAt, IsOfText, IsTrueOf};
-ghost use Rattle.fancy_regex_parts.specs.Silent.{PartsAreSilent};
-ghost use Rattle.fancy_regex_parts.specs.Walk.{IsTried, apply, dearest, IsArrival, IsOnward, walk_step, walk_slots, branch_step, group_step, read_step};
+ghost use Rattle.fancy_regex_parts.specs.Walk.{IsTried, apply, dearest, keep, last_first, walk_tasks, AllTasksWithin, part_end_of, IsArrival, AreLeft, tasks_at, read_tasks, group_tasks, branch_of, IsVisitedWithin, IsWalking, looks_left, work_left};
+ghost use Rattle.fancy_regex_parts.specs.declared.groups.WalkTask.TheVariants.{Follow};
 
 use crate::memory::PartMemory;
 use crate::question::ask;
@@ -20,10 +21,23 @@ use fancy_regex_class::Counted;
 use fancy_regex_states::State;
 use std::alloc::{AllocError, Global};
 
-/// At which marked states a walk has been, and where. Later walks use it again.
+/// What a walk has yet to do. What stands later in the text is done first, so the first write of a slot is the one that counts.
+#[derive(Clone, Copy)]
+pub enum WalkTask {
+    /// Follow the first way from this state at this byte offset.
+    Follow { state: usize, at: usize },
+    /// Write that this group begins at this byte offset.
+    Start { group: usize, at: usize },
+    /// Write that this group ends at this byte offset.
+    End { group: usize, at: usize },
+}
+
+/// At which marked states a walk has been, and where, and what it has yet to do. Later walks use the memory again.
 #[derive(Drop)]
 pub struct WalkMemory {
     pub(crate) visited: Recall,
+    /// The next task is the last one.
+    pub(crate) tasks: Vec<WalkTask>,
 }
 
 impl WalkMemory {
@@ -31,27 +45,19 @@ impl WalkMemory {
     pub fn new(alloc: Global) -> WalkMemory {
         WalkMemory {
             visited: Recall::new(alloc),
+            tasks: Vec::new(alloc),
         }
     }
 }
 
-/// Where a step of a walk leads.
-#[derive(Clone, Copy)]
-pub enum WalkStep {
-    /// To this state at this byte offset.
-    Onward { state: usize, place: usize },
-    /// To the end of the match.
-    Matched,
-    /// There is no way on.
-    Lost,
-}
-
-/// Follows the first way from the state `entry` at `start`, and writes the slots of the groups on it: slot 2g where the group g is
-/// entered, slot 2g + 1 where it is left. A slot that is not written keeps its value, and one that is not there is passed over. Parts are
-/// not followed, so the slots are right where parts write none. The state has to have a way from there, as `ask` tells: the walk tests
-/// no assertion and no character again, and where there is no way the answer and the slots mean nothing. A step takes at most as many
-/// looks as the dearest state, and the questions that the memory does not answer yet take those that it is paid for. The error is want
-/// of memory, and what the memory remembers then is still true.
+/// Follows the first way from the state `entry` at `start` and into the parts on it, and writes the slots of the groups: slot 2g where
+/// the group g is entered last, slot 2g + 1 where it is left last. The other slots become unset, `usize::MAX`, and a slot that is not
+/// there is passed over. A group in a part that is asked, or in an atomic group, is on the part's own first way; one in a part that
+/// must have no way is not. The state has to have a way from `start`, as `ask` tells: the walk tests no assertion and no character
+/// again, and where there is no way the slots mean nothing. The walk goes from the end to the start, and what it meets a second time is
+/// written already: it follows no marked state twice from one place. A step takes at most as many looks as the dearest state, and the
+/// questions that the memory does not answer yet take those that it is paid for. The error is want of memory, and what the memory
+/// remembers then is still true.
 pub fn walk(
     context: &PartContext,
     text: &mut Counted,
@@ -60,16 +66,16 @@ pub fn walk(
     entry: usize,
     start: usize,
     slots: &mut [usize],
-) -> Result<bool, AllocError>
+) -> Result<(), AllocError>
     requires table { IsTable context.now.table.now }
     requires entry { entry < length context.now.table.now.states.items }
     requires memory { IsOfText context.now (looked_text text.old) memory.old.recall }
     requires small { length (looked_text text.old) < 2 ^ 63 }
     requires place { IsPlace (looked_text text.old) memory.old.recall.base start }
     requires stack { vec_len memory.old.stack ≡ 0 }
-    ensures written { IfOk result (λ done. (view : View) (go : ℕ → Continuation) → IsTried context.now (looked_text text.old) view go
-        → PartsAreSilent context.now.table.now.states.items → IsTrueOf context.now (ways_of go) memory.old.recall
-        → (t : Trace) → (go entry start).answer ≡ Some t → (done ≡ true) × (slots.new ≡ apply t.writes slots.old)) }
+    ensures written { OnOk result ((view : View) (go : ℕ → Continuation) → IsTried context.now (looked_text text.old) view go
+        → IsTrueOf context.now (ways_of go) memory.old.recall
+        → (t : Trace) → (go entry start).answer ≡ Some t → slots.new ≡ apply t.writes (replicate (length slots.old) (2 ^ 64 - 1))) }
     ensures remembers { (view : View) (ways : Ways) → HasWays context.now (looked_text text.old) view ways
         → IsTrueOf context.now ways memory.old.recall → IsTrueOf context.now ways memory.new.recall }
     ensures memory { IsOfText context.now (looked_text text.old) memory.new.recall }
@@ -80,29 +86,84 @@ pub fn walk(
         + (length (looked_text text.old) - memory.old.recall.base + 1) * table_weight context.now.table.now) }
     ensures looks { IsOnlyLookedAt text.old text.new }
 {
+    slots.fill(usize::MAX);
     walked.visited.restart(context.table.heads.len(), start);
-    let mut state = entry;
-    let mut at = start;
-    'pairs: loop {
-        if !arrive(context, &mut walked.visited, state, at)? {
-            return Ok(false);
-        }
-        match follow(
-            context,
-            text,
-            memory,
-            context.table.states[state],
-            at,
-            slots,
-        )? {
-            WalkStep::Onward { state: next, place } => {
-                state = next;
-                at = place;
+    walked.tasks.clear();
+    push(
+        &mut walked.tasks,
+        WalkTask::Follow {
+            state: entry,
+            at: start,
+        },
+    )?;
+    'tasks: loop {
+        let Some(task) = walked.tasks.pop() else {
+            return Ok(());
+        };
+        match task {
+            WalkTask::Follow { state, at } => pass(context, text, memory, walked, state, at)?,
+            WalkTask::Start { group, at } => write_slot(slots, group.saturating_mul(2), at),
+            WalkTask::End { group, at } => {
+                write_slot(slots, group.saturating_mul(2).saturating_add(1), at)
             }
-            WalkStep::Matched => return Ok(true),
-            WalkStep::Lost => return Ok(false),
         }
     }
+}
+
+/// Follows the first way from a state at the byte offset `at` by one step, unless the walk was there before. The error is want of memory.
+fn pass(
+    context: &PartContext,
+    text: &mut Counted,
+    memory: &mut PartMemory,
+    walked: &mut WalkMemory,
+    state: usize,
+    at: usize,
+) -> Result<(), AllocError>
+    requires table { IsTable context.now.table.now }
+    requires state { state < length context.now.table.now.states.items }
+    requires memory { IsOfText context.now (looked_text text.old) memory.old.recall }
+    requires small { length (looked_text text.old) < 2 ^ 63 }
+    requires place { IsPlace (looked_text text.old) memory.old.recall.base at }
+    requires stack { vec_len memory.old.stack ≡ 0 }
+    requires low { walked.old.visited.base ≤ at }
+    requires visited { IsVisitedWithin context.now.table.now (length (looked_text text.old)) walked.old.visited.base walked.old.visited }
+    ensures walking { OnOk result ((view : View) (go : ℕ → Continuation) → IsTried context.now (looked_text text.old) view go
+        → IsTrueOf context.now (ways_of go) memory.old.recall → (goal slots : List ℕ)
+        → IsWalking go context.now.table.now.heads.items walked.old.visited.base walked.old.visited goal slots
+        (Follow state at ∷ last_first walked.old.tasks.items)
+        → IsWalking go context.now.table.now.heads.items walked.old.visited.base walked.new.visited goal slots
+        (last_first walked.new.tasks.items)) }
+    ensures within { OnOk result ((dear : ℕ) → context.now.table.now.most ≤ dear → due context.now.table.now state ≤ dear
+        → AllTasksWithin context.now.table.now (looked_text text.old) memory.old.recall.base walked.old.visited.base dear
+        (last_first walked.old.tasks.items)
+        → AllTasksWithin context.now.table.now (looked_text text.old) memory.old.recall.base walked.old.visited.base dear
+        (last_first walked.new.tasks.items)) }
+    ensures visited { OnOk result
+        (IsVisitedWithin context.now.table.now (length (looked_text text.old)) walked.old.visited.base walked.new.visited) }
+    ensures progress { OnOk result (work_left context.now.table.now (length (looked_text text.old))
+        walked.old.visited.base walked.new.visited
+        (last_first walked.new.tasks.items)
+        < work_left context.now.table.now (length (looked_text text.old)) walked.old.visited.base walked.old.visited
+        (Follow state at ∷ last_first walked.old.tasks.items)) }
+    ensures remembers { (view : View) (ways : Ways) → HasWays context.now (looked_text text.old) view ways
+        → IsTrueOf context.now ways memory.old.recall → IsTrueOf context.now ways memory.new.recall }
+    ensures memory { IsOfText context.now (looked_text text.old) memory.new.recall }
+    ensures base { memory.new.recall.base ≡ memory.old.recall.base }
+    ensures stack { vec_len memory.new.stack ≡ 0 }
+    ensures counted { OnOk result ((dear : ℕ) → context.now.table.now.most ≤ dear → due context.now.table.now state ≤ dear
+        → look_count text.new + known_cost context.now.table.now memory.old.recall
+        + dear * looks_left context.now.table.now (length (looked_text text.old)) walked.old.visited.base walked.new.visited
+        (last_first walked.new.tasks.items)
+        ≤ look_count text.old + known_cost context.now.table.now memory.new.recall
+        + dear * looks_left context.now.table.now (length (looked_text text.old)) walked.old.visited.base walked.old.visited
+        (Follow state at ∷ last_first walked.old.tasks.items)) }
+    ensures looks { IsOnlyLookedAt text.old text.new }
+{
+    if !arrive(context, &mut walked.visited, state, at)? {
+        return Ok(());
+    }
+    follow(context, text, memory, &mut walked.tasks, state, at)?;
+    Ok(())
 }
 
 /// Notes that the walk is at this state at the byte offset `at`, if the state is marked; `false` where it was there before. The error is
@@ -130,123 +191,193 @@ fn arrive(
     }
 }
 
-/// Follows the first way from a state at the byte offset `at` to the next state, and writes the slot that the state writes. The error
-/// is want of memory.
+/// Leaves what is to be done at the state `q` at the byte offset `at`, and after it. The error is want of memory.
 fn follow(
     context: &PartContext,
     text: &mut Counted,
     memory: &mut PartMemory,
-    state: State,
+    tasks: &mut Vec<WalkTask>,
+    q: usize,
     at: usize,
-    slots: &mut [usize],
-) -> Result<WalkStep, AllocError>
+) -> Result<(), AllocError>
     requires table { IsTable context.now.table.now }
-    requires names { NamesBelow (length context.now.table.now.states.items) state }
+    requires state { q < length context.now.table.now.states.items }
     requires memory { IsOfText context.now (looked_text text.old) memory.old.recall }
     requires small { length (looked_text text.old) < 2 ^ 63 }
     requires place { IsPlace (looked_text text.old) memory.old.recall.base at }
     requires stack { vec_len memory.old.stack ≡ 0 }
-    ensures step { IfOk result (λ step. (view : View) (ways : Ways) → HasWays context.now (looked_text text.old) view ways
-        → IsTrueOf context.now ways memory.old.recall → step ≡ walk_step ways (char_at (looked_text text.old) at) state at) }
-    ensures onward { IfOk result (IsOnward context.now (looked_text text.old) memory.old.recall.base at state) }
-    ensures slots { OnOk result (slots.new ≡ walk_slots state at slots.old) }
+    ensures tasks { OnOk result ((view : View) (ways : Ways) → HasWays context.now (looked_text text.old) view ways
+        → IsTrueOf context.now ways memory.old.recall → last_first tasks.new.items
+        ≡ walk_tasks ways (char_at (looked_text text.old) at) (state_at context.now.table.now.states.items q) at
+        ++ last_first tasks.old.items) }
+    ensures left { OnOk result (AreLeft context.now.table.now (looked_text text.old) memory.old.recall.base q at
+        (last_first tasks.old.items) (last_first tasks.new.items)) }
     ensures remembers { (view : View) (ways : Ways) → HasWays context.now (looked_text text.old) view ways
         → IsTrueOf context.now ways memory.old.recall → IsTrueOf context.now ways memory.new.recall }
     ensures memory { IsOfText context.now (looked_text text.old) memory.new.recall }
     ensures base { memory.new.recall.base ≡ memory.old.recall.base }
     ensures stack { vec_len memory.new.stack ≡ 0 }
     ensures counted { OnOk result (look_count text.new + known_cost context.now.table.now memory.old.recall
-        ≤ look_count text.old + (owed context.now.table.now state + 1) + known_cost context.now.table.now memory.new.recall) }
+        ≤ look_count text.old + cost_of context.now.table.now q + known_cost context.now.table.now memory.new.recall) }
+    ensures looks { IsOnlyLookedAt text.old text.new }
+{
+    let state = context.table.states[q];
+    let end = part_end(context, text, memory, state, at)?;
+    let (_, after) = text.look(at);
+    leave_tasks(tasks, state, at, after, end)?;
+    Ok(())
+}
+
+/// Where the first of two branches ends, or the part of an atomic group, if the state has one and that has a way. The error is want of
+/// memory.
+fn part_end(
+    context: &PartContext,
+    text: &mut Counted,
+    memory: &mut PartMemory,
+    state: State,
+    at: usize,
+) -> Result<Option<usize>, AllocError>
+    requires table { IsTable context.now.table.now }
+    requires names { NamesBelow (length context.now.table.now.states.items) state }
+    requires memory { IsOfText context.now (looked_text text.old) memory.old.recall }
+    requires small { length (looked_text text.old) < 2 ^ 63 }
+    requires place { IsPlace (looked_text text.old) memory.old.recall.base at }
+    requires stack { vec_len memory.old.stack ≡ 0 }
+    ensures end { IfOk result (λ end. (view : View) (ways : Ways) → HasWays context.now (looked_text text.old) view ways
+        → IsTrueOf context.now ways memory.old.recall → end ≡ part_end_of ways state at) }
+    ensures place { IfOk result (λ end. IfSome end (IsPlace (looked_text text.old) memory.old.recall.base)) }
+    ensures remembers { (view : View) (ways : Ways) → HasWays context.now (looked_text text.old) view ways
+        → IsTrueOf context.now ways memory.old.recall → IsTrueOf context.now ways memory.new.recall }
+    ensures memory { IsOfText context.now (looked_text text.old) memory.new.recall }
+    ensures base { memory.new.recall.base ≡ memory.old.recall.base }
+    ensures stack { vec_len memory.new.stack ≡ 0 }
+    ensures counted { OnOk result (look_count text.new + known_cost context.now.table.now memory.old.recall
+        ≤ look_count text.old + owed context.now.table.now state + known_cost context.now.table.now memory.new.recall) }
     ensures looks { IsOnlyLookedAt text.old text.new }
 {
     match state {
-        State::Read { next, .. } => Ok(read_on(text, next, at)),
-        State::Look { next, .. } | State::Ask { next, .. } => {
-            Ok(WalkStep::Onward {
-                state: next,
-                place: at,
-            })
-        }
-        State::Split { first, second } => {
+        State::Split { first, .. } => {
             let end = ask(context, text, memory, first, at)?;
-            Ok(branch(first, second, at, end))
+            Ok(end)
+        }
+        State::Atomic { part, .. } => {
+            let end = ask(context, text, memory, part, at)?;
+            Ok(end)
+        }
+        _ => Ok(None),
+    }
+}
+
+/// Leaves what is to be done at a state at the byte offset `at`, before the character `after`, and after it. `end` is that of
+/// `part_end`. The error is want of memory.
+fn leave_tasks(
+    tasks: &mut Vec<WalkTask>,
+    state: State,
+    at: usize,
+    after: Option<char>,
+    end: Option<usize>,
+) -> Result<(), AllocError>
+    requires { IfSome after (λ c. at + len_utf8 c < 2 ^ 64) }
+    ensures { OnOk result (last_first tasks.new.items ≡ tasks_at state at after end ++ last_first tasks.old.items) }
+{
+    match state {
+        State::Read { next, .. } => leave_read(tasks, next, at, after),
+        State::Look { next, .. }
+        | State::Ask {
+            negated: true,
+            next,
+            ..
+        } => push(tasks, WalkTask::Follow { state: next, at }),
+        State::Split { first, second } => {
+            let state = branch(first, second, end);
+            push(tasks, WalkTask::Follow { state, at })
         }
         State::Enter { group, next } => {
-            write_slot(slots, group.saturating_mul(2), at);
-            Ok(WalkStep::Onward {
-                state: next,
-                place: at,
-            })
+            push(tasks, WalkTask::Start { group, at })?;
+            push(tasks, WalkTask::Follow { state: next, at })
         }
         State::Leave { group, next } => {
-            write_slot(slots, group.saturating_mul(2).saturating_add(1), at);
-            Ok(WalkStep::Onward {
-                state: next,
-                place: at,
-            })
+            push(tasks, WalkTask::End { group, at })?;
+            push(tasks, WalkTask::Follow { state: next, at })
         }
-        State::Atomic { part, same, moved } => {
-            let end = ask(context, text, memory, part, at)?;
-            Ok(step_after_atomic(same, moved, at, end))
+        State::Ask { part, next, .. } => {
+            push(tasks, WalkTask::Follow { state: part, at })?;
+            push(tasks, WalkTask::Follow { state: next, at })
         }
-        State::Match => Ok(WalkStep::Matched),
+        State::Atomic { part, same, moved } => leave_atomic(tasks, part, same, moved, at, end),
+        State::Match => Ok(()),
     }
 }
 
-/// Goes on after the character at `at`.
-fn read_on(text: &mut Counted, next: usize, at: usize) -> WalkStep
-    requires boundary { IsCharBoundary (looked_text text.old) at }
-    requires small { length (looked_text text.old) < 2 ^ 63 }
-    ensures step { result ≡ read_step next at (char_at (looked_text text.old) at) }
-    ensures next { IfSome (char_at (looked_text text.old) at) (λ c. IsCharBoundary (looked_text text.old) (at + len_utf8 c)) }
-    ensures count { look_count text.new ≤ look_count text.old + 1 }
-    ensures counted { min (look_count text.old + 1) (2 ^ 64 - 1) ≤ look_count text.new }
-    ensures looks { IsOnlyLookedAt text.old text.new }
+/// Leaves what follows the character at `at`. The error is want of memory.
+fn leave_read(
+    tasks: &mut Vec<WalkTask>,
+    next: usize,
+    at: usize,
+    after: Option<char>,
+) -> Result<(), AllocError>
+    requires { IfSome after (λ c. at + len_utf8 c < 2 ^ 64) }
+    ensures { OnOk result (last_first tasks.new.items ≡ read_tasks next at after ++ last_first tasks.old.items) }
 {
-    let (_, after) = text.look(at);
     match after {
-        Some(c) => WalkStep::Onward {
-            state: next,
-            place: at + c.len_utf8(),
-        },
-        None => WalkStep::Lost,
+        Some(c) => {
+            let place = at + c.len_utf8();
+            push(
+                tasks,
+                WalkTask::Follow {
+                    state: next,
+                    at: place,
+                },
+            )
+        }
+        None => Ok(()),
     }
 }
 
-/// Goes on with `first` where its way has an end, else with `second`.
-fn branch(first: usize, second: usize, at: usize, end: Option<usize>) -> WalkStep
-    ensures { result ≡ branch_step first second at end }
-{
-    match end {
-        Some(_) => WalkStep::Onward {
-            state: first,
-            place: at,
-        },
-        None => WalkStep::Onward {
-            state: second,
-            place: at,
-        },
-    }
-}
-
-/// Goes on where the way of an atomic group ends that began at `at`.
-fn step_after_atomic(same: usize, moved: usize, at: usize, end: Option<usize>) -> WalkStep
-    ensures { result ≡ group_step same moved at end }
+/// Leaves the part of an atomic group that began at `at`, and what follows where its way ends. The error is want of memory.
+fn leave_atomic(
+    tasks: &mut Vec<WalkTask>,
+    part: usize,
+    same: usize,
+    moved: usize,
+    at: usize,
+    end: Option<usize>,
+) -> Result<(), AllocError>
+    ensures { OnOk result (last_first tasks.new.items ≡ group_tasks part same moved at end ++ last_first tasks.old.items) }
 {
     match end {
         Some(e) if at <= e => {
             let state = if at < e { moved } else { same };
-            WalkStep::Onward { state, place: e }
+            push(tasks, WalkTask::Follow { state: part, at })?;
+            push(tasks, WalkTask::Follow { state, at: e })
         }
-        _ => WalkStep::Lost,
+        _ => Ok(()),
     }
 }
 
-/// Writes the byte offset `at` to a slot, if it is there.
-fn write_slot(slots: &mut [usize], slot: usize, at: usize)
-    ensures { slots.new ≡ slice_set slots.old slot at }
+/// Of two branches the first, if its way has an end.
+fn branch(first: usize, second: usize, end: Option<usize>) -> usize
+    ensures { result ≡ branch_of first second end }
 {
-    if slot < slots.len() {
+    match end {
+        Some(_) => first,
+        None => second,
+    }
+}
+
+/// Adds a task that is done next. The error is want of memory.
+fn push(tasks: &mut Vec<WalkTask>, task: WalkTask) -> Result<(), AllocError>
+    ensures { OnOk result (last_first tasks.new.items ≡ task ∷ last_first tasks.old.items) }
+{
+    tasks.push(task)?;
+    Ok(())
+}
+
+/// Writes the byte offset `at` to a slot, if it is there and unset. A number past the last is none.
+fn write_slot(slots: &mut [usize], slot: usize, at: usize)
+    ensures { (real : ℕ) → slot ≡ min real (2 ^ 64 - 1) → slots.new ≡ keep slots.old real at }
+{
+    if slot < slots.len() && slots[slot] == usize::MAX {
         slots[slot] = at;
     }
 }

@@ -26,7 +26,7 @@ pub struct PartContext<'p> {
     pub matchers: &'p [CharClassMatcher],
     /// The flags of the search.
     pub rules: Rules,
-    /// The pattern's own final state, state 0, matches up to this byte offset. The text behind it is seen all the same.
+    /// The pattern's own final state, state 0, matches up to this byte offset. The text after it is seen all the same.
     pub stop: usize,
 }
 
@@ -117,7 +117,7 @@ fn advance(
     }
 }
 
-/// Where the final state of the number `q` ends at `at`: there, but for the pattern's own behind `stop`.
+/// Where the final state of the number `q` ends at `at`: there, but for the pattern's own after `stop`.
 #[inline(always)]
 fn final_end(stop: usize, q: usize, at: usize) -> Option<usize>
     ensures { result ≡ match_end stop q at }

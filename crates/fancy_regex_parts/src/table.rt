@@ -18,7 +18,7 @@ pub struct PartTable {
     pub(crate) marks: Vec<Option<usize>>,
     /// For each mark the state that has it.
     pub(crate) heads: Vec<usize>,
-    /// For each state how many looks it takes to try it, where those at the marked states behind it are not counted.
+    /// For each state how many looks it takes to try it, where those at the marked states after it are not counted.
     pub(crate) costs: Vec<usize>,
     /// No marked state costs more.
     pub(crate) most: usize,

@@ -15,11 +15,10 @@ use Rattle.fancy_regex_states.specs.Attempts.{View, Trace, Continuation, ShowsAl
 use Rattle.fancy_regex_states.specs.declared.state.State.{State}
 use Rattle.fancy_regex_parts.specs.Find.{earliest}
 use Rattle.fancy_regex_parts.specs.Layers.{HasWays}
-use Rattle.fancy_regex_parts.specs.Silent.{DoWhat, PartsAreSilent}
+use Rattle.fancy_regex_parts.specs.Does.{DoWhat}
 use Rattle.fancy_regex_parts.specs.Walk.{IsTried, apply as walk_apply}
 use Rattle.fancy_regex_parts.specs.Ways.{Ways, Explains, ways_of, text_view}
 use Rattle.fancy_regex_parts.specs.declared.step.PartContext.{PartContext}
-use Rattle.fancy_regex_parts.specs.declared.table.PartTable.{PartTable}
 use Rattle.fancy_regex_linear.specs.Attempt.{apply, trace_end}
 use Rattle.fancy_regex_linear.specs.Meaning.{Spot}
 use Rattle.fancy_regex_linear.specs.Easy.{found_slots, found_at, rules_for}
@@ -137,10 +136,6 @@ module _ (context : PartContext) (regular : Regular) (input : RunInput) (is : Is
     does = rw (is.table_is, is.stop_is) does;
     shows = rw (is.matchers_are, is.rules_are) shows;
   }
-
-pub silent_in : (context : PartContext) (regular : Regular) (input : RunInput) → IsContextOf regular input context → PartsAreSilent regular.table.states.items
-    → PartsAreSilent context.table.now.states.items
-silent_in context regular input is silent = subst (λ (t : PartTable). PartsAreSilent t.states.items) (sym is.table_is) silent
 
 -- what was not found has no slots either
 pub none_too : {A B C : Type 0} (f : A → B) (g : A → C) (o : Option A) → None ≡ option_map f o → None ≡ option_map g o

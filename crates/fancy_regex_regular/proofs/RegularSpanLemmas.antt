@@ -11,7 +11,7 @@ use Rattle.fancy_regex_class.specs.declared.input.RunInput.{RunInput}
 use Rattle.fancy_regex_states.specs.Attempts.{View, Continuation, ShowsAll}
 use Rattle.fancy_regex_states.specs.declared.state.State.{State}
 use Rattle.fancy_regex_parts.specs.Find.{earliest}
-use Rattle.fancy_regex_parts.specs.Silent.{DoWhat}
+use Rattle.fancy_regex_parts.specs.Does.{DoWhat}
 use Rattle.fancy_regex_parts.specs.Ways.{Explains, answer_end, ways_of, text_view}
 use Rattle.fancy_regex_parts.proofs.EmittedLemmas.{explains_of}
 use Rattle.fancy_regex_linear.specs.Easy.{rules_for}

@@ -1,11 +1,10 @@
--- That a table is right is so in one way, and that its parts are silent is.
-use Rattle.std.specs.Prelude.{ℕ, ◌<◌, List, length}
-use Rattle.std.specs.Coded.{×_prop, Unit-prop, le_prop, Coded-set, coded_ℕ, coded_list, coded×}
+-- That a table is right is so in one way.
+use Rattle.std.specs.Prelude.{ℕ, ◌<◌, length}
+use Rattle.std.specs.Coded.{×_prop, Unit-prop, le_prop, Coded-set, coded_ℕ}
 use Rattle.fancy_regex_states.specs.Attempts.{NamesBelow}
 use Rattle.fancy_regex_states.specs.declared.state.State.{State}
 use Rattle.fancy_regex_states.specs.declared.state.State.TheVariants.{Split, Enter, Leave, Ask, Atomic, Match}
 use Rattle.fancy_regex_states.specs.declared.state.State.TheVariants as S
-use Rattle.fancy_regex_parts.specs.Silent.{PartsAreSilent}
 use Rattle.fancy_regex_parts.specs.Tables.{IsTable}
 use Rattle.fancy_regex_parts.specs.declared.table.PartTable.{PartTable}
 
@@ -21,6 +20,3 @@ names_prop n Match = Unit-prop
 
 pub table_prop : (table : PartTable) → IsProp (IsTable table)
 table_prop table = hlevel (names_prop, le_prop, Coded-set coded_ℕ)
-
-pub silent_prop : (states : List State) → IsProp (PartsAreSilent states)
-silent_prop states = hlevel (Coded-set (coded_list (coded× coded_ℕ coded_ℕ)))

@@ -4,7 +4,6 @@
 #![tactic(auto)]
 
 mod memory;
-mod outside;
 mod regular;
 
 pub use memory::RegularMemory;

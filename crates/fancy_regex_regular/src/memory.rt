@@ -8,7 +8,7 @@ use std::alloc::Global;
 pub struct RegularMemory {
     /// What questions about parts have found out.
     pub(crate) parts: PartMemory,
-    /// Where the walk along a match has been.
+    /// Where the walk along a match has been, and what it has yet to do.
     pub(crate) walked: WalkMemory,
 }
 

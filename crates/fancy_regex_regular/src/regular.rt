@@ -3,13 +3,11 @@
 ghost use Rattle.std.specs.Prelude.{◌≡◌, ◌+◌, ◌-◌, ◌*◌, ◌^◌, ◌<◌, ◌≤◌, ◌↔◌, Bool, true, length, min, replicate, IfErr, IfOk, IfSome, IsSome, IsCharBoundary, option_map, slice_set};
 ghost use Rattle.fancy_regex_tree.specs.Tree.{Tree, tree_of};
 ghost use Rattle.fancy_regex_linear.specs.Easy.{found_slots, found_at};
-ghost use Rattle.fancy_regex_parts.specs.Silent.{PartsAreSilent};
 ghost use Rattle.fancy_regex_parts.specs.Tables.{IsTable};
-ghost use Rattle.fancy_regex_regular.specs.TableProps.{table_prop, silent_prop};
+ghost use Rattle.fancy_regex_regular.specs.TableProps.{table_prop};
 ghost use Rattle.fancy_regex_regular.specs.Starts.{last_start as last_start_of};
 
 use crate::memory::RegularMemory;
-use crate::outside::has_groups_outside;
 use fancy_regex_class::{CharClassMatcher, Counted, RunInput, Steps};
 use fancy_regex_info::{CompileError, CompileOptions, Info};
 use fancy_regex_linear::RegularStates;
@@ -31,7 +29,6 @@ pub struct Regular {
     unicode: bool,
     ghost right: { IsTable table } by { table_prop table },
     ghost inside: { entry < length table.states.items },
-    ghost silent: { PartsAreSilent table.states.items } by { silent_prop table.states.items },
 }
 
 // Written, not derived: so a crate in which such a value may be dropped uses this proof, and has none to make of each type inside.
@@ -51,7 +48,7 @@ impl Drop for Regular {
 impl Regular {
     ghost use Rattle.fancy_regex_linear.specs.Plain.{classes};
     ghost use Rattle.fancy_regex_linear.specs.Refusals.{IsClassCause};
-    ghost use Rattle.fancy_regex_regular.specs.Supported.{IsSupported, groups_outside};
+    ghost use Rattle.fancy_regex_regular.specs.Supported.{IsSupported};
     ghost use Rattle.fancy_regex_regular.specs.Regulars.{IsRegularOf, IsContextOf, IsSpan, IsSlots, LooksAtMost, starts_without};
     ghost use Rattle.fancy_regex_info.specs.Analysis.{analysis};
     ghost use Rattle.fancy_regex_info.specs.Infos.{info_of};
@@ -60,17 +57,12 @@ impl Regular {
 
     /// Whether an analyzed pattern becomes states with parts under these options. The first match is wanted then, not the longest, and the
     /// weight is at most 4,000. The pattern has no more than characters, assertions but `\Z`, `(*FAIL)`, look-behinds for one character,
-    /// look-aheads, groups, atomic groups, alternations and repeats of these. No capture group is in a look-ahead or in an atomic group,
-    /// but in a repeat that has no iteration.
+    /// look-aheads, groups, atomic groups, alternations and repeats of these.
     pub fn supports(info: &Info<'_>, options: &CompileOptions) -> bool
-        ensures outside { result ≡ true → groups_outside true (tree_of (out-Info info.now).expr.now) ≡ true }
         ensures exact { (explicit : Bool) (t : Tree) → info_of info.now ≡ analysis explicit t
             → (result ≡ true ↔ IsSupported options.now.leftmost_longest (pattern_in explicit t)) }
     {
         if options.leftmost_longest {
-            return false;
-        }
-        if !has_groups_outside(info.expr, true) {
             return false;
         }
         RegularStates::are_made_for(info)

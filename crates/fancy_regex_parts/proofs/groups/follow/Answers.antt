@@ -1,36 +1,56 @@
-use Rattle.std.proofs.Common.{◌∙◌, ◌≤◌, length, sym, ap, subst, arith}
+use Rattle.std.proofs.Common.{◌≡◌, ◌∙◌, ℕ, ◌+◌, ◌++◌, List, Option, length, sym, ap, subst, arith}
+use Rattle.std.proofs.lemmas.List.{get_or_read}
+use Rattle.std.specs.Prelude.{IfSome, IsCharBoundary}
+use Rattle.std.specs.Char.{len_utf8}
 use Rattle.regex_hir.specs.Text.{char_at}
 use Rattle.fancy_regex_class.specs.Looks.{looked_text}
 use Rattle.fancy_regex_states.specs.Attempts.{NamesBelow}
+use Rattle.fancy_regex_states.specs.First.{state_at}
 use Rattle.fancy_regex_states.specs.declared.state.State.{State}
-use Rattle.fancy_regex_parts.specs.Tables.{due, owed}
-use Rattle.fancy_regex_parts.specs.Walk.{IsOnward, branch_step, group_step, walk_step}
-use Rattle.fancy_regex_parts.proofs.WalkLemmas.{read_onward}
+use Rattle.fancy_regex_states.specs.declared.state.State.TheVariants.{Match}
+use Rattle.fancy_regex_parts.specs.Tables.{owed}
+use Rattle.fancy_regex_parts.specs.Walk.{AreLeft, last_first, part_end_of, tasks_at, walk_tasks}
+use Rattle.fancy_regex_parts.specs.declared.groups.WalkTask.{WalkTask}
+use Rattle.fancy_regex_parts.proofs.VisitLemmas.{right_at}
+use Rattle.fancy_regex_parts.proofs.WalkLemmas.{left_at}
 use Rattle.fancy_regex_parts.proofs.groups.follow.Goals as goal
 
-pub returns-in-Read-clause-onward : goal.returns-in-Read-clause-onward
-returns-in-Read-clause-onward c =
-    let context = c.args.context.now in
-    let names = subst (NamesBelow (length context.table.now.states.items)) c.in-Read.is c.requires.names in
-    let less : due context.table.now c.in-Read.next ≤ owed context.table.now c.args.state = rw c.in-Read.is (omega arith) in
-    subst (IsOnward context (looked_text c.args.text.now) c.args.memory.now.recall.base c.args.at c.args.state) (sym c.read_on.ensures.step)
-    (read_onward context (looked_text c.args.text.now) c.args.memory.now.recall.base c.args.at c.args.state c.in-Read.next _ c.read_on.ensures.next
-    c.requires.place.low names less)
+pub part_end-requires-clause-names : goal.part_end-requires-clause-names
+part_end-requires-clause-names c =
+    let table = c.args.context.now.table.now in
+    let state_is : c.index-state.result.now ≡ state_at table.states.items c.args.q = get_or_read table.states.items c.args.q _ c.requires.state c.index-state.ensures Match in
+    subst (NamesBelow (length table.states.items)) (sym state_is) (right_at table c.args.q c.requires.table c.requires.state).closed
 
-pub returns-in_ok-end-in-Split-clause-step : goal.returns-in_ok-end-in-Split-clause-step
-returns-in_ok-end-in-Split-clause-step c view ways has true_of =
-    let answer = c.in_ok-end-in-Split.ensures.answer view ways has true_of in
-    c.branch-first.ensures ∙ ap (branch_step c.in-Split.first c.in-Split.second c.args.at) answer
-    ∙ ap (λ (s : State). walk_step ways (char_at (looked_text c.args.text.now) c.args.at) s c.args.at) (sym c.in-Split.is)
+pub returns-clause-tasks : goal.returns-clause-tasks
+returns-clause-tasks c view ways has true_of =
+    let table = c.args.context.now.table.now in
+    let at = c.args.at in
+    let text : List ℕ = looked_text c.args.text.now in
+    let old = last_first c.args.tasks.now.items in
+    let state_is : c.index-state.result.now ≡ state_at table.states.items c.args.q = get_or_read table.states.items c.args.q _ c.requires.state c.index-state.ensures Match in
+    let after_is : c.look-after.result.1 ≡ char_at text at = c.look-after.ensures.after ∙ ap (λ (t : List ℕ). char_at t at) c.part_end.ensures.looks.text in
+    let end_is : c.in_ok-end.end ≡ part_end_of ways c.index-state.result.now at = c.in_ok-end.ensures.end view ways has true_of in
+    c.in_ok-leave_tasks.ensures
+    ∙ ap (λ (o : Option ℕ). tasks_at c.index-state.result.now at o c.in_ok-end.end ++ old) after_is
+    ∙ ap (λ (o : Option ℕ). tasks_at c.index-state.result.now at (char_at text at) o ++ old) end_is
+    ∙ ap (λ (s : State). walk_tasks ways (char_at text at) s at ++ old) state_is
 
-pub returns-in_ok-end-in-Atomic-clause-step : goal.returns-in_ok-end-in-Atomic-clause-step
-returns-in_ok-end-in-Atomic-clause-step c view ways has true_of =
-    let answer = c.in_ok-end-in-Atomic.ensures.answer view ways has true_of in
-    c.step_after_atomic.ensures ∙ ap (group_step c.in-Atomic.same c.in-Atomic.moved c.args.at) answer
-    ∙ ap (λ (s : State). walk_step ways (char_at (looked_text c.args.text.now) c.args.at) s c.args.at) (sym c.in-Atomic.is)
+pub returns-clause-left : goal.returns-clause-left
+returns-clause-left c =
+    let table = c.args.context.now.table.now in
+    let text : List ℕ = looked_text c.args.text.now in
+    let base = c.args.memory.now.recall.base in
+    let old = last_first c.args.tasks.now.items in
+    let state_is : c.index-state.result.now ≡ state_at table.states.items c.args.q = get_or_read table.states.items c.args.q _ c.requires.state c.index-state.ensures Match in
+    let names = subst (NamesBelow (length table.states.items)) (sym state_is) (right_at table c.args.q c.requires.table c.requires.state).closed in
+    let next = subst (λ (t : List ℕ). IfSome c.look-after.result.1 (λ k. IsCharBoundary t (c.args.at + len_utf8 k))) c.part_end.ensures.looks.text c.look-after.ensures.next in
+    subst (AreLeft table text base c.args.q c.args.at old) (sym c.in_ok-leave_tasks.ensures)
+    (left_at table text base c.args.q c.args.at c.index-state.result.now c.look-after.result.1 c.in_ok-end.end old state_is names c.requires.place next
+    c.in_ok-end.ensures.place)
 
-pub returns-in_ok-end-in-Split-clause-counted : goal.returns-in_ok-end-in-Split-clause-counted
-returns-in_ok-end-in-Split-clause-counted c = rw c.in-Split.is (omega (arith, c.in_ok-end-in-Split.ensures.counted))
-
-pub returns-in_ok-end-in-Atomic-clause-counted : goal.returns-in_ok-end-in-Atomic-clause-counted
-returns-in_ok-end-in-Atomic-clause-counted c = rw c.in-Atomic.is (omega (arith, c.in_ok-end-in-Atomic.ensures.counted))
+pub returns-clause-counted : goal.returns-clause-counted
+returns-clause-counted c =
+    let table = c.args.context.now.table.now in
+    let state_is : c.index-state.result.now ≡ state_at table.states.items c.args.q = get_or_read table.states.items c.args.q _ c.requires.state c.index-state.ensures Match in
+    let owes : owed table c.index-state.result.now ≡ owed table (state_at table.states.items c.args.q) = ap (owed table) state_is in
+    omega (arith, c.in_ok-end.ensures.counted, c.look-after.ensures.ticked, owes, (right_at table c.args.q c.requires.table c.requires.state).paid)

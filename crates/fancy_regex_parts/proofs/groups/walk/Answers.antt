@@ -1,219 +1,245 @@
-use Rattle.std.proofs.Common.{◌≡◌, ◌∙◌, ◌+◌, ◌-◌, ◌*◌, ◌≤◌, ℕ, List, length, refl, sym, ap, subst, arith}
-use Rattle.std.proofs.lemmas.List.{get_or_read}
-use Rattle.std.specs.Prelude.{option_map}
-use Rattle.regex_hir.specs.Text.{char_at}
-use Rattle.fancy_regex_class.specs.Looks.{looked_text}
-use Rattle.fancy_regex_states.specs.Attempts.{NamesBelow}
-use Rattle.fancy_regex_states.specs.First.{state_at}
-use Rattle.fancy_regex_states.specs.declared.state.State.{State}
-use Rattle.fancy_regex_states.specs.declared.state.State.TheVariants.{Match}
+use Rattle.std.proofs.Common.{◌≡◌, ◌∙◌, ◌+◌, ◌-◌, ◌*◌, ◌^◌, ◌<◌, ◌≤◌, ℕ, List, [], ◌∷◌, length, replicate, refl, sym, ap, subst, arith}
+use Rattle.std.proofs.lemmas.List.{nil_from_length}
+use Rattle.fancy_regex_class.specs.Looks.{looked_text, look_count}
+use Rattle.fancy_regex_states.specs.Attempts.{Trace}
 use Rattle.fancy_regex_parts.specs.Ways.{ways_of, text_view}
-use Rattle.fancy_regex_parts.specs.Tables.{due, owed, cell_cost, known_cost, table_weight}
+use Rattle.fancy_regex_parts.specs.Tables.{cell_cost, due, known_cost, table_weight}
 use Rattle.fancy_regex_parts.specs.Layers.{HasWays, IsOfText}
-use Rattle.fancy_regex_parts.specs.Walk.{apply, dearest, walk_step, IsArrival, IsOnward}
-use Rattle.fancy_regex_parts.specs.declared.groups.WalkStep.TheVariants.{Onward, Matched, Lost}
+use Rattle.fancy_regex_parts.specs.Walk.{IsTried, AllTasksWithin, IsVisitedWithin, IsWalking, apply, dearest, last_first, looks_left, work_left}
+use Rattle.fancy_regex_parts.specs.declared.groups.WalkTask.{WalkTask}
+use Rattle.fancy_regex_parts.specs.declared.groups.WalkTask.TheVariants.{Follow, Start, End}
 use Rattle.fancy_regex_parts.proofs.LoopLemmas.{known_cap}
-use Rattle.fancy_regex_parts.proofs.VisitLemmas.{right_at, no_look, looks_on}
-use Rattle.fancy_regex_parts.proofs.WalkLemmas.{arrived_deeper, arrived_within, has_ways, entry_cheap, not_again, one_less, step_cheap, step_goes, walk_less}
+use Rattle.fancy_regex_parts.proofs.VisitLemmas.{no_look, looks_on}
+use Rattle.fancy_regex_parts.proofs.WalkLemmas.{begins, entry_cheap, finished, last_none, last_pushed, most_cheap, no_more, one_due, rest_less, has_ways, trace_by, wrote_one}
 use Rattle.fancy_regex_parts.proofs.groups.walk.Goals as goal
 
-pub pairs-init : goal.pairs-init
-pairs-init c =
+pub tasks-init : goal.tasks-init
+tasks-init c =
     let table = c.args.context.now.table.now in
-    let places : ℕ = (length (looked_text c.args.text.now) - c.args.start + 1) * table_weight table in
+    let text : List ℕ = looked_text c.args.text.now in
+    let places : ℕ = (length text - c.args.start + 1) * table_weight table in
     let none = c.restart.ensures.weight (cell_cost table) in
-    let all : due table c.args.entry + (places - known_cost table c.restart.new.self) ≡ due table c.args.entry + places = omega (arith, none) in
+    let cleared : c.clear.new.self.items ≡ [] = nil_from_length _ (omega arith) in
+    let tasks : last_first c.push.new.tasks.items ≡ Follow c.args.entry c.args.start ∷ [] =
+    c.in_ok-push.ensures ∙ ap (λ (l : List WalkTask). Follow c.args.entry c.args.start ∷ last_first l) cleared
+    ∙ ap (λ (l : List WalkTask). Follow c.args.entry c.args.start ∷ l) last_none in
+    let all : looks_left table (length text) c.args.start c.restart.new.self (last_first c.push.new.tasks.items) ≡ due table c.args.entry + places =
+    ap (looks_left table (length text) c.args.start c.restart.new.self) tasks ∙ one_due table c.args.entry c.args.start _ _ (omega (arith, none)) in
     let looks = ap (λ (n : ℕ). dearest table c.args.entry * n) all in
+    let unset : c.fill.new.self ≡ replicate (length c.args.slots.now) 18446744073709551615 = c.fill.ensures.after (λ y e. e) in
     record {
-      within = c.requires.entry;
-      place = c.requires.place;
-      low = omega arith;
+      within = subst (AllTasksWithin table text c.args.memory.now.recall.base c.args.start (dearest table c.args.entry)) (sym tasks)
+          (record { state = c.requires.entry; place = c.requires.place; low = omega arith; cheap = entry_cheap table c.args.entry }, tt);
       visited = record {
         width_is = omega (arith, c.restart.ensures.width, c.len.ensures, table.heads.ok.0);
         base_is = c.restart.ensures.base;
         rows = omega (arith, c.restart.ensures.rows);
       };
-      walking = λ view go tried silent true_of t is. record {
-        left = ap (option_map (λ w. apply w.writes c.args.slots.now)) is;
-        deeper = λ k some. absurd (omega (arith, c.restart.ensures.cells k, some));
-      };
+      walking = λ view go tried true_of t is.
+          rw (tasks, unset)
+          (begins go table.heads.items c.args.start c.restart.new.self c.args.entry (length c.args.slots.now) (length text) t c.requires.small
+          (trace_by c.args.context.now text view go tried c.args.entry c.args.start c.requires.entry c.requires.place.boundary.0 t is) is c.restart.ensures.cells);
       true_of = λ view ways has true_of. true_of;
       memory = c.requires.memory;
       base = refl;
       stack = c.requires.stack;
-      cheap = entry_cheap table c.args.entry;
       counted = omega (arith, looks);
       looks = no_look c.args.text.now;
     }
 
-pub returns-then-not-branch-clause-written : goal.returns-then-not-branch-clause-written
-returns-then-not-branch-clause-written c view go tried silent true_of t is =
-    let invariant = c.pairs.invariant in
+pub returns-in_default-clause-written : goal.returns-in_default-clause-written
+returns-in_default-clause-written c view go tried true_of t is =
+    let empty : c.tasks.walked.tasks.items ≡ [] = nil_from_length _ (omega (arith, c.in_default.ensures.cases.0, c.tasks.walked.tasks.ok.0)) in
+    let none : last_first c.tasks.walked.tasks.items ≡ [] = ap last_first empty ∙ last_none in
+    finished go c.args.context.now.table.now.heads.items c.args.start c.tasks.walked.visited
+    (apply t.writes (replicate (length c.args.slots.now) 18446744073709551615)) c.tasks.slots
+    (subst (λ (l : List WalkTask). IsWalking go c.args.context.now.table.now.heads.items c.args.start c.tasks.walked.visited
+    (apply t.writes (replicate (length c.args.slots.now) 18446744073709551615)) c.tasks.slots l) none (c.tasks.invariant.walking view go tried true_of t is))
+
+pub returns-in_default-clause-at_most : goal.returns-in_default-clause-at_most
+returns-in_default-clause-at_most c =
+    let context = c.args.context.now in
+    let cap = known_cap context (looked_text c.args.text.now) c.args.memory.now.recall.base _ c.tasks.invariant.memory c.tasks.invariant.base in
+    omega (arith, c.tasks.invariant.counted, cap)
+
+pub pass-requires-clause-state : goal.pass-requires-clause-state
+pass-requires-clause-state c =
     let table = c.args.context.now.table.now in
-    let walking = invariant.walking view go tried silent true_of t is in
-    absurd (not_again table go c.args.start c.pairs.walked.visited c.arrive.new.visited c.pairs.state c.pairs.at
-    (right_at table c.pairs.state c.requires.table invariant.within) invariant.low invariant.visited.base_is invariant.visited.width_is walking.deeper
-    (subst (IsArrival table c.pairs.walked.visited c.arrive.new.visited c.pairs.state c.pairs.at) c.if-not-branch.true c.in_ok-arrive.ensures.arrival))
+    let tasks_are : last_first c.tasks.walked.tasks.items ≡ Follow c.in-Follow.state c.in-Follow.at ∷ last_first c.pop.new.self.items =
+    ap last_first c.in-Some.ensures.items ∙ last_pushed c.pop.new.self.items c.in-Some.task
+    ∙ ap (λ (x : WalkTask). x ∷ last_first c.pop.new.self.items) c.in-Follow.is in
+    (subst (AllTasksWithin table (looked_text c.args.text.now) c.args.memory.now.recall.base c.args.start (dearest table c.args.entry)) tasks_are c.tasks.invariant.within).0.state
 
-pub follow-requires-clause-names : goal.follow-requires-clause-names
-follow-requires-clause-names c =
-    let states = c.args.context.now.table.now.states.items in
-    let state_is : c.index.result.now ≡ state_at states c.pairs.state = get_or_read states c.pairs.state _ c.pairs.invariant.within c.index.ensures Match in
-    subst (NamesBelow (length states)) (sym state_is) (right_at c.args.context.now.table.now c.pairs.state c.requires.table c.pairs.invariant.within).closed
+pub pass-requires-clause-place : goal.pass-requires-clause-place
+pass-requires-clause-place c =
+    let table = c.args.context.now.table.now in
+    let tasks_are : last_first c.tasks.walked.tasks.items ≡ Follow c.in-Follow.state c.in-Follow.at ∷ last_first c.pop.new.self.items =
+    ap last_first c.in-Some.ensures.items ∙ last_pushed c.pop.new.self.items c.in-Some.task
+    ∙ ap (λ (x : WalkTask). x ∷ last_first c.pop.new.self.items) c.in-Follow.is in
+    rw (c.tasks.invariant.looks.text, c.tasks.invariant.base)
+    (subst (AllTasksWithin table (looked_text c.args.text.now) c.args.memory.now.recall.base c.args.start (dearest table c.args.entry)) tasks_are c.tasks.invariant.within).0.place
 
-pub returns-in_err-next-clause-remembers : goal.returns-in_err-next-clause-remembers
-returns-in_err-next-clause-remembers c view ways has true_of =
-    c.follow.ensures.remembers view ways (subst (λ (t : List ℕ). HasWays c.args.context.now t view ways) (sym c.pairs.invariant.looks.text) has)
-    (c.pairs.invariant.true_of view ways has true_of)
+pub pass-requires-clause-low : goal.pass-requires-clause-low
+pass-requires-clause-low c =
+    let table = c.args.context.now.table.now in
+    let tasks_are : last_first c.tasks.walked.tasks.items ≡ Follow c.in-Follow.state c.in-Follow.at ∷ last_first c.pop.new.self.items =
+    ap last_first c.in-Some.ensures.items ∙ last_pushed c.pop.new.self.items c.in-Some.task
+    ∙ ap (λ (x : WalkTask). x ∷ last_first c.pop.new.self.items) c.in-Follow.is in
+    let low = (subst (AllTasksWithin table (looked_text c.args.text.now) c.args.memory.now.recall.base c.args.start (dearest table c.args.entry)) tasks_are c.tasks.invariant.within).0.low in
+    omega (arith, low, c.tasks.invariant.visited.base_is)
 
-pub returns-in-Matched-clause-remembers : goal.returns-in-Matched-clause-remembers
-returns-in-Matched-clause-remembers c view ways has true_of =
-    c.follow.ensures.remembers view ways (subst (λ (t : List ℕ). HasWays c.args.context.now t view ways) (sym c.pairs.invariant.looks.text) has)
-    (c.pairs.invariant.true_of view ways has true_of)
+pub pass-requires-clause-visited : goal.pass-requires-clause-visited
+pass-requires-clause-visited c =
+    rw c.tasks.invariant.looks.text
+    (subst (λ (b : ℕ). IsVisitedWithin c.args.context.now.table.now (length (looked_text c.args.text.now)) b c.tasks.walked.visited)
+    (sym c.tasks.invariant.visited.base_is) c.tasks.invariant.visited)
 
-pub returns-in-Lost-clause-remembers : goal.returns-in-Lost-clause-remembers
-returns-in-Lost-clause-remembers c view ways has true_of =
-    c.follow.ensures.remembers view ways (subst (λ (t : List ℕ). HasWays c.args.context.now t view ways) (sym c.pairs.invariant.looks.text) has)
-    (c.pairs.invariant.true_of view ways has true_of)
+pub returns-in_err-pass-in-Follow-clause-remembers : goal.returns-in_err-pass-in-Follow-clause-remembers
+returns-in_err-pass-in-Follow-clause-remembers c view ways has true_of =
+    c.pass.ensures.remembers view ways (subst (λ (t : List ℕ). HasWays c.args.context.now t view ways) (sym c.tasks.invariant.looks.text) has)
+    (c.tasks.invariant.true_of view ways has true_of)
 
-pub returns-in-Matched-clause-written : goal.returns-in-Matched-clause-written
-returns-in-Matched-clause-written c view go tried silent true_of t is =
+pub tasks-preserved-in-Continue-branch-2 : goal.tasks-preserved-in-Continue-branch-2
+tasks-preserved-in-Continue-branch-2 c =
     let context = c.args.context.now in
-    let text : List ℕ = looked_text c.args.text.now in
-    let invariant = c.pairs.invariant in
-    let state_is : c.index.result.now ≡ state_at context.table.now.states.items c.pairs.state =
-    get_or_read context.table.now.states.items c.pairs.state _ invariant.within c.index.ensures Match in
-    let has = has_ways context text view go tried in
-    let step_is : Matched ≡ walk_step (ways_of go) (char_at text c.pairs.at) c.index.result.now c.pairs.at =
-    sym c.in-Matched.is
-    ∙ c.in_ok-next.ensures.step (text_view view) (ways_of go) (subst (λ (x : List ℕ). HasWays context x (text_view view) (ways_of go)) (sym invariant.looks.text) has)
-    (invariant.true_of (text_view view) (ways_of go) has true_of)
-    ∙ ap (λ (x : List ℕ). walk_step (ways_of go) (char_at x c.pairs.at) c.index.result.now c.pairs.at) invariant.looks.text in
-    let walking = invariant.walking view go tried silent true_of t is in
-    let goes = step_goes context text view go tried silent (apply t.writes c.args.slots.now) c.pairs.state c.pairs.at c.pairs.slots c.follow.new.slots
-    c.index.result.now Matched invariant.within invariant.place.boundary walking.left state_is step_is c.in_ok-next.ensures.slots in
-    (refl, goes)
-
-pub returns-in-Lost-clause-written : goal.returns-in-Lost-clause-written
-returns-in-Lost-clause-written c view go tried silent true_of t is =
-    let context = c.args.context.now in
-    let text : List ℕ = looked_text c.args.text.now in
-    let invariant = c.pairs.invariant in
-    let state_is : c.index.result.now ≡ state_at context.table.now.states.items c.pairs.state =
-    get_or_read context.table.now.states.items c.pairs.state _ invariant.within c.index.ensures Match in
-    let has = has_ways context text view go tried in
-    let step_is : Lost ≡ walk_step (ways_of go) (char_at text c.pairs.at) c.index.result.now c.pairs.at =
-    sym c.in-Lost.is
-    ∙ c.in_ok-next.ensures.step (text_view view) (ways_of go) (subst (λ (x : List ℕ). HasWays context x (text_view view) (ways_of go)) (sym invariant.looks.text) has)
-    (invariant.true_of (text_view view) (ways_of go) has true_of)
-    ∙ ap (λ (x : List ℕ). walk_step (ways_of go) (char_at x c.pairs.at) c.index.result.now c.pairs.at) invariant.looks.text in
-    let walking = invariant.walking view go tried silent true_of t is in
-    let goes = step_goes context text view go tried silent (apply t.writes c.args.slots.now) c.pairs.state c.pairs.at c.pairs.slots c.follow.new.slots
-    c.index.result.now Lost invariant.within invariant.place.boundary walking.left state_is step_is c.in_ok-next.ensures.slots in
-    absurd goes
-
-pub pairs-smaller : goal.pairs-smaller
-pairs-smaller c =
-    let context = c.args.context.now in
-    let text : List ℕ = looked_text c.args.text.now in
     let table = context.table.now in
-    let invariant = c.pairs.invariant in
-    let right = right_at table c.pairs.state c.requires.table invariant.within in
-    let arrival = subst (IsArrival table c.pairs.walked.visited c.arrive.new.visited c.pairs.state c.pairs.at) c.if-not-branch.false c.in_ok-arrive.ensures.arrival in
-    let state_is : c.index.result.now ≡ state_at table.states.items c.pairs.state = get_or_read table.states.items c.pairs.state _ invariant.within c.index.ensures Match in
-    let onward = subst (IsOnward context (looked_text c.pairs.text) c.pairs.memory.recall.base c.pairs.at c.index.result.now) c.in-Onward.is c.in_ok-next.ensures.onward in
-    let less : due table c.in-Onward.next ≤ owed table (state_at table.states.items c.pairs.state) =
-    subst (λ (s : State). due table c.in-Onward.next ≤ owed table s) state_is onward.3 in
-    let within = arrived_within table c.args.start c.pairs.walked.visited c.arrive.new.visited c.pairs.state c.pairs.at invariant.low
-    invariant.visited.base_is invariant.visited.width_is (length text) arrival c.arrive.ensures.rows invariant.visited.rows invariant.place.boundary.0 in
-    walk_less table c.pairs.state c.pairs.at right c.pairs.walked.visited c.arrive.new.visited invariant.visited.width_is (length text) c.args.start c.in-Onward.next arrival less within
-
-pub pairs-preserved : goal.pairs-preserved
-pairs-preserved c =
-    let all_context = c.args.context.now in
-    let all_text : List ℕ = looked_text c.args.text.now in
-    let table = all_context.table.now in
-    let before = c.pairs.invariant in
-    let right = right_at table c.pairs.state c.requires.table before.within in
-    let arrival = subst (IsArrival table c.pairs.walked.visited c.arrive.new.visited c.pairs.state c.pairs.at) c.if-not-branch.false c.in_ok-arrive.ensures.arrival in
-    let onward = subst (IsOnward all_context (looked_text c.pairs.text) c.pairs.memory.recall.base c.pairs.at c.index.result.now) c.in-Onward.is c.in_ok-next.ensures.onward in
-    let read : c.index.result.now ≡ state_at table.states.items c.pairs.state = get_or_read table.states.items c.pairs.state _ before.within c.index.ensures Match in
-    let less : due table c.in-Onward.next ≤ owed table (state_at table.states.items c.pairs.state) =
-    subst (λ (s : State). due table c.in-Onward.next ≤ owed table s) read onward.3 in
-    let visited = arrived_within table c.args.start c.pairs.walked.visited c.arrive.new.visited c.pairs.state c.pairs.at before.low
-    before.visited.base_is before.visited.width_is (length all_text) arrival c.arrive.ensures.rows before.visited.rows before.place.boundary.0 in
-    let fewer = walk_less table c.pairs.state c.pairs.at right c.pairs.walked.visited c.arrive.new.visited before.visited.width_is (length all_text) c.args.start c.in-Onward.next arrival less visited in
-    let costs = step_cheap table c.args.entry c.pairs.state right before.cheap in
-    let costs_here : owed table c.index.result.now + 1 ≤ dearest table c.args.entry = subst (λ (s : State). owed table s + 1 ≤ dearest table c.args.entry) (sym read) costs in
+    let text : List ℕ = looked_text c.args.text.now in
+    let base : ℕ = c.args.memory.now.recall.base in
+    let start : ℕ = c.args.start in
+    let dear : ℕ = dearest table c.args.entry in
+    let invariant = c.tasks.invariant in
+    let rest : List WalkTask = last_first c.pop.new.self.items in
+    let task : WalkTask = Follow c.in-Follow.state c.in-Follow.at in
+    let tasks_are : last_first c.tasks.walked.tasks.items ≡ task ∷ rest =
+    ap last_first c.in-Some.ensures.items ∙ last_pushed c.pop.new.self.items c.in-Some.task ∙ ap (λ (x : WalkTask). x ∷ rest) c.in-Follow.is in
+    let within = subst (AllTasksWithin table text base start dear) tasks_are invariant.within in
+    let cheap = within.0.cheap in
+    let left_is = ap (λ (l : List WalkTask). dear * looks_left table (length text) start c.tasks.walked.visited l) tasks_are in
+    let new : List WalkTask = last_first c.pass.new.walked.tasks.items in
+    let counted = subst (λ (b : ℕ). look_count c.pass.new.text + known_cost table c.tasks.memory.recall
+    + dear * looks_left table (length text) b c.pass.new.walked.visited new
+    ≤ look_count c.tasks.text + known_cost table c.pass.new.memory.recall + dear * looks_left table (length text) b c.tasks.walked.visited (task ∷ rest))
+    invariant.visited.base_is (rw invariant.looks.text at (c.in_ok-pass-in-Follow.ensures.counted dear (most_cheap table c.args.entry) cheap)) in
     record {
-      within = onward.0;
-      place = rw (before.looks.text, before.base) at onward.1;
-      low = omega (arith, before.low, onward.2);
-      visited = visited;
-      walking = λ view go tried silent true_of t is.
-          let context = c.args.context.now in
-          let text : List ℕ = looked_text c.args.text.now in
-          let invariant = c.pairs.invariant in
-          let state_is : c.index.result.now ≡ state_at context.table.now.states.items c.pairs.state =
-          get_or_read context.table.now.states.items c.pairs.state _ invariant.within c.index.ensures Match in
-          let has = has_ways context text view go tried in
-          let step_is : (Onward c.in-Onward.next c.in-Onward.place) ≡ walk_step (ways_of go) (char_at text c.pairs.at) c.index.result.now c.pairs.at =
-          sym c.in-Onward.is
-          ∙ c.in_ok-next.ensures.step (text_view view) (ways_of go) (subst (λ (x : List ℕ). HasWays context x (text_view view) (ways_of go)) (sym invariant.looks.text) has)
-          (invariant.true_of (text_view view) (ways_of go) has true_of)
-          ∙ ap (λ (x : List ℕ). walk_step (ways_of go) (char_at x c.pairs.at) c.index.result.now c.pairs.at) invariant.looks.text in
-          let walking = invariant.walking view go tried silent true_of t is in
-          let goes = step_goes context text view go tried silent (apply t.writes c.args.slots.now) c.pairs.state c.pairs.at c.pairs.slots c.follow.new.slots
-          c.index.result.now (Onward c.in-Onward.next c.in-Onward.place) invariant.within invariant.place.boundary walking.left state_is step_is c.in_ok-next.ensures.slots in
-          record {
-            left = goes.0;
-            deeper = arrived_deeper table go c.args.start c.pairs.walked.visited c.arrive.new.visited c.pairs.state c.pairs.at right before.low
-                before.visited.base_is before.visited.width_is walking.deeper arrival c.in-Onward.next c.in-Onward.place goes.1;
-          };
+      within = rw (invariant.looks.text, invariant.base, invariant.visited.base_is) at
+          (c.in_ok-pass-in-Follow.ensures.within dear (most_cheap table c.args.entry) cheap
+          (rw (invariant.looks.text, invariant.base, invariant.visited.base_is) within.1));
+      visited = rw (invariant.looks.text, invariant.visited.base_is) at c.in_ok-pass-in-Follow.ensures.visited;
+      walking = λ view go tried true_of t is.
+          let here = subst (λ (x : List ℕ). IsTried context x view go) (sym invariant.looks.text) tried in
+          let known = invariant.true_of (text_view view) (ways_of go) (has_ways context text view go tried) true_of in
+          let walks = subst (λ (l : List WalkTask). IsWalking go table.heads.items start c.tasks.walked.visited
+          (apply t.writes (replicate (length c.args.slots.now) 18446744073709551615)) c.tasks.slots l) tasks_are (invariant.walking view go tried true_of t is) in
+          rw invariant.visited.base_is at
+          (c.in_ok-pass-in-Follow.ensures.walking view go here known (apply t.writes (replicate (length c.args.slots.now) 18446744073709551615)) c.tasks.slots
+          (subst (λ (b : ℕ). IsWalking go table.heads.items b c.tasks.walked.visited
+          (apply t.writes (replicate (length c.args.slots.now) 18446744073709551615)) c.tasks.slots (task ∷ rest)) (sym invariant.visited.base_is) walks));
       true_of = λ view ways has true_of.
-          c.follow.ensures.remembers view ways (subst (λ (t : List ℕ). HasWays c.args.context.now t view ways) (sym before.looks.text) has)
-          (before.true_of view ways has true_of);
-      memory = subst (λ (t : List ℕ). IsOfText all_context t c.follow.new.memory.recall) before.looks.text c.follow.ensures.memory;
-      base = c.follow.ensures.base ∙ before.base;
-      stack = c.follow.ensures.stack;
-      cheap = omega (arith, less, costs);
-      counted = omega (arith, before.counted, c.in_ok-next.ensures.counted, costs_here, one_less (dearest table c.args.entry) _ _ fewer);
-      looks = looks_on before.looks c.follow.ensures.looks;
+          c.pass.ensures.remembers view ways (subst (λ (t : List ℕ). HasWays context t view ways) (sym invariant.looks.text) has)
+          (invariant.true_of view ways has true_of);
+      memory = subst (λ (t : List ℕ). IsOfText context t c.pass.new.memory.recall) invariant.looks.text c.pass.ensures.memory;
+      base = c.pass.ensures.base ∙ invariant.base;
+      stack = c.pass.ensures.stack;
+      counted = omega (arith, invariant.counted, left_is, counted);
+      looks = looks_on invariant.looks c.pass.ensures.looks;
     }
 
-pub returns-in-Matched-clause-at_most : goal.returns-in-Matched-clause-at_most
-returns-in-Matched-clause-at_most c =
-    let context = c.args.context.now in
-    let table = context.table.now in
-    let invariant = c.pairs.invariant in
+pub tasks-smaller-in-Continue-branch-2 : goal.tasks-smaller-in-Continue-branch-2
+tasks-smaller-in-Continue-branch-2 c =
+    let table = c.args.context.now.table.now in
     let text : List ℕ = looked_text c.args.text.now in
-    let right = right_at table c.pairs.state c.requires.table invariant.within in
-    let read : c.index.result.now ≡ state_at table.states.items c.pairs.state = get_or_read table.states.items c.pairs.state _ invariant.within c.index.ensures Match in
-    let costs : owed table c.index.result.now + 1 ≤ dearest table c.args.entry =
-    subst (λ (s : State). owed table s + 1 ≤ dearest table c.args.entry) (sym read) (step_cheap table c.args.entry c.pairs.state right invariant.cheap) in
-    let memory = subst (λ (t : List ℕ). IsOfText context t c.follow.new.memory.recall) invariant.looks.text c.follow.ensures.memory in
-    let cap = known_cap context text c.args.memory.now.recall.base _ memory (c.follow.ensures.base ∙ invariant.base) in
-    omega (arith, invariant.counted, c.in_ok-next.ensures.counted, costs, cap)
+    let invariant = c.tasks.invariant in
+    let rest : List WalkTask = last_first c.pop.new.self.items in
+    let tasks_are : last_first c.tasks.walked.tasks.items ≡ Follow c.in-Follow.state c.in-Follow.at ∷ rest =
+    ap last_first c.in-Some.ensures.items ∙ last_pushed c.pop.new.self.items c.in-Some.task ∙ ap (λ (x : WalkTask). x ∷ rest) c.in-Follow.is in
+    let less = subst (λ (b : ℕ). work_left table (length text) b c.pass.new.walked.visited (last_first c.pass.new.walked.tasks.items)
+    < work_left table (length text) b c.tasks.walked.visited (Follow c.in-Follow.state c.in-Follow.at ∷ rest))
+    invariant.visited.base_is (rw invariant.looks.text at c.in_ok-pass-in-Follow.ensures.progress) in
+    let was = ap (work_left table (length text) c.args.start c.tasks.walked.visited) tasks_are in
+    omega (arith, less, was)
 
-pub returns-in-Lost-clause-at_most : goal.returns-in-Lost-clause-at_most
-returns-in-Lost-clause-at_most c =
+pub tasks-preserved-in-Start : goal.tasks-preserved-in-Start
+tasks-preserved-in-Start c =
     let context = c.args.context.now in
     let table = context.table.now in
-    let invariant = c.pairs.invariant in
     let text : List ℕ = looked_text c.args.text.now in
-    let right = right_at table c.pairs.state c.requires.table invariant.within in
-    let read : c.index.result.now ≡ state_at table.states.items c.pairs.state = get_or_read table.states.items c.pairs.state _ invariant.within c.index.ensures Match in
-    let costs : owed table c.index.result.now + 1 ≤ dearest table c.args.entry =
-    subst (λ (s : State). owed table s + 1 ≤ dearest table c.args.entry) (sym read) (step_cheap table c.args.entry c.pairs.state right invariant.cheap) in
-    let memory = subst (λ (t : List ℕ). IsOfText context t c.follow.new.memory.recall) invariant.looks.text c.follow.ensures.memory in
-    let cap = known_cap context text c.args.memory.now.recall.base _ memory (c.follow.ensures.base ∙ invariant.base) in
-    omega (arith, invariant.counted, c.in_ok-next.ensures.counted, costs, cap)
+    let dear : ℕ = dearest table c.args.entry in
+    let invariant = c.tasks.invariant in
+    let rest : List WalkTask = last_first c.pop.new.self.items in
+    let task : WalkTask = Start c.in-Start.group c.in-Start.at in
+    let tasks_are : last_first c.tasks.walked.tasks.items ≡ task ∷ rest =
+    ap last_first c.in-Some.ensures.items ∙ last_pushed c.pop.new.self.items c.in-Some.task ∙ ap (λ (x : WalkTask). x ∷ rest) c.in-Start.is in
+    let within = subst (AllTasksWithin table text c.args.memory.now.recall.base c.args.start dear) tasks_are invariant.within in
+    let wrote = c.write_slot.ensures (2 * c.in-Start.group) (omega (arith, c.saturating_mul.ensures)) in
+    let left_is = ap (λ (l : List WalkTask). dear * looks_left table (length text) c.args.start c.tasks.walked.visited l) tasks_are in
+    let left_less = no_more dear _ _ (rest_less table task rest (length text) c.args.start c.tasks.walked.visited) in
+    record {
+      within = within.1;
+      visited = invariant.visited;
+      walking = λ view go tried true_of t is.
+          rw wrote
+          (wrote_one go table.heads.items c.args.start c.tasks.walked.visited (apply t.writes (replicate (length c.args.slots.now) 18446744073709551615)) c.tasks.slots task rest
+          (2 * c.in-Start.group) c.in-Start.at (omega (arith, within.0, c.requires.small)) refl (λ h. h)
+          (subst (λ (l : List WalkTask). IsWalking go table.heads.items c.args.start c.tasks.walked.visited
+          (apply t.writes (replicate (length c.args.slots.now) 18446744073709551615)) c.tasks.slots l) tasks_are (invariant.walking view go tried true_of t is)));
+      true_of = invariant.true_of;
+      memory = invariant.memory;
+      base = invariant.base;
+      stack = invariant.stack;
+      counted = omega (arith, invariant.counted, left_is, left_less);
+      looks = invariant.looks;
+    }
 
-pub returns-then-not-branch-clause-at_most : goal.returns-then-not-branch-clause-at_most
-returns-then-not-branch-clause-at_most c =
+pub tasks-smaller-in-Start : goal.tasks-smaller-in-Start
+tasks-smaller-in-Start c =
+    let table = c.args.context.now.table.now in
+    let text : List ℕ = looked_text c.args.text.now in
+    let rest : List WalkTask = last_first c.pop.new.self.items in
+    let task : WalkTask = Start c.in-Start.group c.in-Start.at in
+    let tasks_are : last_first c.tasks.walked.tasks.items ≡ task ∷ rest =
+    ap last_first c.in-Some.ensures.items ∙ last_pushed c.pop.new.self.items c.in-Some.task ∙ ap (λ (x : WalkTask). x ∷ rest) c.in-Start.is in
+    let was = ap (work_left table (length text) c.args.start c.tasks.walked.visited) tasks_are in
+    omega (arith, was, rest_less table task rest (length text) c.args.start c.tasks.walked.visited)
+
+pub tasks-preserved : goal.tasks-preserved
+tasks-preserved c =
     let context = c.args.context.now in
     let table = context.table.now in
-    let invariant = c.pairs.invariant in
     let text : List ℕ = looked_text c.args.text.now in
-    let cap = known_cap context text c.args.memory.now.recall.base _ invariant.memory invariant.base in
-    omega (arith, invariant.counted, cap)
+    let dear : ℕ = dearest table c.args.entry in
+    let invariant = c.tasks.invariant in
+    let rest : List WalkTask = last_first c.pop.new.self.items in
+    let task : WalkTask = End c.in-End.group c.in-End.at in
+    let tasks_are : last_first c.tasks.walked.tasks.items ≡ task ∷ rest =
+    ap last_first c.in-Some.ensures.items ∙ last_pushed c.pop.new.self.items c.in-Some.task ∙ ap (λ (x : WalkTask). x ∷ rest) c.in-End.is in
+    let within = subst (AllTasksWithin table text c.args.memory.now.recall.base c.args.start dear) tasks_are invariant.within in
+    let wrote = c.write_slot-in-End.ensures (2 * c.in-End.group + 1) (omega (arith, c.saturating_mul-in-End.ensures, c.saturating_add.ensures)) in
+    let left_is = ap (λ (l : List WalkTask). dear * looks_left table (length text) c.args.start c.tasks.walked.visited l) tasks_are in
+    let left_less = no_more dear _ _ (rest_less table task rest (length text) c.args.start c.tasks.walked.visited) in
+    record {
+      within = within.1;
+      visited = invariant.visited;
+      walking = λ view go tried true_of t is.
+          rw wrote
+          (wrote_one go table.heads.items c.args.start c.tasks.walked.visited (apply t.writes (replicate (length c.args.slots.now) 18446744073709551615)) c.tasks.slots task rest
+          (2 * c.in-End.group + 1) c.in-End.at (omega (arith, within.0, c.requires.small)) refl (λ h. h)
+          (subst (λ (l : List WalkTask). IsWalking go table.heads.items c.args.start c.tasks.walked.visited
+          (apply t.writes (replicate (length c.args.slots.now) 18446744073709551615)) c.tasks.slots l) tasks_are (invariant.walking view go tried true_of t is)));
+      true_of = invariant.true_of;
+      memory = invariant.memory;
+      base = invariant.base;
+      stack = invariant.stack;
+      counted = omega (arith, invariant.counted, left_is, left_less);
+      looks = invariant.looks;
+    }
+
+pub tasks-smaller : goal.tasks-smaller
+tasks-smaller c =
+    let table = c.args.context.now.table.now in
+    let text : List ℕ = looked_text c.args.text.now in
+    let rest : List WalkTask = last_first c.pop.new.self.items in
+    let task : WalkTask = End c.in-End.group c.in-End.at in
+    let tasks_are : last_first c.tasks.walked.tasks.items ≡ task ∷ rest =
+    ap last_first c.in-Some.ensures.items ∙ last_pushed c.pop.new.self.items c.in-Some.task ∙ ap (λ (x : WalkTask). x ∷ rest) c.in-End.is in
+    let was = ap (work_left table (length text) c.args.start c.tasks.walked.visited) tasks_are in
+    omega (arith, was, rest_less table task rest (length text) c.args.start c.tasks.walked.visited)

@@ -1,10 +1,8 @@
 use Rattle.std.proofs.Common.{◌∙◌, ℕ, ◌==◌, length, not, sym, ap, arith, true≢false, refl}
-use Rattle.fancy_regex_tree.specs.Tree.{tree_of}
 use Rattle.fancy_regex_info.specs.Infos.{info_of}
-use Rattle.fancy_regex_info.specs.declared.info.Info.{out-Info}
 use Rattle.fancy_regex_info.specs.Views.{pattern_in}
 use Rattle.fancy_regex_regular.proofs.BuildLemmas.{groups_are, first_is}
-use Rattle.fancy_regex_regular.proofs.ExactLemmas.{entry_inside, states_closed, silent_of, made_in}
+use Rattle.fancy_regex_regular.proofs.ExactLemmas.{entry_inside, states_closed, made_in}
 use Rattle.fancy_regex_regular.proofs.regular.Regular.if_supported.Goals as goal
 
 pub invariant_of-result-clause-right : goal.invariant_of-result-clause-right
@@ -14,13 +12,6 @@ pub invariant_of-result-clause-inside : goal.invariant_of-result-clause-inside
 invariant_of-result-clause-inside c =
     let same = (rw c.in-Some-built.is at c.in_ok-built.ensures.made).1 in
     omega (arith, c.if-entry-len.false, c.len.ensures, c.in-Some.made.states.ok.0, ap length same)
-
-pub invariant_of-result-clause-silent : goal.invariant_of-result-clause-silent
-invariant_of-result-clause-silent c =
-    let same = (rw c.in-Some-built.is at c.in_ok-built.ensures.made).1 in
-    rw same
-    (silent_of c.args.options.now.unicode (tree_of (out-Info c.args.info.now).expr.now) c.in-Some.made.states.items c.in-Some.made.entry
-    (c.supports.ensures.outside c.if-not-supports.false) (rw c.in-Some.is at c.in_ok-found.ensures.program))
 
 pub returns-in-Some-built-clause-made : goal.returns-in-Some-built-clause-made
 returns-in-Some-built-clause-made c = λ explicit t is.

@@ -1,4 +1,5 @@
 use Rattle.std.proofs.Common.{◌≡◌, ◌∙◌, ℕ, ◌*◌, Bool, List, Option, Some, length, replicate, sym, ap, ap₂, subst, arith}
+use Rattle.std.proofs.lemmas.List.{length-replicate}
 use Rattle.fancy_regex_meaning.specs.Groups.{Pattern}
 use Rattle.fancy_regex_meaning.specs.Positions.{boundaries}
 use Rattle.fancy_regex_meaning.specs.Searches.{first_match}
@@ -13,7 +14,7 @@ use Rattle.fancy_regex_linear.specs.Easy.{found_slots, found_at}
 use Rattle.fancy_regex_linear.specs.EasyPatterns.{span_of_match}
 use Rattle.fancy_regex_regular.specs.Regulars.{IsRegularOf}
 use Rattle.fancy_regex_regular.specs.Starts.{last_start}
-use Rattle.fancy_regex_regular.proofs.RegularGroupLemmas.{none_too, way_of_match, ways_in, tried_in, silent_in, length_written, refilled}
+use Rattle.fancy_regex_regular.proofs.RegularGroupLemmas.{none_too, way_of_match, ways_in, tried_in, length_written, refilled}
 use Rattle.fancy_regex_regular.proofs.RegularSpanLemmas.{IsSearched, is_searched, none_past}
 use Rattle.fancy_regex_regular.proofs.regular.Regular.search_in.Goals as goal
 use Rattle.fancy_regex_regular.proofs.regular.Regular.search_in.Goals.{In_ok-found}
@@ -74,17 +75,26 @@ returns c pattern is =
     (omega (arith, c.if-input.false)) c.requires.range c.in-Some.start c.in-Some.end place.boundary.0 (sym (found_is m pattern is) ∙ c.in-Some.is) in
     let looked : looked_text c.find.new.text ≡ text = c.find.ensures.looks.text ∙ c.new-counted.ensures.text in
     let tried = tried_in c.context-context.result self input context text s.view s.go s.first s.does s.shows in
-    let silent = silent_in c.context-context.result self input context self.silent in
     let true_of : IsTrueOf c.context-context.result ways c.find.new.memory.recall =
     (rw c.new-counted.ensures.text at c.find.ensures.remembers) (text_view s.view) ways (has_ways m pattern is) (c.restart.ensures.remembers ways) in
-    let written = (rw looked at c.in_ok-walk.ensures.written) s.view s.go tried silent true_of way.trace way.answer_is in
+    let written = (rw looked at c.in_ok-walk.ensures.written) s.view s.go tried true_of way.trace way.answer_is in
     let unset : c.in_ok-slots.slots.items ≡ replicate (2 * length pattern.groups) 18446744073709551615 =
     c.in_ok-slots.ensures ∙ ap (λ (n : ℕ). replicate (2 * n) 18446744073709551615) is.groups in
+    let count : length c.deref_mut.result.now ≡ 2 * length pattern.groups =
+    ap length (c.deref_mut.ensures.value ∙ unset) ∙ length-replicate {A = ℕ} (2 * length pattern.groups) 18446744073709551615 in
     let slots : c.walk.new.slots ≡ walk_apply way.trace.writes (replicate (2 * length pattern.groups) 18446744073709551615) =
-    written.1 ∙ ap (walk_apply way.trace.writes) (c.deref_mut.ensures.value ∙ unset) in
+    written ∙ ap (λ (n : ℕ). walk_apply way.trace.writes (replicate n 18446744073709551615)) count in
     let vector = c.in_ok-slots.slots in
     let as_many : length c.walk.new.slots ≡ vector.len =
-    omega (arith, ap length written.1, length_written way.trace.writes c.deref_mut.result.now, ap length c.deref_mut.ensures.value, vector.ok.0) in
+    omega (
+      arith,
+      ap length slots,
+      length_written way.trace.writes (replicate (2 * length pattern.groups) 18446744073709551615),
+      length-replicate {A = ℕ} (2 * length pattern.groups) 18446744073709551615,
+      count,
+      ap length c.deref_mut.ensures.value,
+      vector.ok.0,
+    ) in
     let kept = refilled vector.len c.walk.new.slots vector.items as_many in
     ap Some (c.places.ensures ∙ ap₂ (λ (whole : Bool) (xs : List ℕ). found_slots whole (found_at c.in-Some.start c.in-Some.end xs)) is.whole (kept ∙ slots))
     ∙ sym way.slots_are

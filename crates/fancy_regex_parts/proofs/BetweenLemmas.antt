@@ -1,0 +1,140 @@
+-- Where ways end, and what places they write.
+use Rattle.std.proofs.Common.{◌≡◌, ℕ, zero, suc, ◌+◌, ◌*◌, ◌<◌, ◌≤◌, Bool, true, false, List, [], ◌∷◌, ◌++◌, length, Option, Some, None, sym, ap, subst, inl, inr, arith, refl, if◌then◌else◌, nat_lt, nat_le}
+use Rattle.std.proofs.lemmas.Bool.{and_parts, ltb-true, leb-true}
+use Rattle.fancy_regex_states.specs.Attempts.{View, Trace, AttemptResult, Continuation, better, score, guard, write, after_writes, accept, failed, asked_answer, passed_answer, passed_depth, pick, reads, visit, NamesBelow}
+use Rattle.fancy_regex_states.specs.First.{state_at}
+use Rattle.fancy_regex_states.specs.declared.atom.Leaf.{Leaf}
+use Rattle.fancy_regex_states.specs.declared.state.State.{State}
+use Rattle.fancy_regex_states.specs.declared.state.State.TheVariants.{Split, Enter, Leave, Ask, Atomic, Match}
+use Rattle.fancy_regex_states.specs.declared.state.State.TheVariants as S
+use Rattle.fancy_regex_parts.specs.Ways.{state_after}
+use Rattle.fancy_regex_parts.specs.Does.{DoWhat}
+
+-- these writes write places up to this one
+abbrev pub AllBy : ℕ → List (ℕ × ℕ) → Type 0
+AllBy high [] = Unit {0}
+AllBy high (w ∷ ws) = (w.1 ≤ high) × AllBy high ws
+
+all_by_both : (high : ℕ) (ws xs : List (ℕ × ℕ)) → AllBy high ws → AllBy high xs → AllBy high (ws ++ xs)
+all_by_both high [] xs h k = k
+all_by_both high (w ∷ ws) xs h k = (h.0, all_by_both high ws xs h.1 k)
+
+-- the way, if there is one, ends between these places, and writes none after the second
+abbrev pub EndsBetween : ℕ → ℕ → Option Trace → Type 0
+EndsBetween low high None = Unit {0}
+EndsBetween low high (Some t) = (low ≤ t.end) × (t.end ≤ high) × AllBy high t.writes
+
+-- what holds of both holds of the better one
+either_has : (X : Option Trace → Type 0) (rank : Trace → ℕ) (a b : Option Trace) → X a → X b → X (better rank a b)
+either_has X rank None b x y = y
+either_has X rank (Some a) None x y = x
+either_has X rank (Some a) (Some b) x y = chosen (nat_lt (rank a) (rank b))
+  where
+    chosen : (c : Bool) → X (if c then Some b else Some a)
+    chosen true = y
+    chosen false = x
+
+-- after a test
+guard_has : (X : Option Trace → Type 0) (b : Bool) (r : AttemptResult) (d : ℕ) → X None → (guard b r).depth ≤ d
+    → (b ≡ true → r.depth < d → X r.answer) → X (guard b r).answer
+guard_has X true r d none le h = h refl (omega arith)
+guard_has X false r d none le h = none
+
+module _ (low high : ℕ) where
+  more_between : (middle : ℕ) (a : Option Trace) → low ≤ middle → EndsBetween middle high a → EndsBetween low high a
+  more_between middle None le h = tt
+  more_between middle (Some t) le h = (omega (arith, le, h.0), h.1, h.2)
+
+  write_between : (slot i : ℕ) (a : Option Trace) → i ≤ high → EndsBetween low high a → EndsBetween low high (write slot i a)
+  write_between slot i None le h = tt
+  write_between slot i (Some t) le h = (h.0, h.1, (le, h.2))
+
+  after_between : (ws : List (ℕ × ℕ)) (a : Option Trace) → AllBy high ws → EndsBetween low high a → EndsBetween low high (after_writes ws a)
+  after_between ws None by h = tt
+  after_between ws (Some t) by h = (h.0, h.1, all_by_both high ws t.writes by h.2)
+
+  asked_between : (negated : Bool) (part rest : Option Trace) → EndsBetween low high part → EndsBetween low high rest
+      → EndsBetween low high (asked_answer negated part rest)
+  asked_between false None rest p h = tt
+  asked_between false (Some t) rest p h = after_between t.writes rest p.2 h
+  asked_between true None rest p h = h
+  asked_between true (Some t) rest p h = tt
+
+module _ (go : ℕ → Continuation) (i same moved : ℕ) where
+  one_go : (b : Bool) (e : ℕ) → (if b then go moved e else go same e) ≡ go (if b then moved else same) e
+  one_go true e = refl
+  one_go false e = refl
+
+  -- what follows an atomic group
+  pub picked : (e : ℕ) → pick i (go same) (go moved) e ≡ go (state_after i same moved e) e
+  unfolding pick
+  picked e = one_go (nat_lt i e) e
+
+  pub after_below : (count e : ℕ) → same < count → moved < count → state_after i same moved e < count
+  after_below count e s m = one_below (nat_lt i e)
+    where
+      one_below : (b : Bool) → (if b then moved else same) < count
+      one_below true = m
+      one_below false = s
+
+module _ (view : View) (len : ℕ) where
+  pub read_between : (leaf : Leaf) (i : ℕ) → reads view len leaf i ≡ true → (i < view.next i) × (view.next i ≤ len)
+  unfolding reads
+  read_between leaf i e =
+      let both = and_parts _ _ (and_parts _ _ e).1 in
+      (ltb-true i (view.next i) both.0, leb-true (view.next i) len both.1)
+
+-- where all that is less deep than d ends in time
+module _ (view : View) (len : ℕ) (go : ℕ → Continuation) (count d : ℕ)
+    (less : (p j : ℕ) → p < count → j ≤ len → (go p j).depth < d → EndsBetween j len (go p j).answer) where
+  group_between : (part same moved i : ℕ) (a : Option Trace) → same < count → moved < count → EndsBetween i len a
+      → passed_depth a (pick i (go same) (go moved)) < d → EndsBetween i len (passed_answer a (pick i (go same) (go moved)))
+  group_between part same moved i None s m h le = tt
+  group_between part same moved i (Some t) s m h le =
+      let is = picked go i same moved t.end in
+      let low = after_below go i same moved count t.end s m in
+      let less_deep : (go (state_after i same moved t.end) t.end).depth < d = subst (λ (r : AttemptResult). r.depth < d) is le in
+      after_between i len t.writes _ h.2 (subst (λ (r : AttemptResult). EndsBetween i len r.answer) (sym is)
+      (more_between i len t.end _ h.0 (less (state_after i same moved t.end) t.end low h.1 less_deep)))
+
+  visit_between : (state : State) (i : ℕ) → NamesBelow count state → i ≤ len → (visit view len go state i).depth ≤ d
+      → EndsBetween i len (visit view len go state i).answer
+  visit_between (S.Read leaf next) i names le deep =
+      guard_has (EndsBetween i len) (reads view len leaf i) (go next (view.next i)) d tt deep
+      (λ yes under. let on = read_between view len leaf i yes in more_between i len (view.next i) _ (omega (arith, on.0)) (less next (view.next i) names on.1 under))
+  visit_between (S.Look check next) i names le deep =
+      guard_has (EndsBetween i len) (view.holds check i) (go next i) d tt deep (λ yes under. less next i names le under)
+  visit_between (Split first second) i names le deep =
+      either_has (EndsBetween i len) (λ t. score view.longest t.end) (go first i).answer (go second i).answer
+      (less first i names.0 le (omega (arith, deep))) (less second i names.1 le (omega (arith, deep)))
+  visit_between (Enter g next) i names le deep = write_between i len (2 * g) i _ le (less next i names le (omega (arith, deep)))
+  visit_between (Leave g next) i names le deep = write_between i len (2 * g + 1) i _ le (less next i names le (omega (arith, deep)))
+  visit_between (Ask part negated next) i names le deep =
+      asked_between i len negated _ _ (less part i names.0 le (omega (arith, deep))) (less next i names.1 le (omega (arith, deep)))
+  visit_between (Atomic part same moved) i names le deep =
+      group_between part same moved i (go part i).answer names.1 names.2 (less part i names.0 le (omega (arith, deep))) (omega (arith, deep))
+  visit_between Match i names le deep = (omega arith, le, tt)
+
+module _ (view : View) (len stop : ℕ) (states : List State) (go : ℕ → Continuation) (does : DoWhat view len stop states go) where
+  own_has : (X : Option Trace → Type 0) (i : ℕ) → X None → X (accept i).answer → X (go 0 i).answer
+  own_has X i none some = subst (λ (k : Continuation). X (k i).answer) (sym does.zero) (by_stop (nat_le i stop))
+    where
+      by_stop : (b : Bool) → X (if b then accept i else failed).answer
+      by_stop true = some
+      by_stop false = none
+
+  between_from : (d q i : ℕ) → q < length states → i ≤ len → (go q i).depth < d → EndsBetween i len (go q i).answer
+  between_from zero q i low le deep = absurd (omega arith)
+  between_from (suc d) q i low le deep =
+      elim (does.agree q low) [
+        | inl own ↦ subst (λ (p : ℕ). EndsBetween i len (go p i).answer) (sym own) (own_has (EndsBetween i len) i tt (omega arith, le, tt))
+        | inr agree ↦
+            let is = agree.does i le in
+            subst (λ (r : AttemptResult). EndsBetween i len r.answer) (sym is)
+            (visit_between view len go (length states) d (λ p j pl jl pd. between_from d p j pl jl pd) (state_at states q) i agree.names le
+            (subst (λ (r : AttemptResult). r.depth ≤ d) is (omega (arith, deep))))
+      ]
+
+  -- a way ends where it begins or after, in the text
+  pub ends_between : (q i : ℕ) → q < length states → i ≤ len → EndsBetween i len (go q i).answer
+  ends_between q i low le = between_from ((go q i).depth + 1) q i low le (omega arith)
