@@ -6,4 +6,6 @@ pub mod RefusalLemmas
 pub mod SeekLemmas
 pub mod SeekTableLemmas
 pub mod StrategyLemmas
+pub mod ClassRefusalLemmas
+pub mod LinearLemmas
 pub mod Sending

@@ -1,16 +1,23 @@
 -- The strategy of a tree that is not easy: its matcher, or else its program, with its states with parts if it has them.
-use Rattle.std.proofs.Common.{◌≡◌, ◌∙◌, Bool, false, List, Option, Some, None, IfSome, ap}
+use Rattle.std.proofs.Common.{◌≡◌, ◌∙◌, ◌↔◌, Bool, true, false, List, Option, Some, None, Result, Ok, Err, refl, sym, ap, subst}
+use Rattle.std.specs.Prelude.{IfOk, IfSome, IsSome}
+use Rattle.std.proofs.lemmas.Bool.{and_parts}
 use Rattle.fancy_regex_tree.specs.Tree.{Tree}
+use Rattle.fancy_regex_meaning.specs.Groups.{pattern_of}
 use Rattle.fancy_regex_info.specs.Analysis.{analysis}
 use Rattle.fancy_regex_info.specs.Infos.{info_of}
 use Rattle.fancy_regex_info.specs.declared.info.Info.{Info}
 use Rattle.fancy_regex_info.specs.Views.{pattern_in}
+use Rattle.fancy_regex_info.specs.declared.error.CompileError.{CompileError}
 use Rattle.fancy_regex_linear.specs.EasyPatterns.{IsEasyOf}
 use Rattle.fancy_regex_compiled.specs.declared.prog.Prog.{Prog}
 use Rattle.fancy_regex_linear.specs.declared.easy.Easy.{Easy}
 use Rattle.fancy_regex_regular.specs.Regulars.{IsRegularOf}
+use Rattle.fancy_regex_regular.specs.Supported.{IsSupported}
 use Rattle.fancy_regex_regular.specs.declared.regular.Regular.{Regular}
 use Rattle.fancy_regex_machine.specs.declared.search.RunOptions.{RunOptions}
+use Rattle.fancy_regex_meta.specs.EasyPatterns.{is_easy_tree, uses_easy}
+use Rattle.fancy_regex_meta.specs.LinearPatterns.{HasStates}
 use Rattle.fancy_regex_meta.specs.SeekTables.{IsSeekTable}
 use Rattle.fancy_regex_meta.specs.Strategies.{IsMatcherFor, IsRegularFor, IsProgramFor, unlimited, unlimited_run}
 use Rattle.fancy_regex_meta.specs.declared.options.RegexOptions.{RegexOptions}
@@ -34,15 +41,45 @@ matcher_is o i unicode longest None mode far some made options = tt
 matcher_is o i unicode longest (Some easy) mode far some made options = λ t is. (made false t is, options.0 ∙ mode, options.1 ∙ far, some)
 
 -- states with parts of the analyzed tree, made under these options
-pub regular_is : (o : RegexOptions) (i : Info) (unicode : Bool) (found : Option Regular) → unicode ≡ o.unicode_mode → o.leftmost_longest ≡ false
-    → o.find_not_empty ≡ false
-    → IfSome found (λ regular. (explicit : Bool) (t : Tree) → info_of i ≡ analysis explicit t → IsRegularOf regular (pattern_in explicit t))
-    → IfSome found (λ regular. regular.unicode ≡ unicode)
-    → IfSome found (λ regular. (t : Tree) → info_of i ≡ analysis false t → IsRegularFor regular o t)
-regular_is o i unicode None mode first empty made options = tt
-regular_is o i unicode (Some regular) mode first empty made options = λ t is. record {
-  of = made false t is;
-  unicode = options ∙ mode;
-  first = first;
-  empty = empty;
-}
+module _ (o : RegexOptions) (i : Info) (unicode longest : Bool) (mode : unicode ≡ o.unicode_mode) (far : longest ≡ o.leftmost_longest)
+    (empty : o.find_not_empty ≡ false) where
+  -- what is told of the states that are made
+  abbrev AreMade : Option Regular → Type 0
+  AreMade found = IfSome found (λ regular. (explicit : Bool) (t : Tree) → info_of i ≡ analysis explicit t → IsRegularOf regular (pattern_in explicit t))
+
+  abbrev AreExact : Option Regular → Type 0
+  AreExact found = (explicit : Bool) (t : Tree) → info_of i ≡ analysis explicit t → (IsSome found ↔ IsSupported longest (pattern_in explicit t))
+
+  pub has_states : (t : Tree) → IsSupported longest (pattern_of t) → HasStates o t
+  has_states t supported = (empty, subst (λ (b : Bool). IsSupported b (pattern_of t)) far supported)
+
+  pub states_are : (r : Result (Option Regular) CompileError) → IfOk r AreMade → IfOk r (λ found. IfSome found (λ regular. regular.unicode ≡ unicode))
+      → IfOk r AreExact → IfOk r (λ found. IfSome found (λ regular. (t : Tree) → info_of i ≡ analysis false t → IsRegularFor regular o t))
+  states_are (Ok None) made options exact = tt
+  states_are (Ok (Some regular)) made options exact = λ t is. record {
+    of = made false t is;
+    unicode = options ∙ mode;
+    first = sym far ∙ ((exact false t is).0 refl).first;
+    empty = empty;
+  }
+  states_are (Err e) made options exact = tt
+
+  pub exactly_states : (r : Result (Option Regular) CompileError) → IfOk r AreExact
+      → IfOk r (λ found. (t : Tree) → info_of i ≡ analysis false t → (IsSome found ↔ HasStates o t))
+  exactly_states (Ok found) exact = λ t is. (
+    λ some. has_states t ((exact false t is).0 some),
+    λ has. (exact false t is).1 (subst (λ (b : Bool). IsSupported b (pattern_of t)) (sym far) has.1),
+  )
+  exactly_states (Err e) exact = tt
+
+-- what is known of the tree, where there is a matcher
+pub known_if_some : {A : Type 0} (P : Type 0) (found : Option A) → P → IfSome found (λ _. P)
+known_if_some P None h = tt
+known_if_some P (Some x) h = h
+
+-- an easy tree where empty matches are allowed is searched without a program
+pub easy_used : (o : RegexOptions) (t : Tree) → o.find_not_empty ≡ false → is_easy_tree t ≡ true → uses_easy o t ≡ true
+easy_used o t empty easy = rw (empty, easy) refl
+
+pub used_easy : (o : RegexOptions) (t : Tree) → uses_easy o t ≡ true → is_easy_tree t ≡ true
+used_easy o t used = (and_parts _ _ used).1

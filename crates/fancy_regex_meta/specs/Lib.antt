@@ -6,6 +6,7 @@ pub mod PatternMatches
 pub mod MetaMatches
 pub mod Defaults
 pub mod EasyPatterns
+pub mod LinearPatterns
 pub mod Refusals
 pub mod GroupNames
 pub mod SearchLimits

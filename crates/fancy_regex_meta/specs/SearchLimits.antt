@@ -22,6 +22,7 @@ use Rattle.fancy_regex_input.specs.declared.config.SearchConfig.{SearchConfig}
 use Rattle.fancy_regex_meta.specs.Patterns.{tree_in, options_in, setting_in}
 use Rattle.fancy_regex_meta.specs.Strategies.{search_of, run_options_of}
 use Rattle.fancy_regex_meta.specs.EasyPatterns.{pattern_uses_easy}
+use Rattle.fancy_regex_meta.specs.LinearPatterns.{PatternIsLinear}
 use Rattle.fancy_regex_meta.specs.declared.options.RegexOptions.{RegexOptions}
 use Rattle.fancy_regex_meta.specs.declared.strategy.Strategy.{Strategy}
 use Rattle.fancy_regex_meta.specs.declared.strategy.Strategy.TheVariants.{Easy, Linear, Program, Regular}
@@ -101,6 +102,10 @@ meta_tree s = tree_in s.options (string_bytes s.pattern)
 abbrev pub meta_uses_easy : MetaRegex → Bool
 meta_uses_easy s = pattern_uses_easy s.options (string_bytes s.pattern)
 
+-- a compiled pattern is linear
+abbrev pub MetaIsLinear : MetaRegex → Type 0
+MetaIsLinear s = PatternIsLinear s.options (string_bytes s.pattern)
+
 -- the number of choices of a search, where `\G` may be disabled
 abbrev pub meta_choices : MetaRegex → List ℕ → SearchConfig → Bool → ℕ
 meta_choices s text config continue_disabled =
@@ -143,3 +148,8 @@ IsMetaSearchError s text config continue_disabled e =
 abbrev pub MetaStaysInLimits : MetaRegex → List ℕ → SearchConfig → Bool → Type 0
 MetaStaysInLimits s text config continue_disabled = effective_start config ≤ config.range_end
     → StrategyStaysInLimits s.strategy s.options text (run_input_of config (effective_start config) continue_disabled)
+
+-- Want of memory is the only error that a search may return.
+abbrev pub MeetsNoLimit : MetaRegex → Type 0
+MeetsNoLimit s = (text : List ℕ) (config : SearchConfig) (continue_disabled : Bool) (e : Error)
+    → IsMetaSearchError s text config continue_disabled e → e ≡ told.Memory

@@ -1,6 +1,6 @@
 //! A compiled pattern: its text, its options, the names and the number of its groups, and what executes it.
 
-ghost use Rattle.std.specs.Prelude.{◌≡◌, ◌≤◌, ◌+◌, ◌-◌, ◌^◌, true, false, min, is_some, length, IfOk, IfErr, IfSome, option_map, string_bytes, IsCharBoundary};
+ghost use Rattle.std.specs.Prelude.{◌≡◌, ◌≤◌, ◌+◌, ◌-◌, ◌^◌, ◌↔◌, true, false, min, is_some, length, IfOk, IfErr, IfSome, option_map, string_bytes, IsCharBoundary};
 ghost use Rattle.fancy_regex_tree.specs.Tree.{tree_of};
 ghost use Rattle.fancy_regex_meaning.specs.Groups.{pattern_of};
 ghost use Rattle.fancy_regex_meta.specs.Strategies.{Executes, StrategyKeepsCap};
@@ -8,6 +8,7 @@ ghost use Rattle.fancy_regex_meta.specs.GroupNames.{AreGroupNumbersOf};
 ghost use Rattle.fancy_regex_meta.specs.Refusals.{IsAccepted, RefusesTree, Refuses, Accepts};
 ghost use Rattle.fancy_regex_meta.specs.PatternMatches.{IsCompiledFrom, names_in};
 ghost use Rattle.fancy_regex_meta.specs.EasyPatterns.{uses_easy, pattern_uses_easy, is_easy_strategy};
+ghost use Rattle.fancy_regex_meta.specs.LinearPatterns.{IsLinear, PatternIsLinear, is_linear_strategy};
 
 use crate::error::Result;
 use crate::found::{FoundMatch, MatchDetail};
@@ -35,6 +36,7 @@ pub struct MetaRegex {
     strategy: Strategy,
     pub ghost made: { ∥ IsCompiledFrom (string_bytes pattern) options groups strategy ∥₁ },
     pub ghost served: { is_easy_strategy strategy ≡ pattern_uses_easy options (string_bytes pattern) },
+    pub ghost linear: { is_linear_strategy strategy ≡ true ↔ ∥ PatternIsLinear options (string_bytes pattern) ∥₁ },
     pub ghost named: { AreGroupNumbersOf named_groups (names_in options (string_bytes pattern)) },
 }
 
@@ -61,6 +63,7 @@ fn choose_strategy(
     ensures groups { IfOk result (λ r. r.0 ≡ length (pattern_of (tree_of tree.now.expr)).groups) }
     ensures runs { IfOk result (λ r. Executes r.1 options.now (tree_of tree.now.expr)) }
     ensures served { IfOk result (λ r. is_easy_strategy r.1 ≡ uses_easy options.now (tree_of tree.now.expr)) }
+    ensures linear { IfOk result (λ r. is_linear_strategy r.1 ≡ true ↔ IsLinear options.now (tree_of tree.now.expr)) }
     ensures cap { IfOk result (λ r. StrategyKeepsCap options.now.max_prog_size r.1) }
     ensures accepted { IfOk result (λ _. IsAccepted options.now tree.now.named_backref_only tree.now.contains_subroutines
         (tree_of tree.now.expr)) }
@@ -80,7 +83,7 @@ fn choose_strategy(
 impl MetaRegex {
     ghost use Rattle.fancy_regex_meta.specs.MatchOffsets.{IsMatchWithin};
     ghost use Rattle.fancy_regex_meta.specs.FoundParts.{found_parts, wanted_parts};
-    ghost use Rattle.fancy_regex_meta.specs.SearchLimits.{IsRunError, RunStaysInLimits, meta_tree, meta_uses_easy, run_tried, run_looks};
+    ghost use Rattle.fancy_regex_meta.specs.SearchLimits.{IsRunError, RunStaysInLimits, MetaIsLinear, MeetsNoLimit, meta_tree, meta_uses_easy, run_tried, run_looks};
     ghost use Rattle.fancy_regex_meta.specs.MetaMatches.{meta_pattern, meta_match_for};
     ghost use Rattle.fancy_regex_meta.specs.Caps.{MetaKeepsCap};
 
@@ -132,6 +135,15 @@ impl MetaRegex {
         ensures groups { result ≡ length (meta_pattern self.now).groups }
     {
         self.groups
+    }
+
+    /// Whether no search meets a limit, so that want of memory is the only error. It is so of exactly these patterns, where empty matches
+    /// are allowed: easy ones, and those that states with parts search for.
+    pub fn is_linear(&self) -> bool
+        ensures exact { result ≡ true ↔ MetaIsLinear self.now }
+        ensures unlimited { result ≡ true → MeetsNoLimit self.now }
+    {
+        self.strategy.is_linear()
     }
 
     /// The first match of a search with this input, with the byte offsets that are wanted; `None` if there is no match. The counter

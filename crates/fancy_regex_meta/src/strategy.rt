@@ -2,7 +2,7 @@
 //! look-arounds for one character, half word boundaries or starts of lines of Oniguruma mode keeps its program, and may be searched by the
 //! matcher. One with look-aheads or atomic groups may keep states beside its program.
 
-ghost use Rattle.std.specs.Prelude.{◌≡◌, ◌≤◌, ◌+◌, ◌-◌, ◌*◌, ◌^◌, ◌<◌, ℕ, Option, min, true, false, not, is_some, length, IfOk, IfErr, IfSome, option_map, IsCharBoundary};
+ghost use Rattle.std.specs.Prelude.{◌≡◌, ◌≤◌, ◌+◌, ◌-◌, ◌*◌, ◌^◌, ◌<◌, ◌↔◌, ℕ, Option, min, true, false, not, is_some, length, IfOk, IfErr, IfSome, IsSome, option_map, IsCharBoundary};
 ghost use Rattle.fancy_regex_tree.specs.Tree.{Tree, tree_of};
 ghost use Rattle.fancy_regex_meaning.specs.Choices.{program_nodes};
 ghost use Rattle.fancy_regex_meaning.specs.Groups.{pattern_of};
@@ -17,13 +17,15 @@ ghost use Rattle.fancy_regex_info.specs.Infos.{info_of};
 ghost use Rattle.fancy_regex_info.specs.declared.options.BytesMode.TheVariants.{Unicode};
 ghost use Rattle.fancy_regex_info.specs.declared.info.Info.{out-Info};
 ghost use Rattle.fancy_regex_class.specs.RunInputs.{setting_for};
-ghost use Rattle.fancy_regex_linear.specs.Refusals.{IsTaken, IsCause};
+ghost use Rattle.fancy_regex_linear.specs.Plain.{classes};
+ghost use Rattle.fancy_regex_linear.specs.Refusals.{IsTaken, IsCause, IsClassCause};
 ghost use Rattle.fancy_regex_linear.specs.EasyPatterns.{IsEasyOf};
 ghost use Rattle.fancy_regex_machine.specs.Allowances.{IsBounded};
 ghost use Rattle.fancy_regex_meta.specs.declared.options.RegexOptions.{RegexOptions};
 ghost use Rattle.fancy_regex_meta.specs.Refusals.{compile_options_of, IsCompileRefusal};
 ghost use Rattle.fancy_regex_info.specs.declared.error.CompileError.TheVariants as errors;
 ghost use Rattle.fancy_regex_meta.specs.EasyPatterns.{is_easy_strategy};
+ghost use Rattle.fancy_regex_meta.specs.LinearPatterns.{HasStates, is_linear_strategy};
 ghost use Rattle.fancy_regex_meta.specs.FoundParts.{found_parts, wanted_parts};
 ghost use Rattle.fancy_regex_meta.specs.Strategies.{IsMatcherFor, IsRegularFor, IsProgramFor, Executes, RunsUnder, StrategyKeepsCap};
 ghost use Rattle.fancy_regex_meta.specs.Strategies.{unlimited_run, search_of};
@@ -107,7 +109,8 @@ fn compile_options(options: &RegexOptions, calls: bool) -> CompileOptions
     }
 }
 
-/// The linear-time matcher of a tree that is not easy, where it serves the tree best. The error is `Memory`.
+/// The linear-time matcher of a tree that is not easy, where it serves the tree best: one that states with parts would search for too. The
+/// error is `Memory`.
 fn linear_matcher(
     alloc: Global,
     info: &Info<'_>,
@@ -116,19 +119,25 @@ fn linear_matcher(
 ) -> std::result::Result<Option<Easy>, CompileError>
     ensures matcher { IfOk result (λ found. IfSome found (λ easy. (t : Tree) → info_of info.now ≡ analysis false t
         → IsMatcherFor easy options.now t)) }
+    ensures states { IfOk result (λ found. IfSome found (λ _. (t : Tree) → info_of info.now ≡ analysis false t → HasStates options.now t)) }
     ensures memory { IfErr result (λ error. error ≡ errors.Memory) }
 {
     if options.find_not_empty {
         return Ok(None);
     }
-    match Easy::if_supported(alloc, info, &compile_options(options, calls)) {
+    let wanted = compile_options(options, calls);
+    if !Regular::supports(info, &wanted) {
+        return Ok(None);
+    }
+    match Easy::if_supported(alloc, info, &wanted) {
         Ok(found) => Ok(found),
         Err(CompileError::Memory) => Err(CompileError::Memory),
         Err(_) => Ok(None),
     }
 }
 
-/// The states with parts of a tree that is not easy, where it becomes such states. The error is `Memory`.
+/// The states with parts of a tree that is not easy, where it is searched by such states. The error is `InnerError` with the text of a
+/// class that `regex` refuses, or `Memory`.
 fn regular_states(
     alloc: Global,
     info: &Info<'_>,
@@ -137,16 +146,13 @@ fn regular_states(
 ) -> std::result::Result<Option<Regular>, CompileError>
     ensures states { IfOk result (λ found. IfSome found (λ regular. (t : Tree) → info_of info.now ≡ analysis false t
         → IsRegularFor regular options.now t)) }
-    ensures memory { IfErr result (λ error. error ≡ errors.Memory) }
+    ensures exact { IfOk result (λ found. (t : Tree) → info_of info.now ≡ analysis false t → (IsSome found ↔ HasStates options.now t)) }
+    ensures refused { IfErr result (IsClassCause options.now.unicode_mode (classes (tree_of (out-Info info.now).expr.now))) }
 {
-    if options.leftmost_longest || options.find_not_empty {
+    if options.find_not_empty {
         return Ok(None);
     }
-    match Regular::if_supported(alloc, info, &compile_options(options, calls)) {
-        Ok(found) => Ok(found),
-        Err(CompileError::Memory) => Err(CompileError::Memory),
-        Err(_) => Ok(None),
-    }
+    Regular::if_supported(alloc, info, &compile_options(options, calls))
 }
 
 /// These options with the greatest limit on backtracks, for runs that are to end by their allowance. No clause says that they do.
@@ -160,7 +166,7 @@ fn unlimited(run_options: RunOptions) -> RunOptions
 }
 
 /// The strategy of a tree that is not easy: its matcher, if it has one, and else its program, with its states if it has them. The error is
-/// `Memory`.
+/// `InnerError` with the text of a class that `regex` refuses, or `Memory`.
 fn hard_strategy(
     alloc: Global,
     info: &Info<'_>,
@@ -173,7 +179,9 @@ fn hard_strategy(
         → Executes strategy options.now t) }
     ensures served { IfOk result (λ strategy. is_easy_strategy strategy ≡ false) }
     ensures cap { IfOk result (λ strategy. (most : Option ℕ) → KeepsCap most prog → StrategyKeepsCap most strategy) }
-    ensures memory { IfErr result (λ error. error ≡ errors.Memory) }
+    ensures linear { IfOk result (λ strategy. (t : Tree) → info_of info.now ≡ analysis false t
+        → (is_linear_strategy strategy ≡ true ↔ HasStates options.now t)) }
+    ensures refused { IfErr result (IsClassCause options.now.unicode_mode (classes (tree_of (out-Info info.now).expr.now))) }
 {
     let matcher = linear_matcher(alloc, info, options, calls)?;
     if let Some(linear) = matcher {
@@ -306,6 +314,7 @@ impl Strategy {
     ghost use Rattle.fancy_regex_compiled.specs.Programs.{RefersToGroups};
     ghost use Rattle.fancy_regex_meta.specs.Strategies.{is_whole};
     ghost use Rattle.fancy_regex_meta.specs.EasyPatterns.{uses_easy};
+    ghost use Rattle.fancy_regex_meta.specs.LinearPatterns.{IsLinear};
     ghost use Rattle.fancy_regex_meta.specs.SearchLimits.{weight_of, run_tried};
 
     /// Compiles an analyzed tree, all of whose references must be to existing groups: for the linear-time matcher if the
@@ -325,6 +334,8 @@ impl Strategy {
             → IsInOrder t → Executes strategy options.now t) }
         ensures served { IfOk result (λ strategy. (t : Tree) → info_of info.now ≡ analysis false t → is_easy_strategy strategy
             ≡ uses_easy options.now t) }
+        ensures linear { IfOk result (λ strategy. (t : Tree) → info_of info.now ≡ analysis false t
+            → (is_linear_strategy strategy ≡ true ↔ IsLinear options.now t)) }
         ensures taken { IfOk result (λ _. (t : Tree) → info_of info.now ≡ analysis false t → uses_easy options.now t ≡ true
             → IsTaken (compile_options_of options.now calls) (pattern_of t)) }
         ensures refused { IfErr result (λ cause. (t : Tree) → info_of info.now ≡ analysis false t → uses_easy options.now t ≡ true
@@ -349,6 +360,13 @@ impl Strategy {
             return hard_strategy(alloc, info, options, calls, prog, run_options);
         }
         Ok(Strategy::Easy(Easy::new(alloc, info, &compile_options(options, calls))?))
+    }
+
+    /// Whether no search meets a limit: it is no program alone.
+    pub fn is_linear(&self) -> bool
+        ensures { result ≡ is_linear_strategy self.now }
+    {
+        !matches!(self, Strategy::Program { .. })
     }
 
     /// The first match, with the byte offsets that are wanted; `None` if there is no match. The counter is raised by one for each

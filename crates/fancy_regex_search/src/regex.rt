@@ -1,10 +1,11 @@
 //! `Regex`: a compiled pattern. Its searches are in `search`.
 
-ghost use Rattle.std.specs.Prelude.{◌≡◌, IfOk, IfErr, MatchResult, Some, length, string_bytes};
+ghost use Rattle.std.specs.Prelude.{◌≡◌, ◌↔◌, IfOk, IfErr, MatchResult, Some, true, length, string_bytes};
 ghost use Rattle.fancy_regex_meta.specs.MetaMatches.{meta_pattern};
 ghost use Rattle.fancy_regex_meta.specs.Caps.{MetaKeepsCap};
 ghost use Rattle.fancy_regex_meta.specs.Defaults.{default_options};
 ghost use Rattle.fancy_regex_meta.specs.Refusals.{Accepts, Refuses};
+ghost use Rattle.fancy_regex_meta.specs.SearchLimits.{MetaIsLinear, MeetsNoLimit};
 
 use crate::names::CaptureNames;
 use fancy_regex_meta::{Error, MetaRegex, RegexOptions, Result};
@@ -82,6 +83,25 @@ impl Regex {
         ensures { result ≡ length (meta_pattern self.now.meta).groups }
     {
         self.meta.groups()
+    }
+
+    /// Whether no search of this regex meets a limit: if so, `Memory` is the only error of its searches.
+    ///
+    /// It is so where the option `find_not_empty` is off, in two cases. The pattern is plain: it has no more than characters, classes,
+    /// assertions but `\Z`, groups, alternations and repeats of these. Or the first match is wanted, not the longest, the pattern's weight
+    /// (about its length, with counted repeats written out) is at most 4,000, and it has besides no more than look-aheads, atomic groups,
+    /// look-behinds for one character, half boundaries, starts of lines of Oniguruma mode and `(*FAIL)`. So a pattern with a reference, a
+    /// call, a conditional, `\K` or `\G` is not linear. The answer depends on the pattern and its options alone, and on no text.
+    ///
+    /// ```
+    /// assert!(rt; Regex::new(alloc, r"\b(?>a+)b(?=c)")?.is_linear());
+    /// assert!(rt; !Regex::new(alloc, r"(a)\1")?.is_linear());
+    /// ```
+    pub fn is_linear(&self) -> bool
+        ensures exact { result ≡ true ↔ MetaIsLinear self.now.meta }
+        ensures unlimited { result ≡ true → MeetsNoLimit self.now.meta }
+    {
+        self.meta.is_linear()
     }
 
     /// The names of the groups, from group 0, which has none; `None` for an unnamed group.

@@ -11,6 +11,8 @@ mod calls;
 #[cfg(test)]
 mod input;
 #[cfg(test)]
+mod linear;
+#[cfg(test)]
 mod pieces;
 #[cfg(test)]
 mod replacement;

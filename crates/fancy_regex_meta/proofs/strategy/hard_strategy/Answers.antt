@@ -1,11 +1,42 @@
+use Rattle.std.proofs.Common.{sym, subst, refl, true≢false}
+use Rattle.fancy_regex_tree.specs.Tree.{tree_of}
+use Rattle.fancy_regex_info.specs.declared.info.Info.{out-Info}
+use Rattle.fancy_regex_analysis.proofs.PartErrorLemmas.{gives}
+use Rattle.fancy_regex_linear.specs.Plain.{classes}
+use Rattle.fancy_regex_linear.specs.Refusals.{IsClassCause}
 use Rattle.fancy_regex_meta.proofs.StrategyLemmas.{program_unlimited}
 use Rattle.fancy_regex_meta.proofs.strategy.hard_strategy.Goals as goal
 
 pub returns-in-Some-clause-runs : goal.returns-in-Some-clause-runs
 returns-in-Some-clause-runs c t is does = ((rw c.in-Some.is at c.in_ok-matcher.ensures.matcher) t is, does.0)
 
+pub returns-in-Some-clause-linear : goal.returns-in-Some-clause-linear
+returns-in-Some-clause-linear c t is = (λ yes. (rw c.in-Some.is at c.in_ok-matcher.ensures.states) t is, λ has. refl)
+
 pub returns-in-Some-states-clause-runs : goal.returns-in-Some-states-clause-runs
 returns-in-Some-states-clause-runs c t is does = (
   (rw c.in-Some-states.is at c.in_ok-states.ensures.states) t is,
   rw c.unlimited.ensures (program_unlimited c.args.options.now t c.args.prog c.args.run_options does),
 )
+
+pub returns-in-Some-states-clause-linear : goal.returns-in-Some-states-clause-linear
+returns-in-Some-states-clause-linear c t is = (λ yes. ((rw c.in-Some-states.is at c.in_ok-states.ensures.exact) t is).0 refl, λ has. refl)
+
+pub returns-in-None-clause-linear : goal.returns-in-None-clause-linear
+returns-in-None-clause-linear c t is = (
+  λ yes. absurd (true≢false (sym yes)),
+  λ has. absurd (true≢false (sym (((rw c.in-None.is at c.in_ok-states.ensures.exact) t is).1 has))),
+)
+
+-- want of memory, and what the states are refused for
+pub returns-in_err-matcher-clause-refused : goal.returns-in_err-matcher-clause-refused
+returns-in_err-matcher-clause-refused c =
+    let cs = classes (tree_of (out-Info c.args.info.now).expr.now) in
+    gives c.from_residual.result c.in_err-matcher.field-0.0 (IsClassCause c.args.options.now.unicode_mode cs) c.from_residual.ensures.1
+    (subst (IsClassCause c.args.options.now.unicode_mode cs) (sym c.in_err-matcher.ensures.memory) tt)
+
+pub returns-in_err-states-clause-refused : goal.returns-in_err-states-clause-refused
+returns-in_err-states-clause-refused c =
+    let cs = classes (tree_of (out-Info c.args.info.now).expr.now) in
+    gives c.from_residual-in_err-states.result c.in_err-states.field-0.0 (IsClassCause c.args.options.now.unicode_mode cs)
+    c.from_residual-in_err-states.ensures.1 c.in_err-states.ensures.refused

@@ -1,7 +1,28 @@
-use Rattle.fancy_regex_meta.proofs.StrategyLemmas.{regular_is}
+use Rattle.std.proofs.Common.{Bool, sym, subst, true≢false, ◌∙◌}
+use Rattle.std.specs.Prelude.{IfErr}
+use Rattle.fancy_regex_tree.specs.Tree.{tree_of}
+use Rattle.fancy_regex_info.specs.declared.info.Info.{out-Info}
+use Rattle.fancy_regex_linear.specs.Plain.{classes}
+use Rattle.fancy_regex_linear.specs.Refusals.{IsClassCause}
+use Rattle.fancy_regex_meta.proofs.StrategyLemmas.{states_are, exactly_states}
 use Rattle.fancy_regex_meta.proofs.strategy.regular_states.Goals as goal
 
-pub returns-in-Ok-clause-states : goal.returns-in-Ok-clause-states
-returns-in-Ok-clause-states c =
-    regular_is c.args.options.now c.args.info.now c.compile_options.result.unicode c.in-Ok.found c.compile_options.ensures.unicode
-    c.if-options.false c.if-options-2.false c.in-Ok.ensures.made c.in-Ok.ensures.options
+pub returns-then-options-clause-exact : goal.returns-then-options-clause-exact
+returns-then-options-clause-exact c t is =
+    (λ some. absurd (true≢false (sym some)), λ has. absurd (true≢false (sym c.if-options.true ∙ has.0)))
+
+pub returns-clause-states : goal.returns-clause-states
+returns-clause-states c =
+    states_are c.args.options.now c.args.info.now c.compile_options.result.unicode c.compile_options.result.leftmost_longest
+    c.compile_options.ensures.unicode c.compile_options.ensures.longest c.if-options.false c.if_supported.result
+    c.if_supported.ensures.made c.if_supported.ensures.options c.if_supported.ensures.exact
+
+pub returns-clause-exact : goal.returns-clause-exact
+returns-clause-exact c =
+    exactly_states c.args.options.now c.args.info.now c.compile_options.result.unicode c.compile_options.result.leftmost_longest
+    c.compile_options.ensures.unicode c.compile_options.ensures.longest c.if-options.false c.if_supported.result c.if_supported.ensures.exact
+
+pub returns-clause-refused : goal.returns-clause-refused
+returns-clause-refused c =
+    let cs = classes (tree_of (out-Info c.args.info.now).expr.now) in
+    subst (λ (u : Bool). IfErr c.if_supported.result (IsClassCause u cs)) c.compile_options.ensures.unicode c.if_supported.ensures.refused

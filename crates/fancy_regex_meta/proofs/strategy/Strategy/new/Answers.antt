@@ -1,4 +1,4 @@
-use Rattle.std.proofs.Common.{◌≡◌, refl, ◌+◌, ◌*◌, ◌∙◌, true, false, sym, ap, subst, true≢false}
+use Rattle.std.proofs.Common.{◌≡◌, refl, ◌+◌, ◌*◌, ◌∙◌, ◌⊎◌, ⊎_elim, inl, inr, true, false, sym, ap, subst, true≢false}
 use Rattle.std.proofs.lemmas.Result.{MatchResult-from_err, IfOk-weaker, IfErr-weaker}
 use Rattle.fancy_regex_tree.specs.Tree.{Tree}
 use Rattle.fancy_regex_meaning.specs.Choices.{program_nodes}
@@ -11,12 +11,15 @@ use Rattle.fancy_regex_info.specs.Analysis.{analysis}
 use Rattle.fancy_regex_info.specs.Infos.{info_of}
 use Rattle.fancy_regex_info.specs.declared.options.CompileOptions.{CompileOptions}
 use Rattle.fancy_regex_analysis.proofs.PartErrorLemmas.{gives}
-use Rattle.fancy_regex_linear.specs.Refusals.{IsTaken, IsCause}
+use Rattle.fancy_regex_linear.specs.Plain.{classes}
+use Rattle.fancy_regex_linear.specs.Refusals.{IsTaken, IsCause, IsClassCause}
 use Rattle.fancy_regex_meta.specs.Refusals.{compile_options_of, IsCompileRefusal}
 use Rattle.fancy_regex_meta.specs.EasyPatterns.{uses_easy}
 use Rattle.fancy_regex_meta.specs.SeekTables.{IsSeekTable}
 use Rattle.fancy_regex_meta.specs.Strategies.{IsCompiled}
 use Rattle.fancy_regex_meta.proofs.AnalysisLemmas.{hard_off, not_empty_off, easy_on, analyzed_tree}
+use Rattle.fancy_regex_meta.proofs.ClassRefusalLemmas.{class_refusal, class_not_complex}
+use Rattle.fancy_regex_meta.proofs.StrategyLemmas.{easy_used, used_easy}
 use Rattle.fancy_regex_meta.proofs.strategy.Strategy.new.Goals as goal
 use Rattle.fancy_regex_meta.proofs.strategy.Strategy.new.Goals.{Joined-then-info, then-info-via-then-info, then-info-via-else-info+then-options}
 
@@ -172,21 +175,44 @@ returns-in_err-seek-clause-reason c =
     c.from_residual-in_err-seek.ensures.1
     (λ t is e clear. subst (IsCompileRefusal (compile_options_of o c.args.calls) t) (sym c.in_err-seek.ensures.memory) tt)
 
--- nor does what is made beside the program
+-- A class for which there are no states is one that the compiler may refuse.
 pub returns-then-info-clause-refused : goal.returns-then-info-clause-refused
 returns-then-info-clause-refused c =
     IfErr-weaker c.hard_strategy.result _ _
-    (λ cause memory t is e. absurd (true≢false (sym e ∙ needs_program (goal.at.returns-then-info-clause-refused c).Joined-then-info t is)))
-    c.hard_strategy.ensures.memory
+    (λ cause why t is e. absurd (true≢false (sym e ∙ needs_program (goal.at.returns-then-info-clause-refused c).Joined-then-info t is)))
+    c.hard_strategy.ensures.refused
 
 pub returns-then-info-clause-long : goal.returns-then-info-clause-long
 returns-then-info-clause-long c =
     IfErr-weaker c.hard_strategy.result _ _
-    (λ cause memory t is e long. absurd (true≢false (sym long ∙ ap is_too_complex memory)))
-    c.hard_strategy.ensures.memory
+    (λ cause why t is e long. absurd (true≢false (sym long ∙ class_not_complex _ _ cause why)))
+    c.hard_strategy.ensures.refused
 
 pub returns-then-info-clause-reason : goal.returns-then-info-clause-reason
 returns-then-info-clause-reason c =
+    let o = c.args.options.now in
     IfErr-weaker c.hard_strategy.result _ _
-    (λ cause memory t is e clear. subst (IsCompileRefusal (compile_options_of c.args.options.now c.args.calls) t) (sym memory) tt)
-    c.hard_strategy.ensures.memory
+    (λ cause why t is e clear. class_refusal o c.args.calls t cause clear
+    (subst (λ u. IsClassCause o.unicode_mode (classes u) cause) (analyzed_tree c.args.info.now t is) why))
+    c.hard_strategy.ensures.refused
+
+-- which strategies are no program alone
+pub returns-then-info-clause-linear : goal.returns-then-info-clause-linear
+returns-then-info-clause-linear c =
+    let o = c.args.options.now in
+    IfOk-weaker c.hard_strategy.result _ _
+    (λ strategy states t is. (
+      λ yes. let has = (states t is).0 yes in (has.0, inr has.1),
+      λ linear. (states t is).1 (
+        linear.0,
+        ⊎_elim
+            (λ easy. absurd (true≢false (sym (easy_used o t linear.0 easy) ∙ needs_program (goal.at.returns-then-info-clause-linear c).Joined-then-info t is)))
+            (λ has. has) linear.1,
+      ),
+    ))
+    c.hard_strategy.ensures.linear
+
+pub returns-clause-linear : goal.returns-clause-linear
+returns-clause-linear c t is =
+    let used = easy_on c.args.options.now c.args.info.now t is c.if-info.false c.if-options.false in
+    (λ yes. (c.if-options.false, inl (used_easy c.args.options.now t used)), λ linear. refl)

@@ -1,0 +1,128 @@
+-- That a pattern is linear is decided by its strategy, and its searches tell no limit.
+use mathlib.Core.HLevel.{Π_prop, ×_prop, Unit-prop, ⊥_prop}
+use mathlib.Core.Logic.{∥∥₁_elim}
+use Rattle.std.proofs.Common.{◌≡◌, ◌⊎◌, ◌↔◌, ◌∙◌, ⊎_elim, inl, inr, Bool, true, false, true≢false, List, ℕ, refl, sym, ap, subst}
+use Rattle.std.proofs.Math.Bool.{Bool-set}
+use Rattle.std.proofs.Math.Bridge.{le_prop}
+use Rattle.fancy_regex_tree.specs.Tree.{Tree, Trees, tree_of, empty, any, assertion, literal, concat, alt, group, look_around, repeat, delegate, atomic_group, verb, no_trees, more_trees}
+use Rattle.fancy_regex_tree.specs.declared.expr.Assertion.{Assertion}
+use Rattle.fancy_regex_tree.specs.declared.expr.Assertion.TheVariants as A
+use Rattle.fancy_regex_tree.specs.declared.expr.BacktrackingControlVerb.{BacktrackingControlVerb}
+use Rattle.fancy_regex_tree.specs.declared.expr.BacktrackingControlVerb.TheVariants.{Fail}
+use Rattle.fancy_regex_tree.specs.declared.expr.LookAround.TheVariants as L
+use Rattle.fancy_regex_tree.specs.declared.expr_tree.ExprTree.{ExprTree}
+use Rattle.fancy_regex_meaning.specs.Groups.{Pattern, pattern_of}
+use Rattle.fancy_regex_class.specs.declared.input.RunInput.{RunInput}
+use Rattle.fancy_regex_input.specs.SearchInputs.{effective_start, run_input_of}
+use Rattle.fancy_regex_linear.specs.Plain.{IsServed, IsOneChar, IsFail, IsRegular, AreRegular, test_of}
+use Rattle.fancy_regex_regular.specs.Supported.{IsSupported}
+use Rattle.fancy_regex_meta.specs.EasyPatterns.{is_easy_tree, uses_easy, pattern_uses_easy}
+use Rattle.fancy_regex_meta.specs.LinearPatterns.{IsLinear, PatternIsLinear, is_linear_strategy}
+use Rattle.fancy_regex_meta.specs.Patterns.{tree_in, tree_or_empty}
+use Rattle.fancy_regex_meta.specs.Reading.{IsReading}
+use Rattle.fancy_regex_meta.specs.SearchLimits.{IsSearchError, IsStrategyError, MeetsNoLimit, meta_uses_easy, meta_choices}
+use Rattle.fancy_regex_meta.specs.declared.error.Error.{Error}
+use Rattle.fancy_regex_meta.specs.declared.error.Error.TheVariants as told
+use Rattle.fancy_regex_meta.specs.declared.meta_regex.MetaRegex.{MetaRegex}
+use Rattle.fancy_regex_meta.specs.declared.options.RegexOptions.{RegexOptions}
+use Rattle.fancy_regex_meta.specs.declared.strategy.Strategy.{Strategy}
+use Rattle.fancy_regex_meta.specs.declared.strategy.Strategy.TheVariants.{Easy, Linear, Program, Regular}
+
+-- that a tree is regular is so in one way
+served_prop : (a : Assertion) → IsProp (IsServed (test_of a))
+served_prop A.StartText = Unit-prop
+served_prop A.EndText = Unit-prop
+served_prop (A.StartLine crlf) = Unit-prop
+served_prop (A.EndLine crlf) = Unit-prop
+served_prop A.WordBoundary = Unit-prop
+served_prop A.NotWordBoundary = Unit-prop
+served_prop A.LeftWordBoundary = Unit-prop
+served_prop A.RightWordBoundary = Unit-prop
+served_prop A.LeftWordHalfBoundary = Unit-prop
+served_prop A.RightWordHalfBoundary = Unit-prop
+served_prop (A.StartLineOniguruma crlf) = Unit-prop
+served_prop (A.EndTextIgnoreTrailingNewlines crlf) = ⊥_prop
+
+one_char_prop : (t : Tree) → IsProp (IsOneChar t)
+one_char_prop (any newline crlf) = Unit-prop
+one_char_prop (literal val casei) = Unit-prop
+one_char_prop (delegate class casei) = Unit-prop
+one_char_prop _ = ⊥_prop
+
+fail_prop : (v : BacktrackingControlVerb) → IsProp (IsFail v)
+fail_prop Fail = Unit-prop
+fail_prop _ = ⊥_prop
+
+mutual
+  regular_prop : (t : Tree) → IsProp (IsRegular t)
+  regular_prop empty = Unit-prop
+  regular_prop (any newline crlf) = Unit-prop
+  regular_prop (literal val casei) = Unit-prop
+  regular_prop (delegate class casei) = Unit-prop
+  regular_prop (assertion a) = served_prop a
+  regular_prop (concat ts) = all_prop ts
+  regular_prop (alt ts) = ×_prop (Π_prop λ e. ⊥_prop) (all_prop ts)
+  regular_prop (group t) = regular_prop t
+  regular_prop (look_around t L.LookAhead) = regular_prop t
+  regular_prop (look_around t L.LookAheadNeg) = regular_prop t
+  regular_prop (look_around t L.LookBehind) = one_char_prop t
+  regular_prop (look_around t L.LookBehindNeg) = one_char_prop t
+  regular_prop (atomic_group t) = regular_prop t
+  regular_prop (verb v) = fail_prop v
+  regular_prop (repeat t lo hi greedy) = regular_prop t
+  regular_prop _ = ⊥_prop
+
+  all_prop : (ts : Trees) → IsProp (AreRegular ts)
+  all_prop no_trees = Unit-prop
+  all_prop (more_trees t ts) = ×_prop (regular_prop t) (all_prop ts)
+
+supported_prop : (longest : Bool) (pattern : Pattern) → IsProp (IsSupported longest pattern)
+supported_prop longest pattern = hlevel (regular_prop, le_prop, Bool-set)
+
+module _ (o : RegexOptions) (t : Tree) where
+  by_states : ∥ IsLinear o t ∥₁ → is_easy_tree t ≡ false → IsSupported o.leftmost_longest (pattern_of t)
+  by_states is hard =
+      ∥∥₁_elim is (supported_prop o.leftmost_longest (pattern_of t))
+      (λ linear. ⊎_elim (λ (easy : is_easy_tree t ≡ true). absurd (true≢false (sym easy ∙ hard))) (λ states. states) linear.1)
+
+  either_way : (b : Bool) → is_easy_tree t ≡ b → ∥ IsLinear o t ∥₁ → (is_easy_tree t ≡ true) ⊎ IsSupported o.leftmost_longest (pattern_of t)
+  either_way true easy is = inl easy
+  either_way false hard is = inr (by_states is hard)
+
+  -- where it is known that there is a proof, there is one
+  pub linear_known : ∥ IsLinear o t ∥₁ → IsLinear o t
+  linear_known is = (∥∥₁_elim is (Bool-set _ _) (λ linear. linear.0), either_way (is_easy_tree t) refl is)
+
+-- the tree that was read is that of the text
+tree_of_text : (o : RegexOptions) (text : List ℕ) (tree : ExprTree) → IsReading o text tree → tree_of tree.expr ≡ tree_in o text
+tree_of_text o text tree reading = reading.2.tree ∙ sym (ap tree_or_empty reading.1)
+
+-- what decides of it whether the text is easy, and whether it is linear, decides it of the text
+pub easy_of_text : (o : RegexOptions) (text : List ℕ) (tree : ExprTree) (b : Bool) → IsReading o text tree → b ≡ uses_easy o (tree_of tree.expr)
+    → b ≡ pattern_uses_easy o text
+easy_of_text o text tree b reading is = is ∙ ap (uses_easy o) (tree_of_text o text tree reading)
+
+pub linear_of_text : (o : RegexOptions) (text : List ℕ) (tree : ExprTree) (b : Bool) → IsReading o text tree → (b ≡ true ↔ IsLinear o (tree_of tree.expr))
+    → (b ≡ true ↔ ∥ PatternIsLinear o text ∥₁)
+linear_of_text o text tree b reading exact =
+    let same = tree_of_text o text tree reading in (
+      λ yes. ∣ subst (IsLinear o) same (exact.0 yes) ∣₁,
+      λ known. ∥∥₁_elim known (Bool-set b true) (λ linear. exact.1 (subst (IsLinear o) (sym same) linear)),
+    )
+
+-- A strategy that is no program alone tells no limit.
+module _ (served : Bool) (limit choices : ℕ) (o : RegexOptions) (text : List ℕ) (input : RunInput) where
+  linear_error : (strategy : Strategy) → is_linear_strategy strategy ≡ true → (e : Error) → IsSearchError served limit choices e
+      → IsStrategyError strategy o text input e → e ≡ told.Memory
+  linear_error strategy linear told.Memory above passed = refl
+  linear_error (Easy easy) linear (told.RuntimeError error) above passed = absurd passed
+  linear_error (Linear matcher prog) linear (told.RuntimeError error) above passed = absurd passed
+  linear_error (Regular regular prog run) linear (told.RuntimeError error) above passed = absurd passed
+  linear_error (Program prog run) linear e above passed = absurd (true≢false (sym linear))
+  linear_error strategy linear (told.ParseError position kind) above passed = absurd above
+  linear_error strategy linear (told.CompileError cause) above passed = absurd above
+
+pub tells_no_limit : (s : MetaRegex) → is_linear_strategy s.strategy ≡ true → MeetsNoLimit s
+tells_no_limit s linear text config continue_disabled e is =
+    linear_error (meta_uses_easy s) s.options.backtrack_limit (meta_choices s text config continue_disabled) s.options text
+    (run_input_of config (effective_start config) continue_disabled) s.strategy linear e is.0 is.1

@@ -1,0 +1,68 @@
+//! Which regexes are linear.
+
+use fancy_regex::{Error, RegexOptionsBuilder};
+use std::alloc::Global;
+use std::test::Fail;
+
+/// Patterns, and whether their regexes are linear.
+static PATTERNS: [(&str, bool); 27] = [
+    ("a+b", true),
+    (r"\bfoo\b", true),
+    ("(a)(b|c)*", true),
+    ("a{5000}", true),
+    ("(?=.*x)a", true),
+    ("(?!(?=.*x)a)b", true),
+    ("(?>a*)b", true),
+    ("(a)(?>b)(c)", true),
+    ("(?<=a)c", true),
+    (r"(?<!\w)c", true),
+    (r"\b{start-half}c", true),
+    ("a|(*FAIL)", true),
+    ("(?=a)a{100}", true),
+    ("(?:x(?=(a))){0}b", true),
+    ("(?=a)a{5000}", false),
+    (r"(a)\1", false),
+    ("(?=(a))b", true),
+    ("(?>(a))b", true),
+    ("(?:a(?=(b)))", true),
+    ("(?<=ab)c", false),
+    ("(?<=(a))c", false),
+    (r"\Ka", false),
+    (r"\Ga", false),
+    (r"a\Z", false),
+    (r"a\R", false),
+    (r"(a)\g<1>", false),
+    ("(a)?(?(1)b|c)", false),
+];
+
+/// Whether the regex of a pattern is linear, with these options.
+fn is_linear(alloc: Global, pattern: &str, not_empty: bool, longest: bool) -> Result<bool, Error> {
+    let text = String::from_str(alloc, pattern)?;
+    let mut options = RegexOptionsBuilder::new();
+    options.find_not_empty(not_empty).leftmost_longest(longest);
+    Ok(options.build(alloc, text)?.is_linear())
+}
+
+#[test]
+fn linear_patterns_are_told(rt: HostRuntime) -> Result<(), Fail> {
+    for (pattern, is_due) in PATTERNS.iter() {
+        let is_told = is_linear(rt.alloc(), pattern, false, false)?;
+        assert!(rt; is_told == *is_due, "{pattern}");
+    }
+    Ok(())
+}
+
+#[test]
+fn no_regex_that_refuses_empty_matches_is_linear(rt: HostRuntime) -> Result<(), Fail> {
+    for pattern in ["a+b", "(?=.*x)a"] {
+        assert!(rt; !is_linear(rt.alloc(), pattern, true, false)?, "{pattern}");
+    }
+    Ok(())
+}
+
+#[test]
+fn plain_patterns_alone_are_linear_for_the_longest_match(rt: HostRuntime) -> Result<(), Fail> {
+    assert!(rt; is_linear(rt.alloc(), "a+b", false, true)?);
+    assert!(rt; !is_linear(rt.alloc(), "(?=.*x)a", false, true)?);
+    Ok(())
+}
