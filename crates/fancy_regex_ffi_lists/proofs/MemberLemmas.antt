@@ -11,6 +11,10 @@ use Rattle.fancy_regex.proofs.SetLimitLemmas.{limits_join}
 use Rattle.fancy_regex_search.specs.declared.regex.Regex.{Regex}
 use Rattle.fancy_regex_ffi_lists.specs.Lists.{members_found, IsErrorAtAnswer, IsMemberError}
 
+-- an error is no member
+no_member : {X : Type 0} (e : Error) (y : X) → ◌≡◌ {A = Option (Result X Error)} (Some (Err e)) (Some (Ok y)) → ⊥
+no_member e y same = cc same
+
 module _ (regexes : List Regex) (text : List ℕ) (config : SearchConfig) where
   -- the error of the search of the set
   pub set_error_is : (e : Error) → IsSetError regexes text config e → IsMemberError regexes text config e
@@ -40,7 +44,7 @@ module _ (regexes : List Regex) (text : List ℕ) (config : SearchConfig) where
     before = subst (λ (q : ℕ). AreInLimitsBefore regexes text config q) (sym at) before;
     here = subst (λ (q : ℕ). AreInLimits regexes text config q 0 told.0) (sym at) (limits_join regexes text config p next told.0 h (passed told.0 told.2));
   }
-  error_at_answer answer p (Some y) next after e is at before h told passed = cc (told.0)
+  error_at_answer answer p (Some y) next after e is at before h told passed = absurd (no_member e y told.0)
 
 -- What is left to show, by the member that is shown next, if it is known, of which something is told, and the number of the one after it.
 abbrev pub IsLeft : {X : Type 0} → (X → ℕ × Match → Type 0) → List Regex → List ℕ → SearchConfig → ℕ → Option X → ℕ → List (ℕ × Match) → Type 0

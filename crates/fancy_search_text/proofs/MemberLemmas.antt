@@ -97,6 +97,10 @@ module _ {X : Type 0} (view : X → ℕ × (ℕ × ℕ)) (set : RegexSet) (text 
   left_none None next after left l h = l ∙ h.0
   left_none (Some y) next after left l h = cc (h.0)
 
+-- an error is no member
+no_member : {X : Type 0} (e : Error) (y : X) → ◌≡◌ {A = Option (Result X Error)} (Some (Err e)) (Some (Ok y)) → ⊥
+no_member e y same = cc same
+
 -- an error is one of a member
 pub left_error : {X : Type 0} (set : RegexSet) (text : List ℕ) (p : ℕ) (first : Option X) (next after : ℕ) (e : Error)
     → MatchOption first ((k : ℕ) × (next ≤ k) × (after ≡ k + 1)
@@ -104,7 +108,7 @@ pub left_error : {X : Type 0} (set : RegexSet) (text : List ℕ) (p : ℕ) (firs
     × IsErrorOfMember set.regexes.items text (whole text) p k e)
     (λ y. (◌≡◌ {A = Option (Result X Error)} (Some (Err e)) (Some (Ok y))) × (after ≡ next)) → (k : ℕ) × IsErrorOfMember set.regexes.items text (whole text) p k e
 left_error set text p None next after e h = (h.0, h.4)
-left_error set text p (Some y) next after e h = cc (h.0)
+left_error set text p (Some y) next after e h = absurd (no_member e y h.0)
 
 -- and the first one met at the position of the answer
 pub error_at_answer : {X : Type 0} (regexes : List Regex) (text : List ℕ) (answer : SetAnswer) (p : ℕ) (first : Option X) (next after : ℕ) (e : Error) → answer_of_set regexes text (whole text) ≡ Some answer
@@ -121,7 +125,7 @@ error_at_answer regexes text answer p None next after e is at before h told pass
   before = subst (λ (q : ℕ). AreInLimitsBefore regexes text (whole text) q) (sym at) before;
   here = subst (λ (q : ℕ). AreInLimits regexes text (whole text) q 0 told.0) (sym at) (limits_join regexes text (whole text) p next told.0 h (passed told.0 told.2));
 }
-error_at_answer regexes text answer p (Some y) next after e is at before h told passed = cc (told.0)
+error_at_answer regexes text answer p (Some y) next after e is at before h told passed = absurd (no_member e y told.0)
 
 -- a line more
 pub lines_more : (out line all : List ℕ) (found : ℕ × Match) (left after : List (ℕ × Match)) (shown : ℕ × (ℕ × ℕ)) → out ++ member_lines left ≡ all → left ≡ found ∷ after
