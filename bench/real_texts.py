@@ -20,7 +20,7 @@ class TextIsMissing(Exception):
 
 
 def first_bytes(parts, size, of):
-    """The parts in row, up to the size, cut behind a line."""
+    """The parts in row, up to the size, cut after a line."""
     made, length = [], 0
     for part in parts:
         made.append(part)

@@ -1,10 +1,10 @@
 -- What the table alone tells of the matches of a search.
-use Rattle.std.proofs.Common.{◌≡◌, ℕ, ◌+◌, ◌-◌, ◌*◌, ◌<◌, ◌≤◌, Bool, false, List, ◌∷◌, Option, Some, None, length, refl, sym, ap, ap₂, subst, ◌∙◌, arith, min, IsUtf8, IsCharBoundary}
+use Rattle.std.proofs.Common.{◌≡◌, ℕ, ◌+◌, ◌-◌, ◌*◌, ◌^◌, ◌<◌, ◌≤◌, Bool, false, List, ◌∷◌, Option, Some, None, length, refl, sym, ap, ap₂, subst, ◌∙◌, arith, min, IsUtf8, IsCharBoundary}
 use Rattle.std.proofs.lemmas.Nat.{mul-le}
 use Rattle.std.specs.Prelude.{IfSome}
 use Rattle.std.specs.Char.{len_utf8}
 use Rattle.regex_hir.specs.Text.{char_at}
-use Rattle.fancy_regex_class.specs.Looks.{looked_text, look_count}
+use Rattle.fancy_regex_class.specs.Looks.{looked_text, look_count, SameCounter}
 use Rattle.fancy_regex_class.specs.declared.counted.Counted.{Counted}
 use Rattle.fancy_regex_states.specs.Attempts.{Continuation}
 use Rattle.fancy_regex_table.specs.Ends.{end_of}
@@ -13,7 +13,7 @@ use Rattle.fancy_regex_linear.specs.Meaning.{Spot}
 use Rattle.fancy_regex_linear.specs.Attempt.{trace_end}
 use Rattle.fancy_regex_linear.specs.Search.{AllFail}
 use Rattle.fancy_regex_linear.specs.Visited.{Has, visited_bound}
-use Rattle.fancy_regex_linear.specs.Alone.{AllFailBetween, AloneSays, IsUnknown, IsUnknownAt, IsLookedAt, IsLookedFor, IsNoneFrom, IsOnWay}
+use Rattle.fancy_regex_linear.specs.Alone.{AllFailBetween, AloneSays, IsAloneIn, IsUnknown, IsUnknownAt, IsLookedAt, IsLookedFor, IsNoneFrom, IsOnWay}
 use Rattle.fancy_regex_linear.specs.Find.{earliest, attempted, places, places_from}
 use Rattle.fancy_regex_linear.specs.Settled.{FailBetween, IsSettled, IsSettledAfter}
 use Rattle.fancy_regex_linear.specs.Starts.{IsAfter, IsStart, spot_from}
@@ -172,3 +172,18 @@ pub looks_anew : (looks old : ℕ) (visited : Visited) (start stop count extra :
 looks_anew looks old visited start stop count extra low base same most =
     let first : visited.base * visited.count ≡ start * count = ap₂ (λ (a b : ℕ). a * b) base same in
     looks_from looks old ((stop + 1) * count) start stop count extra low (omega (arith, first, most)) (omega arith)
+
+-- what the table alone says tells of the looks
+pub looked_alone : (context : SearchContext) (old new : Counted) (first : ℕ) (alone : Alone) → AloneSays context old new first alone
+    → (min (look_count old) (2 ^ 64 - 1) ≤ look_count new) × (looked_text new ≡ looked_text old) × SameCounter old new
+looked_alone context old new first (Found start end) says = (omega (arith, says.1.at_least), says.1.text, says.1.same_counter)
+looked_alone context old new first NoMatch says = (omega (arith, says.looked.at_least), says.looked.text, says.looked.same_counter)
+looked_alone context old new first (Unknown start) says = (omega (arith, says.3.at_least), says.3.text, says.3.same_counter)
+
+-- a start of which it does not tell is one of the text, which stays
+pub alone_in : (context : SearchContext) (old new : Counted) (first : ℕ) (alone : Alone) → AloneSays context old new first alone
+    → IsAloneIn context (looked_text new) alone
+alone_in context old new first (Found start end) says = tt
+alone_in context old new first NoMatch says = tt
+alone_in context old new first (Unknown start) says =
+    subst (λ (text : List ℕ). IsUnknownAt context text start.place start.from start.read) (sym says.3.text) says.0

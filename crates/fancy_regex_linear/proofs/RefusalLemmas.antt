@@ -10,7 +10,7 @@ use mathlib.Core.Logic.{∥∥₁_elim}
 use Rattle.regex_hir.specs.Text.{char_at, char_before}
 use Rattle.fancy_regex_class.specs.declared.class.CharClassMatcher.{CharClassMatcher}
 use Rattle.fancy_regex_states.specs.CharTests.{passes, is_char}
-use Rattle.fancy_regex_states.specs.Before.{may_pass, CannotBeginAfter, IsSilent, LeadsAfter, ReachesAfter, RefusesAfter}
+use Rattle.fancy_regex_states.specs.Before.{may_pass, CannotBeginAfter, OnlyLeadsOn, LeadsAfter, ReachesAfter, RefusesAfter}
 use Rattle.fancy_regex_states.specs.Before as B
 use Rattle.fancy_regex_states.specs.First.{state_at, MayHold, Leads, Reaches, here, onward, CannotRead, CannotBegin, CannotGoOn, CannotFollow, IsTableOf, RefusesSecond}
 use Rattle.fancy_regex_states.specs.declared.atom.Test.{Test}
@@ -200,15 +200,15 @@ module _ (view : View) (stop : ℕ) (states : List State) (go : ℕ → Continua
   ]
 
   -- what neither reads nor is final leads on after the character
-  silent_fails : (q : ℕ) (state : State) → IsSilent state → ReadFails view stop states go matchers rules entry at (Some c) after refl shows q state
-  silent_fails q (S.Read leaf next) silent = absurd silent
-  silent_fails q (S.Look check next) silent = tt
-  silent_fails q (Split first second) silent = tt
-  silent_fails q (Enter g next) silent = tt
-  silent_fails q (Leave g next) silent = tt
-  silent_fails q (Ask part negated next) silent = tt
-  silent_fails q (Atomic part same moved) silent = tt
-  silent_fails q Match silent = absurd silent
+  leading_on_fails : (q : ℕ) (state : State) → OnlyLeadsOn state → ReadFails view stop states go matchers rules entry at (Some c) after refl shows q state
+  leading_on_fails q (S.Read leaf next) leads_on = absurd leads_on
+  leading_on_fails q (S.Look check next) leads_on = tt
+  leading_on_fails q (Split first second) leads_on = tt
+  leading_on_fails q (Enter g next) leads_on = tt
+  leading_on_fails q (Leave g next) leads_on = tt
+  leading_on_fails q (Ask part negated next) leads_on = tt
+  leading_on_fails q (Atomic part same moved) leads_on = tt
+  leading_on_fails q Match leads_on = absurd leads_on
 
   leads_after : (state : State) (p : ℕ) → LeadsBy view stop states go matchers rules entry at (Some c) after refl shows May state p
       → LeadsAfter rules.unicode matchers c state p
@@ -226,7 +226,7 @@ module _ (view : View) (stop : ℕ) (states : List State) (go : ℕ → Continua
   all_fail_after agree inside cannot zero q lt from d = absurd (omega arith)
   all_fail_after agree inside cannot (suc n) q lt from d =
       one_fails view stop states go matchers rules entry at (Some c) after refl shows May may_or_not n q (state_at states q)
-      (agree q lt).names ((agree q lt).does at inside) d (silent_fails q (state_at states q) (cannot q from))
+      (agree q lt).names ((agree q lt).does at inside) d (leading_on_fails q (state_at states q) (cannot q from))
       (λ p leads low less. all_fail_after agree inside cannot n p low (B.onward q p from (leads_after (state_at states q) p leads)) less)
 
   pub after_fails : AllAgree view stop states go → at ≤ stop → entry < length states → CannotBeginAfter rules.unicode matchers states entry c
@@ -280,26 +280,26 @@ pub marks_say : (unicode : Bool) (matchers : List CharClassMatcher) (states : Li
 marks_say unicode matchers states entry marks is c low marked =
     ∥∥₁_elim is (Π_prop λ q. Π_prop λ _. CannotRead-prop unicode matchers (Some c) (state_at states q)) (λ refuses. refuses c low marked)
 
-IsSilent-prop : (state : State) → IsProp (IsSilent state)
-IsSilent-prop (S.Read leaf next) = ⊥_prop
-IsSilent-prop (S.Look check next) = Unit-prop
-IsSilent-prop (Split first second) = Unit-prop
-IsSilent-prop (Enter g next) = Unit-prop
-IsSilent-prop (Leave g next) = Unit-prop
-IsSilent-prop (Ask part negated next) = Unit-prop
-IsSilent-prop (Atomic part same moved) = Unit-prop
-IsSilent-prop Match = ⊥_prop
+OnlyLeadsOn-prop : (state : State) → IsProp (OnlyLeadsOn state)
+OnlyLeadsOn-prop (S.Read leaf next) = ⊥_prop
+OnlyLeadsOn-prop (S.Look check next) = Unit-prop
+OnlyLeadsOn-prop (Split first second) = Unit-prop
+OnlyLeadsOn-prop (Enter g next) = Unit-prop
+OnlyLeadsOn-prop (Leave g next) = Unit-prop
+OnlyLeadsOn-prop (Ask part negated next) = Unit-prop
+OnlyLeadsOn-prop (Atomic part same moved) = Unit-prop
+OnlyLeadsOn-prop Match = ⊥_prop
 
 -- what the marks of characters before starts say holds, and what is said of those that are not ASCII
 pub after_say : (unicode : Bool) (matchers : List CharClassMatcher) (states : List State) (entry : ℕ) (marks : List Bool) → ∥ RefusesAfter unicode matchers states entry marks ∥₁
     → (c : ℕ) → c < 128 → slice_index_or marks c false ≡ true → CannotBeginAfter unicode matchers states entry c
 after_say unicode matchers states entry marks is c low marked =
-    ∥∥₁_elim is (Π_prop λ q. Π_prop λ _. IsSilent-prop (state_at states q)) (λ refuses. refuses.ascii c low marked)
+    ∥∥₁_elim is (Π_prop λ q. Π_prop λ _. OnlyLeadsOn-prop (state_at states q)) (λ refuses. refuses.ascii c low marked)
 
 pub wide_after_say : (unicode : Bool) (matchers : List CharClassMatcher) (states : List State) (entry : ℕ) (marks : List Bool) → ∥ RefusesAfter unicode matchers states entry marks ∥₁
     → (c : ℕ) → 128 ≤ c → CannotBeginAfter unicode matchers states entry c
 wide_after_say unicode matchers states entry marks is c high =
-    ∥∥₁_elim is (Π_prop λ q. Π_prop λ _. IsSilent-prop (state_at states q)) (λ refuses. refuses.wide c high)
+    ∥∥₁_elim is (Π_prop λ q. Π_prop λ _. OnlyLeadsOn-prop (state_at states q)) (λ refuses. refuses.wide c high)
 
 -- what the marks of second characters say holds
 pub seconds_say : (unicode : Bool) (matchers : List CharClassMatcher) (states : List State) (entry : ℕ) (marks : List Bool) → ∥ RefusesSecond unicode matchers states entry marks ∥₁

@@ -96,6 +96,7 @@ module _ (context : SearchContext) (text : List ℕ) (it : TableSearch) (table :
       elim marked [
         | inl ascii ↦
             let it : IsRefusedAfter context text i = record {
+              later = some;
               none = λ utf8 boundary c is.
                   subst (CannotBeginAfter context.rules.unicode context.matchers.now context.states.now context.entry)
                   (ascii_is text i utf8 boundary some c is ascii.0)
@@ -105,6 +106,7 @@ module _ (context : SearchContext) (text : List ℕ) (it : TableSearch) (table :
             inr (inr it)
         | inr other ↦
             let it : IsRefusedAfter context text i = record {
+              later = some;
               none = λ utf8 boundary c is.
                   wide_after_say context.rules.unicode context.matchers.now context.states.now context.entry before.first of.refuses c (wide_is text i utf8 boundary some c is other.0);
             } in

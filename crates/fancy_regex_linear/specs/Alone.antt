@@ -96,3 +96,15 @@ AloneSays context old new first (Unknown start) =
     IsUnknownAt context (looked_text old) start.place start.from start.read × (first ≤ start.place.at)
     × AllFailBetween context (looked_text old) first start.place.at
     × IsLookedFor old new (start.place.at - first + 1) (start.place.at - first)
+
+-- a start of which it does not tell is one of this text
+abbrev pub IsAloneIn : SearchContext → List ℕ → Alone → Type 0
+IsAloneIn context text (Found start end) = Unit {0}
+IsAloneIn context text NoMatch = Unit {0}
+IsAloneIn context text (Unknown start) = IsUnknownAt context text start.place start.from start.read
+
+-- The table alone was asked from this start on, of a text that was looked at so often before, and says this.
+pub record IsAskedFrom (context : SearchContext) (old new : Counted) (start : ℕ) (alone : Alone) : Type 0 where
+  pub range : (start ≤ context.stop) × (context.stop ≤ length (looked_text old))
+  pub boundary : IsCharBoundary (looked_text old) start
+  pub says : AloneSays context old new start alone

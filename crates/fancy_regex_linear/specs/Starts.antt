@@ -59,8 +59,9 @@ pub record IsWideAt (context : SearchContext) (text : List ℕ) (i : ℕ) : Type
   pub byte : 128 ≤ slice_index_or text i 0
   pub none : RefusesWide context.rules.unicode context.matchers.now context.states.now context.entry
 
--- no match begins after the character before i
+-- a character stands before i, after which no match begins
 pub record IsRefusedAfter (context : SearchContext) (text : List ℕ) (i : ℕ) : Type 0 where
+  pub later : 0 < i
   pub none : IsUtf8 text → IsCharBoundary text i → (c : ℕ) → char_before text i ≡ Some c
       → CannotBeginAfter context.rules.unicode context.matchers.now context.states.now context.entry c
 

@@ -9,7 +9,6 @@ ghost use Rattle.fancy_regex_linear.specs.Alone.{AllFailBetween, AloneSays, IsUn
 ghost use Rattle.fancy_regex_linear.specs.Layers.{IsSearchContext};
 ghost use Rattle.fancy_regex_linear.specs.Settled.{IsTableSearch};
 
-use crate::before::by_before_alone;
 use crate::by_table::{TableSearch, pass_counted};
 use crate::search::SearchContext;
 use crate::skip::{skip_pairs, skip_refused};
@@ -83,9 +82,10 @@ pub fn unknown(
     Alone::Unknown(UnknownStart { place, from, read })
 }
 
-/// Goes through the text as `by_table_alone` does, by what stands at starts.
+/// Goes through the text by the table from `from` on: to the first match, to the end, or to a start of which the table does not tell
+/// whether it matches. Each character that is passed over or read costs a look. Starts are passed over by what stands there.
 #[inline(always)]
-fn by_starts_alone(
+pub fn by_starts_alone(
     context: &SearchContext,
     text: &mut Counted,
     it: TableSearch,
@@ -117,31 +117,6 @@ fn by_starts_alone(
             Passed::Unknown { from, read } => return unknown(context, (start, after), from, read),
         }
     }
-}
-
-/// Goes through the text by the table from `from` on: to the first match, to the end, or to a start of which the table does not tell
-/// whether it matches. Each character that is passed over or read costs a look. Starts are passed over by the characters before them,
-/// if the search has these.
-#[inline(always)]
-pub fn by_table_alone(
-    context: &SearchContext,
-    text: &mut Counted,
-    it: TableSearch,
-    from: usize,
-) -> Alone
-    requires context { IsSearchContext context.now }
-    requires table { IsTableSearch context.now (looked_text text.old) it }
-    requires range { (from ≤ context.now.stop) × (context.now.stop ≤ length (looked_text text.old)) }
-    requires text { IsUtf8 (looked_text text.old) }
-    requires boundary { IsCharBoundary (looked_text text.old) from }
-    ensures { AloneSays context.now text.old text.new from result }
-{
-    if let Some(before) = it.before.as_ref() {
-        // A context of its own, so that the values of the other one stay in registers.
-        let own = *context;
-        return by_before_alone(&own, text, it, before, from);
-    }
-    by_starts_alone(context, text, it, from)
 }
 
 /// Whether an ASCII character stands here.

@@ -12,10 +12,12 @@ ghost use Rattle.fancy_regex_linear.specs.Before.{HasMarksBefore, IsBeforeOf};
 ghost use Rattle.fancy_regex_linear.specs.Passing.{RefusesWideIf};
 ghost use Rattle.fancy_regex_table.specs.Tables.{IsTable};
 
+use crate::alone::by_starts_alone;
+use crate::before::by_before_alone;
 use crate::build::{Translator, is_supported};
 use crate::by_table::TableSearch;
 use crate::emit::emit;
-use crate::first::{Request, by_table_first, with_memory};
+use crate::first::{Request, from_alone, with_memory};
 use crate::memory::SearchMemory;
 use crate::passing::{By, Passing};
 use crate::search::{SearchContext, SearchMode};
@@ -226,8 +228,8 @@ impl Easy {
     }
 
     /// Searches the text, and answers the capture groups of the match: two byte offsets for each group, both `usize::MAX` if
-    /// the group is unset. `Ok(None)` means no match. `steps` grows by one for each look, also after an error.
-    /// The error is want of memory; the pattern is unchanged.
+    /// the group is unset. `Ok(None)` means no match. Each look is meant to raise `steps` by one; what is proved is how much it rises at
+    /// most, also after an error, and at least, after an answer. The error is want of memory.
     pub fn search(
         &self,
         alloc: Global,
@@ -248,9 +250,9 @@ impl Easy {
     }
 
     /// Searches the text as `search` does, in memory that other searches may have used before: of this pattern or another,
-    /// also one that ran out of memory. The answer is the same for every memory. Where the memory has the room, only the answer
-    /// is allocated, and not even that if an earlier one was given back, so nothing is where nothing is found. After an error the
-    /// memory may be used again.
+    /// also one that ran out of memory. The answer is the same for every memory. After an error the memory may be used again. No clause
+    /// says what is allocated: where the memory has the room, only the answer is meant to be, and not even that if an earlier one was
+    /// given back.
     pub fn search_in(
         &self,
         alloc: Global,
@@ -278,8 +280,8 @@ impl Easy {
         }
     }
 
-    /// Searches the text as `search_in` does, and answers only where the match starts and ends, as byte offsets: nothing is
-    /// allocated where the memory has the room. The error is want of memory; the memory may be used again.
+    /// Searches the text as `search_in` does, and answers only where the match starts and ends, as byte offsets. The error is want of
+    /// memory; the memory may be used again. No clause says what is allocated: nothing is meant to be where the memory has the room.
     pub fn find_span_in(
         &self,
         text: &str,
@@ -306,14 +308,8 @@ impl Easy {
                 let _before = steps.count();
                 let context = self.context(input);
                 let mut counted = Counted::new(text, steps);
-                let span = by_table_first(
-                    &context,
-                    &mut counted,
-                    input.first,
-                    it,
-                    self.groups,
-                    memory,
-                )?;
+                let alone = by_starts_alone(&context, &mut counted, it, input.first);
+                let span = from_alone(&context, &mut counted, it, alone, self.groups, memory)?;
                 return Ok(span);
             }
         }
@@ -340,20 +336,24 @@ impl Easy {
         ensures at_least { IfOk result (λ _. LooksAtLeast self.now text.now input.now steps.old steps.new) }
         ensures counts { steps.old ≤ steps.new }
     {
-        let Some(it) = self.table_search(text, input) else {
-            let found = self.span_with_memory(text, input, steps, memory, true)?;
-            return Ok(found);
-        };
-        // Read so that the proof knows that the counter is a `u64`, which no look lowers.
-        let _before = steps.count();
-        let context = self.context(input);
-        let mut counted = Counted::new(text, steps);
-        let span = by_table_first(&context, &mut counted, input.first, it, self.groups, memory)?;
-        Ok(span)
+        if let Some(it) = self.table_search(text, input) {
+            if let Some(before) = it.before.as_ref() {
+                // Read so that the proof knows that the counter is a `u64`, which no look lowers.
+                let _before = steps.count();
+                let context = self.context(input);
+                let mut counted = Counted::new(text, steps);
+                let alone = by_before_alone(&context, &mut counted, it, before, input.first);
+                let span = from_alone(&context, &mut counted, it, alone, self.groups, memory)?;
+                return Ok(span);
+            }
+        }
+        let found = self.span_with_memory(text, input, steps, memory, true)?;
+        Ok(found)
     }
 
-    /// Whether `search_in` finds a match. Where the table tells it, the text is read up to the first sign of a match alone; nothing is
-    /// allocated where the memory has the room. The error is want of memory; the memory may be used again.
+    /// Whether `search_in` finds a match. The error is want of memory; the memory may be used again. No clause says how far the text is
+    /// read, or what is allocated: where the table tells it, the text is meant to be read up to the first sign of a match alone, and
+    /// nothing to be allocated where the memory has the room.
     pub fn has_match_in(
         &self,
         text: &str,

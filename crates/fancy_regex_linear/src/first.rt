@@ -1,16 +1,17 @@
-//! The first match of a search: by the table alone as far as that tells, and then with memory.
+//! The first match of a search: what the table alone tells, and then with memory.
 
 ghost use Rattle.std.specs.Prelude.{◌≡◌, ◌+◌, ◌-◌, ◌*◌, ◌^◌, ◌≤◌, ℕ, false, true, length, min, IfOk, IfSome, IsCharBoundary, IsUtf8};
 ghost use Rattle.fancy_regex_class.specs.Looks.{looked_text, look_count, SameCounter};
+ghost use Rattle.fancy_regex_class.specs.declared.counted.Counted.{Counted};
 ghost use Rattle.fancy_regex_states.specs.Attempts.{View, Continuation};
-ghost use Rattle.fancy_regex_linear.specs.Alone.{IsUnknownAt, unset_slots};
+ghost use Rattle.fancy_regex_linear.specs.Alone.{IsAloneIn, IsAskedFrom, IsUnknownAt, unset_slots};
 ghost use Rattle.fancy_regex_linear.specs.Find.{earliest, attempted, places};
 ghost use Rattle.fancy_regex_linear.specs.Layers.{IsSearchContext};
 ghost use Rattle.fancy_regex_linear.specs.Search.{Explains};
 ghost use Rattle.fancy_regex_linear.specs.Settled.{IsAnswer, IsAtStart, IsSettledAfter, IsSettling, IsTableSearch};
 ghost use Rattle.fancy_regex_linear.specs.Starts.{spot_from};
 
-use crate::alone::{Alone, UnknownStart, by_table_alone};
+use crate::alone::{Alone, UnknownStart};
 use crate::by_table::{TableSearch, by_attempts};
 use crate::memory::SearchMemory;
 use crate::search::{SearchContext, SearchMode, earliest_match};
@@ -18,34 +19,37 @@ use crate::settle::{Settled, by_attempt};
 use fancy_regex_class::Counted;
 use std::alloc::AllocError;
 
-/// The start and the end of the first match from `start` on, as byte offsets, of a pattern with so many groups: by the table alone as
-/// far as that tells, and from there on with memory. The error is want of memory.
+/// The start and the end of the first match, as byte offsets, of a pattern with so many groups, where the table alone has told this:
+/// what it told, or from the start of which it did not tell on, the match that is found with memory. Its clauses are about each start
+/// from which the table may have been asked. The error is want of memory.
 #[inline(always)]
-pub fn by_table_first(
+pub fn from_alone(
     context: &SearchContext,
     text: &mut Counted,
-    start: usize,
     it: TableSearch,
+    alone: Alone,
     groups: usize,
     memory: &mut SearchMemory,
 ) -> Result<Option<(usize, usize)>, AllocError>
     requires context { IsSearchContext context.now }
-    requires range { (start ≤ context.now.stop) × (context.now.stop ≤ length (looked_text text.old)) }
+    requires range { context.now.stop ≤ length (looked_text text.old) }
     requires text { IsUtf8 (looked_text text.old) }
-    requires start { IsCharBoundary (looked_text text.old) start }
+    requires unknown { IsAloneIn context.now (looked_text text.old) alone }
     requires table { IsTableSearch context.now (looked_text text.old) it }
-    ensures answer { IfOk result (λ span. (view : View) (go : ℕ → Continuation) → Explains context.now (looked_text text.old) view go
+    ensures answer { IfOk result (λ span. (old : Counted) (start : ℕ) → IsAskedFrom context.now old text.old start alone
+        → (view : View) (go : ℕ → Continuation) → Explains context.now (looked_text old) view go
         → IsAnswer true span memory.new.backtrack.slots.items
-        (earliest (spot_from go context.now.entry (unset_slots groups)) (places (looked_text text.old) false start context.now.stop))) }
-    ensures at_most { look_count text.new
-        ≤ look_count text.old + (context.now.stop - start + 1) * length context.now.states.now + (context.now.stop - start + 1) }
-    ensures at_least { IfOk result (λ _. (view : View) (go : ℕ → Continuation) → Explains context.now (looked_text text.old) view go
-        → min (look_count text.old + attempted (spot_from go context.now.entry (unset_slots groups))
-        (places (looked_text text.old) false start context.now.stop)) (2 ^ 64 - 1) ≤ look_count text.new) }
+        (earliest (spot_from go context.now.entry (unset_slots groups)) (places (looked_text old) false start context.now.stop))) }
+    ensures at_most { (old : Counted) (start : ℕ) → IsAskedFrom context.now old text.old start alone → look_count text.new
+        ≤ look_count old + (context.now.stop - start + 1) * length context.now.states.now + (context.now.stop - start + 1) }
+    ensures at_least { IfOk result (λ _. (old : Counted) (start : ℕ) → IsAskedFrom context.now old text.old start alone
+        → (view : View) (go : ℕ → Continuation) → Explains context.now (looked_text old) view go
+        → min (look_count old + attempted (spot_from go context.now.entry (unset_slots groups))
+        (places (looked_text old) false start context.now.stop)) (2 ^ 64 - 1) ≤ look_count text.new) }
     ensures more { min (look_count text.old) (2 ^ 64 - 1) ≤ look_count text.new }
     ensures same_counter { SameCounter text.old text.new }
 {
-    match by_table_alone(context, text, it, start) {
+    match alone {
         Alone::Found { start, end } => Ok(Some((start, end))),
         Alone::NoMatch => Ok(None),
         Alone::Unknown(unknown) => {

@@ -64,9 +64,10 @@ impl Passing {
         }
     }
 
-    /// How starts are passed over by the characters before them: no match begins after a character that is marked in `refused`, nor after
-    /// one that is not ASCII. `first` and `second` are the marks of the first and the second characters of matches. `None` where the
-    /// characters before that are not marked are as common as the first or the second ones of matches, or not in few ranges.
+    /// How starts are passed over by the characters before them: those that are marked in `refused`, and those that are not ASCII.
+    /// `first` and `second` are the marks of the first and the second characters of matches. No clause says when there is an answer:
+    /// `None` is meant for where the characters before that are not marked are as common as the first or the second ones of matches,
+    /// or not in few ranges.
     pub fn before_of(
         refused: &Option<[bool; 128]>,
         first: &[bool; 128],

@@ -36,8 +36,8 @@ impl RegularStates {
     ghost use Rattle.fancy_regex_info.specs.declared.info.Info.{out-Info};
     ghost use Rattle.fancy_regex_info.specs.Views.{pattern_in};
 
-    /// Whether an analyzed pattern becomes such states: its weight is at most 4,000, and it has no more than characters, assertions but
-    /// `\Z`, `(*FAIL)`, look-behinds for one character, look-aheads, groups, atomic groups, alternations and repeats of these.
+    /// Whether an analyzed pattern becomes such states: its weight is at most 4,000, and it has no more than characters, `(*FAIL)`, all
+    /// assertions except `\Z`, look-behinds for one character, look-aheads, groups, atomic groups, alternations and repeats of these.
     pub fn are_made_for(info: &Info<'_>) -> bool
         ensures regular { result ≡ true → IsRegular (tree_of (out-Info info.now).expr.now) }
         ensures exact { (explicit : Bool) (t : Tree) → info_of info.now ≡ analysis explicit t
@@ -49,8 +49,8 @@ impl RegularStates {
         is_regular(info.expr)
     }
 
-    /// The states of an analyzed pattern; `None` where it becomes none (`are_made_for`). The error is `InnerError` with the text of a
-    /// class that `regex` refuses, or `Memory`.
+    /// The states of an analyzed pattern; `None` where it becomes none (`are_made_for`): then there is no error. The error is
+    /// `InnerError` with the text of a class that `regex` refuses, or `Memory`.
     pub fn new(
         alloc: Global,
         info: &Info<'_>,
@@ -64,6 +64,8 @@ impl RegularStates {
         ensures exact { IfOk result (λ found. (explicit : Bool) (t : Tree) → info_of info.now ≡ analysis explicit t
             → (IsSome found ↔ IsMadeFor (pattern_in explicit t))) }
         ensures refused { IfErr result (IsClassCause options.now.unicode (classes (tree_of (out-Info info.now).expr.now))) }
+        ensures only { IfErr result (λ _. (explicit : Bool) (t : Tree) → info_of info.now ≡ analysis explicit t
+            → IsMadeFor (pattern_in explicit t)) }
     {
         if !RegularStates::are_made_for(info) {
             return Ok(None);

@@ -79,8 +79,8 @@ pub enum Strategy {
         /// offset.
         run_options: RunOptions,
     },
-    /// The backtracking program of a pattern that refers to no matched text and has no groups in look-aheads and atomic groups, with the
-    /// states that answer where a run of the program exhausts its allowance or meets a limit.
+    /// The backtracking program of a pattern that refers to no matched text, with the states that answer where a run of the program
+    /// exhausts its allowance or meets a limit.
     Regular {
         /// The states.
         regular: Regular,
@@ -220,32 +220,32 @@ fn run_program(
     requires first { IsCharBoundary text.now input.now.first }
     requires range { input.now.range.end ≤ length text.now }
     requires whole { run.now.prog.now.whole ≡ true }
-    ensures answer { IfOk result (λ told. IfOk told (λ found. (o : RegexOptions) (t : Tree)
+    ensures answer { IfOk result (λ ended. IfOk ended (λ found. (o : RegexOptions) (t : Tree)
         → IsProgramFor run.now.prog.now run.now.options.now o t
         → option_map found_parts found ≡ option_map (wanted_parts wanted (pattern_of t))
         (first_match (setting_for o.unicode_mode text.now input.now) (pattern_of t) (search_of o input.now)))) }
-    ensures limits { IfOk result (λ told. IfErr told (λ e. (o : RegexOptions) (t : Tree)
+    ensures limits { IfOk result (λ ended. IfErr ended (λ e. (o : RegexOptions) (t : Tree)
         → IsProgramFor run.now.prog.now run.now.options.now o t
         → IsSearchError false o.backtrack_limit (run_choices o text.now input.now t) (from_runtime_error e))) }
-    ensures passed { IfOk result (λ told. IfErr told (λ e. (o : RegexOptions) (t : Tree)
+    ensures passed { IfOk result (λ ended. IfErr ended (λ e. (o : RegexOptions) (t : Tree)
         → IsProgramFor run.now.prog.now run.now.options.now o t
         → IsStrategyError (strategies.Program run.now.prog.now run.now.options.now) o text.now input.now (from_runtime_error e))) }
-    ensures stays { IfOk result (λ told. IfOk told (λ _. (o : RegexOptions)
+    ensures stays { IfOk result (λ ended. IfOk ended (λ _. (o : RegexOptions)
         → RunsUnder (strategies.Program run.now.prog.now run.now.options.now) o
         → StrategyStaysInLimits (strategies.Program run.now.prog.now run.now.options.now) o text.now input.now)) }
     ensures bounded { IfErr result (λ _. IsBounded run.now.allowance) }
 {
     match wanted {
         MatchDetail::Span => {
-            let told = run_spans_within(alloc, run, text, input, memory)?;
-            match told {
+            let ended = run_spans_within(alloc, run, text, input, memory)?;
+            match ended {
                 Ok(span) => Ok(Ok(found_span(alloc, span))),
                 Err(error) => Ok(Err(error)),
             }
         }
         MatchDetail::Groups => {
-            let told = run_within(alloc, run, text, input, memory)?;
-            match told {
+            let ended = run_within(alloc, run, text, input, memory)?;
+            match ended {
                 Ok(slots) => Ok(Ok(found_groups(slots))),
                 Err(error) => Ok(Err(error)),
             }

@@ -28,9 +28,8 @@ impl PartTable {
     ghost use Rattle.fancy_regex_states.specs.First.{state_at};
     ghost use Rattle.fancy_regex_parts.specs.Tables.{IsTable, IsRightAt, mark_of, cost_of, due as due_is, owed as owed_is, table_weight};
 
-    /// The table of these states; `None` exactly where a state leads to one that is not there. A state leads to earlier states, but for
-    /// the heads of loops: so few are marked. Where that does not do, since states that are not marked lead in a circle, or cost more than
-    /// there are states, all are marked. The error is want of memory.
+    /// The table of these states; `None` exactly where a state leads to one that is not there. Those to which two lead and the heads of
+    /// loops are marked, or all where these do not do; no clause says which. The error is want of memory.
     pub fn new(alloc: Global, states: Vec<State>) -> Result<Option<PartTable>, AllocError>
         ensures made { IfOk result (λ made. IfSome made (λ table. IsTable table × (table.states.items ≡ states.items))) }
         ensures exact { IfOk result (λ made. IsSome made ↔ AreClosed states.items) }

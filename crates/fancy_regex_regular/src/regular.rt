@@ -56,7 +56,7 @@ impl Regular {
     ghost use Rattle.fancy_regex_info.specs.Views.{pattern_in};
 
     /// Whether an analyzed pattern becomes states with parts under these options. The first match is wanted then, not the longest, and the
-    /// weight is at most 4,000. The pattern has no more than characters, assertions but `\Z`, `(*FAIL)`, look-behinds for one character,
+    /// weight is at most 4,000. The pattern has no more than characters, `(*FAIL)`, assertions except `\Z`, look-behinds for one character,
     /// look-aheads, groups, atomic groups, alternations and repeats of these.
     pub fn supports(info: &Info<'_>, options: &CompileOptions) -> bool
         ensures exact { (explicit : Bool) (t : Tree) → info_of info.now ≡ analysis explicit t
@@ -81,6 +81,8 @@ impl Regular {
         ensures exact { IfOk result (λ found. (explicit : Bool) (t : Tree) → info_of info.now ≡ analysis explicit t
             → (IsSome found ↔ IsSupported options.now.leftmost_longest (pattern_in explicit t))) }
         ensures refused { IfErr result (IsClassCause options.now.unicode (classes (tree_of (out-Info info.now).expr.now))) }
+        ensures only { IfErr result (λ _. (explicit : Bool) (t : Tree) → info_of info.now ≡ analysis explicit t
+            → IsSupported options.now.leftmost_longest (pattern_in explicit t)) }
     {
         if !Regular::supports(info, options) {
             return Ok(None);

@@ -12,11 +12,12 @@ ghost use Rattle.fancy_regex_search.specs.CaptureSpans.{span_in, AreGroupsOf, Is
 
 use crate::capture_matches::CaptureMatches;
 use crate::captures::Captures;
+use crate::group_spans::{find_match, whole_match};
 use crate::matches::Matches;
 use crate::regex::Regex;
 use fancy_regex_class::Steps;
 use fancy_regex_input::{Input, RegexInput};
-use fancy_regex_meta::{MetaMemory, Result};
+use fancy_regex_meta::{MatchDetail, MetaMemory, Result};
 use std::alloc::Global;
 
 impl Regex {
@@ -79,7 +80,12 @@ impl Regex {
         ensures stays { IfOk result (λ _. MetaStaysInLimits self.now.meta (S.text haystack) (whole (S.text haystack)) false) }
     {
         let input = RegexInput::new(haystack);
-        self.find_counted_in(alloc, input, &mut Steps::new(), &mut MetaMemory::new(alloc))
+        let steps = &mut Steps::new();
+        let memory = &mut MetaMemory::new(alloc);
+        match find_match(alloc, self, &input, false, MatchDetail::Span, steps, memory)? {
+            Some(found) => Ok(Some(whole_match(input.haystack(), &found))),
+            None => Ok(None),
+        }
     }
 
     /// The first match that starts at the byte offset `position` or later; `None` if there is none. `\G` matches at `position`,
@@ -140,8 +146,9 @@ impl Regex {
     }
 
     /// `find_input` that also counts, for a plain pattern: one without look-around, reference or other fancy part, in a regex whose
-    /// empty matches are wanted. The counter is raised by one each time the linear-time matcher inspects a position of the haystack,
-    /// also if memory runs out, and it never falls. For every other pattern it stays as it is, also where the linear-time matcher
+    /// empty matches are wanted. Each time the linear-time matcher inspects a position of the haystack is meant to raise the counter by
+    /// one. What is proved is how much it rises at most, also if memory runs out, and that it rises at least once for each start that is
+    /// tried, where there is an answer; it never falls. For every other pattern it stays as it is, also where the linear-time matcher
     /// runs it.
     ///
     /// # Errors

@@ -118,8 +118,8 @@ fn shorten(values: &[usize], room: &mut [usize], log: &mut Vec<OldValue>, start:
     let saved = &mut room[..values.len()];
     saved.copy_from_slice(values);
     undo(saved, &log[start..]);
-    let kept = log_changes(values, saved, &mut log[start..]);
-    log.truncate(start + kept);
+    let written = log_changes(values, saved, &mut log[start..]);
+    log.truncate(start + written);
 }
 
 /// Writes to the front of `log` an entry for each slot that has another value in `saved` than in `values`, and returns how
@@ -131,15 +131,15 @@ fn log_changes(values: &[usize], saved: &[usize], log: &mut [OldValue]) -> usize
     ensures undone { undone values.now (take result log.new) ≡ saved.now }
     ensures logged { AreLogged (length values.now) (take result log.new) }
 {
-    let mut kept = 0;
+    let mut written = 0;
     for (slot, value) in saved.iter().enumerate() {
         if values[slot] != *value {
-            log[kept] = OldValue {
+            log[written] = OldValue {
                 slot,
                 value: *value,
             };
-            kept += 1;
+            written += 1;
         }
     }
-    kept
+    written
 }

@@ -5,7 +5,7 @@ use Rattle.std.proofs.lemmas.Bool.{cases_lt}
 use Rattle.std.specs.Prelude.{Option, Contains}
 use Rattle.fancy_regex_class.specs.declared.class.CharClassMatcher.{CharClassMatcher}
 use Rattle.fancy_regex_states.specs.First.{state_at, Extends}
-use Rattle.fancy_regex_states.specs.Before.{CannotBeginAfter, IsMeant, IsSilent, LeadsAfter, ReachesAfter, here, onward}
+use Rattle.fancy_regex_states.specs.Before.{CannotBeginAfter, IsMeant, OnlyLeadsOn, LeadsAfter, ReachesAfter, here, onward}
 use Rattle.fancy_regex_states.specs.declared.state.State.{State}
 use Rattle.fancy_regex_states.proofs.FirstLemmas.{contains_more}
 
@@ -13,14 +13,14 @@ module _ (unicode : Bool) (matchers : List CharClassMatcher) (states : List Stat
   -- what the first of these states lead to is in the list, and none of them reads or is final
   pub record LeadAfterInto (found : List ℕ) (done : ℕ) : Type 0 where
     pub into : (k p c : ℕ) → k < done → IsMeant character c → LeadsAfter unicode matchers c (state_at states (get_or found k 0)) p → Contains found p
-    pub silent : (k : ℕ) → k < done → IsSilent (state_at states (get_or found k 0))
+    pub leads_on : (k : ℕ) → k < done → OnlyLeadsOn (state_at states (get_or found k 0))
 
   -- the next state's numbers are there too
   pub after_more : (old new : List ℕ) (done : ℕ) → Extends old new → done < length old → LeadAfterInto old done
-      → IsSilent (state_at states (get_or old done 0))
+      → OnlyLeadsOn (state_at states (get_or old done 0))
       → ((c p : ℕ) → IsMeant character c → LeadsAfter unicode matchers c (state_at states (get_or old done 0)) p → Contains new p)
       → LeadAfterInto new (done + 1)
-  after_more old new done more lt have silent successors =
+  after_more old new done more lt have leads_on successors =
       let same : (k : ℕ) → k < done → get_or new k 0 ≡ get_or old k 0 = λ k less. more.1 k (omega arith) in
       let last : (k : ℕ) → k < done + 1 → done ≤ k → get_or new k 0 ≡ get_or old done 0 = λ k below ge.
       let is : k ≡ done = omega arith in more.1 k (omega arith) ∙ subst (λ (m : ℕ). get_or old k 0 ≡ get_or old m 0) is refl in
@@ -30,10 +30,10 @@ module _ (unicode : Bool) (matchers : List CharClassMatcher) (states : List Stat
               | inl less ↦ contains_more old new p more (have.into k p c less meant (subst (λ (m : ℕ). LeadsAfter unicode matchers c (state_at states m) p) (same k less) leads))
               | inr ge ↦ successors c p meant (subst (λ (m : ℕ). LeadsAfter unicode matchers c (state_at states m) p) (last k below ge) leads)
             ];
-        silent = λ k below.
+        leads_on = λ k below.
             elim (cases_lt k done) [
-              | inl less ↦ subst (λ (m : ℕ). IsSilent (state_at states m)) (sym (same k less)) (have.silent k less)
-              | inr ge ↦ subst (λ (m : ℕ). IsSilent (state_at states m)) (sym (last k below ge)) silent
+              | inl less ↦ subst (λ (m : ℕ). OnlyLeadsOn (state_at states m)) (sym (same k less)) (have.leads_on k less)
+              | inr ge ↦ subst (λ (m : ℕ). OnlyLeadsOn (state_at states m)) (sym (last k below ge)) leads_on
             ];
       }
 
@@ -50,7 +50,7 @@ module _ (unicode : Bool) (matchers : List CharClassMatcher) (states : List Stat
       → CannotBeginAfter unicode matchers states entry c
   none_after found done c all meant first have q from =
       let there = reached_after found done c all meant first have from in
-      subst (λ (m : ℕ). IsSilent (state_at states m)) (get_or_default found there.0 0 q there.1 ∙ there.2) (have.silent there.0 (omega (arith, all, there.1)))
+      subst (λ (m : ℕ). OnlyLeadsOn (state_at states m)) (get_or_default found there.0 0 q there.1 ∙ there.2) (have.leads_on there.0 (omega (arith, all, there.1)))
 
 -- no character that is not ASCII ends a line
 pub line_not : (crlf : Bool) (k : ℕ) → 128 ≤ k → (k == 10 || (crlf && k == 13)) ≡ false

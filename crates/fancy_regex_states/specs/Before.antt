@@ -39,15 +39,15 @@ pub data ReachesAfter (unicode : Bool) (matchers : List CharClassMatcher) (state
   onward : (q p : ℕ) → ReachesAfter unicode matchers states entry c q → LeadsAfter unicode matchers c (state_at states q) p
       → ReachesAfter unicode matchers states entry c p
 
--- the state neither reads nor is final
-abbrev pub IsSilent : State → Type 0
-IsSilent (S.Read leaf next) = ⊥
-IsSilent Match = ⊥
-IsSilent _ = Unit {0}
+-- the state neither reads nor is final: it only leads on
+abbrev pub OnlyLeadsOn : State → Type 0
+OnlyLeadsOn (S.Read leaf next) = ⊥
+OnlyLeadsOn Match = ⊥
+OnlyLeadsOn _ = Unit {0}
 
 -- no match that begins at the entry begins after this character
 abbrev pub CannotBeginAfter : Bool → List CharClassMatcher → List State → ℕ → ℕ → Type 0
-CannotBeginAfter unicode matchers states entry c = (q : ℕ) → ReachesAfter unicode matchers states entry c q → IsSilent (state_at states q)
+CannotBeginAfter unicode matchers states entry c = (q : ℕ) → ReachesAfter unicode matchers states entry c q → OnlyLeadsOn (state_at states q)
 
 -- no match begins after an ASCII character that is marked, nor after any other character
 pub record RefusesAfter (unicode : Bool) (matchers : List CharClassMatcher) (states : List State) (entry : ℕ) (marks : List Bool) : Type 0 where

@@ -3,7 +3,7 @@
 ghost use Rattle.std.specs.Prelude.{◌≡◌, ◌==◌, ◌&&◌, ◌||◌, ℕ, true, false, not, Contains, IfOk, IfSome, OnOk};
 ghost use Rattle.fancy_regex_states.specs.CharTests.{leaf_matches_char};
 ghost use Rattle.fancy_regex_states.specs.First.{Extends};
-ghost use Rattle.fancy_regex_states.specs.Before.{may_pass, CannotBeginAfter, IsMeant, IsSilent, LeadsAfter, RefusesAfter};
+ghost use Rattle.fancy_regex_states.specs.Before.{may_pass, CannotBeginAfter, IsMeant, OnlyLeadsOn, LeadsAfter, RefusesAfter};
 
 use crate::atom::{Leaf, Test};
 use crate::char_tests::{is_ascii_leaf, leaf_matches};
@@ -21,8 +21,9 @@ struct Before<'p> {
     character: Option<char>,
 }
 
-/// For each ASCII character whether no match that begins at the entry begins after it, by the assertions before its first character;
-/// `None` where one may begin after a character that is not ASCII. The error is want of memory.
+/// Marks ASCII characters after which no match begins at the entry, by the assertions before its first character. Where there are
+/// marks, none begins after a character that is not ASCII. No clause says which characters are marked, or that there are marks: `None`
+/// is meant for where a match may begin after a character that is not ASCII. The error is want of memory.
 pub fn refused_after(
     alloc: Global,
     states: &[State],
@@ -55,7 +56,8 @@ pub fn refused_after(
     Ok(Some(refused))
 }
 
-/// Whether no way from the entry reads or ends after this. `found` may hold anything: it serves as memory. The error is want of memory.
+/// True only where no way from the entry reads or ends after this. `found` may hold anything: it serves as memory. The error is want of
+/// memory.
 fn refuses(
     found: &mut Vec<usize>,
     states: &[State],
@@ -75,20 +77,20 @@ fn refuses(
         if number >= states.len() {
             return Ok(false);
         }
-        let is_silent = add_successors(found, states[number], before)?;
-        if !is_silent {
+        let only_leads_on = add_successors(found, states[number], before)?;
+        if !only_leads_on {
             return Ok(false);
         }
     }
     Ok(false)
 }
 
-/// Adds the numbers of the states that this one leads to after this; returns whether it neither reads nor is final. The error is want
-/// of memory.
+/// Adds the numbers of the states that this one leads to after this. True only where it neither reads nor is final, but leads on. The
+/// error is want of memory.
 fn add_successors(found: &mut Vec<usize>, state: State, before: Before) -> Result<bool, AllocError>
     ensures extends { OnOk result (Extends found.old.items found.new.items) }
-    ensures silent { IfOk result (λ silent. silent ≡ true → IsSilent state) }
-    ensures successors { IfOk result (λ silent. silent ≡ true → (c p : ℕ) → IsMeant before.entry.character c
+    ensures leads_on { IfOk result (λ only. only ≡ true → OnlyLeadsOn state) }
+    ensures successors { IfOk result (λ only. only ≡ true → (c p : ℕ) → IsMeant before.entry.character c
         → LeadsAfter before.entry.unicode before.entry.matchers.now c state p → Contains found.new.items p) }
 {
     match state {

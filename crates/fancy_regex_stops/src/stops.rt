@@ -44,7 +44,7 @@ impl Stops {
         None
     }
 
-    /// The first byte offset from `from` on of a byte at which a search stops, or one behind which fewer than sixteen bytes are left.
+    /// The first byte offset from `from` on of a byte at which a search stops, or one from which on fewer than sixteen are left.
     // Not inlined: the loop alone keeps its values in registers.
     #[inline(never)]
     pub fn until(&self, bytes: &[u8], from: usize) -> usize
@@ -65,7 +65,7 @@ impl Stops {
     }
 
     /// The first byte offset from `from` on of a byte at which a search stops, before one at which the search for a second one does, or
-    /// one behind which fewer than seventeen bytes are left.
+    /// one from which on fewer than seventeen are left.
     #[inline(never)]
     pub fn pairs_until(&self, second: &Stops, bytes: &[u8], from: usize) -> usize
         requires { from ≤ length bytes.now }
@@ -175,7 +175,7 @@ fn ranges_of(marked: &[bool; 128]) -> Option<[ByteRange; 3]> {
     Some([first, second, third])
 }
 
-/// The first range from this code on of ASCII characters that are not marked, and the code behind it.
+/// The first range from this code on of ASCII characters that are not marked, and the code after it.
 fn range_from(marked: &[bool; 128], from: usize) -> Option<(ByteRange, usize)> {
     let low = run_end(marked, from, true);
     if low >= marked.len() {

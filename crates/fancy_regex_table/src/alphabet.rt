@@ -110,8 +110,8 @@ fn class_for(
 ) -> Result<usize, AllocError>
     ensures kept { KeepsSamples samples.old.items samples.new.items }
     ensures long { length samples.new.items ≤ length samples.old.items + 1 }
-    ensures class { IfOk result (HasClass tests.now.reader.now.unicode tests.now.reader.now.matchers.now tests.now.leaves.now tests.now.asked
-        samples.new.items c) }
+    ensures class { IfOk result
+        (HasClass tests.now.reader.now.unicode tests.now.reader.now.matchers.now tests.now.leaves.now tests.now.asked samples.new.items c) }
 {
     let hash = hash_of(tests.reader, tests.leaves, c);
     if let Some(class) = class_of(tests, samples, hashes, hash, c) {

@@ -15,7 +15,7 @@ use std::alloc::{AllocError, Global};
 use std::borrow::CowStr;
 
 /// Appends a character of an escaped template: twice if it is the sign.
-fn push_doubled(out: &mut String, syntax: TemplateSyntax, c: char) -> Result<(), AllocError>
+fn push_template_char(out: &mut String, syntax: TemplateSyntax, c: char) -> Result<(), AllocError>
     ensures { OnOk result (chars (string_bytes out.new) ≡ chars (string_bytes out.old) ++ doubled_if_sign syntax c) }
 {
     push(out, c)?;
@@ -42,7 +42,7 @@ pub fn escape_template(
     }
     let mut out = empty(alloc);
     for c in text.chars() {
-        push_doubled(&mut out, syntax, c)?;
+        push_template_char(&mut out, syntax, c)?;
     }
     Ok(CowStr::Owned(out))
 }

@@ -19,8 +19,8 @@ returns-then-is_empty-clause-value c = sym (run_stays c.args.syntax (chars c.arg
 pub returns-then-is_empty-clause-borrowed : goal.returns-then-is_empty-clause-borrowed
 returns-then-is_empty-clause-borrowed c = (λ _. no_sign c, λ _. tt)
 
-pub returns-in_err-push_doubled-clause-succeeds : goal.returns-in_err-push_doubled-clause-succeeds
-returns-in_err-push_doubled-clause-succeeds c all = absurd (
+pub returns-in_err-push_template_char-clause-succeeds : goal.returns-in_err-push_template_char-clause-succeeds
+returns-in_err-push_template_char-clause-succeeds c all = absurd (
     not_all_pass (is_no_sign c.args.syntax) (chars c.args.text.now) (chars c.split_literal.result.1.now) (ap (λ x. x.1) c.split_literal.ensures)
     (sym c.is_empty.ensures ∙ c.if-is_empty.false) all)
 

@@ -5,7 +5,10 @@ use Rattle.fancy_regex_info.specs.declared.info.Info.{out-Info}
 use Rattle.fancy_regex_linear.specs.Re.{Re, shape}
 use Rattle.fancy_regex_linear.specs.Program.{emitted, IsSound}
 use Rattle.fancy_regex_linear.specs.Plain.{IsRegular, classes, re_of}
+use Rattle.fancy_regex_info.specs.Analysis.{analysis}
+use Rattle.fancy_regex_info.specs.Infos.{info_of}
 use Rattle.fancy_regex_info.specs.Views.{pattern_in}
+use Rattle.fancy_regex_linear.specs.RegularStates.{IsMadeFor}
 use Rattle.fancy_regex_linear.specs.Easy.{HaveMatchers}
 use Rattle.fancy_regex_linear.specs.Refusals.{IsClassCause}
 use Rattle.fancy_regex_linear.specs.Translation.{Extends}
@@ -60,4 +63,22 @@ pub returns-in_err-translated-clause-refused : goal.returns-in_err-translated-cl
 returns-in_err-translated-clause-refused c =
     let cause : IsClassCause c.args.options.now.unicode (classes (tree_of (out-Info c.args.info.now).expr.now)) c.in_err-translated.field-0.0 =
     rw c.new-translator.ensures.unicode at c.in_err-translated.ensures.refused in
+    search rules
+
+pub returns-in_err-translated-clause-only : goal.returns-in_err-translated-clause-only
+returns-in_err-translated-clause-only c =
+    let only : (explicit : Bool) (t : Tree) → info_of c.args.info.now ≡ analysis explicit t → IsMadeFor (pattern_in explicit t) =
+    λ explicit t is. (c.are_made_for.ensures.exact explicit t is).0 c.if-not-are_made_for.false in
+    search rules
+
+pub returns-in_err-add-clause-only : goal.returns-in_err-add-clause-only
+returns-in_err-add-clause-only c =
+    let only : (explicit : Bool) (t : Tree) → info_of c.args.info.now ≡ analysis explicit t → IsMadeFor (pattern_in explicit t) =
+    λ explicit t is. (c.are_made_for.ensures.exact explicit t is).0 c.if-not-are_made_for.false in
+    search rules
+
+pub returns-in_err-entry-clause-only : goal.returns-in_err-entry-clause-only
+returns-in_err-entry-clause-only c =
+    let only : (explicit : Bool) (t : Tree) → info_of c.args.info.now ≡ analysis explicit t → IsMadeFor (pattern_in explicit t) =
+    λ explicit t is. (c.are_made_for.ensures.exact explicit t is).0 c.if-not-are_made_for.false in
     search rules

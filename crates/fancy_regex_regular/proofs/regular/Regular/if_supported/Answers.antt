@@ -1,8 +1,11 @@
-use Rattle.std.proofs.Common.{◌∙◌, ℕ, ◌==◌, length, not, sym, ap, arith, true≢false, refl}
+use Rattle.std.proofs.Common.{◌≡◌, ◌∙◌, Bool, rules, ℕ, ◌==◌, length, not, sym, ap, arith, true≢false, refl}
+use Rattle.fancy_regex_tree.specs.Tree.{Tree}
+use Rattle.fancy_regex_info.specs.Analysis.{analysis}
 use Rattle.fancy_regex_info.specs.Infos.{info_of}
 use Rattle.fancy_regex_info.specs.Views.{pattern_in}
 use Rattle.fancy_regex_regular.proofs.BuildLemmas.{groups_are, first_is}
 use Rattle.fancy_regex_regular.proofs.ExactLemmas.{entry_inside, states_closed, made_in}
+use Rattle.fancy_regex_regular.specs.Supported.{IsSupported}
 use Rattle.fancy_regex_regular.proofs.regular.Regular.if_supported.Goals as goal
 
 pub invariant_of-result-clause-right : goal.invariant_of-result-clause-right
@@ -48,3 +51,15 @@ returns-in_default-clause-exact c explicit t is = (
 pub returns-then-not-supports-clause-exact : goal.returns-then-not-supports-clause-exact
 returns-then-not-supports-clause-exact c explicit t is =
     (λ some. absurd (true≢false (sym some)), λ supported. absurd (true≢false (sym ((c.supports.ensures.exact explicit t is).1 supported) ∙ c.if-not-supports.true)))
+
+pub returns-in_err-found-clause-only : goal.returns-in_err-found-clause-only
+returns-in_err-found-clause-only c =
+    let only : (explicit : Bool) (t : Tree) → info_of c.args.info.now ≡ analysis explicit t → IsSupported c.args.options.now.leftmost_longest (pattern_in explicit t) =
+    λ explicit t is. (c.supports.ensures.exact explicit t is).0 c.if-not-supports.false in
+    search rules
+
+pub returns-in_err-built-clause-only : goal.returns-in_err-built-clause-only
+returns-in_err-built-clause-only c =
+    let only : (explicit : Bool) (t : Tree) → info_of c.args.info.now ≡ analysis explicit t → IsSupported c.args.options.now.leftmost_longest (pattern_in explicit t) =
+    λ explicit t is. (c.supports.ensures.exact explicit t is).0 c.if-not-supports.false in
+    search rules
