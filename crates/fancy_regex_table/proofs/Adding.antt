@@ -78,7 +78,7 @@ sort_same (Open a own later found) (Fresh b) same = absurd same
 sort_same (Open a own later found) (Open b own2 later2 found2) same = same.0
 
 pub goes_to_number : {s : Search} {after : Sort} {at next start last : ℕ} {begins ends : Bool} {row : Row} (rows : List Row) (number : ℕ)
-    → IsNumberOf rows row number → GoesTo s after at next start last begins ends row → GoesToRow s rows after at next start last begins ends number
+    → IsNumberOf rows row number → GoesTo s after at next start last begins ends row → GoesToRow s (slice_get rows) after at next start last begins ends number
 goes_to_number {s} {after} {at} {next} {start} {last} {begins} {ends} {row} rows number is goes = record {
   row = is.same;
   is_there = is.is_there;

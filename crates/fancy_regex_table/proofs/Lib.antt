@@ -3,6 +3,7 @@ pub mod CloseLemmas
 pub mod StepLemmas
 pub mod TargetLemmas
 pub mod Adding
+pub mod FlatLemmas
 pub mod MakingLemmas
 pub mod MakerLemmas
 pub mod LeafSetLemmas

@@ -1,22 +1,24 @@
 -- The table that is made of its parts.
-use Rattle.std.proofs.Common.{◌≡◌, ◌∙◌, ℕ, ◌<◌, Bool, List, ◌∷◌, ◌++◌, [], length, Option, Some, None, refl, sym, ap, subst, arith, get_or, Vec}
+use Rattle.std.proofs.Common.{◌≡◌, ◌∙◌, ℕ, ◌+◌, ◌*◌, ◌<◌, ◌≤◌, Bool, List, ◌∷◌, ◌++◌, [], length, Option, Some, None, refl, sym, ap, subst, inl, inr, Vec}
 use Rattle.std.specs.Prelude.{slice_index, slice_get, IfSome}
-use Rattle.std.proofs.lemmas.Option.{slice_get_within, slice_get-get_or}
+use Rattle.std.proofs.lemmas.Option.{slice_get_within}
 use Rattle.std.specs.declared.alloc.Global.{Global}
 use Rattle.fancy_regex_class.specs.declared.class.CharClassMatcher.{CharClassMatcher}
 use Rattle.fancy_regex_states.specs.First.{state_at}
 use Rattle.fancy_regex_states.specs.declared.state.State.{State}
 use Rattle.fancy_regex_states.specs.declared.state.State.TheVariants as S
 use Rattle.fancy_regex_table.specs.Alphabets.{IsAlphabetOf}
-use Rattle.fancy_regex_table.specs.ByClass.{AreByClass}
-use Rattle.fancy_regex_table.specs.Cells.{Parts}
+use Rattle.fancy_regex_table.specs.Cells.{Parts, IsRight, IsRightBy, TellsBy}
+use Rattle.fancy_regex_table.specs.Flat.{IsFlatCell, AreFlat, ArePlaced}
 use Rattle.fancy_regex_table.specs.Made.{IsMadeOf}
 use Rattle.fancy_regex_table.specs.Making.{AreColumnsOf, ReadsAlike}
 use Rattle.fancy_regex_table.specs.Tables.{IsTable, HasColumn, IsFreshRow, AreBegins}
 use Rattle.fancy_regex_table.proofs.Adding.{pushed}
+use Rattle.fancy_regex_table.proofs.FlatLemmas.{row_at, has_number, tells_placed, fresh_placed}
 use Rattle.fancy_regex_table.specs.declared.alphabet.Alphabet.{Alphabet}
 use Rattle.fancy_regex_table.specs.declared.columns.Column.{Column}
 use Rattle.fancy_regex_table.specs.declared.row.Cell.{Cell}
+use Rattle.fancy_regex_table.specs.declared.row.Row.{Row}
 use Rattle.fancy_regex_table.specs.declared.rows.FreshRow.{FreshRow}
 
 alike_same : (unicode : Bool) (matchers : List CharClassMatcher) (c : Option ℕ) (state : State) → ReadsAlike unicode matchers c c state
@@ -55,26 +57,41 @@ module _ (parts : Parts) (columns : List Column) (alphabet : Alphabet) (is_alpha
             (alike_same parts.unicode parts.matchers None (state_at parts.states q));
       }
 
-  pub table_is : (cells : Vec (Vec Cell Global) Global) (made_cells : List (Vec Cell Global)) (fresh : Vec FreshRow Global)
-      (begins : Vec (Option ℕ) Global) (is_whole : Bool)
-      → IsMadeOf parts columns made_cells fresh.items → length cells.items ≡ length columns → AreByClass made_cells cells.items
-      → AreBegins columns fresh.items begins.items
-      → IsTable parts (record { cells = cells; ascii = alphabet.ascii; asked = alphabet.asked; unicode = parts.unicode; fresh = fresh; begins = begins; is_whole = is_whole })
-  table_is cells made_cells fresh begins is_whole made long by_class are_begins = record {
-    rows = made.rows;
+  many : 0 < length columns
+  many = slice_get_within columns 0 end_column.column end_column.is_there
+
+  -- a cell of the list is right
+  cell_is : (made_cells : List (Vec Cell Global)) (fresh : List FreshRow) (made : IsMadeOf parts columns made_cells fresh) (number class : ℕ) (row : Row) (column : Column) (cell : Cell)
+      → slice_get made.rows number ≡ Some row → slice_get columns class ≡ Some column → IsFlatCell made_cells (length columns) number class cell
+      → IsRightBy parts (row_at made.rows (length columns)) row column.sort column.sample cell
+  cell_is made_cells fresh made number class row column cell there column_is (inl none) s at next start last place is_in =
+      subst (λ (x : Cell). TellsBy s (row_at made.rows (length columns)) column.sort at next start last x) (sym none) tt
+  cell_is made_cells fresh made number class row column cell there column_is (inr is) s at next start last place is_in =
+      let it = made.right number is.row is.is_there in
+      let two : Some it.row ≡ Some row = sym it.is_there ∙ there in
+      let one : it.row ≡ row = cc in
+      let right = subst (λ (r : Row). IsRight parts made.rows r column.sort column.sample is.made) one (it.right class column is.made column_is is.is_made) in
+      subst (λ (x : Cell). TellsBy s (row_at made.rows (length columns)) column.sort at next start last x) (sym is.is_placed)
+      (tells_placed s made.rows (length columns) many column.sort at next start last is.made (right s at next start last place is_in))
+
+  pub table_is : (cells : Vec Cell Global) (classes : List ℕ) (made_cells : List (Vec Cell Global)) (made_fresh : List FreshRow) (fresh : Vec FreshRow Global)
+      (begins : Vec (Option ℕ) Global) (is_whole : Bool) (beyond : (b : ℕ) → 128 ≤ b → b < 256 → length cells.items ≤ slice_index classes b)
+      → IsMadeOf parts columns made_cells made_fresh → AreFlat made_cells (length columns) cells.items → ArePlaced (length columns) made_fresh fresh.items
+      → AreBegins columns fresh.items begins.items → ((c : ℕ) → c < 128 → slice_index classes c ≡ slice_index alphabet.ascii c)
+      → IsTable parts (record { cells = cells; classes = classes; asked = alphabet.asked; unicode = parts.unicode; fresh = fresh; begins = begins; is_whole = is_whole; beyond = beyond })
+  table_is cells classes made_cells made_fresh fresh begins is_whole beyond made flat placed are_begins small = record {
+    rows = row_at made.rows (length columns);
     columns = columns;
     unicode = refl;
     asks = is_alphabet.asks;
-    cells = λ class list number cell a b.
-        let here = by_class class list a number cell b in
-        let row = made.right number here.made here.is_there in
-        let within = slice_get_within cells.items class list a in
-        let column = get_or columns class end_column.column in
-        let column_is = slice_get-get_or columns class end_column.column (omega arith) in
-        record { row = row.row; column = column; row_is = row.is_there; column_is = column_is; right = row.right class column cell column_is here.is_cell };
-    fresh = made.fresh_rows;
+    cells = λ place class row column cell row_is column_is there.
+        let has = has_number made.rows (length columns) place row row_is in
+        let at : place + class ≡ has.number * length columns + class = ap (λ (p : ℕ). p + class) has.place_is in
+        cell_is made_cells made_fresh made has.number class row column cell has.is_there column_is
+        (flat (place + class) cell there has.number class (slice_get_within columns class column column_is) at);
+    fresh = fresh_placed made.rows (length columns) made_fresh fresh.items many made.fresh_rows placed;
     begins = are_begins;
-    ascii = ascii_column;
+    ascii = λ c lt. subst (HasColumn parts columns alphabet.asked (Some c)) (sym (small c lt)) (ascii_column c lt);
     end = end_column;
   }
 

@@ -29,7 +29,7 @@ pub match_noted : {parts : Parts} {rules : Rules} {s : Search} {table : Table} (
     → Stands parts.matchers table.asked table.unicode t.rows s place → (byte : ℕ) → IsAsciiAt s.text place.at byte → place.at < s.stop → IsNoted table byte place.row → HasMatch s
 match_noted {parts} {rules} {s} {table} t search place stands byte here lt noted =
     let h = t.ascii byte noted.small in
-    let class : ℕ = slice_index table.ascii byte in
+    let class : ℕ = slice_index table.classes byte in
     let tells = cell_tells t search place stands class (Some byte) h (place.at + 1) (ascii_place t search place stands byte class noted.small here.here lt h)
     (Next noted.begins true noted.next) noted.found in
     let within : begun_at noted.begins place.at place.start ≤ place.at = begun_within noted.begins place.at place.start stands.order in

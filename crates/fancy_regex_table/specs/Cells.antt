@@ -95,22 +95,29 @@ pub record GoesTo (s : Search) (after : Sort) (at next start last : ℕ) (begins
   pub is_in : IsIn s row next (begun_at begins at start) (begun_at ends at last)
   pub sign : ends ≡ true → is_some (end_at s.go (begun_at begins at start) s.entry) ≡ true
 
--- it is in the row of this number
-pub record GoesToRow (s : Search) (rows : List Row) (after : Sort) (at next start last : ℕ) (begins ends : Bool) (number : ℕ) : Type 0 where
+-- it is in the row of this number, or that begins at this place, whatever numbers rows
+pub record GoesToRow (s : Search) (rows : ℕ → Option Row) (after : Sort) (at next start last : ℕ) (begins ends : Bool) (number : ℕ) : Type 0 where
   pub row : Row
-  pub is_there : slice_get rows number ≡ Some row
+  pub is_there : rows number ≡ Some row
   pub goes : GoesTo s after at next start last begins ends row
 
 -- what the cell says is so
+abbrev pub TellsBy : Search → (ℕ → Option Row) → Sort → ℕ → ℕ → ℕ → ℕ → Cell → Type 0
+TellsBy s rows after at next start last (Next begins ends row) = GoesToRow s rows after at next start last begins ends row
+TellsBy s rows after at next start last Unknown = Unit {0}
+TellsBy s rows after at next start last Empty = IsFirstMatch s at at
+TellsBy s rows after at next start last EndsHere = IsFirstMatch s start at
+TellsBy s rows after at next start last EndsEarlier = IsFirstMatch s start last
+TellsBy s rows after at next start last Idle = NoneBefore s next
+
+-- the same by the numbers of rows in a list
 abbrev pub Tells : Search → List Row → Sort → ℕ → ℕ → ℕ → ℕ → Cell → Type 0
-Tells s rows after at next start last (Next begins ends row) = GoesToRow s rows after at next start last begins ends row
-Tells s rows after at next start last Unknown = Unit {0}
-Tells s rows after at next start last Empty = IsFirstMatch s at at
-Tells s rows after at next start last EndsHere = IsFirstMatch s start at
-Tells s rows after at next start last EndsEarlier = IsFirstMatch s start last
-Tells s rows after at next start last Idle = NoneBefore s next
+Tells s rows after at next start last cell = TellsBy s (slice_get rows) after at next start last cell
 
 -- the cell tells what is so wherever the search is in the row and such a character stands
+abbrev pub IsRightBy : Parts → (ℕ → Option Row) → Row → Sort → Option ℕ → Cell → Type 0
+IsRightBy parts rows row after c cell = (s : Search) (at next start last : ℕ) → IsPlace parts s (sort_before row) after c at next
+    → IsIn s row at start last → TellsBy s rows after at next start last cell
+
 abbrev pub IsRight : Parts → List Row → Row → Sort → Option ℕ → Cell → Type 0
-IsRight parts rows row after c cell = (s : Search) (at next start last : ℕ) → IsPlace parts s (sort_before row) after c at next
-    → IsIn s row at start last → Tells s rows after at next start last cell
+IsRight parts rows row after c cell = IsRightBy parts (slice_get rows) row after c cell

@@ -10,5 +10,5 @@ pub mod Rows
 pub mod Made
 pub mod Alphabets
 pub mod Tables
-pub mod ByClass
+pub mod Flat
 pub mod Signs

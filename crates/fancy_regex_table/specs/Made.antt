@@ -1,5 +1,5 @@
 -- The rows and the cells of a table.
-use Rattle.std.specs.Prelude.{◌≡◌, ℕ, List, Some, slice_get, Vec}
+use Rattle.std.specs.Prelude.{◌≡◌, ℕ, List, Option, Some, slice_get, Vec}
 use Rattle.std.specs.declared.alloc.Global.{Global}
 use Rattle.fancy_regex_states.specs.declared.state.State.{State}
 use Rattle.fancy_regex_table.specs.Cells.{Parts, Search, Tells}
@@ -33,8 +33,11 @@ IsCellTo rows more target cell = (s : Search) (after : Sort) (at next start last
     → Tells s more after at next start last cell
 
 -- each row for searches that begin is fresh
+abbrev pub AreFreshBy : (ℕ → Option Row) → List FreshRow → Type 0
+AreFreshBy rows fresh = (i : ℕ) (it : FreshRow) → slice_get fresh i ≡ Some it → rows it.row ≡ Some (Fresh it.before)
+
 abbrev pub AreFresh : List Row → List FreshRow → Type 0
-AreFresh rows fresh = (i : ℕ) (it : FreshRow) → slice_get fresh i ≡ Some it → slice_get rows it.row ≡ Some (Fresh it.before)
+AreFresh rows fresh = AreFreshBy (slice_get rows) fresh
 
 -- the rows of a table
 pub record IsMadeOf (parts : Parts) (columns : List Column) (cells : List (Vec Cell Global)) (fresh : List FreshRow) : Type 0 where

@@ -1,6 +1,6 @@
 -- What the first sign of a match says of a search.
 use Rattle.std.specs.Prelude.{◌≡◌, ◌<◌, ◌≤◌, ◌+◌, ℕ, Bool, true, List, length, is_some, slice_index, IsCharBoundary}
-use Rattle.fancy_regex_table.specs.ByClass.{IsFoundCell}
+use Rattle.fancy_regex_table.specs.Flat.{IsFoundCell}
 use Rattle.fancy_regex_table.specs.Cells.{Search, NoneBefore}
 use Rattle.fancy_regex_table.specs.Ends.{end_at}
 use Rattle.fancy_regex_table.specs.Tables.{IsPlaceOf, IsOnward}
@@ -48,7 +48,7 @@ pub record IsNoted (table : Table) (byte row : ℕ) : Type 0 where
   pub small : byte < 128
   pub next : ℕ
   pub begins : Bool
-  pub found : IsFoundCell table.cells.items (slice_index table.ascii byte) row (Next begins true next)
+  pub found : IsFoundCell table.cells.items (row + slice_index table.classes byte) (Next begins true next)
 
 -- the character at a place leads on to the next one, or notes an end
 abbrev pub IsLearned : Table → Place → ℕ → Onward → Type 0

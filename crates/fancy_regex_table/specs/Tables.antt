@@ -1,13 +1,12 @@
 -- What a table says of a search.
-use Rattle.std.specs.Prelude.{◌≡◌, ◌⊎◌, ◌<◌, ◌≤◌, ◌+◌, ℕ, Bool, false, List, Option, Some, None, slice_get, slice_index, length, Vec, IsCharBoundary, IsUtf8}
-use Rattle.std.specs.declared.alloc.Global.{Global}
+use Rattle.std.specs.Prelude.{◌≡◌, ◌⊎◌, ◌<◌, ◌≤◌, ◌+◌, ℕ, Bool, false, List, Option, Some, None, slice_get, slice_index, length, IsCharBoundary, IsUtf8}
 use Rattle.regex_hir.specs.Text.{char_at, char_before}
 use Rattle.fancy_regex_class.specs.declared.class.CharClassMatcher.{CharClassMatcher}
 use Rattle.fancy_regex_states.specs.Attempts.{ShowsAll}
 use Rattle.fancy_regex_states.specs.First.{state_at}
 use Rattle.fancy_regex_states.specs.declared.rules.Rules.{Rules}
-use Rattle.fancy_regex_table.specs.Cells.{Parts, Search, IsIn, IsRight, NoneBefore, IsFirstMatch, sort_before}
-use Rattle.fancy_regex_table.specs.Made.{AreFresh}
+use Rattle.fancy_regex_table.specs.Cells.{Parts, Search, IsIn, IsRightBy, NoneBefore, IsFirstMatch, sort_before}
+use Rattle.fancy_regex_table.specs.Made.{AreFreshBy}
 use Rattle.fancy_regex_table.specs.Making.{ReadsAlike}
 use Rattle.fancy_regex_table.specs.Meanings.{IsMeaning}
 use Rattle.fancy_regex_table.specs.Sorts.{sort_at, AreAsked}
@@ -29,18 +28,10 @@ pub record HasColumn (parts : Parts) (columns : List Column) (asked : Asked) (c 
   pub sort : column.sort ≡ sort_at parts.matchers asked parts.unicode c
   pub alike : (q : ℕ) → q < length parts.states → ReadsAlike parts.unicode parts.matchers c column.sample (state_at parts.states q)
 
--- the cell is that of a row and a class, and right
-pub record IsCellAt (parts : Parts) (rows : List Row) (columns : List Column) (class number : ℕ) (cell : Cell) : Type 0 where
-  pub row : Row
-  pub column : Column
-  pub row_is : slice_get rows number ≡ Some row
-  pub column_is : slice_get columns class ≡ Some column
-  pub right : IsRight parts rows row column.sort column.sample cell
-
--- the cells, class by class
-abbrev pub AreCells : Parts → List Row → List Column → List (Vec Cell Global) → Type 0
-AreCells parts rows columns cells = (class : ℕ) (made : Vec Cell Global) (number : ℕ) (cell : Cell) → slice_get cells class ≡ Some made
-    → slice_get made.items number ≡ Some cell → IsCellAt parts rows columns class number cell
+-- the cells, class by class in each row
+abbrev pub AreCells : Parts → (ℕ → Option Row) → List Column → List Cell → Type 0
+AreCells parts rows columns cells = (place class : ℕ) (row : Row) (column : Column) (cell : Cell) → rows place ≡ Some row
+    → slice_get columns class ≡ Some column → slice_get cells (place + class) ≡ Some cell → IsRightBy parts rows row column.sort column.sample cell
 
 -- a row for searches that begin after a character of this sort
 pub record IsFreshRow (fresh : List FreshRow) (sort : Sort) (number : ℕ) : Type 0 where
@@ -55,16 +46,16 @@ abbrev pub AreBegins : List Column → List FreshRow → List (Option ℕ) → T
 AreBegins columns fresh begins = (class number : ℕ) (column : Column) → slice_get begins class ≡ Some (Some number)
     → slice_get columns class ≡ Some column → IsFreshRow fresh column.sort number
 
--- each cell of the table is right
+-- each cell of the table is right; a row goes by the place where its cells begin
 pub record IsTable (parts : Parts) (table : Table) : Type 0 where
-  pub rows : List Row
+  pub rows : ℕ → Option Row
   pub columns : List Column
   pub unicode : table.unicode ≡ parts.unicode
   pub asks : AreAsked table.asked parts.states
   pub cells : AreCells parts rows columns table.cells.items
-  pub fresh : AreFresh rows table.fresh.items
+  pub fresh : AreFreshBy rows table.fresh.items
   pub begins : AreBegins columns table.fresh.items table.begins.items
-  pub ascii : (c : ℕ) → c < 128 → HasColumn parts columns table.asked (Some c) (slice_index table.ascii c)
+  pub ascii : (c : ℕ) → c < 128 → HasColumn parts columns table.asked (Some c) (slice_index table.classes c)
   pub end : HasColumn parts columns table.asked None 0
 
 -- The search is one of this text by these states, and no end of the text is hidden from it.
@@ -94,9 +85,9 @@ IsPassed s (P.Idle at) = IsPlaceOf s at at × (s.from < at)
 IsPassed s (P.Unknown from read) = IsPlaceOf s from read
 
 -- a search that stands at this place
-pub record Stands (matchers : List CharClassMatcher) (asked : Asked) (unicode : Bool) (rows : List Row) (s : Search) (place : Place) : Type 0 where
+pub record Stands (matchers : List CharClassMatcher) (asked : Asked) (unicode : Bool) (rows : ℕ → Option Row) (s : Search) (place : Place) : Type 0 where
   pub row : Row
-  pub is_there : slice_get rows place.row ≡ Some row
+  pub is_there : rows place.row ≡ Some row
   pub sort : sort_before row ≡ sort_at matchers asked unicode (char_before s.text place.at)
   pub is_in : IsIn s row place.at place.start place.last
   pub low : s.from ≤ place.start

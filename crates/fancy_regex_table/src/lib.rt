@@ -3,9 +3,9 @@
 
 mod alphabet;
 mod begun;
-mod by_class;
 mod close;
 mod columns;
+mod flat;
 mod leaf_set;
 mod maker;
 mod pattern;

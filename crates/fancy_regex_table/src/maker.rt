@@ -1,6 +1,6 @@
 //! The making of a table's cells.
 
-ghost use Rattle.std.specs.Prelude.{◌≡◌, ◌<◌, ℕ, List, true, Some, IfOk, slice_get, length};
+ghost use Rattle.std.specs.Prelude.{◌≡◌, ◌<◌, ℕ, List, true, Some, IfOk, IfSome, slice_get, length};
 ghost use Rattle.fancy_regex_table.specs.Cells.{Parts, IsRight, sort_before};
 ghost use Rattle.fancy_regex_table.specs.Making.{parts_of, BeginsWith, IsBegun, AreHomes, IsRightTarget, AreRightCells};
 ghost use Rattle.fancy_regex_table.specs.Made.{AreReadingsOf, AreRightRows, IsCellTo, AreFresh, IsMadeOf};
@@ -143,18 +143,21 @@ fn cell_to(rows: &mut Rows, target: Target) -> Result<Cell, AllocError>
     match target {
         Target::Cell(cell) => Ok(cell),
         Target::Row { row, begins, ends } => {
-            let Some(number) = rows.number_of(row)? else {
+            let Some(row) = small(rows.number_of(row)?) else {
                 return Ok(Cell::Unknown);
             };
-            if number > 65_535 {
-                return Ok(Cell::Unknown);
-            }
-            Ok(Cell::Next {
-                begins,
-                ends,
-                row: number as u32,
-            })
+            Ok(Cell::Next { begins, ends, row })
         }
+    }
+}
+
+/// The number, if it fits.
+fn small(number: Option<usize>) -> Option<u32>
+    ensures { IfSome result (λ small. number ≡ Some small) }
+{
+    match number {
+        Some(number) if number <= 65_535 => Some(number as u32),
+        _ => None,
     }
 }
 
@@ -221,7 +224,7 @@ fn fresh_rows(alloc: Global, homes: &[Home], rows: &mut Rows) -> Result<Vec<Fres
     for i in 0..homes.len() {
         let before = homes[i].before;
         let found = rows.number_of(Row::Fresh { before })?;
-        if let Some(row) = found {
+        if let Some(row) = small(found) {
             fresh.push(FreshRow { before, row })?;
         }
     }

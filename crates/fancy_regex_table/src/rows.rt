@@ -23,7 +23,7 @@ pub struct Rows {
 #[derive(Clone, Copy)]
 pub struct FreshRow {
     pub before: Sort,
-    pub row: usize,
+    pub row: u32,
 }
 
 /// Where a row is looked for.
@@ -97,7 +97,7 @@ impl Rows {
 }
 
 /// The number of the row for a search that begins after a character of this sort.
-pub fn fresh_for(fresh: &[FreshRow], sort: Sort) -> Option<usize>
+pub fn fresh_for(fresh: &[FreshRow], sort: Sort) -> Option<u32>
     ensures { IfSome result (IsFreshRow fresh.now sort) }
 {
     for i in 0..fresh.len() {
@@ -114,7 +114,7 @@ pub fn begins_of(
     alloc: Global,
     columns: &[Column],
     fresh: &[FreshRow],
-) -> Result<Vec<Option<usize>>, AllocError>
+) -> Result<Vec<Option<u32>>, AllocError>
     ensures { IfOk result (λ begins. AreBegins columns.now fresh.now begins.items) }
 {
     let mut begins = Vec::new(alloc);

@@ -6,7 +6,7 @@ ghost use Rattle.fancy_regex_states.specs.declared.rules.Rules.{Rules};
 ghost use Rattle.fancy_regex_table.specs.Cells.{Parts, Search};
 ghost use Rattle.fancy_regex_table.specs.Signs.{sign_in};
 
-use crate::by_class::cell_at;
+use crate::flat::cell_at;
 use crate::row::Cell;
 use crate::table::{Passed, Place, Table, begun_at};
 use fancy_regex_class::CharClassMatcher;
@@ -88,13 +88,10 @@ impl Table {
             → Stands parts.matchers self.now.asked self.now.unicode table.rows s place
             → IfTo result (Stands parts.matchers self.now.asked self.now.unicode table.rows s) }
     {
-        if byte >= 128 {
-            return Onward::Nowhere;
-        }
-        match cell_at(&self.cells, self.ascii[byte as usize] as usize, place.row) {
+        match cell_at(&self.cells, self.classes[byte as usize], place.row) {
             Cell::Next { ends: true, .. } => Onward::Noted,
             Cell::Next { begins, row, .. } => Onward::To(Place {
-                row: row as usize,
+                row,
                 at: place.at + 1,
                 start: begun_at(begins, place.at, place.start),
                 last: place.last,

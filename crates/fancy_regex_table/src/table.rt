@@ -1,14 +1,14 @@
 //! The table, and the pass over a text by it.
 
-ghost use Rattle.std.specs.Prelude.{◌≡◌, ◌+◌, ◌^◌, ◌<◌, ◌≤◌, ℕ, Option, true, IfOk, IfSome, IsCharBoundary, length};
+ghost use Rattle.std.specs.Prelude.{◌≡◌, ◌+◌, ◌^◌, ◌<◌, ◌≤◌, ℕ, Option, true, IfOk, IfSome, IsCharBoundary, length, slice_index};
 ghost use Rattle.regex_hir.specs.Text.{char_before};
 ghost use Rattle.fancy_regex_states.specs.declared.rules.Rules.{Rules};
 ghost use Rattle.fancy_regex_table.specs.Cells.{Parts, Search, begun_at as noted_at};
 
 use crate::alphabet::Alphabet;
 use crate::begun::homes_of;
-use crate::by_class::{by_class, cell_at};
 use crate::columns::columns_of;
+use crate::flat::{cell_at, classes_of, flat_cells, fresh_places};
 use crate::maker::rows_of;
 use crate::pattern::Pattern;
 use crate::row::Cell;
@@ -47,7 +47,8 @@ pub enum Passed {
 /// Where a pass stands.
 #[derive(Clone, Copy)]
 pub(crate) struct Place {
-    pub row: usize,
+    /// Where the row begins in the list of cells.
+    pub row: u32,
     pub at: usize,
     /// Where the first attempt began that is under way.
     pub start: usize,
@@ -58,26 +59,27 @@ pub(crate) struct Place {
 /// A table of the states of a pattern, by which a search goes through a text.
 #[derive(Drop)]
 pub struct Table {
-    /// For each class of characters the cells, one for each row. The first class is the end of the text.
-    pub(crate) cells: Vec<Vec<Cell>>,
-    /// The number of each ASCII character's class.
-    pub(crate) ascii: [u8; 128],
+    /// The cells, row by row, one for each class of characters. The first class is the end of the text.
+    pub(crate) cells: Vec<Cell>,
+    /// The number of each ASCII character's class, and for each other byte one beyond all cells.
+    pub(crate) classes: [u32; 256],
     asked: Asked,
     unicode: bool,
     fresh: Vec<FreshRow>,
     /// For each class of characters the row for a search that begins after one of them, if there is one.
-    begins: Vec<Option<usize>>,
+    begins: Vec<Option<u32>>,
     is_whole: bool,
+    ghost beyond: { (b : ℕ) → 128 ≤ b → b < 256 → length cells.items ≤ slice_index classes b },
 }
 
 impl Table {
     ghost use Rattle.fancy_regex_table.specs.Tables.{IsTable, IsSearchOf, IsPassed, Stands, IsStartAt, IsFreshRow, HasColumn, IsOnward, IsRunTo, IsAsciiAt, LiesBetween, IsDoneAt, IsInRange};
-    ghost use Rattle.fancy_regex_table.specs.Cells.{Tells};
+    ghost use Rattle.fancy_regex_table.specs.Cells.{TellsBy};
     ghost use Rattle.fancy_regex_table.specs.Sorts.{sort_at};
     ghost use Rattle.fancy_regex_table.specs.declared.sort.Sort.{Sort as SortValue};
 
-    /// The table of these states, from the number of the entry; `None` where their look-arounds ask about more than four leaves. The error
-    /// is want of memory.
+    /// The table of these states, from the number of the entry; `None` where their look-arounds ask about more than four leaves, or
+    /// where there are more cells than a `u32` counts. The error is want of memory.
     pub fn new(
         alloc: Global,
         states: &[State],
@@ -106,14 +108,18 @@ impl Table {
         let mut steps = MOST_STEPS;
         let homes = homes_of(alloc, &pattern, &columns, &mut steps)?;
         let made = rows_of(alloc, &pattern, &columns, &homes, &mut steps)?;
-        let cells = by_class(alloc, &made.cells, columns.len())?;
-        let begins = begins_of(alloc, &columns, &made.fresh)?;
+        let cells = flat_cells(alloc, &made.cells, columns.len())?;
+        let fresh = fresh_places(alloc, &made.fresh, columns.len())?;
+        let begins = begins_of(alloc, &columns, &fresh)?;
+        let Ok(other) = u32::try_from(cells.len()) else {
+            return Ok(None);
+        };
         Ok(Some(Table {
             cells,
-            ascii: alphabet.ascii,
+            classes: classes_of(&alphabet.ascii, other),
             asked: alphabet.asked,
             unicode,
-            fresh: made.fresh,
+            fresh,
             begins,
             is_whole: made.is_whole,
         }))
@@ -189,20 +195,20 @@ impl Table {
         &self,
         matchers: &[CharClassMatcher],
         before: Option<char>,
-    ) -> Option<usize>
+    ) -> Option<u32>
         ensures { (parts : Parts) → IsTable parts self.now → parts.matchers ≡ matchers.now
             → IfSome result (IsFreshRow self.now.fresh.items (sort_at parts.matchers self.now.asked self.now.unicode before)) }
     {
         match before {
             None => self.row_of_class(0),
-            Some(c) if (c as u32) < 128 => self.row_of_class(self.ascii[c as usize] as usize),
+            Some(c) if (c as u32) < 128 => self.row_of_class(self.classes[c as usize] as usize),
             _ => self.fresh_row(matchers, before),
         }
     }
 
     /// The row for a search that begins after a character of this class.
     #[inline(always)]
-    fn row_of_class(&self, class: usize) -> Option<usize>
+    fn row_of_class(&self, class: usize) -> Option<u32>
         ensures { (parts : Parts) (table : IsTable parts self.now) (c : Option ℕ)
             → HasColumn parts table.columns self.now.asked c class
             → IfSome result (IsFreshRow self.now.fresh.items (sort_at parts.matchers self.now.asked self.now.unicode c)) }
@@ -216,7 +222,7 @@ impl Table {
     /// The row for a search that begins after this character.
     // Not inlined: few searches come to it.
     #[inline(never)]
-    fn fresh_row(&self, matchers: &[CharClassMatcher], before: Option<char>) -> Option<usize>
+    fn fresh_row(&self, matchers: &[CharClassMatcher], before: Option<char>) -> Option<u32>
         ensures { IfSome result (IsFreshRow self.now.fresh.items (sort_at matchers.now self.now.asked self.now.unicode before)) }
     {
         let reader = Reader {
@@ -258,7 +264,7 @@ impl Table {
         requires { place.start ≤ place.at }
         ensures passed { (parts : Parts) (s : Search) (table : IsTable parts self.now) (after : SortValue) (next : ℕ)
             → Stands parts.matchers self.now.asked self.now.unicode table.rows s place
-            → Tells s table.rows after place.at next place.start place.last cell → IsPassed s result }
+            → TellsBy s table.rows after place.at next place.start place.last cell → IsPassed s result }
         ensures between { LiesBetween place result }
     {
         match cell {
@@ -309,12 +315,9 @@ impl Table {
             → Stands parts.matchers self.now.asked self.now.unicode table.rows s place
             → IfSome result (Stands parts.matchers self.now.asked self.now.unicode table.rows s) }
     {
-        if byte >= 128 {
-            return None;
-        }
-        match cell_at(&self.cells, self.ascii[byte as usize] as usize, place.row) {
+        match cell_at(&self.cells, self.classes[byte as usize], place.row) {
             Cell::Next { begins, ends, row } => Some(Place {
-                row: row as usize,
+                row,
                 at: place.at + 1,
                 start: begun_at(begins, place.at, place.start),
                 last: begun_at(ends, place.at, place.last),
@@ -335,7 +338,7 @@ impl Table {
         if byte >= 128 {
             return self.unknown(place);
         }
-        let cell = cell_at(&self.cells, self.ascii[byte as usize] as usize, place.row);
+        let cell = cell_at(&self.cells, self.classes[byte as usize], place.row);
         match cell {
             Cell::Idle => Passed::Idle { at: place.at + 1 },
             _ => self.ended(cell, place),

@@ -30,7 +30,7 @@ returns-in-Idle c = record {
       let byte = c.args.byte in
       let small : byte < 128 = omega (arith, c.if-byte-ge128.false) in
       let here = ascii small in
-      let class = slice_index c.args.self.now.ascii byte in
+      let class = slice_index c.args.self.now.classes byte in
       let h = table.ascii byte small in
       let found = rw c.deref.ensures.value at c.in-Idle.ensures in
       idle_next table search place stands byte here lt
@@ -45,7 +45,7 @@ returns-in_default c = record {
       let byte = c.args.byte in
       let small : byte < 128 = omega (arith, c.if-byte-ge128.false) in
       let here = ascii small in
-      let class = slice_index c.args.self.now.ascii byte in
+      let class = slice_index c.args.self.now.classes byte in
       let h = table.ascii byte small in
       let found = rw c.deref.ensures.value at c.cell_at-cell.ensures in
       c.ended.ensures.passed parts s table h.column.sort (place.at + 1) stands
