@@ -42,13 +42,24 @@ const FEW_RANGES: usize = 8;
 
 /// The members of a character class: sorted ranges of code points, the answers for the 128 ASCII characters, and the members below
 /// U+10000 as bits if there are more than a few ranges.
-#[derive(Debug, Drop)]
+#[derive(Debug)]
 pub struct CharClassMatcher {
     class: Class,
     ascii: [bool; 128],
     bitmap: Option<Bitmap>,
     ghost answers: { (c : ℕ) → c < 128 → slice_index_or ascii c false ≡ in_ranges class.ranges.items c },
     ghost wide: { IfSome bitmap (λ b. (c : ℕ) → c < 65536 → has_member b c ≡ in_ranges class.ranges.items c) } by { Prim.hlevel props },
+}
+
+// Written, not derived: so a crate in which such a value may be dropped uses this proof, and has none to make of each type inside.
+impl Drop for CharClassMatcher {
+    fn drop(self) {
+        let CharClassMatcher {
+            class: _class,
+            ascii: _ascii,
+            bitmap: _bitmap,
+        } = self;
+    }
 }
 
 impl CharClassMatcher {

@@ -37,7 +37,6 @@ const GREATEST_WEIGHT: u64 = 4_294_967_295;
 const GREATEST_SUPPORTED_WEIGHT: u64 = 4_000;
 
 /// A compiled easy pattern.
-#[derive(Drop)]
 pub struct Easy {
     states: Vec<State>,
     entry: usize,
@@ -68,6 +67,25 @@ pub struct Easy {
       matchers = matchers.items;
       unicode = unicode;
     })) ∥₁ },
+}
+
+// Written, not derived: so a crate in which such a value may be dropped uses this proof, and has none to make of each type inside.
+impl Drop for Easy {
+    fn drop(self) {
+        let Easy {
+            states: _states,
+            entry: _entry,
+            matchers: _matchers,
+            groups: _groups,
+            whole: _whole,
+            unicode: _unicode,
+            longest: _longest,
+            first: _first,
+            passing: _passing,
+            before: _before,
+            rows: _rows,
+        } = self;
+    }
 }
 
 impl Easy {

@@ -12,7 +12,6 @@ use std::mem;
 /// The memory of earlier searches, used again by later ones. What it holds has no effect on any answer, also after a search
 /// that ran out of memory, and it is as good for any pattern and any text. It keeps the most memory that a search has needed
 /// until it is dropped.
-#[derive(Drop)]
 pub struct SearchMemory {
     /// The pairs of a state and a byte offset that were tried.
     pub(crate) visited: Visited,
@@ -22,6 +21,18 @@ pub struct SearchMemory {
     pub(crate) farthest: Vec<usize>,
     /// The memory of an answer that was given back.
     pub(crate) answer: Vec<usize>,
+}
+
+// Written, not derived: so a crate in which such a value may be dropped uses this proof, and has none to make of each type inside.
+impl Drop for SearchMemory {
+    fn drop(self) {
+        let SearchMemory {
+            visited: _visited,
+            backtrack: _backtrack,
+            farthest: _farthest,
+            answer: _answer,
+        } = self;
+    }
 }
 
 impl SearchMemory {

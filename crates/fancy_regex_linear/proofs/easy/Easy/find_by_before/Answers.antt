@@ -96,7 +96,7 @@ returns-in-Some-as_ref-clause-answer c pattern is =
     (said (goal.at.returns-in-Some-as_ref-clause-answer c).In_ok-span (asked (goal.at.returns-in-Some-as_ref-clause-answer c).After-by_before_alone-alone) pattern is).span_is
 
 pub returns-in-Some-as_ref-clause-at_least : goal.returns-in-Some-as_ref-clause-at_least
-returns-in-Some-as_ref-clause-at_least c pattern is = 
+returns-in-Some-as_ref-clause-at_least c pattern is =
     let b =
     (said (goal.at.returns-in-Some-as_ref-clause-at_least c).In_ok-span (asked (goal.at.returns-in-Some-as_ref-clause-at_least c).After-by_before_alone-alone) pattern is).at_least in
     search rules
