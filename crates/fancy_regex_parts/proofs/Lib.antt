@@ -6,6 +6,7 @@ pub mod TrackLemmas
 pub mod CostLemmas
 pub mod VisitLemmas
 pub mod LoopLemmas
+pub mod AskLemmas
 pub mod EmittedLemmas
 pub mod FindLemmas
 pub mod BetweenLemmas

@@ -441,7 +441,7 @@ module _ (table : PartTable) (text : List ℕ) (base start dear : ℕ) where
   within_both (x ∷ xs) ys h k = (h.0, within_both xs ys h.1 k)
 
   followed : (q i : ℕ) → q < length table.states.items → IsPlace text base i → start ≤ i → due table q ≤ dear → IsFollowed table text base start dear q i
-  followed q i state place low cheap = record { state = state; place = place; low = low; cheap = cheap }
+  followed q i state place low cheap = record { reached = record { state = state; place = place; low = low }; cheap = cheap }
 
   read_within : (next at : ℕ) (after : Option ℕ) → next < length table.states.items → IsPlace text base at → start ≤ at → due table next ≤ dear
       → IfSome after (λ c. IsCharBoundary text (at + len_utf8 c)) → AllTasksWithin table text base start dear (read_tasks next at after)

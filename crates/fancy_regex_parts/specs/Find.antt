@@ -1,6 +1,7 @@
 -- A search over starts.
-use Rattle.std.specs.Prelude.{◌≡◌, ℕ, ◌+◌, ◌-◌, ◌<◌, ◌≤◌, List, [], ◌∷◌, length, Option, Some, None, IsCharBoundary}
+use Rattle.std.specs.Prelude.{◌≡◌, ℕ, ◌+◌, ◌-◌, ◌<◌, ◌≤◌, List, [], ◌∷◌, length, Option, Some, None, IsCharBoundary, IsUtf8}
 use Rattle.fancy_regex_meaning.specs.Positions.{boundaries}
+use Rattle.fancy_regex_parts.specs.Frames.{IsPlace}
 
 -- the first of these starts that has a way, and where that ends
 unfoldable pub earliest : (ℕ → Option ℕ) → List ℕ → Option (ℕ × ℕ)
@@ -11,6 +12,13 @@ earliest f (p ∷ ps) = elim (f p) [ None ↦ earliest f ps | Some e ↦ Some (p
 unfoldable pub attempted : (ℕ → Option ℕ) → List ℕ → ℕ
 attempted f [] = 0
 attempted f (p ∷ ps) = 1 + elim (f p) [ None ↦ attempted f ps | Some e ↦ 0 ]
+
+-- the starts of a search: places of a text of whole characters, from this one on up to the last
+pub record AreStarts (text : List ℕ) (base from last : ℕ) : Type 0 where
+  pub utf8 : IsUtf8 text
+  pub place : IsPlace text base from
+  pub order : from ≤ last
+  pub inside : last ≤ length text
 
 -- the start after this one, of those up to the last
 pub record IsNext (text : List ℕ) (last at next : ℕ) : Type 0 where

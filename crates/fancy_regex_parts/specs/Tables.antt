@@ -1,5 +1,5 @@
 -- A table of states with marks, and what a visit of each state costs.
-use Rattle.std.specs.Prelude.{◌≡◌, ℕ, ◌+◌, ◌%◌, ◌<◌, ◌≤◌, List, length, Option, Some, None, max, sum_by, slice_index_or}
+use Rattle.std.specs.Prelude.{◌≡◌, ℕ, ◌+◌, ◌-◌, ◌*◌, ◌%◌, ◌<◌, ◌≤◌, List, length, Option, Some, None, max, sum_by, slice_index_or}
 use Rattle.fancy_regex_states.specs.Attempts.{NamesBelow}
 use Rattle.fancy_regex_states.specs.First.{state_at}
 use Rattle.fancy_regex_states.specs.declared.state.State.{State}
@@ -39,6 +39,10 @@ owed table Match = 0
 -- the parts' weight, what all marked states cost: a bound on the looks for each place, over all questions
 abbrev pub table_weight : PartTable → ℕ
 table_weight table = sum_by (cost_of table) table.heads.items
+
+-- what all marked states cost together at the places of a text from this one on
+abbrev pub cost_from : PartTable → List ℕ → ℕ → ℕ
+cost_from table text base = (length text - base + 1) * table_weight table
 
 -- what the state costs whose mark a cell of a row of marks has, by the cell's number
 abbrev pub cell_cost : PartTable → ℕ → ℕ

@@ -99,12 +99,16 @@ pub record IsVisitedWithin (table : PartTable) (len base : ℕ) (visited : Recal
   pub base_is : visited.base ≡ base
   pub rows : visited.rows ≤ len - base + 1
 
+-- q is a state, and i a place from `start` on, where a walk began
+pub record IsReached (table : PartTable) (text : List ℕ) (base start q i : ℕ) : Type 0 where
+  pub state : q < length table.states.items
+  pub place : IsPlace text base i
+  pub low : start ≤ i
+
 module _ (table : PartTable) (text : List ℕ) (base start dear : ℕ) where
-  -- the task is of a state and a place from `start` on, and what is due for the state is not more than `dear`
+  -- the task is of a state and a place that the walk can come to, and what is due for the state is not more than `dear`
   pub record IsFollowed (q i : ℕ) : Type 0 where
-    pub state : q < length table.states.items
-    pub place : IsPlace text base i
-    pub low : start ≤ i
+    pub reached : IsReached table text base start q i
     pub cheap : due table q ≤ dear
 
   abbrev pub IsTaskOf : WalkTask → Type 0

@@ -1,16 +1,16 @@
 //! A walk along the way of a match and into its parts, which writes its slots.
 
-ghost use Rattle.std.specs.Prelude.{◌≡◌, ◌+◌, ◌-◌, ◌*◌, ◌^◌, ◌<◌, ◌≤◌, ◌∷◌, ◌++◌, ℕ, List, Some, length, max, min, replicate, vec_len, IfOk, IfSome, OnOk};
+ghost use Rattle.std.specs.Prelude.{◌≡◌, ◌+◌, ◌-◌, ◌*◌, ◌^◌, ◌<◌, ◌≤◌, ◌∷◌, ◌++◌, ℕ, List, Some, length, max, min, replicate, IfOk, IfSome, OnOk};
 ghost use Rattle.std.specs.Char.{len_utf8};
 ghost use Rattle.fancy_regex_class.specs.Looks.{looked_text, look_count};
 ghost use Rattle.regex_hir.specs.Text.{char_at};
 ghost use Rattle.fancy_regex_states.specs.First.{state_at};
 ghost use Rattle.fancy_regex_states.specs.Attempts.{View, Continuation, Trace, NamesBelow};
-ghost use Rattle.fancy_regex_parts.specs.Ways.{Ways, ways_of};
-ghost use Rattle.fancy_regex_parts.specs.Tables.{IsTable, cost_of, due, owed, known_cost, table_weight};
+ghost use Rattle.fancy_regex_parts.specs.Ways.{ways_of};
+ghost use Rattle.fancy_regex_parts.specs.Tables.{IsTable, cost_from, cost_of, due, owed, known_cost};
 ghost use Rattle.fancy_regex_parts.specs.Frames.{IsPlace};
-ghost use Rattle.fancy_regex_parts.specs.Layers.{HasWays, IsOnlyLookedAt, IsOfText, IsTrueOf};
-ghost use Rattle.fancy_regex_parts.specs.Walk.{IsTried, apply, dearest, keep, last_first, walk_tasks, AllTasksWithin, part_end_of, IsArrival, AreLeft, tasks_at, read_tasks, group_tasks, branch_of, IsVisitedWithin, IsWalking, looks_left, work_left};
+ghost use Rattle.fancy_regex_parts.specs.Layers.{CanAsk, ForTrueWays, IsTrueOf, IsWithinLooks, LeavesMemory};
+ghost use Rattle.fancy_regex_parts.specs.Walk.{IsReached, IsTried, apply, dearest, keep, last_first, walk_tasks, AllTasksWithin, part_end_of, IsArrival, AreLeft, tasks_at, read_tasks, group_tasks, branch_of, IsVisitedWithin, IsWalking, looks_left, work_left};
 ghost use Rattle.fancy_regex_parts.specs.declared.groups.WalkTask.TheVariants.{Follow};
 
 use crate::memory::PartMemory;
@@ -50,7 +50,7 @@ impl WalkMemory {
     }
 }
 
-/// Follows the first way from the state `entry` at `start` and into the parts on it, and writes the slots of the groups: slot 2g where
+/// Follows the first way from the context's entry at `start` and into the parts on it, and writes the slots of the groups: slot 2g where
 /// the group g is entered last, slot 2g + 1 where it is left last. The other slots become unset, `usize::MAX`, and a slot that is not
 /// there is passed over. A group in a part that is asked, or in an atomic group, is on the part's own first way; one in a part that
 /// must have no way is not. The state has to have a way from `start`, as `ask` tells: the walk tests no assertion and no character
@@ -63,28 +63,20 @@ pub fn walk(
     text: &mut Counted,
     memory: &mut PartMemory,
     walked: &mut WalkMemory,
-    entry: usize,
     start: usize,
     slots: &mut [usize],
 ) -> Result<(), AllocError>
-    requires table { IsTable context.now.table.now }
-    requires entry { entry < length context.now.table.now.states.items }
-    requires memory { IsOfText context.now (looked_text text.old) memory.old.recall }
-    requires small { length (looked_text text.old) < 2 ^ 63 }
+    requires ready { CanAsk context.now text.old memory.old }
+    requires entry { context.now.entry < length context.now.table.now.states.items }
     requires place { IsPlace (looked_text text.old) memory.old.recall.base start }
-    requires stack { vec_len memory.old.stack ≡ 0 }
     ensures written { OnOk result ((view : View) (go : ℕ → Continuation) → IsTried context.now (looked_text text.old) view go
         → IsTrueOf context.now (ways_of go) memory.old.recall
-        → (t : Trace) → (go entry start).answer ≡ Some t → slots.new ≡ apply t.writes (replicate (length slots.old) (2 ^ 64 - 1))) }
-    ensures remembers { (view : View) (ways : Ways) → HasWays context.now (looked_text text.old) view ways
-        → IsTrueOf context.now ways memory.old.recall → IsTrueOf context.now ways memory.new.recall }
-    ensures memory { IsOfText context.now (looked_text text.old) memory.new.recall }
-    ensures base { memory.new.recall.base ≡ memory.old.recall.base }
-    ensures stack { vec_len memory.new.stack ≡ 0 }
-    ensures at_most { OnOk result (look_count text.new ≤ look_count text.old + dearest context.now.table.now entry
-        * (due context.now.table.now entry + (length (looked_text text.old) - start + 1) * table_weight context.now.table.now + 1)
-        + (length (looked_text text.old) - memory.old.recall.base + 1) * table_weight context.now.table.now) }
-    ensures looks { IsOnlyLookedAt text.old text.new }
+        → (t : Trace) → (go context.now.entry start).answer ≡ Some t
+        → slots.new ≡ apply t.writes (replicate (length slots.old) (2 ^ 64 - 1))) }
+    ensures leaves { LeavesMemory context.now text.old text.new memory.old memory.new }
+    ensures at_most { OnOk result (look_count text.new ≤ look_count text.old + dearest context.now.table.now context.now.entry
+        * (due context.now.table.now context.now.entry + cost_from context.now.table.now (looked_text text.old) start + 1)
+        + cost_from context.now.table.now (looked_text text.old) memory.old.recall.base) }
 {
     slots.fill(usize::MAX);
     walked.visited.restart(context.table.heads.len(), start);
@@ -92,7 +84,7 @@ pub fn walk(
     push(
         &mut walked.tasks,
         WalkTask::Follow {
-            state: entry,
+            state: context.entry,
             at: start,
         },
     )?;
@@ -119,13 +111,8 @@ fn pass(
     state: usize,
     at: usize,
 ) -> Result<(), AllocError>
-    requires table { IsTable context.now.table.now }
-    requires state { state < length context.now.table.now.states.items }
-    requires memory { IsOfText context.now (looked_text text.old) memory.old.recall }
-    requires small { length (looked_text text.old) < 2 ^ 63 }
-    requires place { IsPlace (looked_text text.old) memory.old.recall.base at }
-    requires stack { vec_len memory.old.stack ≡ 0 }
-    requires low { walked.old.visited.base ≤ at }
+    requires ready { CanAsk context.now text.old memory.old }
+    requires reached { IsReached context.now.table.now (looked_text text.old) memory.old.recall.base walked.old.visited.base state at }
     requires visited { IsVisitedWithin context.now.table.now (length (looked_text text.old)) walked.old.visited.base walked.old.visited }
     ensures walking { OnOk result ((view : View) (go : ℕ → Continuation) → IsTried context.now (looked_text text.old) view go
         → IsTrueOf context.now (ways_of go) memory.old.recall → (goal slots : List ℕ)
@@ -145,11 +132,7 @@ fn pass(
         (last_first walked.new.tasks.items)
         < work_left context.now.table.now (length (looked_text text.old)) walked.old.visited.base walked.old.visited
         (Follow state at ∷ last_first walked.old.tasks.items)) }
-    ensures remembers { (view : View) (ways : Ways) → HasWays context.now (looked_text text.old) view ways
-        → IsTrueOf context.now ways memory.old.recall → IsTrueOf context.now ways memory.new.recall }
-    ensures memory { IsOfText context.now (looked_text text.old) memory.new.recall }
-    ensures base { memory.new.recall.base ≡ memory.old.recall.base }
-    ensures stack { vec_len memory.new.stack ≡ 0 }
+    ensures leaves { LeavesMemory context.now text.old text.new memory.old memory.new }
     ensures counted { OnOk result ((dear : ℕ) → context.now.table.now.most ≤ dear → due context.now.table.now state ≤ dear
         → look_count text.new + known_cost context.now.table.now memory.old.recall
         + dear * looks_left context.now.table.now (length (looked_text text.old)) walked.old.visited.base walked.new.visited
@@ -157,7 +140,6 @@ fn pass(
         ≤ look_count text.old + known_cost context.now.table.now memory.new.recall
         + dear * looks_left context.now.table.now (length (looked_text text.old)) walked.old.visited.base walked.old.visited
         (Follow state at ∷ last_first walked.old.tasks.items)) }
-    ensures looks { IsOnlyLookedAt text.old text.new }
 {
     if !arrive(context, &mut walked.visited, state, at)? {
         return Ok(());
@@ -200,26 +182,16 @@ fn follow(
     q: usize,
     at: usize,
 ) -> Result<(), AllocError>
-    requires table { IsTable context.now.table.now }
+    requires ready { CanAsk context.now text.old memory.old }
     requires state { q < length context.now.table.now.states.items }
-    requires memory { IsOfText context.now (looked_text text.old) memory.old.recall }
-    requires small { length (looked_text text.old) < 2 ^ 63 }
     requires place { IsPlace (looked_text text.old) memory.old.recall.base at }
-    requires stack { vec_len memory.old.stack ≡ 0 }
-    ensures tasks { OnOk result ((view : View) (ways : Ways) → HasWays context.now (looked_text text.old) view ways
-        → IsTrueOf context.now ways memory.old.recall → last_first tasks.new.items
+    ensures tasks { OnOk result (ForTrueWays context.now text.old memory.old (λ ways. last_first tasks.new.items
         ≡ walk_tasks ways (char_at (looked_text text.old) at) (state_at context.now.table.now.states.items q) at
-        ++ last_first tasks.old.items) }
+        ++ last_first tasks.old.items)) }
     ensures left { OnOk result (AreLeft context.now.table.now (looked_text text.old) memory.old.recall.base q at
         (last_first tasks.old.items) (last_first tasks.new.items)) }
-    ensures remembers { (view : View) (ways : Ways) → HasWays context.now (looked_text text.old) view ways
-        → IsTrueOf context.now ways memory.old.recall → IsTrueOf context.now ways memory.new.recall }
-    ensures memory { IsOfText context.now (looked_text text.old) memory.new.recall }
-    ensures base { memory.new.recall.base ≡ memory.old.recall.base }
-    ensures stack { vec_len memory.new.stack ≡ 0 }
-    ensures counted { OnOk result (look_count text.new + known_cost context.now.table.now memory.old.recall
-        ≤ look_count text.old + cost_of context.now.table.now q + known_cost context.now.table.now memory.new.recall) }
-    ensures looks { IsOnlyLookedAt text.old text.new }
+    ensures leaves { LeavesMemory context.now text.old text.new memory.old memory.new }
+    ensures counted { OnOk result (IsWithinLooks context.now text.old text.new memory.old memory.new (cost_of context.now.table.now q)) }
 {
     let state = context.table.states[q];
     let end = part_end(context, text, memory, state, at)?;
@@ -237,23 +209,13 @@ fn part_end(
     state: State,
     at: usize,
 ) -> Result<Option<usize>, AllocError>
-    requires table { IsTable context.now.table.now }
+    requires ready { CanAsk context.now text.old memory.old }
     requires names { NamesBelow (length context.now.table.now.states.items) state }
-    requires memory { IsOfText context.now (looked_text text.old) memory.old.recall }
-    requires small { length (looked_text text.old) < 2 ^ 63 }
     requires place { IsPlace (looked_text text.old) memory.old.recall.base at }
-    requires stack { vec_len memory.old.stack ≡ 0 }
-    ensures end { IfOk result (λ end. (view : View) (ways : Ways) → HasWays context.now (looked_text text.old) view ways
-        → IsTrueOf context.now ways memory.old.recall → end ≡ part_end_of ways state at) }
+    ensures end { IfOk result (λ end. ForTrueWays context.now text.old memory.old (λ ways. end ≡ part_end_of ways state at)) }
     ensures place { IfOk result (λ end. IfSome end (IsPlace (looked_text text.old) memory.old.recall.base)) }
-    ensures remembers { (view : View) (ways : Ways) → HasWays context.now (looked_text text.old) view ways
-        → IsTrueOf context.now ways memory.old.recall → IsTrueOf context.now ways memory.new.recall }
-    ensures memory { IsOfText context.now (looked_text text.old) memory.new.recall }
-    ensures base { memory.new.recall.base ≡ memory.old.recall.base }
-    ensures stack { vec_len memory.new.stack ≡ 0 }
-    ensures counted { OnOk result (look_count text.new + known_cost context.now.table.now memory.old.recall
-        ≤ look_count text.old + owed context.now.table.now state + known_cost context.now.table.now memory.new.recall) }
-    ensures looks { IsOnlyLookedAt text.old text.new }
+    ensures leaves { LeavesMemory context.now text.old text.new memory.old memory.new }
+    ensures counted { OnOk result (IsWithinLooks context.now text.old text.new memory.old memory.new (owed context.now.table.now state)) }
 {
     match state {
         State::Split { first, .. } => {

@@ -2,11 +2,10 @@
 
 ghost use Rattle.std.specs.Prelude.{◌≡◌, ◌+◌, ◌-◌, ◌*◌, ◌^◌, ◌<◌, ◌≤◌, ℕ, None, length, vec_len, slice_index, slice_index_or, IfOk, IfSome, OnOk};
 ghost use Rattle.fancy_regex_class.specs.Looks.{looked_text, look_count};
-ghost use Rattle.fancy_regex_states.specs.Attempts.{View};
-ghost use Rattle.fancy_regex_parts.specs.Ways.{Ways, state_after};
-ghost use Rattle.fancy_regex_parts.specs.Tables.{IsTable, due, known_cost, table_weight};
-ghost use Rattle.fancy_regex_parts.specs.Frames.{IsPlace, resume_task, top_first};
-ghost use Rattle.fancy_regex_parts.specs.Layers.{HasWays, IsOnlyLookedAt, IsOfText, IsPaid, IsTrueOf, IsResumed};
+ghost use Rattle.fancy_regex_parts.specs.Ways.{state_after};
+ghost use Rattle.fancy_regex_parts.specs.Tables.{due, known_cost, cost_from};
+ghost use Rattle.fancy_regex_parts.specs.Frames.{IsPlace, resume_task};
+ghost use Rattle.fancy_regex_parts.specs.Layers.{CanAsk, ForTrueWays, IsPaid, IsResumed, IsTrueOf, IsWithinLooks, LeavesMemory};
 ghost use Rattle.fancy_regex_parts.specs.declared.frame.Task.TheVariants.{Visit};
 
 use crate::frame::{Frame, Task};
@@ -65,14 +64,11 @@ fn search(
     part: usize,
     at: usize,
 ) -> Result<Option<usize>, AllocError>
-    requires table { IsTable context.now.table.now }
+    requires ready { CanAsk context.now text.old memory.old }
     requires part { part < length context.now.table.now.states.items }
-    requires memory { IsOfText context.now (looked_text text.old) memory.old.recall }
-    requires small { length (looked_text text.old) < 2 ^ 63 }
     requires place { IsPlace (looked_text text.old) memory.old.recall.base at }
-    requires stack { vec_len memory.old.stack ≡ 0 }
-    ensures answer { IfOk result (λ end. (view : View) (ways : Ways) → HasWays context.now (looked_text text.old) view ways
-        → IsTrueOf context.now ways memory.old.recall → (end ≡ ways.end part at) × IsTrueOf context.now ways memory.new.recall) }
+    ensures answer { IfOk result (λ end. ForTrueWays context.now text.old memory.old
+        (λ ways. (end ≡ ways.end part at) × IsTrueOf context.now ways memory.new.recall)) }
     ensures stack { OnOk result (vec_len memory.new.stack ≡ 0) }
     ensures place { IfOk result (λ end. IfSome end (IsPlace (looked_text text.old) memory.old.recall.base)) }
     ensures paid { IsPaid context.now text.old text.new memory.old.recall memory.new.recall (due context.now.table.now part) 0 }
@@ -81,14 +77,7 @@ fn search(
     'tasks: loop {
         let end = match task {
             Task::Visit { state, at } => {
-                task = visit(
-                    context,
-                    text,
-                    &mut memory.recall,
-                    &mut memory.stack,
-                    state,
-                    at,
-                )?;
+                task = visit(context, text, memory, state, at)?;
                 continue 'tasks;
             }
             Task::Answer(end) => end,
@@ -110,26 +99,16 @@ pub fn ask(
     part: usize,
     at: usize,
 ) -> Result<Option<usize>, AllocError>
-    requires table { IsTable context.now.table.now }
+    requires ready { CanAsk context.now text.old memory.old }
     requires part { part < length context.now.table.now.states.items }
-    requires memory { IsOfText context.now (looked_text text.old) memory.old.recall }
-    requires small { length (looked_text text.old) < 2 ^ 63 }
     requires place { IsPlace (looked_text text.old) memory.old.recall.base at }
-    requires stack { vec_len memory.old.stack ≡ 0 }
-    ensures answer { IfOk result (λ end. (view : View) (ways : Ways) → HasWays context.now (looked_text text.old) view ways
-        → IsTrueOf context.now ways memory.old.recall → end ≡ ways.end part at) }
+    ensures answer { IfOk result (λ end. ForTrueWays context.now text.old memory.old (λ ways. end ≡ ways.end part at)) }
     ensures place { IfOk result (λ end. IfSome end (IsPlace (looked_text text.old) memory.old.recall.base)) }
-    ensures remembers { (view : View) (ways : Ways) → HasWays context.now (looked_text text.old) view ways
-        → IsTrueOf context.now ways memory.old.recall → IsTrueOf context.now ways memory.new.recall }
-    ensures memory { IsOfText context.now (looked_text text.old) memory.new.recall }
-    ensures base { memory.new.recall.base ≡ memory.old.recall.base }
-    ensures stack { vec_len memory.new.stack ≡ 0 }
-    ensures counted { OnOk result (look_count text.new + known_cost context.now.table.now memory.old.recall
-        ≤ look_count text.old + due context.now.table.now part + known_cost context.now.table.now memory.new.recall) }
+    ensures leaves { LeavesMemory context.now text.old text.new memory.old memory.new }
+    ensures counted { OnOk result (IsWithinLooks context.now text.old text.new memory.old memory.new (due context.now.table.now part)) }
     ensures at_most { look_count text.new + known_cost context.now.table.now memory.old.recall
         ≤ look_count text.old + due context.now.table.now part
-        + (length (looked_text text.old) - memory.old.recall.base + 1) * table_weight context.now.table.now }
-    ensures looks { IsOnlyLookedAt text.old text.new }
+        + cost_from context.now.table.now (looked_text text.old) memory.old.recall.base }
 {
     match search(context, text, memory, part, at) {
         Ok(end) => Ok(end),
@@ -151,27 +130,17 @@ pub fn ask_each(
     part: usize,
     places: &[usize],
 ) -> Result<Vec<Option<usize>>, AllocError>
-    requires table { IsTable context.now.table.now }
+    requires ready { CanAsk context.now text.old memory.old }
     requires part { part < length context.now.table.now.states.items }
-    requires memory { IsOfText context.now (looked_text text.old) memory.old.recall }
-    requires small { length (looked_text text.old) < 2 ^ 63 }
     requires places { (k : ℕ) → k < length places.now → IsPlace (looked_text text.old) memory.old.recall.base (slice_index places.now k) }
-    requires stack { vec_len memory.old.stack ≡ 0 }
     ensures len { IfOk result (λ answers. length answers.items ≡ length places.now) }
-    ensures answers { IfOk result (λ answers. (view : View) (ways : Ways) → HasWays context.now (looked_text text.old) view ways
-        → IsTrueOf context.now ways memory.old.recall
-        → (k : ℕ) → k < length places.now → slice_index_or answers.items k None ≡ ways.end part (slice_index places.now k)) }
-    ensures remembers { (view : View) (ways : Ways) → HasWays context.now (looked_text text.old) view ways
-        → IsTrueOf context.now ways memory.old.recall → IsTrueOf context.now ways memory.new.recall }
-    ensures memory { IsOfText context.now (looked_text text.old) memory.new.recall }
-    ensures base { memory.new.recall.base ≡ memory.old.recall.base }
-    ensures stack { vec_len memory.new.stack ≡ 0 }
-    ensures counted { OnOk result (look_count text.new + known_cost context.now.table.now memory.old.recall
-        ≤ look_count text.old + length places.now * due context.now.table.now part
-        + known_cost context.now.table.now memory.new.recall) }
+    ensures answers { IfOk result (λ answers. ForTrueWays context.now text.old memory.old (λ ways. (k : ℕ) → k < length places.now
+        → slice_index_or answers.items k None ≡ ways.end part (slice_index places.now k))) }
+    ensures leaves { LeavesMemory context.now text.old text.new memory.old memory.new }
+    ensures counted { OnOk result (IsWithinLooks context.now text.old text.new memory.old memory.new
+        (length places.now * due context.now.table.now part)) }
     ensures at_most { OnOk result (look_count text.new ≤ look_count text.old + length places.now * due context.now.table.now part
-        + (length (looked_text text.old) - memory.old.recall.base + 1) * table_weight context.now.table.now) }
-    ensures looks { IsOnlyLookedAt text.old text.new }
+        + cost_from context.now.table.now (looked_text text.old) memory.old.recall.base) }
 {
     let mut answers = Vec::new(alloc);
     for k in 0..places.len() {

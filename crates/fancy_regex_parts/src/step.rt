@@ -1,17 +1,17 @@
 //! One step of a search in parts.
 
-ghost use Rattle.std.specs.Prelude.{◌≡◌, ◌+◌, ◌-◌, ◌^◌, ◌<◌, ◌≤◌, ◌∷◌, Some, length, min, IfOk, IfSome, OnOk, IsCharBoundary};
+ghost use Rattle.std.specs.Prelude.{◌≡◌, ◌+◌, ◌^◌, ◌<◌, ◌∷◌, Some, length, IfOk, IfSome, OnOk, IsCharBoundary};
 ghost use Rattle.std.specs.Char.{len_utf8};
 ghost use Rattle.regex_hir.specs.Text.{char_at, char_before};
-ghost use Rattle.fancy_regex_class.specs.Looks.{looked_text, look_count};
+ghost use Rattle.fancy_regex_class.specs.Looks.{looked_text};
 ghost use Rattle.fancy_regex_parts.specs.Ways.{match_end};
-ghost use Rattle.fancy_regex_parts.specs.Tables.{IsTable, mark_of, due};
+ghost use Rattle.fancy_regex_parts.specs.Tables.{mark_of, due};
 ghost use Rattle.fancy_regex_parts.specs.Frames.{pending, task_due, step_frames, step_task, read_task, top_first};
-ghost use Rattle.fancy_regex_parts.specs.Layers.{IsOnlyLookedAt, IsOfText, IsAtTask, IsPaid, IsVisit};
-ghost use Rattle.fancy_regex_parts.specs.declared.frame.Task.TheVariants.{Visit};
+ghost use Rattle.fancy_regex_parts.specs.Layers.{IsLookedAtOnce, CanVisit, IsPaid, IsVisit};
 
 use crate::frame::{Frame, Task};
-use crate::recall::{Known, Recall};
+use crate::memory::PartMemory;
+use crate::recall::Known;
 use crate::table::PartTable;
 use fancy_regex_class::{CharClassMatcher, Counted};
 use fancy_regex_states::{Leaf, Rules, State, leaf_matches, test_holds};
@@ -26,6 +26,8 @@ pub struct PartContext<'p> {
     pub matchers: &'p [CharClassMatcher],
     /// The flags of the search.
     pub rules: Rules,
+    /// The state at which an attempt begins.
+    pub entry: usize,
     /// The pattern's own final state, state 0, matches up to this byte offset. The text after it is seen all the same.
     pub stop: usize,
 }
@@ -54,9 +56,7 @@ fn step(
         (char_before (looked_text text.old) at) (char_at (looked_text text.old) at)) }
     ensures frames { OnOk result (top_first stack.new.items ≡ step_frames state at (top_first stack.old.items)) }
     ensures next { IfSome (char_at (looked_text text.old) at) (λ c. IsCharBoundary (looked_text text.old) (at + len_utf8 c)) }
-    ensures count { look_count text.new ≤ look_count text.old + 1 }
-    ensures counted { min (look_count text.old + 1) (2 ^ 64 - 1) ≤ look_count text.new }
-    ensures looks { IsOnlyLookedAt text.old text.new }
+    ensures looked { IsLookedAtOnce text.old text.new }
 {
     let (before, after) = text.look(at);
     let place = Place { at, before, after };
@@ -154,26 +154,23 @@ fn read(context: &PartContext, leaf: Leaf, next: usize, at: usize, after: Option
 pub fn visit(
     context: &PartContext,
     text: &mut Counted,
-    recall: &mut Recall,
-    stack: &mut Vec<Frame>,
+    memory: &mut PartMemory,
     q: usize,
     at: usize,
 ) -> Result<Task, AllocError>
-    requires table { IsTable context.now.table.now }
-    requires memory { IsOfText context.now (looked_text text.old) recall.old }
-    requires small { length (looked_text text.old) < 2 ^ 63 }
-    requires place { IsAtTask context.now (looked_text text.old) recall.old.base (Visit q at) (top_first stack.old.items) }
-    ensures visit { IfOk result (IsVisit context.now (looked_text text.old) recall.old recall.new
-        (top_first stack.old.items) (top_first stack.new.items) q at) }
-    ensures paid { IfOk result (λ task. IsPaid context.now text.old text.new recall.old recall.new
-        (due context.now.table.now q + pending context.now.table.now (top_first stack.old.items))
-        (task_due context.now.table.now task + pending context.now.table.now (top_first stack.new.items))) }
-    ensures looked { IsPaid context.now text.old text.new recall.old recall.new (due context.now.table.now q) 0 }
+    requires { CanVisit context.now text.old memory.old q at }
+    ensures visit { IfOk result (IsVisit context.now (looked_text text.old) memory.old.recall memory.new.recall
+        (top_first memory.old.stack.items) (top_first memory.new.stack.items) q at) }
+    ensures paid { IfOk result (λ task. IsPaid context.now text.old text.new memory.old.recall memory.new.recall
+        (due context.now.table.now q + pending context.now.table.now (top_first memory.old.stack.items))
+        (task_due context.now.table.now task + pending context.now.table.now (top_first memory.new.stack.items))) }
+    ensures looked { IsPaid context.now text.old text.new memory.old.recall memory.new.recall (due context.now.table.now q) 0 }
 {
     match context.table.mark(q) {
-        Some(mark) => visit_marked(context, text, recall, stack, mark, q, at),
+        Some(mark) => visit_marked(context, text, memory, mark, q, at),
         None => {
-            let task = step(context, text, q, context.table.states[q], at, stack)?;
+            let state = context.table.states[q];
+            let task = step(context, text, q, state, at, &mut memory.stack)?;
             Ok(task)
         }
     }
@@ -184,29 +181,26 @@ pub fn visit(
 fn visit_marked(
     context: &PartContext,
     text: &mut Counted,
-    recall: &mut Recall,
-    stack: &mut Vec<Frame>,
+    memory: &mut PartMemory,
     mark: usize,
     q: usize,
     at: usize,
 ) -> Result<Task, AllocError>
-    requires table { IsTable context.now.table.now }
-    requires memory { IsOfText context.now (looked_text text.old) recall.old }
-    requires small { length (looked_text text.old) < 2 ^ 63 }
+    requires ready { CanVisit context.now text.old memory.old q at }
     requires mark { mark_of context.now.table.now q ≡ Some mark }
-    requires place { IsAtTask context.now (looked_text text.old) recall.old.base (Visit q at) (top_first stack.old.items) }
-    ensures visit { IfOk result (IsVisit context.now (looked_text text.old) recall.old recall.new
-        (top_first stack.old.items) (top_first stack.new.items) q at) }
-    ensures paid { IfOk result (λ task. IsPaid context.now text.old text.new recall.old recall.new
-        (due context.now.table.now q + pending context.now.table.now (top_first stack.old.items))
-        (task_due context.now.table.now task + pending context.now.table.now (top_first stack.new.items))) }
-    ensures looked { IsPaid context.now text.old text.new recall.old recall.new (due context.now.table.now q) 0 }
+    ensures visit { IfOk result (IsVisit context.now (looked_text text.old) memory.old.recall memory.new.recall
+        (top_first memory.old.stack.items) (top_first memory.new.stack.items) q at) }
+    ensures paid { IfOk result (λ task. IsPaid context.now text.old text.new memory.old.recall memory.new.recall
+        (due context.now.table.now q + pending context.now.table.now (top_first memory.old.stack.items))
+        (task_due context.now.table.now task + pending context.now.table.now (top_first memory.new.stack.items))) }
+    ensures looked { IsPaid context.now text.old text.new memory.old.recall memory.new.recall (due context.now.table.now q) 0 }
 {
-    let known = recall.open(mark, at)?;
+    let known = memory.recall.open(mark, at)?;
     match known {
         Known::New(cell) => {
-            push(stack, Frame::Open { cell })?;
-            let task = step(context, text, q, context.table.states[q], at, stack)?;
+            push(&mut memory.stack, Frame::Open { cell })?;
+            let state = context.table.states[q];
+            let task = step(context, text, q, state, at, &mut memory.stack)?;
             Ok(task)
         }
         Known::Fails => Ok(Task::Answer(None)),

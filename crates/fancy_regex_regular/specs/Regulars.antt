@@ -24,6 +24,7 @@ pub record IsContextOf (regular : Regular) (input : RunInput) (context : PartCon
   pub table_is : context.table.now ≡ regular.table
   pub matchers_are : context.matchers.now ≡ regular.matchers.items
   pub rules_are : context.rules ≡ rules_for regular.unicode false input
+  pub entry_is : context.entry ≡ regular.entry
   pub stop_is : context.stop ≡ input.range.end
 
 -- the span that was found is that of the match of the definitions, of this text and input

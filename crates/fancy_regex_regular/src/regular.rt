@@ -136,14 +136,7 @@ impl Regular {
         let mut steps = Steps::new();
         let mut counted = Counted::new(text, &mut steps);
         let last = last_start(input);
-        let found = find(
-            &context,
-            &mut counted,
-            &mut memory.parts,
-            self.entry,
-            input.first,
-            last,
-        )?;
+        let found = find(&context, &mut counted, &mut memory.parts, input.first, last)?;
         let Some((start, end)) = found else {
             return Ok(None);
         };
@@ -153,7 +146,6 @@ impl Regular {
             &mut counted,
             &mut memory.parts,
             &mut memory.walked,
-            self.entry,
             start,
             &mut slots,
         )?;
@@ -193,7 +185,6 @@ impl Regular {
             &context,
             &mut counted,
             parts,
-            self.entry,
             input.first,
             last_start(input),
         )?;
@@ -213,6 +204,7 @@ impl Regular {
                 no_end_text: input.no_end_text,
                 longest: false,
             },
+            entry: self.entry,
             stop: input.range.end,
         }
     }

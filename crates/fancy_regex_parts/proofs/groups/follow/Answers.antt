@@ -10,7 +10,6 @@ use Rattle.fancy_regex_states.specs.declared.state.State.{State}
 use Rattle.fancy_regex_states.specs.declared.state.State.TheVariants.{Match}
 use Rattle.fancy_regex_parts.specs.Tables.{owed}
 use Rattle.fancy_regex_parts.specs.Walk.{AreLeft, last_first, part_end_of, tasks_at, walk_tasks}
-use Rattle.fancy_regex_parts.specs.declared.groups.WalkTask.{WalkTask}
 use Rattle.fancy_regex_parts.proofs.VisitLemmas.{right_at}
 use Rattle.fancy_regex_parts.proofs.WalkLemmas.{left_at}
 use Rattle.fancy_regex_parts.proofs.groups.follow.Goals as goal
@@ -19,7 +18,7 @@ pub part_end-requires-clause-names : goal.part_end-requires-clause-names
 part_end-requires-clause-names c =
     let table = c.args.context.now.table.now in
     let state_is : c.index-state.result.now ≡ state_at table.states.items c.args.q = get_or_read table.states.items c.args.q _ c.requires.state c.index-state.ensures Match in
-    subst (NamesBelow (length table.states.items)) (sym state_is) (right_at table c.args.q c.requires.table c.requires.state).closed
+    subst (NamesBelow (length table.states.items)) (sym state_is) (right_at table c.args.q c.requires.ready.table c.requires.state).closed
 
 pub returns-clause-tasks : goal.returns-clause-tasks
 returns-clause-tasks c view ways has true_of =
@@ -28,7 +27,7 @@ returns-clause-tasks c view ways has true_of =
     let text : List ℕ = looked_text c.args.text.now in
     let old = last_first c.args.tasks.now.items in
     let state_is : c.index-state.result.now ≡ state_at table.states.items c.args.q = get_or_read table.states.items c.args.q _ c.requires.state c.index-state.ensures Match in
-    let after_is : c.look-after.result.1 ≡ char_at text at = c.look-after.ensures.after ∙ ap (λ (t : List ℕ). char_at t at) c.part_end.ensures.looks.text in
+    let after_is : c.look-after.result.1 ≡ char_at text at = c.look-after.ensures.after ∙ ap (λ (t : List ℕ). char_at t at) c.part_end.ensures.leaves.looks.text in
     let end_is : c.in_ok-end.end ≡ part_end_of ways c.index-state.result.now at = c.in_ok-end.ensures.end view ways has true_of in
     c.in_ok-leave_tasks.ensures
     ∙ ap (λ (o : Option ℕ). tasks_at c.index-state.result.now at o c.in_ok-end.end ++ old) after_is
@@ -42,8 +41,8 @@ returns-clause-left c =
     let base = c.args.memory.now.recall.base in
     let old = last_first c.args.tasks.now.items in
     let state_is : c.index-state.result.now ≡ state_at table.states.items c.args.q = get_or_read table.states.items c.args.q _ c.requires.state c.index-state.ensures Match in
-    let names = subst (NamesBelow (length table.states.items)) (sym state_is) (right_at table c.args.q c.requires.table c.requires.state).closed in
-    let next = subst (λ (t : List ℕ). IfSome c.look-after.result.1 (λ k. IsCharBoundary t (c.args.at + len_utf8 k))) c.part_end.ensures.looks.text c.look-after.ensures.next in
+    let names = subst (NamesBelow (length table.states.items)) (sym state_is) (right_at table c.args.q c.requires.ready.table c.requires.state).closed in
+    let next = subst (λ (t : List ℕ). IfSome c.look-after.result.1 (λ k. IsCharBoundary t (c.args.at + len_utf8 k))) c.part_end.ensures.leaves.looks.text c.look-after.ensures.next in
     subst (AreLeft table text base c.args.q c.args.at old) (sym c.in_ok-leave_tasks.ensures)
     (left_at table text base c.args.q c.args.at c.index-state.result.now c.look-after.result.1 c.in_ok-end.end old state_is names c.requires.place next
     c.in_ok-end.ensures.place)
@@ -53,4 +52,4 @@ returns-clause-counted c =
     let table = c.args.context.now.table.now in
     let state_is : c.index-state.result.now ≡ state_at table.states.items c.args.q = get_or_read table.states.items c.args.q _ c.requires.state c.index-state.ensures Match in
     let owes : owed table c.index-state.result.now ≡ owed table (state_at table.states.items c.args.q) = ap (owed table) state_is in
-    omega (arith, c.in_ok-end.ensures.counted, c.look-after.ensures.ticked, owes, (right_at table c.args.q c.requires.table c.requires.state).paid)
+    omega (arith, c.in_ok-end.ensures.counted, c.look-after.ensures.ticked, owes, (right_at table c.args.q c.requires.ready.table c.requires.state).paid)

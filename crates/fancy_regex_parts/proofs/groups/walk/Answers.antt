@@ -1,15 +1,12 @@
-use Rattle.std.proofs.Common.{◌≡◌, ◌∙◌, ◌+◌, ◌-◌, ◌*◌, ◌^◌, ◌<◌, ◌≤◌, ℕ, List, [], ◌∷◌, length, replicate, refl, sym, ap, subst, arith}
+use Rattle.std.proofs.Common.{◌≡◌, ◌∙◌, ◌+◌, ◌*◌, ◌<◌, ◌≤◌, ℕ, List, [], ◌∷◌, length, replicate, refl, sym, ap, subst, arith}
 use Rattle.std.proofs.lemmas.List.{nil_from_length}
 use Rattle.fancy_regex_class.specs.Looks.{looked_text, look_count}
-use Rattle.fancy_regex_states.specs.Attempts.{Trace}
 use Rattle.fancy_regex_parts.specs.Ways.{ways_of, text_view}
-use Rattle.fancy_regex_parts.specs.Tables.{cell_cost, due, known_cost, table_weight}
-use Rattle.fancy_regex_parts.specs.Layers.{HasWays, IsOfText}
+use Rattle.fancy_regex_parts.specs.Tables.{cell_cost, cost_from, due, known_cost}
 use Rattle.fancy_regex_parts.specs.Walk.{IsTried, AllTasksWithin, IsVisitedWithin, IsWalking, apply, dearest, last_first, looks_left, work_left}
 use Rattle.fancy_regex_parts.specs.declared.groups.WalkTask.{WalkTask}
 use Rattle.fancy_regex_parts.specs.declared.groups.WalkTask.TheVariants.{Follow, Start, End}
-use Rattle.fancy_regex_parts.proofs.LoopLemmas.{known_cap}
-use Rattle.fancy_regex_parts.proofs.VisitLemmas.{no_look, looks_on}
+use Rattle.fancy_regex_parts.proofs.AskLemmas.{asks_on, leaves_none, leaves_on, leaves_cap}
 use Rattle.fancy_regex_parts.proofs.WalkLemmas.{begins, entry_cheap, finished, last_none, last_pushed, most_cheap, no_more, one_due, rest_less, has_ways, trace_by, wrote_one}
 use Rattle.fancy_regex_parts.proofs.groups.walk.Goals as goal
 
@@ -17,19 +14,19 @@ pub tasks-init : goal.tasks-init
 tasks-init c =
     let table = c.args.context.now.table.now in
     let text : List ℕ = looked_text c.args.text.now in
-    let places : ℕ = (length text - c.args.start + 1) * table_weight table in
+    let places : ℕ = cost_from table text c.args.start in
     let none = c.restart.ensures.weight (cell_cost table) in
     let cleared : c.clear.new.self.items ≡ [] = nil_from_length _ (omega arith) in
-    let tasks : last_first c.push.new.tasks.items ≡ Follow c.args.entry c.args.start ∷ [] =
-    c.in_ok-push.ensures ∙ ap (λ (l : List WalkTask). Follow c.args.entry c.args.start ∷ last_first l) cleared
-    ∙ ap (λ (l : List WalkTask). Follow c.args.entry c.args.start ∷ l) last_none in
-    let all : looks_left table (length text) c.args.start c.restart.new.self (last_first c.push.new.tasks.items) ≡ due table c.args.entry + places =
-    ap (looks_left table (length text) c.args.start c.restart.new.self) tasks ∙ one_due table c.args.entry c.args.start _ _ (omega (arith, none)) in
-    let looks = ap (λ (n : ℕ). dearest table c.args.entry * n) all in
+    let tasks : last_first c.push.new.tasks.items ≡ Follow c.args.context.now.entry c.args.start ∷ [] =
+    c.in_ok-push.ensures ∙ ap (λ (l : List WalkTask). Follow c.args.context.now.entry c.args.start ∷ last_first l) cleared
+    ∙ ap (λ (l : List WalkTask). Follow c.args.context.now.entry c.args.start ∷ l) last_none in
+    let all : looks_left table (length text) c.args.start c.restart.new.self (last_first c.push.new.tasks.items) ≡ due table c.args.context.now.entry + places =
+    ap (looks_left table (length text) c.args.start c.restart.new.self) tasks ∙ one_due table c.args.context.now.entry c.args.start _ _ (omega (arith, none)) in
+    let looks = ap (λ (n : ℕ). dearest table c.args.context.now.entry * n) all in
     let unset : c.fill.new.self ≡ replicate (length c.args.slots.now) 18446744073709551615 = c.fill.ensures.after (λ y e. e) in
     record {
-      within = subst (AllTasksWithin table text c.args.memory.now.recall.base c.args.start (dearest table c.args.entry)) (sym tasks)
-          (record { state = c.requires.entry; place = c.requires.place; low = omega arith; cheap = entry_cheap table c.args.entry }, tt);
+      within = subst (AllTasksWithin table text c.args.memory.now.recall.base c.args.start (dearest table c.args.context.now.entry)) (sym tasks)
+          (record { reached = record { state = c.requires.entry; place = c.requires.place; low = omega arith }; cheap = entry_cheap table c.args.context.now.entry }, tt);
       visited = record {
         width_is = omega (arith, c.restart.ensures.width, c.len.ensures, table.heads.ok.0);
         base_is = c.restart.ensures.base;
@@ -37,14 +34,10 @@ tasks-init c =
       };
       walking = λ view go tried true_of t is.
           rw (tasks, unset)
-          (begins go table.heads.items c.args.start c.restart.new.self c.args.entry (length c.args.slots.now) (length text) t c.requires.small
-          (trace_by c.args.context.now text view go tried c.args.entry c.args.start c.requires.entry c.requires.place.boundary.0 t is) is c.restart.ensures.cells);
-      true_of = λ view ways has true_of. true_of;
-      memory = c.requires.memory;
-      base = refl;
-      stack = c.requires.stack;
+          (begins go table.heads.items c.args.start c.restart.new.self c.args.context.now.entry (length c.args.slots.now) (length text) t c.requires.ready.small
+          (trace_by c.args.context.now text view go tried c.args.context.now.entry c.args.start c.requires.entry c.requires.place.boundary.0 t is) is c.restart.ensures.cells);
+      leaves = leaves_none c.requires.ready;
       counted = omega (arith, looks);
-      looks = no_look c.args.text.now;
     }
 
 pub returns-in_default-clause-written : goal.returns-in_default-clause-written
@@ -57,47 +50,28 @@ returns-in_default-clause-written c view go tried true_of t is =
     (apply t.writes (replicate (length c.args.slots.now) 18446744073709551615)) c.tasks.slots l) none (c.tasks.invariant.walking view go tried true_of t is))
 
 pub returns-in_default-clause-at_most : goal.returns-in_default-clause-at_most
-returns-in_default-clause-at_most c =
-    let context = c.args.context.now in
-    let cap = known_cap context (looked_text c.args.text.now) c.args.memory.now.recall.base _ c.tasks.invariant.memory c.tasks.invariant.base in
-    omega (arith, c.tasks.invariant.counted, cap)
+returns-in_default-clause-at_most c = omega (arith, c.tasks.invariant.counted, leaves_cap c.tasks.invariant.leaves)
 
-pub pass-requires-clause-state : goal.pass-requires-clause-state
-pass-requires-clause-state c =
+pub pass-requires-clause-ready : goal.pass-requires-clause-ready
+pass-requires-clause-ready c = asks_on c.requires.ready c.tasks.invariant.leaves
+
+pub pass-requires-clause-reached : goal.pass-requires-clause-reached
+pass-requires-clause-reached c =
     let table = c.args.context.now.table.now in
     let tasks_are : last_first c.tasks.walked.tasks.items ≡ Follow c.in-Follow.state c.in-Follow.at ∷ last_first c.pop.new.self.items =
     ap last_first c.in-Some.ensures.items ∙ last_pushed c.pop.new.self.items c.in-Some.task
     ∙ ap (λ (x : WalkTask). x ∷ last_first c.pop.new.self.items) c.in-Follow.is in
-    (subst (AllTasksWithin table (looked_text c.args.text.now) c.args.memory.now.recall.base c.args.start (dearest table c.args.entry)) tasks_are c.tasks.invariant.within).0.state
-
-pub pass-requires-clause-place : goal.pass-requires-clause-place
-pass-requires-clause-place c =
-    let table = c.args.context.now.table.now in
-    let tasks_are : last_first c.tasks.walked.tasks.items ≡ Follow c.in-Follow.state c.in-Follow.at ∷ last_first c.pop.new.self.items =
-    ap last_first c.in-Some.ensures.items ∙ last_pushed c.pop.new.self.items c.in-Some.task
-    ∙ ap (λ (x : WalkTask). x ∷ last_first c.pop.new.self.items) c.in-Follow.is in
-    rw (c.tasks.invariant.looks.text, c.tasks.invariant.base)
-    (subst (AllTasksWithin table (looked_text c.args.text.now) c.args.memory.now.recall.base c.args.start (dearest table c.args.entry)) tasks_are c.tasks.invariant.within).0.place
-
-pub pass-requires-clause-low : goal.pass-requires-clause-low
-pass-requires-clause-low c =
-    let table = c.args.context.now.table.now in
-    let tasks_are : last_first c.tasks.walked.tasks.items ≡ Follow c.in-Follow.state c.in-Follow.at ∷ last_first c.pop.new.self.items =
-    ap last_first c.in-Some.ensures.items ∙ last_pushed c.pop.new.self.items c.in-Some.task
-    ∙ ap (λ (x : WalkTask). x ∷ last_first c.pop.new.self.items) c.in-Follow.is in
-    let low = (subst (AllTasksWithin table (looked_text c.args.text.now) c.args.memory.now.recall.base c.args.start (dearest table c.args.entry)) tasks_are c.tasks.invariant.within).0.low in
-    omega (arith, low, c.tasks.invariant.visited.base_is)
+    rw (c.tasks.invariant.leaves.looks.text, c.tasks.invariant.leaves.base, c.tasks.invariant.visited.base_is)
+    (subst (AllTasksWithin table (looked_text c.args.text.now) c.args.memory.now.recall.base c.args.start (dearest table c.args.context.now.entry)) tasks_are c.tasks.invariant.within).0.reached
 
 pub pass-requires-clause-visited : goal.pass-requires-clause-visited
 pass-requires-clause-visited c =
-    rw c.tasks.invariant.looks.text
+    rw c.tasks.invariant.leaves.looks.text
     (subst (λ (b : ℕ). IsVisitedWithin c.args.context.now.table.now (length (looked_text c.args.text.now)) b c.tasks.walked.visited)
     (sym c.tasks.invariant.visited.base_is) c.tasks.invariant.visited)
 
-pub returns-in_err-pass-in-Follow-clause-remembers : goal.returns-in_err-pass-in-Follow-clause-remembers
-returns-in_err-pass-in-Follow-clause-remembers c view ways has true_of =
-    c.pass.ensures.remembers view ways (subst (λ (t : List ℕ). HasWays c.args.context.now t view ways) (sym c.tasks.invariant.looks.text) has)
-    (c.tasks.invariant.true_of view ways has true_of)
+pub returns-in_err-pass-in-Follow-clause-leaves : goal.returns-in_err-pass-in-Follow-clause-leaves
+returns-in_err-pass-in-Follow-clause-leaves c = leaves_on c.tasks.invariant.leaves c.pass.ensures.leaves
 
 pub tasks-preserved-in-Continue-branch-2 : goal.tasks-preserved-in-Continue-branch-2
 tasks-preserved-in-Continue-branch-2 c =
@@ -106,7 +80,7 @@ tasks-preserved-in-Continue-branch-2 c =
     let text : List ℕ = looked_text c.args.text.now in
     let base : ℕ = c.args.memory.now.recall.base in
     let start : ℕ = c.args.start in
-    let dear : ℕ = dearest table c.args.entry in
+    let dear : ℕ = dearest table c.args.context.now.entry in
     let invariant = c.tasks.invariant in
     let rest : List WalkTask = last_first c.pop.new.self.items in
     let task : WalkTask = Follow c.in-Follow.state c.in-Follow.at in
@@ -119,29 +93,23 @@ tasks-preserved-in-Continue-branch-2 c =
     let counted = subst (λ (b : ℕ). look_count c.pass.new.text + known_cost table c.tasks.memory.recall
     + dear * looks_left table (length text) b c.pass.new.walked.visited new
     ≤ look_count c.tasks.text + known_cost table c.pass.new.memory.recall + dear * looks_left table (length text) b c.tasks.walked.visited (task ∷ rest))
-    invariant.visited.base_is (rw invariant.looks.text at (c.in_ok-pass-in-Follow.ensures.counted dear (most_cheap table c.args.entry) cheap)) in
+    invariant.visited.base_is (rw invariant.leaves.looks.text at (c.in_ok-pass-in-Follow.ensures.counted dear (most_cheap table c.args.context.now.entry) cheap)) in
     record {
-      within = rw (invariant.looks.text, invariant.base, invariant.visited.base_is) at
-          (c.in_ok-pass-in-Follow.ensures.within dear (most_cheap table c.args.entry) cheap
-          (rw (invariant.looks.text, invariant.base, invariant.visited.base_is) within.1));
-      visited = rw (invariant.looks.text, invariant.visited.base_is) at c.in_ok-pass-in-Follow.ensures.visited;
+      within = rw (invariant.leaves.looks.text, invariant.leaves.base, invariant.visited.base_is) at
+          (c.in_ok-pass-in-Follow.ensures.within dear (most_cheap table c.args.context.now.entry) cheap
+          (rw (invariant.leaves.looks.text, invariant.leaves.base, invariant.visited.base_is) within.1));
+      visited = rw (invariant.leaves.looks.text, invariant.visited.base_is) at c.in_ok-pass-in-Follow.ensures.visited;
       walking = λ view go tried true_of t is.
-          let here = subst (λ (x : List ℕ). IsTried context x view go) (sym invariant.looks.text) tried in
-          let known = invariant.true_of (text_view view) (ways_of go) (has_ways context text view go tried) true_of in
+          let here = subst (λ (x : List ℕ). IsTried context x view go) (sym invariant.leaves.looks.text) tried in
+          let known = invariant.leaves.remembers (text_view view) (ways_of go) (has_ways context text view go tried) true_of in
           let walks = subst (λ (l : List WalkTask). IsWalking go table.heads.items start c.tasks.walked.visited
           (apply t.writes (replicate (length c.args.slots.now) 18446744073709551615)) c.tasks.slots l) tasks_are (invariant.walking view go tried true_of t is) in
           rw invariant.visited.base_is at
           (c.in_ok-pass-in-Follow.ensures.walking view go here known (apply t.writes (replicate (length c.args.slots.now) 18446744073709551615)) c.tasks.slots
           (subst (λ (b : ℕ). IsWalking go table.heads.items b c.tasks.walked.visited
           (apply t.writes (replicate (length c.args.slots.now) 18446744073709551615)) c.tasks.slots (task ∷ rest)) (sym invariant.visited.base_is) walks));
-      true_of = λ view ways has true_of.
-          c.pass.ensures.remembers view ways (subst (λ (t : List ℕ). HasWays context t view ways) (sym invariant.looks.text) has)
-          (invariant.true_of view ways has true_of);
-      memory = subst (λ (t : List ℕ). IsOfText context t c.pass.new.memory.recall) invariant.looks.text c.pass.ensures.memory;
-      base = c.pass.ensures.base ∙ invariant.base;
-      stack = c.pass.ensures.stack;
+      leaves = leaves_on invariant.leaves c.pass.ensures.leaves;
       counted = omega (arith, invariant.counted, left_is, counted);
-      looks = looks_on invariant.looks c.pass.ensures.looks;
     }
 
 pub tasks-smaller-in-Continue-branch-2 : goal.tasks-smaller-in-Continue-branch-2
@@ -154,7 +122,7 @@ tasks-smaller-in-Continue-branch-2 c =
     ap last_first c.in-Some.ensures.items ∙ last_pushed c.pop.new.self.items c.in-Some.task ∙ ap (λ (x : WalkTask). x ∷ rest) c.in-Follow.is in
     let less = subst (λ (b : ℕ). work_left table (length text) b c.pass.new.walked.visited (last_first c.pass.new.walked.tasks.items)
     < work_left table (length text) b c.tasks.walked.visited (Follow c.in-Follow.state c.in-Follow.at ∷ rest))
-    invariant.visited.base_is (rw invariant.looks.text at c.in_ok-pass-in-Follow.ensures.progress) in
+    invariant.visited.base_is (rw invariant.leaves.looks.text at c.in_ok-pass-in-Follow.ensures.progress) in
     let was = ap (work_left table (length text) c.args.start c.tasks.walked.visited) tasks_are in
     omega (arith, less, was)
 
@@ -163,7 +131,7 @@ tasks-preserved-in-Start c =
     let context = c.args.context.now in
     let table = context.table.now in
     let text : List ℕ = looked_text c.args.text.now in
-    let dear : ℕ = dearest table c.args.entry in
+    let dear : ℕ = dearest table c.args.context.now.entry in
     let invariant = c.tasks.invariant in
     let rest : List WalkTask = last_first c.pop.new.self.items in
     let task : WalkTask = Start c.in-Start.group c.in-Start.at in
@@ -179,15 +147,11 @@ tasks-preserved-in-Start c =
       walking = λ view go tried true_of t is.
           rw wrote
           (wrote_one go table.heads.items c.args.start c.tasks.walked.visited (apply t.writes (replicate (length c.args.slots.now) 18446744073709551615)) c.tasks.slots task rest
-          (2 * c.in-Start.group) c.in-Start.at (omega (arith, within.0, c.requires.small)) refl (λ h. h)
+          (2 * c.in-Start.group) c.in-Start.at (omega (arith, within.0, c.requires.ready.small)) refl (λ h. h)
           (subst (λ (l : List WalkTask). IsWalking go table.heads.items c.args.start c.tasks.walked.visited
           (apply t.writes (replicate (length c.args.slots.now) 18446744073709551615)) c.tasks.slots l) tasks_are (invariant.walking view go tried true_of t is)));
-      true_of = invariant.true_of;
-      memory = invariant.memory;
-      base = invariant.base;
-      stack = invariant.stack;
+      leaves = invariant.leaves;
       counted = omega (arith, invariant.counted, left_is, left_less);
-      looks = invariant.looks;
     }
 
 pub tasks-smaller-in-Start : goal.tasks-smaller-in-Start
@@ -206,7 +170,7 @@ tasks-preserved c =
     let context = c.args.context.now in
     let table = context.table.now in
     let text : List ℕ = looked_text c.args.text.now in
-    let dear : ℕ = dearest table c.args.entry in
+    let dear : ℕ = dearest table c.args.context.now.entry in
     let invariant = c.tasks.invariant in
     let rest : List WalkTask = last_first c.pop.new.self.items in
     let task : WalkTask = End c.in-End.group c.in-End.at in
@@ -222,15 +186,11 @@ tasks-preserved c =
       walking = λ view go tried true_of t is.
           rw wrote
           (wrote_one go table.heads.items c.args.start c.tasks.walked.visited (apply t.writes (replicate (length c.args.slots.now) 18446744073709551615)) c.tasks.slots task rest
-          (2 * c.in-End.group + 1) c.in-End.at (omega (arith, within.0, c.requires.small)) refl (λ h. h)
+          (2 * c.in-End.group + 1) c.in-End.at (omega (arith, within.0, c.requires.ready.small)) refl (λ h. h)
           (subst (λ (l : List WalkTask). IsWalking go table.heads.items c.args.start c.tasks.walked.visited
           (apply t.writes (replicate (length c.args.slots.now) 18446744073709551615)) c.tasks.slots l) tasks_are (invariant.walking view go tried true_of t is)));
-      true_of = invariant.true_of;
-      memory = invariant.memory;
-      base = invariant.base;
-      stack = invariant.stack;
+      leaves = invariant.leaves;
       counted = omega (arith, invariant.counted, left_is, left_less);
-      looks = invariant.looks;
     }
 
 pub tasks-smaller : goal.tasks-smaller

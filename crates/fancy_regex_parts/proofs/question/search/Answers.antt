@@ -15,28 +15,27 @@ use Rattle.fancy_regex_parts.proofs.question.search.Goals as goal
 pub tasks-init : goal.tasks-init
 unfolding top_first pending
 tasks-init c =
-    let none : c.args.memory.now.stack.items ≡ [] = nil_from_length _ (omega (arith, c.requires.stack, c.args.memory.now.stack.ok.0)) in
+    let none : c.args.memory.now.stack.items ≡ [] = nil_from_length _ (omega (arith, c.requires.ready.stack, c.args.memory.now.stack.ok.0)) in
     record {
       tracking = λ view ways has true_of. rw none (record { resumes = refl; below = tt; remembers = true_of });
       place = rw none (record { task = (c.requires.part, c.requires.place); frames = tt });
-      paid = rw none (record { base = refl; memory = c.requires.memory; counted = omega arith; looks = no_look c.args.text.now });
+      paid = rw none (record { base = refl; memory = c.requires.ready.of_text; counted = omega arith; looks = no_look c.args.text.now });
     }
 
-pub visit-requires-clause-memory : goal.visit-requires-clause-memory
-visit-requires-clause-memory c =
-    subst (λ (t : List ℕ). IsOfText c.args.context.now t c.tasks.memory.recall) (sym c.tasks.invariant.paid.looks.text) c.tasks.invariant.paid.memory
-
-pub visit-requires-clause-small : goal.visit-requires-clause-small
-visit-requires-clause-small c = rw c.tasks.invariant.paid.looks.text c.requires.small
-
-pub visit-requires-clause-place : goal.visit-requires-clause-place
-visit-requires-clause-place c =
-    rw (c.tasks.invariant.paid.looks.text, c.tasks.invariant.paid.base)
-    (subst (λ (t : Task). IsAtTask c.args.context.now (looked_text c.args.text.now) c.args.memory.now.recall.base t (top_first c.tasks.memory.stack.items)) c.in-Visit.is c.tasks.invariant.place)
+pub visit-requires : goal.visit-requires
+visit-requires c =
+    let paid = c.tasks.invariant.paid in
+    record {
+      table = c.requires.ready.table;
+      of_text = subst (λ (t : List ℕ). IsOfText c.args.context.now t c.tasks.memory.recall) (sym paid.looks.text) paid.memory;
+      small = rw paid.looks.text c.requires.ready.small;
+      place = rw (paid.looks.text, paid.base)
+          (subst (λ (t : Task). IsAtTask c.args.context.now (looked_text c.args.text.now) c.args.memory.now.recall.base t (top_first c.tasks.memory.stack.items)) c.in-Visit.is c.tasks.invariant.place);
+    }
 
 pub resume-task-requires : goal.resume-task-requires
 resume-task-requires c =
-    small_place (looked_text c.args.text.now) c.args.memory.now.recall.base _ (length c.args.context.now.table.now.states.items) c.requires.small
+    small_place (looked_text c.args.text.now) c.args.memory.now.recall.base _ (length c.args.context.now.table.now.states.items) c.requires.ready.small
     (subst (IsTaskWithin (looked_text c.args.text.now) (length c.args.context.now.table.now.states.items) c.args.memory.now.recall.base) c.in-Answer.is c.tasks.invariant.place.task)
 
 pub returns-in_default-clause-answer : goal.returns-in_default-clause-answer
@@ -76,10 +75,10 @@ pub tasks-smaller-in-Visit : goal.tasks-smaller-in-Visit
 tasks-smaller-in-Visit c =
     let paid = c.tasks.invariant.paid in
     let text : looked_text c.tasks.text ≡ looked_text c.args.text.now = paid.looks.text in
-    let after = subst (λ (t : List ℕ). IsOfText c.args.context.now t c.visit.new.recall) text c.visit.ensures.looked.memory in
+    let after = subst (λ (t : List ℕ). IsOfText c.args.context.now t c.visit.new.memory.recall) text c.visit.ensures.looked.memory in
     let base = c.visit.ensures.looked.base ∙ paid.base in
     let old = known_cap c.args.context.now (looked_text c.args.text.now) c.args.memory.now.recall.base c.tasks.memory.recall paid.memory paid.base in
-    let new = known_cap c.args.context.now (looked_text c.args.text.now) c.args.memory.now.recall.base c.visit.new.recall after base in
+    let new = known_cap c.args.context.now (looked_text c.args.text.now) c.args.memory.now.recall.base c.visit.new.memory.recall after base in
     let due_is = ap (task_due c.args.context.now.table.now) c.in-Visit.is in
     let mode_is = ap task_mode c.in-Visit.is in
     omega (arith, c.in_ok-task-in-Visit.ensures.visit.progress, old, new, due_is, mode_is)

@@ -28,7 +28,7 @@ returns-clause-answer c pattern is =
     let has_ways : HasWays c.context-context.result text (text_view found.view) ways =
     rw (context.table_is, context.matchers_are, context.rules_are, context.stop_is) found.explains in
     let said : c.in_ok-span.span ≡ earliest (ways.end self.entry) (boundaries text input.first c.last_start.result) =
-    (rw c.new-counted.ensures.text at c.in_ok-span.ensures.found) (text_view found.view) ways has_ways (c.restart.ensures.remembers ways) in
+    (rw (c.new-counted.ensures.text, context.entry_is) at c.in_ok-span.ensures.found) (text_view found.view) ways has_ways (c.restart.ensures.remembers ways) in
     said
     ∙ ap (λ last. earliest (ways.end self.entry) (boundaries text input.first last)) c.last_start.ensures
     ∙ found.first_is
@@ -37,7 +37,7 @@ returns-clause-answer c pattern is =
 bound : (c : After-find) (pattern : Pattern) → IsRegularOf c.args.self.now pattern
     → look_count c.find.new.text ≤ c.args.steps.now + 4 * tree_weight pattern.groups pattern.tree * (length c.args.text.now - c.args.input.now.first + 1)
 bound c pattern is =
-    let most = rw (c.context-context.ensures.table_is, c.new-counted.ensures.text, c.restart.ensures.base, c.new-counted.ensures.count, c.last_start.ensures) at c.find.ensures.bound in
+    let most = rw (c.context-context.ensures.table_is, c.context-context.ensures.entry_is, c.new-counted.ensures.text, c.restart.ensures.base, c.new-counted.ensures.count, c.last_start.ensures) at c.find.ensures.bound in
     looks_most c.args.self.now c.args.text.now c.args.input.now pattern is (omega (arith, c.if-input.false)) c.requires.range c.args.steps.now (look_count c.find.new.text) most
 
 pub returns-in_err-span-clause-at_most : goal.returns-in_err-span-clause-at_most

@@ -1,17 +1,17 @@
-use Rattle.std.proofs.Common.{◌≡◌, ◌∙◌, ℕ, ◌*◌, Bool, List, Option, Some, length, replicate, sym, ap, ap₂, subst, arith}
+use Rattle.std.proofs.Common.{◌≡◌, ◌∙◌, ℕ, ◌*◌, Bool, List, Some, length, replicate, sym, ap, ap₂, subst, arith}
 use Rattle.std.proofs.lemmas.List.{length-replicate}
 use Rattle.fancy_regex_meaning.specs.Groups.{Pattern}
 use Rattle.fancy_regex_meaning.specs.Positions.{boundaries}
-use Rattle.fancy_regex_meaning.specs.Searches.{first_match}
 use Rattle.fancy_regex_class.specs.Looks.{looked_text}
-use Rattle.fancy_regex_class.specs.RunInputs.{match_slots, setting_for, search_for}
+use Rattle.fancy_regex_class.specs.RunInputs.{match_slots}
 use Rattle.fancy_regex_parts.specs.Find.{earliest}
 use Rattle.fancy_regex_parts.specs.Frames.{IsPlace}
-use Rattle.fancy_regex_parts.specs.Layers.{HasWays, IsOfText, IsTrueOf}
+use Rattle.fancy_regex_parts.specs.Layers.{CanAsk, HasWays, IsTrueOf}
 use Rattle.fancy_regex_parts.specs.Walk.{apply as walk_apply}
 use Rattle.fancy_regex_parts.specs.Ways.{ways_of, text_view}
 use Rattle.fancy_regex_linear.specs.Easy.{found_slots, found_at}
 use Rattle.fancy_regex_linear.specs.EasyPatterns.{span_of_match}
+use Rattle.fancy_regex_parts.proofs.AskLemmas.{asks_on}
 use Rattle.fancy_regex_regular.specs.Regulars.{IsRegularOf}
 use Rattle.fancy_regex_regular.specs.Starts.{last_start}
 use Rattle.fancy_regex_regular.proofs.RegularGroupLemmas.{none_too, way_of_match, ways_in, tried_in, length_written, refilled}
@@ -43,7 +43,7 @@ found_is : (c : In_ok-found) (pattern : Pattern) (is : IsRegularOf c.args.self.n
 found_is c pattern is =
     let s = searched c pattern is in
     let ways = ways_of s.go in
-    (rw c.new-counted.ensures.text at c.in_ok-found.ensures.found) (text_view s.view) ways (has_ways c pattern is) (c.restart.ensures.remembers ways)
+    (rw (c.new-counted.ensures.text, c.context-context.ensures.entry_is) at c.in_ok-found.ensures.found) (text_view s.view) ways (has_ways c pattern is) (c.restart.ensures.remembers ways)
     ∙ ap (λ last. earliest (ways.end c.args.self.now.entry) (boundaries c.args.text.now c.args.input.now.first last)) c.last_start-last.ensures
 
 pub returns-in_default : goal.returns-in_default
@@ -51,15 +51,26 @@ returns-in_default c pattern is =
     let m = (goal.at.returns-in_default c).In_ok-found in
     none_too span_of_match (match_slots pattern) _ (sym c.in_default.is ∙ found_is m pattern is ∙ (searched m pattern is).first_is)
 
-pub walk-requires-clause-memory : goal.walk-requires-clause-memory
-walk-requires-clause-memory c =
-    subst (λ (t : List ℕ). IsOfText c.context-context.result t c.find.new.memory.recall) (sym c.find.ensures.looks.text) c.find.ensures.memory
+pub find-requires-clause-ready : goal.find-requires-clause-ready
+find-requires-clause-ready c = record {
+  table = rw c.context-context.ensures.table_is c.args.self.now.right;
+  of_text = c.restart.ensures.of_text (looked_text c.new-counted.result);
+  small = rw c.new-counted.ensures.text (omega arith);
+  stack = c.restart.ensures.stack;
+}
 
-pub walk-requires-clause-small : goal.walk-requires-clause-small
-walk-requires-clause-small c = rw (c.find.ensures.looks.text, c.new-counted.ensures.text) (omega arith)
+pub walk-requires-clause-ready : goal.walk-requires-clause-ready
+walk-requires-clause-ready c =
+    let before : CanAsk c.context-context.result c.new-counted.result c.restart.new.self = record {
+      table = rw c.context-context.ensures.table_is c.args.self.now.right;
+      of_text = c.restart.ensures.of_text (looked_text c.new-counted.result);
+      small = rw c.new-counted.ensures.text (omega arith);
+      stack = c.restart.ensures.stack;
+    } in
+    asks_on before c.find.ensures.leaves
 
 pub walk-requires-clause-place : goal.walk-requires-clause-place
-walk-requires-clause-place c = rw (c.find.ensures.looks.text, c.find.ensures.base) (rw c.in-Some.is at c.in_ok-found.ensures.place)
+walk-requires-clause-place c = rw (c.find.ensures.leaves.looks.text, c.find.ensures.leaves.base) (rw c.in-Some.is at c.in_ok-found.ensures.place)
 
 pub returns : goal.returns
 returns c pattern is =
@@ -73,11 +84,12 @@ returns c pattern is =
     let place : IsPlace text c.restart.new.self.recall.base c.in-Some.start = rw c.new-counted.ensures.text at (rw c.in-Some.is at c.in_ok-found.ensures.place) in
     let way = way_of_match self.unicode self.table.states.items self.entry self.matchers.items pattern is.states text input s c.requires.first
     (omega (arith, c.if-input.false)) c.requires.range c.in-Some.start c.in-Some.end place.boundary.0 (sym (found_is m pattern is) ∙ c.in-Some.is) in
-    let looked : looked_text c.find.new.text ≡ text = c.find.ensures.looks.text ∙ c.new-counted.ensures.text in
+    let looked : looked_text c.find.new.text ≡ text = c.find.ensures.leaves.looks.text ∙ c.new-counted.ensures.text in
     let tried = tried_in c.context-context.result self input context text s.view s.go s.first s.does s.shows in
     let true_of : IsTrueOf c.context-context.result ways c.find.new.memory.recall =
-    (rw c.new-counted.ensures.text at c.find.ensures.remembers) (text_view s.view) ways (has_ways m pattern is) (c.restart.ensures.remembers ways) in
-    let written = (rw looked at c.in_ok-walk.ensures.written) s.view s.go tried true_of way.trace way.answer_is in
+    (rw c.new-counted.ensures.text at c.find.ensures.leaves.remembers) (text_view s.view) ways (has_ways m pattern is) (c.restart.ensures.remembers ways) in
+    let answer = subst (λ (q : ℕ). (s.go q c.in-Some.start).answer ≡ Some way.trace) (sym context.entry_is) way.answer_is in
+    let written = (rw looked at c.in_ok-walk.ensures.written) s.view s.go tried true_of way.trace answer in
     let unset : c.in_ok-slots.slots.items ≡ replicate (2 * length pattern.groups) 18446744073709551615 =
     c.in_ok-slots.ensures ∙ ap (λ (n : ℕ). replicate (2 * n) 18446744073709551615) is.groups in
     let count : length c.deref_mut.result.now ≡ 2 * length pattern.groups =
