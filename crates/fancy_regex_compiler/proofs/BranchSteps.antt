@@ -7,7 +7,7 @@ use Rattle.std.specs.Borrow.{Bor}
 use Rattle.fancy_regex_tree.specs.Tree.{tree_of}
 use Rattle.fancy_regex_tree.specs.declared.expr.Expr.{Expr}
 use Rattle.fancy_regex_meaning.specs.Ways.{is_at_call_limit}
-use Rattle.fancy_regex_desugar.specs.CorePatterns.{CorePattern, nothing, fail, cat, alt, conditional}
+use Rattle.fancy_regex_desugar.specs.CorePatterns.{CorePattern, nothing, fail, cat, alt, conditional, called}
 use Rattle.fancy_regex_desugar.specs.ProgramSizes.{room}
 use Rattle.fancy_regex_desugar.specs.Unfolded.{alt_all}
 use Rattle.fancy_regex_info.specs.Infos.{info_of}
@@ -29,8 +29,9 @@ use Rattle.fancy_regex_compiler.specs.declared.program_builder.ProgramBuilder.{P
 use Rattle.fancy_regex_compiler.specs.declared.task.Task.TheVariants as task
 use Rattle.fancy_regex_compiler.specs.declared.task.Tasks.TheVariants as tasks
 use Rattle.fancy_regex_compiler.specs.declared.task.Step.{Step}
-use Rattle.fancy_regex_compiler.proofs.RoomLemmas.{room_alt, room_fail, room_conditional, call_is}
-use Rattle.fancy_regex_compiler.proofs.RowLemmas.{wrote_nothing, wrote_fail}
+use Rattle.fancy_regex_compiler.proofs.Drafts.{pat_called}
+use Rattle.fancy_regex_compiler.proofs.RoomLemmas.{room_alt, room_fail, room_conditional, room_called, call_is}
+use Rattle.fancy_regex_compiler.proofs.RowLemmas.{wrote_nothing, wrote_fail, wrote_no_call}
 use Rattle.fancy_regex_compiler.proofs.StepLemmas.{same_progress, closing_fits, row_step, leads_nowhere, leads_one, drew_alternatives, drew_tested}
 
 -- the first of a row, and the others
@@ -82,6 +83,16 @@ leads_fail context old body slot keeps p S step fails step_is drew long =
     subst (λ r. LeadsTo context p keeps S old new slot r) (sym step_is)
     (leads_nowhere context old new slot keeps p S (wrote_fail context.unicode context.whole old new slot p fails drew refl)
     (let rooms = ap room fails in omega (arith, long, rooms, room_fail)) (subst (IsAllowed context.unicode keeps) (sym fails) tt))
+
+-- a call that fails
+pub leads_no_call : (context : CompileContext) (old : Emitter) (body : ProgramBuilder) (slot : ℕ) (keeps : Bool) (k : ℕ) (p : CorePattern) (S : TreeContext → Type 0) (step : Step) → p ≡ called k fail →
+    step ≡ record { slot = slot; tasks = tasks.Nothing } → draft_of body ≡ added op.fail (draft_of old.body) → extent (draft_of body) ≡ extent (draft_of old.body) + 1 →
+    LeadsTo context p keeps S old (record { body = body; classes = old.classes; opened = old.opened; parts = old.parts }) slot step
+leads_no_call context old body slot keeps k p S step fails step_is drew long =
+    let new : Emitter = record { body = body; classes = old.classes; opened = old.opened; parts = old.parts } in
+    subst (λ r. LeadsTo context p keeps S old new slot r) (sym step_is)
+    (leads_nowhere context old new slot keeps p S (wrote_no_call context.unicode context.whole old new slot k p fails drew refl)
+    (let rooms = ap room fails in omega (arith, long, rooms, room_called k fail, room_fail)) (subst (IsAllowed context.unicode keeps) (sym fails) tt))
 
 -- an alternation of no branch
 pub leads_no_branch : (context : CompileContext) (old : Emitter) (body : ProgramBuilder) (slot : ℕ) (branches : List Info) (steps_back : Bool) (scope : Scope) (step : Step) → branches ≡ [] →
@@ -243,29 +254,29 @@ leads_condition context old body slot inside scope step split first t x y z d st
     })
 
 -- a call that opens
-pub leads_call : (context : CompileContext) (old new : Emitter) (slot m k : ℕ) (scope called : Scope) (x : Bor Info) → scope.calls_left ≡ suc m → called.calls_left ≡ m →
-    called.may_keep ≡ scope.may_keep → called.may_be_absent ≡ scope.may_be_absent → slice_get (infos_of context) k ≡ Some (info_of x.now) →
+pub leads_call : (context : CompileContext) (old new : Emitter) (slot m k : ℕ) (scope inner : Scope) (x : Bor Info) → scope.calls_left ≡ suc m → inner.calls_left ≡ m →
+    inner.may_keep ≡ scope.may_keep → inner.may_be_absent ≡ scope.may_be_absent → slice_get (infos_of context) k ≡ Some (info_of x.now) →
     is_at_call_limit old.opened.items k ≡ false → draft_of new.body ≡ draft_of old.body → new.opened.items ≡ old.opened.items ++ k ∷ [] →
-    Leads context old new slot slot (task.EndCall ∷ task.Node x false called ∷ []) (past_pattern context (info_call (infos_of context) scope.calls_left old.opened.items k) (progress old slot))
+    Leads context old new slot slot (task.EndCall ∷ task.Node x false inner ∷ []) (past_pattern context (info_call (infos_of context) scope.calls_left old.opened.items k) (progress old slot))
     (IsAllowed context.unicode scope.may_keep (info_call (infos_of context) scope.calls_left old.opened.items k)) (room (info_call (infos_of context) scope.calls_left old.opened.items k))
     (λ tree_context. IsExpandedTarget tree_context scope.may_keep scope.may_be_absent (infos_of context) k)
-leads_call context old new slot m k scope called x more less keeps absents at free same pushed =
+leads_call context old new slot m k scope inner x more less keeps absents at free same pushed =
     let p = info_call (infos_of context) scope.calls_left old.opened.items k in
-    let q = node_pattern context x.now false called new.opened.items in
-    let is : p ≡ q =
+    let q = node_pattern context x.now false inner new.opened.items in
+    let is : p ≡ called k q =
     call_is (infos_of context) scope.calls_left m old.opened.items new.opened.items k (info_of x.now) more at free pushed
-    ∙ ap (λ n. (info_written (info_call (infos_of context) n new.opened.items) (info_of x.now)).front) (sym less) in
+    ∙ ap (λ n. called k (info_written (info_call (infos_of context) n new.opened.items) (info_of x.now)).front) (sym less) in
     let one_less : length new.opened.items - 1 ≡ length old.opened.items = (let long = ap length pushed in omega (arith, long, length-append old.opened.items (k ∷ []))) in
     record {
       ends = same_progress
-          (ap₂ (λ r d. with_pat context.unicode context.whole r slot d) (sym is) same)
+          (sym (pat_called context.unicode context.whole k q slot (draft_of new.body)) ∙ ap₂ (λ r d. with_pat context.unicode context.whole r slot d) (sym is) same)
           (ap (λ r. slot + slots_in r) (sym is))
           (ap₂ take one_less pushed ∙ take-append_seam old.opened.items (k ∷ []));
       allowed = λ h. subst (IsAllowed context.unicode scope.may_keep) (sym is) (subst (λ b. IsAllowed context.unicode b q) keeps h.1.0);
-      fits = (let rooms = ap room is in let extents = ap extent same in omega (arith, rooms, extents));
+      fits = (let rooms = ap room is in let extents = ap extent same in omega (arith, rooms, room_called k q, extents));
       stands = λ tree_context s stand.
-          let body : IsExpandedPart tree_context called.may_keep called.may_be_absent false (info_of x.now) =
-          subst (λ b. IsExpandedPart tree_context b called.may_be_absent false (info_of x.now)) (sym keeps)
+          let body : IsExpandedPart tree_context inner.may_keep inner.may_be_absent false (info_of x.now) =
+          subst (λ b. IsExpandedPart tree_context b inner.may_be_absent false (info_of x.now)) (sym keeps)
           (subst (λ b. IsExpandedPart tree_context scope.may_keep b false (info_of x.now)) (sym absents) (stand.body (info_of x.now) at)) in
           (tt, (body, tt));
     }

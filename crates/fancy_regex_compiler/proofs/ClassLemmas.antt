@@ -16,7 +16,7 @@ use Rattle.fancy_regex_meaning.specs.Groups.{group_count}
 use Rattle.fancy_regex_meaning.specs.Sizes.{size, target}
 use Rattle.fancy_regex_meaning.specs.Ways.{is_at_call_limit, max_open_calls}
 use Rattle.fancy_regex_class.specs.Classes.{class_text, is_read}
-use Rattle.fancy_regex_desugar.specs.CorePatterns.{class, CorePattern, nothing, read, general_newline, check, continue, keep_out, fail, cat, alt, group, ahead, never, back, atomic, delegate, tail, repeat, backref, exists, conditional, absent}
+use Rattle.fancy_regex_desugar.specs.CorePatterns.{class, CorePattern, nothing, read, general_newline, check, continue, keep_out, fail, cat, alt, group, ahead, never, back, atomic, delegate, tail, repeat, backref, exists, conditional, absent, called}
 use Rattle.fancy_regex_desugar.specs.Delegates.{searched, is_delegated, begins_tail}
 use Rattle.fancy_regex_desugar.specs.Unfolded.{Written, pat_for, cat_all, alt_all, fronts, behinds, body_of, first_way_of, repeated, look, node, branches, written, written_all, written_call, written_plain, written_tail, written_whole, core_pattern_of}
 use Rattle.fancy_regex_analysis.specs.NodeErrors.{is_invalid_node}
@@ -77,6 +77,7 @@ module _ (unicode : Bool) where
   Reads (repeat a lo hi greedy) = Reads a
   Reads (conditional c a b) = Reads c × Reads a × Reads b
   Reads (absent a) = Reads a
+  Reads (called k a) = Reads a
   Reads _ = Unit {0}
 
   allowed_reads : (keeps : Bool) (p : CorePattern) → IsAllowed unicode keeps p → Reads p
@@ -101,6 +102,7 @@ module _ (unicode : Bool) where
   allowed_reads keeps (exists k) h = tt
   allowed_reads keeps (conditional c a b) h = (allowed_reads keeps c h.0, allowed_reads keeps a h.1, allowed_reads keeps b h.2)
   allowed_reads keeps (absent a) h = allowed_reads false a h
+  allowed_reads keeps (called k a) h = allowed_reads keeps a h
 
   -- the same of one side of what a tree is written out to
   abbrev HasSide : Written → Type 0
@@ -310,7 +312,7 @@ module _ (unicode : Bool) where
     unfolding written written_call
     call_at m opened n k u found free h =
         let inside = λ (b : Tree). (written groups (written_call groups m (k ∷ opened)) (k + 1) b).front in
-        let is = ap (λ b. cond b fail (pat_for inside (target groups k))) free ∙ ap (pat_for inside) found in
+        let is = ap (λ b. called k (cond b fail (pat_for inside (target groups k)))) free ∙ ap (λ o. called k (pat_for inside o)) found in
         record { first = k + 1; side = inl (subst Reads is (node_reads (tree.subroutine_call k) (written_call groups (suc m) opened k) h)) }
 
 -- how often the target is open

@@ -4,7 +4,7 @@ use Rattle.std.specs.Prelude.{slice_get}
 use Rattle.std.proofs.Math.Seq.{set-append_seam, drop-append_seam}
 use Rattle.fancy_regex_tree.specs.Tree.{Text, Tree}
 use Rattle.fancy_regex_class.specs.Classes.{in_class, folded}
-use Rattle.fancy_regex_desugar.specs.CorePatterns.{CorePattern, literal, nothing, read, keep_out, fail, cat, group, ahead, never, back, atomic, delegate, tail, repeat, absent}
+use Rattle.fancy_regex_desugar.specs.CorePatterns.{CorePattern, literal, nothing, read, keep_out, fail, cat, group, ahead, never, back, atomic, delegate, tail, repeat, absent, called}
 use Rattle.fancy_regex_program.specs.Ops as op
 use Rattle.fancy_regex_program.specs.Ops.{Op}
 use Rattle.fancy_regex_program.specs.Code.{waits, flushed, slots_in, is_uncounted, loop_entry, loop_head, code_of}
@@ -77,6 +77,11 @@ module _ (u w : Bool) where
   pub pat_fail : (slot : ℕ) (d : Draft) → P fail slot d ≡ added op.fail d
   unfolding with_pat code_of
   pat_fail slot d = alone op.fail d
+
+  -- what stands for a body is all that a call of it is
+  pub pat_called : (k : ℕ) (a : CorePattern) (slot : ℕ) (d : Draft) → P (called k a) slot d ≡ P a slot d
+  unfolding with_pat code_of
+  pat_called k a slot d = refl
 
   pub pat_back : (n slot : ℕ) (d : Draft) → P (back n) slot d ≡ added (op.go_back n) d
   unfolding with_pat code_of

@@ -8,7 +8,7 @@ use Rattle.fancy_regex_tree.specs.Tree as tree
 use Rattle.fancy_regex_tree.specs.Tree.{Tree, Trees, no_trees, more_trees}
 use Rattle.fancy_regex_meaning.specs.Groups.{Pattern, bodies, row_bodies, group_count, row_group_count}
 use Rattle.fancy_regex_meaning.specs.Ways.{max_open_calls_per_group, max_open_calls}
-use Rattle.fancy_regex_desugar.specs.CorePatterns.{CorePattern, fail, cat, group, atomic, conditional, absent}
+use Rattle.fancy_regex_desugar.specs.CorePatterns.{CorePattern, fail, cat, group, atomic, conditional, absent, called}
 use Rattle.fancy_regex_desugar.specs.Delegates.{may_explode, is_plain, are_plain, begins_tail}
 use Rattle.fancy_regex_desugar.specs.Unfolded.{pat_for, cat_all, first_way_of, look, node, branches, written, written_all, written_call, written_plain, written_tail, written_whole, core_pattern_of}
 use Rattle.fancy_regex_info.specs.Analysis.{analysis}
@@ -229,7 +229,7 @@ module _ (groups : List Tree) (reads : ℕ → Bool) where
       let inner = info_call (bodies_from 0 groups) m (xs ++ k ∷ []) in
       let next : 0 + k + 1 ≡ k + 1 = omega arith in
       let calls : inner ≡ written_call groups m (k ∷ ys) = fun_ext (call_is m (xs ++ k ∷ []) (k ∷ ys) (one_more_open xs ys k same)) in
-      ap₂ (λ b p. cond b fail p) (ap (λ c. nat_le max_open_calls_per_group c) (same k))
+      ap₂ (λ b p. called k (cond b fail p)) (ap (λ c. nat_le max_open_calls_per_group c) (same k))
       (ap (pat_for (λ x. (info_written inner x).front)) (get_from 0 groups k ∙ ap (λ j. option_map (D j) (slice_get groups k)) next)
       ∙ picked (λ x. (info_written inner x).front) (λ body. (written groups (written_call groups m (k ∷ ys)) (k + 1) body).front) (D (k + 1))
       (λ body. ap (λ v. v.front) (known_is inner (k + 1) body) ∙ ap (λ c. (written groups c (k + 1) body).front) calls)

@@ -6,7 +6,7 @@ use Rattle.std.proofs.lemmas.Result.{IfErr-weaker}
 use Rattle.fancy_regex_tree.specs.Tree.{Text, Tree}
 use Rattle.fancy_regex_class.specs.Classes.{in_class, folded}
 use Rattle.fancy_regex_meaning.specs.Ways.{is_at_call_limit}
-use Rattle.fancy_regex_desugar.specs.CorePatterns.{CorePattern, any, literal, class, nothing, read, general_newline, check, continue, keep_out, fail, cat, alt, group, ahead, never, back, atomic, delegate, tail, repeat, backref, exists, conditional, absent}
+use Rattle.fancy_regex_desugar.specs.CorePatterns.{CorePattern, any, literal, class, nothing, read, general_newline, check, continue, keep_out, fail, cat, alt, group, ahead, never, back, atomic, delegate, tail, repeat, backref, exists, conditional, absent, called}
 use Rattle.fancy_regex_desugar.specs.ProgramSizes.{room}
 use Rattle.fancy_regex_desugar.specs.Unfolded.{Written, look}
 use Rattle.fancy_regex_tree.specs.declared.expr.LookAround.{LookAround}
@@ -174,6 +174,7 @@ module _ (u w : Bool) where
       let n = pc + length (flushed text) in
       after_text_long text (absent_code (shut a)) pc slot (12 + room a)
       (absent_long (shut a) n slot (room a) (shut_long a (code_fits a []) (n + 2) (slot + 2)))
+  code_fits (called k a) text pc slot = code_fits a text pc slot
 
 pub extent_op : (o : Op) (d : Draft) → extent (with_op o d) ≡ extent d + 1
 unfolding extent with_op
@@ -278,6 +279,10 @@ pub room_absent : (p : CorePattern) → room (absent p) ≡ 12 + room p
 unfolding room
 room_absent p = refl
 
+pub room_called : (k : ℕ) (p : CorePattern) → room (called k p) ≡ room p
+unfolding room
+room_called k p = refl
+
 -- a node without children that is an instruction
 pub room_leaf : (u : Bool) (insn : Insn) (t : Tree) → IsInsn u insn t → (call : ℕ → CorePattern) (n : ℕ) (us : List Written) → 1 ≤ room (front_of call n t us)
 room_leaf u insn t is call n us =
@@ -287,10 +292,10 @@ room_leaf u insn t is call n us =
 
 -- a call that opens
 pub call_is : (groups : List InfoTree) (calls m : ℕ) (opened pushed : List ℕ) (k : ℕ) (x : InfoTree) → calls ≡ suc m → slice_get groups k ≡ Some x →
-    is_at_call_limit opened k ≡ false → pushed ≡ opened ++ k ∷ [] → info_call groups calls opened k ≡ (info_written (info_call groups m pushed) x).front
+    is_at_call_limit opened k ≡ false → pushed ≡ opened ++ k ∷ [] → info_call groups calls opened k ≡ called k (info_written (info_call groups m pushed) x).front
 call_is groups calls m opened pushed k x more at free is =
     ap (λ n. info_call groups n opened k) more ∙ call_opens groups m opened k x free at
-    ∙ ap (λ l. (info_written (info_call groups m l) x).front) (sym is)
+    ∙ ap (λ l. called k (info_written (info_call groups m l) x).front) (sym is)
 
 -- An error that is handed on: what was known of its cap tells what is asked.
 pub late : {T P : Type 0} (r : Result T CompileError) (e : CompileError) (low high : ℕ) → IsErrAnd r (λ f. f ≡ e) → (is_too_complex e ≡ true → P) →

@@ -1,9 +1,8 @@
 -- Rows, branches and calls, as the functions of the emitter go over them.
-use Rattle.std.proofs.Common.{◌≡◌, ℕ, suc, zero, ◌+◌, ◌-◌, ◌≤◌, Bool, true, false, cond, List, [], ◌∷◌, ◌++◌, take, length, Some, None, refl, sym, ap, ap₂, ◌∙◌, subst, arith, length-append}
-use Rattle.std.proofs.Math.Seq.{take-append_seam}
+use Rattle.std.proofs.Common.{◌≡◌, ℕ, suc, zero, ◌+◌, ◌≤◌, Bool, true, false, cond, List, [], ◌∷◌, ◌++◌, Some, None, refl, sym, ap, ◌∙◌, subst, arith}
 use Rattle.std.specs.Prelude.{slice_get, ◌==◌}
 use Rattle.fancy_regex_meaning.specs.Ways.{is_at_call_limit}
-use Rattle.fancy_regex_desugar.specs.CorePatterns.{CorePattern, nothing, fail, repeat}
+use Rattle.fancy_regex_desugar.specs.CorePatterns.{CorePattern, nothing, fail, repeat, called}
 use Rattle.fancy_regex_meaning.specs.Sizes.{unbounded, bound_of}
 use Rattle.std.proofs.lemmas.Bool.Decides.{nat_tests}
 use Rattle.fancy_regex_desugar.specs.Unfolded.{repeated, pat_for}
@@ -12,7 +11,7 @@ use Rattle.fancy_regex_program.specs.Ops as op
 use Rattle.fancy_regex_compiler.specs.Known.{info_written, info_call}
 use Rattle.fancy_regex_compiler.specs.Writing.{Draft, draft_of, added, with_pat, Wrote}
 use Rattle.fancy_regex_compiler.specs.declared.emitter.Emitter.{Emitter}
-use Rattle.fancy_regex_compiler.proofs.Drafts.{pat_nothing, pat_fail}
+use Rattle.fancy_regex_compiler.proofs.Drafts.{pat_nothing, pat_fail, pat_called}
 
 -- What is repeated no times is nothing.
 pub repeated_never : (p : CorePattern) (lo hi : ℕ) (greedy : Bool) → lo ≤ hi → hi ≡ 0 → repeated p lo hi greedy ≡ nothing
@@ -54,43 +53,29 @@ module _ (u w : Bool) where
     opened = opened;
   })
 
+  -- a call that fails
+  pub wrote_no_call : (old new : Emitter) (slot k : ℕ) (p : CorePattern) → p ≡ called k fail → draft_of new.body ≡ added op.fail (draft_of old.body) →
+      new.opened.items ≡ old.opened.items → Wrote u w old new slot slot p
+  wrote_no_call old new slot k p is drew opened = subst (λ x. Wrote u w old new slot slot x) (sym is) (record {
+    draft = drew ∙ sym (pat_fail u w slot (draft_of old.body)) ∙ sym (pat_called u w k fail slot (draft_of old.body));
+    slots = omega arith;
+    opened = opened;
+  })
+
 -- a call past the limit of open calls, and one that opens
-pub call_full : (groups : List InfoTree) (m : ℕ) (opened : List ℕ) (k : ℕ) → is_at_call_limit opened k ≡ true → info_call groups m opened k ≡ fail
+pub call_full : (groups : List InfoTree) (m : ℕ) (opened : List ℕ) (k : ℕ) → is_at_call_limit opened k ≡ true → info_call groups m opened k ≡ called k fail
 unfolding info_call
 call_full groups zero opened k full = refl
 call_full groups (suc m) opened k full =
-    ap (λ b. cond b fail (pat_for (λ x. (info_written (info_call groups m (opened ++ k ∷ [])) x).front) (slice_get groups k))) full
+    ap (λ b. called k (cond b fail (pat_for (λ x. (info_written (info_call groups m (opened ++ k ∷ [])) x).front) (slice_get groups k)))) full
 
-pub call_none : (groups : List InfoTree) (m : ℕ) (opened : List ℕ) (k : ℕ) → m ≡ 0 → info_call groups m opened k ≡ fail
+pub call_none : (groups : List InfoTree) (m : ℕ) (opened : List ℕ) (k : ℕ) → m ≡ 0 → info_call groups m opened k ≡ called k fail
 unfolding info_call
 call_none groups m opened k none = ap (λ n. info_call groups n opened k) none
 
 pub call_opens : (groups : List InfoTree) (m : ℕ) (opened : List ℕ) (k : ℕ) (x : InfoTree) → is_at_call_limit opened k ≡ false → slice_get groups k ≡ Some x →
-    info_call groups (suc m) opened k ≡ (info_written (info_call groups m (opened ++ k ∷ [])) x).front
+    info_call groups (suc m) opened k ≡ called k (info_written (info_call groups m (opened ++ k ∷ [])) x).front
 unfolding info_call
 call_opens groups m opened k x free at =
     let inside = λ (y : InfoTree). (info_written (info_call groups m (opened ++ k ∷ [])) y).front in
-    ap (λ b. cond b fail (pat_for inside (slice_get groups k))) free ∙ ap (pat_for inside) at
-
-module _ (u w : Bool) where
-  -- what a call writes, whose target is closed again
-  pub wrote_call : (old mid new final : Emitter) (slot after m n k long : ℕ) (groups : List InfoTree) (x : InfoTree) →
-      n ≡ m - 1 → (m ≡ 0 → ⊥) → is_at_call_limit old.opened.items k ≡ false → slice_get groups k ≡ Some x →
-      draft_of mid.body ≡ draft_of old.body → mid.opened.items ≡ old.opened.items ++ k ∷ [] →
-      Wrote u w mid new slot after (info_written (info_call groups n mid.opened.items) x).front →
-      draft_of final.body ≡ draft_of new.body → long ≡ length new.opened.items → final.opened.items ≡ take (long - 1) new.opened.items →
-      Wrote u w old final slot after (info_call groups m old.opened.items k)
-  wrote_call old mid new final slot after m n k long groups x less some free at begun pushed h drawn is_long popped =
-      let ks = old.opened.items in
-      let more : suc n ≡ m = omega arith in
-      let call : info_call groups m ks k ≡ (info_written (info_call groups n mid.opened.items) x).front =
-      ap (λ j. info_call groups j ks k) (sym more) ∙ call_opens groups n ks k x free at
-      ∙ ap (λ l. (info_written (info_call groups n l) x).front) (sym pushed) in
-      let opened : new.opened.items ≡ ks ++ k ∷ [] = h.opened ∙ pushed in
-      let one_less : long - 1 ≡ length ks = omega (arith, ap length opened, length-append ks (k ∷ [])) in
-      let p = (info_written (info_call groups n mid.opened.items) x).front in
-      subst (λ q. Wrote u w old final slot after q) (sym call) (record {
-        draft = drawn ∙ h.draft ∙ ap (with_pat u w p slot) begun;
-        slots = h.slots;
-        opened = popped ∙ ap₂ take one_less opened ∙ take-append_seam ks (k ∷ []);
-      })
+    ap (λ b. called k (cond b fail (pat_for inside (slice_get groups k)))) free ∙ ap (λ o. called k (pat_for inside o)) at

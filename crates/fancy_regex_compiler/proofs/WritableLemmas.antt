@@ -10,7 +10,7 @@ use Rattle.fancy_regex_tree.specs.Tree.{Tree, Trees, no_trees, more_trees}
 use Rattle.fancy_regex_meaning.specs.Groups.{bodies, row_bodies, group_count}
 use Rattle.fancy_regex_meaning.specs.Sizes.{size, target}
 use Rattle.fancy_regex_meaning.specs.Ways.{is_at_call_limit, max_open_calls}
-use Rattle.fancy_regex_desugar.specs.CorePatterns.{any, literal, class, CorePattern, nothing, read, general_newline, check, continue, keep_out, fail, cat, alt, group, ahead, never, back, atomic, delegate, tail, repeat, backref, exists, conditional, absent}
+use Rattle.fancy_regex_desugar.specs.CorePatterns.{any, literal, class, CorePattern, nothing, read, general_newline, check, continue, keep_out, fail, cat, alt, group, ahead, never, back, atomic, delegate, tail, repeat, backref, exists, conditional, absent, called}
 use Rattle.fancy_regex_desugar.specs.Delegates.{searched, is_delegated, begins_tail}
 use Rattle.fancy_regex_desugar.specs.Shapes.{StepsBackOnlyFirst, HasGroups}
 use Rattle.fancy_regex_desugar.specs.Unfolded.{Written, pat_for, cat_all, alt_all, body_of, repeated, look, node, branches, written, written_all, written_call, written_plain, written_tail, written_whole, core_pattern_of}
@@ -45,6 +45,7 @@ keeps_nothing unicode (backref k casei) h = tt
 keeps_nothing unicode (exists k) h = tt
 keeps_nothing unicode (conditional c a b) h = (keeps_nothing unicode c h.0, keeps_nothing unicode a h.1, keeps_nothing unicode b h.2)
 keeps_nothing unicode (absent a) h = tt
+keeps_nothing unicode (called k a) h = keeps_nothing unicode a h
 
 module _ (first end : ℕ) where
   -- Each group that it reads has a number from `first` on, below `end`.
@@ -61,6 +62,7 @@ module _ (first end : ℕ) where
   ReadsGroups (repeat a lo hi greedy) = ReadsGroups a
   ReadsGroups (conditional c a b) = ReadsGroups c × ReadsGroups a × ReadsGroups b
   ReadsGroups (absent a) = ReadsGroups a
+  ReadsGroups (called k a) = ReadsGroups a
   ReadsGroups _ = Unit {0}
 
   can_write : (unicode keeps free : Bool) (p : CorePattern) → HasGroups first end p → ReadsGroups p → IsAllowed unicode keeps p → StepsBackOnlyFirst free p → IsWritable first end p
@@ -89,6 +91,7 @@ module _ (first end : ℕ) where
     can_write unicode keeps false q g.2 r.2 a.2 l.2,
   )
   can_write unicode keeps free (absent p) g r a l = (l, can_write unicode false false p g r a l)
+  can_write unicode keeps free (called k p) g r a l = can_write unicode keeps free p g r a l
 
   record Read (p : CorePattern) : Type 0 where
     is : ReadsGroups p
@@ -296,10 +299,11 @@ module _ (count : ℕ) where
       reads_calls : (m : ℕ) (opened : List ℕ) (k : ℕ) → Read first count (written_call groups m opened k)
       unfolding written_call
       reads_calls zero opened k = record { is = tt }
-      reads_calls (suc m) opened k =
-          reads_target (is_at_call_limit opened k) (target groups k)
-          (λ body. (written groups (written_call groups m (k ∷ opened)) (k + 1) body).front)
-          (λ body e. record { is = (reads _ (reads_calls m (k ∷ opened)) (k + 1) body (one_refers groups k body refer e)).front })
+      reads_calls (suc m) opened k = record {
+        is = (reads_target (is_at_call_limit opened k) (target groups k)
+            (λ body. (written groups (written_call groups m (k ∷ opened)) (k + 1) body).front)
+            (λ body e. record { is = (reads _ (reads_calls m (k ∷ opened)) (k + 1) body (one_refers groups k body refer e)).front })).is;
+      }
 
 pattern_reads : (explicit : Bool) (t : Tree) → RefersToGroups explicit t →
     ReadsGroups (pattern_in explicit t).first_group (length (pattern_in explicit t).groups) (core_pattern_of (pattern_in explicit t))

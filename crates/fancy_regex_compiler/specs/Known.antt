@@ -3,7 +3,7 @@ use Rattle.std.specs.Prelude.{ℕ, zero, suc, ◌*◌, length, Bool, true, false
 use Rattle.fancy_regex_tree.specs.Tree as tree
 use Rattle.fancy_regex_tree.specs.Tree.{Tree, Trees, no_trees, more_trees}
 use Rattle.fancy_regex_meaning.specs.Ways.{is_at_call_limit, max_open_calls_per_group}
-use Rattle.fancy_regex_desugar.specs.CorePatterns.{any, literal, class, CorePattern, nothing, read, general_newline, check, continue, keep_out, fail, cat, group, back, atomic, tail, backref, exists, conditional, absent}
+use Rattle.fancy_regex_desugar.specs.CorePatterns.{any, literal, class, CorePattern, nothing, read, general_newline, check, continue, keep_out, fail, cat, group, back, atomic, tail, backref, exists, conditional, absent, called}
 use Rattle.fancy_regex_desugar.specs.Delegates.{is_delegated, may_explode}
 use Rattle.fancy_regex_desugar.specs.Unfolded.{Written, cat_all, alt_all, fronts, behinds, first_way_of, repeated, look, pat_for}
 use Rattle.fancy_regex_info.specs.Infos.{NodeProperties, InfoTree, InfoTrees, known, no_infos, more_infos, properties_in}
@@ -102,10 +102,10 @@ info_whole call x = (info_written call x).front
 
 -- a call of the target k, where those targets are open, the last of them at the end, and m more calls may open
 unfoldable pub info_call : List InfoTree → ℕ → List ℕ → ℕ → CorePattern
-info_call groups zero opened k = fail
+info_call groups zero opened k = called k fail
 info_call groups (suc m) opened k =
     let inside = pat_for (λ x. (info_written (info_call groups m (opened ++ k ∷ [])) x).front) (slice_get groups k) in
-    if is_at_call_limit opened k then fail else inside
+    called k (if is_at_call_limit opened k then fail else inside)
 
 abbrev pub is_group : Tree → Bool
 is_group (tree.group t) = true

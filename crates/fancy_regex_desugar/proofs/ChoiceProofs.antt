@@ -332,11 +332,12 @@ module _ (s : Setting) (bound : Option ℕ) where
     same_counts : (m : ℕ) (opened : List ℕ) (k : ℕ) → Chooses s bound (call_choices s groups m opened k) (written_call groups m opened k)
     unfolding core_choices call_choices written_call
     same_counts zero opened k = record { is = λ w. omega arith }
-    same_counts (suc m) opened k =
-        chooses_target (is_at_call_limit opened k) (target groups k)
-        (λ body. (count s groups (call_ways s groups m (k ∷ opened)) (call_choices s groups m (k ∷ opened)) (k + 1) body).from)
-        (λ body. (written groups (written_call groups m (k ∷ opened)) (k + 1) body).front)
-        (λ body. (agrees _ _ _ (same_calls s bound groups m (k ∷ opened)) (same_counts m (k ∷ opened)) (k + 1) body).front)
+    same_counts (suc m) opened k = record {
+      is = (chooses_target (is_at_call_limit opened k) (target groups k)
+          (λ body. (count s groups (call_ways s groups m (k ∷ opened)) (call_choices s groups m (k ∷ opened)) (k + 1) body).from)
+          (λ body. (written groups (written_call groups m (k ∷ opened)) (k + 1) body).front)
+          (λ body. (agrees _ _ _ (same_calls s bound groups m (k ∷ opened)) (same_counts m (k ∷ opened)) (k + 1) body).front)).is;
+    }
 
 pub unfolded_has_the_choices : UnfoldedKeepsChoices
 unfolded_has_the_choices s bound groups m opened n t w =

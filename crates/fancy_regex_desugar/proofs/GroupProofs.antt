@@ -241,10 +241,11 @@ module _ (first end : ℕ) where
       hold_calls : (m : ℕ) (opened : List ℕ) (k : ℕ) → Held (written_call groups m opened k)
       unfolding written_call
       hold_calls zero opened k = record { is = tt }
-      hold_calls (suc m) opened k =
-          hold_target (is_at_call_limit opened k) (target groups k)
-          (λ body. (written groups (written_call groups m (k ∷ opened)) (k + 1) body).front)
-          (λ body e. record { is = (hold _ (hold_calls m (k ∷ opened)) (k + 1) body (room k body e).0 (room k body e).1).front })
+      hold_calls (suc m) opened k = record {
+        is = (hold_target (is_at_call_limit opened k) (target groups k)
+            (λ body. (written groups (written_call groups m (k ∷ opened)) (k + 1) body).front)
+            (λ body e. record { is = (hold _ (hold_calls m (k ∷ opened)) (k + 1) body (room k body e).0 (room k body e).1).front })).is;
+      }
 
 room_from_one : (t : Tree) (k : ℕ) (body : Tree) → target (t ∷ bodies t) k ≡ Some body →
     (1 ≤ k + 1) × (k + 1 + group_count body ≤ length (t ∷ bodies t))

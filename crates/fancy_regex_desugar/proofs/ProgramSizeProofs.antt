@@ -156,11 +156,12 @@ module _ (groups : List Tree) where
   fit_calls : (m : ℕ) (opened : List ℕ) (k : ℕ) → Fits (written_call groups m opened k) (nodes_of_call groups m opened k)
   unfolding room nodes_of_call written_call
   fit_calls zero opened k = record { is = omega arith }
-  fit_calls (suc m) opened k =
-      fits_target (is_at_call_limit opened k) (target groups k)
-      (λ body. (written groups (written_call groups m (k ∷ opened)) (k + 1) body).front)
-      (nodes_with (nodes_of_call groups m (k ∷ opened)))
-      (λ body. record { is = (fit _ _ (fit_calls m (k ∷ opened)) (k + 1) body).front })
+  fit_calls (suc m) opened k = record {
+    is = (fits_target (is_at_call_limit opened k) (target groups k)
+        (λ body. (written groups (written_call groups m (k ∷ opened)) (k + 1) body).front)
+        (nodes_with (nodes_of_call groups m (k ∷ opened)))
+        (λ body. record { is = (fit _ _ (fit_calls m (k ∷ opened)) (k + 1) body).front })).is;
+  }
 
 pub unfolded_has_room : UnfoldedSizeIsBounded
 unfolded_has_room groups m opened n t =

@@ -7,7 +7,7 @@ use Rattle.fancy_regex_tree.specs.Tree.{Tree, Trees, no_trees, more_trees}
 use Rattle.fancy_regex_meaning.specs.Groups.{group_count}
 use Rattle.fancy_regex_meaning.specs.Sizes.{size, target}
 use Rattle.fancy_regex_meaning.specs.Ways.{is_at_call_limit, max_open_calls}
-use Rattle.fancy_regex_desugar.specs.CorePatterns.{any, literal, class, CorePattern, nothing, read, general_newline, check, continue, keep_out, fail, cat, alt, group, ahead, never, back, atomic, delegate, tail, repeat, backref, exists, conditional, absent}
+use Rattle.fancy_regex_desugar.specs.CorePatterns.{any, literal, class, CorePattern, nothing, read, general_newline, check, continue, keep_out, fail, cat, alt, group, ahead, never, back, atomic, delegate, tail, repeat, backref, exists, conditional, absent, called}
 use Rattle.fancy_regex_desugar.specs.Delegates.{searched, is_delegated, begins_tail}
 use Rattle.fancy_regex_desugar.specs.Unfolded.{repeated, Written, pat_for, cat_all, alt_all, body_of, look, node, branches, written, written_all, written_call, written_plain, written_tail, written_whole, core_pattern_of}
 use Rattle.fancy_regex_desugar.specs.Shapes.{StepsBackOnlyFirst}
@@ -40,6 +40,7 @@ freely true (backref k casei) h = tt
 freely true (exists k) h = tt
 freely true (conditional c a b) h = h
 freely true (absent a) h = h
+freely true (called k a) h = freely true a h
 freely false p h = h
 
 placed_repeated : (free : Bool) (p : CorePattern) (lo hi : ℕ) (greedy : Bool) → StepsBackOnlyFirst false p → StepsBackOnlyFirst free (repeated p lo hi greedy)
@@ -162,10 +163,11 @@ module _ (groups : List Tree) where
   place_calls : (m : ℕ) (opened : List ℕ) (k : ℕ) → Placed false (written_call groups m opened k)
   unfolding written_call
   place_calls zero opened k = record { is = tt }
-  place_calls (suc m) opened k =
-      place_target (is_at_call_limit opened k) (target groups k)
-      (λ body. (written groups (written_call groups m (k ∷ opened)) (k + 1) body).front)
-      (λ body. record { is = (place _ (place_calls m (k ∷ opened)) (k + 1) body).front })
+  place_calls (suc m) opened k = record {
+    is = (place_target (is_at_call_limit opened k) (target groups k)
+        (λ body. (written groups (written_call groups m (k ∷ opened)) (k + 1) body).front)
+        (λ body. record { is = (place _ (place_calls m (k ∷ opened)) (k + 1) body).front })).is;
+  }
 
 pub unfolded_steps_back_only_first : UnfoldedStepsBackOnlyFirst
 unfolded_steps_back_only_first groups m opened n t =

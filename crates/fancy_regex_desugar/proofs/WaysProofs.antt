@@ -288,11 +288,12 @@ module _ (s : Setting) (bound : Option ℕ) where
     pub same_calls : (m : ℕ) (opened : List ℕ) (k : ℕ) → Has s bound (call_ways s groups m opened k) (written_call groups m opened k)
     unfolding core_ways call_ways written_call
     same_calls zero opened k = record { is = λ w. thin_same [] }
-    same_calls (suc m) opened k =
-        has_target (is_at_call_limit opened k) (target groups k)
-        (λ body. (meaning s groups (call_ways s groups m (k ∷ opened)) (k + 1) body).from)
-        (λ body. (written groups (written_call groups m (k ∷ opened)) (k + 1) body).front)
-        (λ body. (same _ _ (same_calls m (k ∷ opened)) (k + 1) body).front)
+    same_calls (suc m) opened k = record {
+      is = (has_target (is_at_call_limit opened k) (target groups k)
+          (λ body. (meaning s groups (call_ways s groups m (k ∷ opened)) (k + 1) body).from)
+          (λ body. (written groups (written_call groups m (k ∷ opened)) (k + 1) body).front)
+          (λ body. (same _ _ (same_calls m (k ∷ opened)) (k + 1) body).front)).is;
+    }
 
 pub unfolded_has_the_ways : UnfoldedKeepsWays
 unfolded_has_the_ways s bound groups m opened n t w =

@@ -1,5 +1,5 @@
--- The core language that programs are compiled from: calls are inlined, each look-behind steps back by a fixed number of characters, and
--- concatenation and alternation are binary.
+-- The core language that programs are compiled from: a call holds what stands for its target's body, each look-behind steps back by a fixed
+-- number of characters, and concatenation and alternation are binary.
 use Rattle.std.specs.Prelude.{ℕ, Bool, Option}
 use Rattle.fancy_regex_tree.specs.declared.expr.Assertion.{Assertion}
 use Rattle.fancy_regex_tree.specs.Tree.{Text, Tree}
@@ -57,3 +57,5 @@ pub data CorePattern : Type 0 where
   conditional : CorePattern → CorePattern → CorePattern → CorePattern
   -- absent repeater: any text that contains no match of the body
   absent : CorePattern → CorePattern
+  -- a call: the number of the group that is called, and what stands for its body
+  called : ℕ → CorePattern → CorePattern

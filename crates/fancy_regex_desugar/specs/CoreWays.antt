@@ -6,7 +6,7 @@ use Rattle.fancy_regex_meaning.specs.Positions.{position_before}
 use Rattle.fancy_regex_meaning.specs.Ways as row
 use Rattle.fancy_regex_meaning.specs.Ways.{MatchState, Moves, Setting, with_position, pair_of, for_some, match_empty_if, never_match, reset_match_start, is_none_of, keep_only_pairs, first_only, character, is_any, is_literal, general_newline_ways, holds}
 use Rattle.fancy_regex_meaning.specs.Choices.{and_then, repeat_choices, branch_choices, absent_choices}
-use Rattle.fancy_regex_desugar.specs.CorePatterns.{CharacterTest, any, literal, class, CorePattern, nothing, read, general_newline, check, continue, keep_out, fail, cat, alt, group, ahead, never, back, atomic, delegate, tail, repeat, backref, exists, conditional, absent}
+use Rattle.fancy_regex_desugar.specs.CorePatterns.{CharacterTest, any, literal, class, CorePattern, nothing, read, general_newline, check, continue, keep_out, fail, cat, alt, group, ahead, never, back, atomic, delegate, tail, repeat, backref, exists, conditional, absent, called}
 use Rattle.fancy_regex_desugar.specs.Delegates.{first_end, first_end_until}
 
 -- to that position, where there is one
@@ -49,6 +49,7 @@ module _ (s : Setting) where
     core_ways (exists k) w = match_empty_if (is_some (pair_of w k)) w
     core_ways (conditional c a b) w = row.conditional (core_ways c w) (core_ways a) (core_ways b) w
     core_ways (absent a) w = row.absent s (core_ways a) w
+    core_ways (called k a) w = core_ways a w
 
     -- the number of choices made while all matches are listed
     unfoldable pub core_choices : CorePattern → MatchState → ℕ
@@ -64,4 +65,5 @@ module _ (s : Setting) where
     core_choices (repeat a lo hi greedy) w = repeat_choices s lo hi (core_ways a) (core_choices a) w
     core_choices (conditional c a b) w = 1 + core_choices c w + branch_choices (core_ways c w) (core_choices a) (core_choices b) w
     core_choices (absent a) w = absent_choices s (core_choices a) w
+    core_choices (called k a) w = core_choices a w
     core_choices _ w = 0

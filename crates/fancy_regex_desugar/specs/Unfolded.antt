@@ -7,7 +7,7 @@ use Rattle.fancy_regex_tree.specs.Tree.{Tree, Trees, no_trees, more_trees}
 use Rattle.fancy_regex_meaning.specs.Groups.{Pattern, group_count}
 use Rattle.fancy_regex_meaning.specs.Sizes.{size, target, bound_of}
 use Rattle.fancy_regex_meaning.specs.Ways.{is_at_call_limit, max_open_calls}
-use Rattle.fancy_regex_desugar.specs.CorePatterns.{any, literal, class, CorePattern, nothing, read, general_newline, check, continue, keep_out, fail, cat, alt, group, ahead, never, back, atomic, delegate, tail, repeat, backref, exists, conditional, absent}
+use Rattle.fancy_regex_desugar.specs.CorePatterns.{any, literal, class, CorePattern, nothing, read, general_newline, check, continue, keep_out, fail, cat, alt, group, ahead, never, back, atomic, delegate, tail, repeat, backref, exists, conditional, absent, called}
 use Rattle.fancy_regex_desugar.specs.Delegates.{searched, is_delegated, begins_tail}
 
 -- The two forms of a node: `front` matches forwards from a position, `behind` steps back first, to end at the position (for look-behind).
@@ -121,12 +121,12 @@ module _ (groups : List Tree) where
     written_all call n no_trees = []
     written_all call n (more_trees t ts) = written call n t ∷ written_all call (n + group_count t) ts
 
-  -- The inlined call of group k. `opened` are the groups being inlined around it, and m more calls may nest.
+  -- The call of group k, with its body inlined. `opened` are the groups being inlined around it, and m more calls may nest.
   unfoldable pub written_call : ℕ → List ℕ → ℕ → CorePattern
-  written_call zero opened k = fail
+  written_call zero opened k = called k fail
   written_call (suc m) opened k =
       let inside = pat_for (λ body. (written (written_call m (k ∷ opened)) (k + 1) body).front) (target groups k) in
-      if is_at_call_limit opened k then fail else inside
+      called k (if is_at_call_limit opened k then fail else inside)
 
   -- The desugared form of a part of the pattern whose first group has the number n, inside of the calls `opened`; m more calls may nest.
   abbrev pub unfolded : ℕ → List ℕ → ℕ → Tree → CorePattern

@@ -5,7 +5,7 @@ use Rattle.std.proofs.lemmas.Bool.{true≢false}
 use Rattle.std.proofs.lemmas.Bool.Decides.{nat_tests}
 use Rattle.std.proofs.lemmas.Option.{none-some, same_Some}
 use Rattle.fancy_regex_tree.specs.Tree.{Text, Tree}
-use Rattle.fancy_regex_desugar.specs.CorePatterns.{any, literal, class, CorePattern, nothing, read, general_newline, check, continue, keep_out, fail, cat, alt, group, ahead, never, back, atomic, delegate, tail, repeat, backref, exists, conditional, absent}
+use Rattle.fancy_regex_desugar.specs.CorePatterns.{any, literal, class, CorePattern, nothing, read, general_newline, check, continue, keep_out, fail, cat, alt, group, ahead, never, back, atomic, delegate, tail, repeat, backref, exists, conditional, absent, called}
 use Rattle.fancy_regex_program.specs.Ops as op
 use Rattle.fancy_regex_program.specs.Ops.{Op}
 use Rattle.fancy_regex_program.specs.Code.{Code, slots_in, waits, flushed, none, one, after_text, closed, row_code, alt_code, group_code, ahead_code, never_code, atomic_code, tail_code, repeat_code, is_uncounted, split_by, loop_entry, loop_head, loop_code, conditional_code, absent_code, code_of, opening, program_of, leaf_op}
@@ -317,6 +317,7 @@ module _ (size slots : ℕ) where
         (conditional_valid _ _ _ (slots_in c) (slots_in a) (slots_in b) (closed_valid _ (slots_in c) (waits c []) (code_valid c [] w.0))
         (closed_valid _ (slots_in a) (waits a []) (code_valid a [] w.1)) (closed_valid _ (slots_in b) (waits b []) (code_valid b [] w.2)))
     code_valid (absent a) text w = after_text_valid text _ (2 + slots_in a) (absent_valid (slots_in a) _ (closed_valid _ (slots_in a) (waits a []) (code_valid a [] w.1)))
+    code_valid (called k a) text w = code_valid a text w
 
     opening_valid : (anchored : Bool) → 1 + length (opening has_member fold whole anchored) ≤ size → AreValid 0 (opening has_member fold whole anchored)
     opening_valid true room = (kept_valid whole start).at 0 0 (omega (arith, room)) (omega arith)

@@ -1,7 +1,7 @@
 -- The program of a pattern.
 use Rattle.std.specs.Prelude.{ℕ, ◌+◌, ◌*◌, nat_le, Bool, true, false, not, ◌&&◌, List, [], ◌∷◌, ◌++◌, length, Some, None, ◌==◌, if◌then◌else◌}
 use Rattle.fancy_regex_tree.specs.Tree.{Text}
-use Rattle.fancy_regex_desugar.specs.CorePatterns.{CharacterTest, any, literal, class, CorePattern, nothing, read, general_newline, check, continue, keep_out, fail, cat, alt, group, ahead, never, back, atomic, delegate, tail, repeat, backref, exists, conditional, absent}
+use Rattle.fancy_regex_desugar.specs.CorePatterns.{CharacterTest, any, literal, class, CorePattern, nothing, read, general_newline, check, continue, keep_out, fail, cat, alt, group, ahead, never, back, atomic, delegate, tail, repeat, backref, exists, conditional, absent, called}
 use Rattle.fancy_regex_program.specs.Ops as op
 use Rattle.fancy_regex_program.specs.Ops.{Op, among_scalars}
 use Rattle.fancy_regex_program.specs.Reading.{always_reads}
@@ -19,6 +19,7 @@ slots_in (repeat a lo None greedy) = 2 + slots_in a
 slots_in (repeat a lo (Some hi) greedy) = 1 + slots_in a
 slots_in (conditional c a b) = 1 + (slots_in c + (slots_in a + slots_in b))
 slots_in (absent a) = 2 + slots_in a
+slots_in (called k a) = slots_in a
 slots_in _ = 0
 
 -- Literals that stand side by side are one text, so a literal waits until something else comes: what waits after a
@@ -27,6 +28,7 @@ abbrev pub waits : CorePattern → Text → Text
 waits nothing text = text
 waits (read (literal c false)) text = text ++ c ∷ []
 waits (cat a b) text = waits b (waits a text)
+waits (called k a) text = waits a text
 waits _ text = []
 
 -- the text that waited
@@ -164,6 +166,7 @@ module _ (has_member : Text → Bool → ℕ → Bool) (fold : ℕ → ℕ) (who
       (conditional_code (closed (code_of c []) (waits c [])) (closed (code_of a []) (waits a [])) (closed (code_of b []) (waits b []))
       (slots_in c) (slots_in a))
   code_of (absent a) text = after_text text (absent_code (closed (code_of a []) (waits a [])))
+  code_of (called k a) text = code_of a text
 
   -- The program of a whole pattern: it tries each start, unless it is anchored, and the slots of group 0 say where it
   -- starts and ends.

@@ -1,7 +1,7 @@
 -- The shape of a pattern that programs are made of.
 use Rattle.std.specs.Prelude.{◌≡◌, ℕ, ◌<◌, ◌≤◌, Bool, true, false, IsTrue, All, Option, Some, None}
 use Rattle.fancy_regex_class.specs.Classes.{is_class}
-use Rattle.fancy_regex_desugar.specs.CorePatterns.{CharacterTest, class, CorePattern, read, keep_out, cat, alt, group, ahead, never, atomic, delegate, tail, repeat, backref, exists, conditional, absent}
+use Rattle.fancy_regex_desugar.specs.CorePatterns.{CharacterTest, class, CorePattern, read, keep_out, cat, alt, group, ahead, never, atomic, delegate, tail, repeat, backref, exists, conditional, absent, called}
 use Rattle.fancy_regex_desugar.specs.Shapes.{StepsBackOnlyFirst}
 use Rattle.fancy_regex_linear.specs.Plain.{classes}
 use Rattle.fancy_regex_linear.specs.Refusals.{IsRead}
@@ -17,6 +17,7 @@ KeepsNothing (atomic a) = KeepsNothing a
 KeepsNothing (tail t a) = KeepsNothing a
 KeepsNothing (repeat a lo hi greedy) = KeepsNothing a
 KeepsNothing (conditional c a b) = KeepsNothing c × KeepsNothing a × KeepsNothing b
+KeepsNothing (called k a) = KeepsNothing a
 KeepsNothing _ = Unit {0}
 
 -- the least count of a repeat without a greatest one can be counted past
@@ -39,6 +40,7 @@ IsWritable first end (backref k casei) = (first ≤ k) × (k < end)
 IsWritable first end (exists k) = (first ≤ k) × (k < end)
 IsWritable first end (conditional c a b) = IsWritable first end c × IsWritable first end a × IsWritable first end b
 IsWritable first end (absent a) = StepsBackOnlyFirst false a × IsWritable first end a
+IsWritable first end (called k a) = IsWritable first end a
 IsWritable first end _ = Unit {0}
 
 -- the grammar of `regex` reads it, if it is a class
@@ -63,4 +65,5 @@ IsAllowed unicode keeps (tail t a) = All (IsRead unicode) (classes t) × IsAllow
 IsAllowed unicode keeps (repeat a lo hi greedy) = IsCounted lo hi × IsAllowed unicode keeps a
 IsAllowed unicode keeps (conditional c a b) = IsAllowed unicode keeps c × IsAllowed unicode keeps a × IsAllowed unicode keeps b
 IsAllowed unicode keeps (absent a) = IsAllowed unicode false a
+IsAllowed unicode keeps (called k a) = IsAllowed unicode keeps a
 IsAllowed unicode keeps _ = Unit {0}

@@ -6,7 +6,7 @@ use Rattle.regex_hir.specs.Text.{is_some_and}
 use Rattle.fancy_regex_tree.specs.Tree.{Text}
 use Rattle.fancy_regex_meaning.specs.Positions.{position_before, boundaries}
 use Rattle.fancy_regex_meaning.specs.Ways.{MatchState, Setting, with_position, set_pair, pair_of, holds}
-use Rattle.fancy_regex_desugar.specs.CorePatterns.{CorePattern, nothing, read, general_newline, check, continue, keep_out, fail, cat, alt, group, ahead, never, back, atomic, delegate, tail, repeat, backref, exists, conditional, absent}
+use Rattle.fancy_regex_desugar.specs.CorePatterns.{CorePattern, nothing, read, general_newline, check, continue, keep_out, fail, cat, alt, group, ahead, never, back, atomic, delegate, tail, repeat, backref, exists, conditional, absent, called}
 use Rattle.fancy_regex_desugar.specs.Delegates.{first_end, first_end_until}
 use Rattle.fancy_regex_desugar.specs.CoreWays.{passes}
 use Rattle.fancy_regex_program_laws.specs.ProgramLaws.{FoundMatch}
@@ -146,3 +146,4 @@ module _ (s : Setting) where
     ending (exists n) w k r = end_if (is_some (pair_of w n)) w k r
     ending (conditional c a b) w k r = opens (ending c w (λ v x. ending a v k r) (ending b w k r))
     ending (absent a) w k r = end_absent (ending a) (boundaries s.text w.position (length s.text)) w k r
+    ending (called n a) w k r = ending a w k r

@@ -10,7 +10,7 @@ use Rattle.fancy_regex_tree.specs.Tree.{Text}
 use Rattle.fancy_regex_meaning.specs.Ways.{MatchState, Setting, with_position, is_any, holds}
 use Rattle.fancy_regex_meaning.specs.Positions.{position_before}
 use Rattle.fancy_regex_desugar.specs.CoreWays.{passes}
-use Rattle.fancy_regex_desugar.specs.CorePatterns.{any, literal, class, CorePattern, nothing, read, general_newline, check, continue, keep_out, fail, cat, alt, group, ahead, never, back, atomic, delegate, tail, repeat, backref, exists, conditional, absent}
+use Rattle.fancy_regex_desugar.specs.CorePatterns.{any, literal, class, CorePattern, nothing, read, general_newline, check, continue, keep_out, fail, cat, alt, group, ahead, never, back, atomic, delegate, tail, repeat, backref, exists, conditional, absent, called}
 use Rattle.fancy_regex_desugar.specs.Delegates.{first_end, first_end_until, tail_bound}
 use Rattle.fancy_regex_desugar.specs.Shapes.{StepsBackOnlyFirst}
 use Rattle.fancy_regex_slots.specs.Memory.{Thread}
@@ -132,6 +132,7 @@ module _ (has_member : Text → Bool → ℕ → Bool) (fold : ℕ → ℕ) (who
   code_starts (exists k) l pc slot = starts_node l _ _ refl refl
   code_starts (conditional c a b) l pc slot = starts_node l _ _ refl refl
   code_starts (absent a) l pc slot = starts_node l _ _ refl refl
+  code_starts (called k a) l pc slot = code_starts a l pc slot
 
   abbrev pub closed_code : CorePattern → Code
   closed_code p = closed (code_of has_member fold whole p []) (waits p [])
@@ -449,6 +450,7 @@ module _ (code : List Op) (r : RunParameters) (whole : Bool) (count : ℕ) (utf8
         does_absent code r whole count utf8 p slot (slots_in a) free xs (ending r.setting (tail_bound r.find) a) h
         (closed_by a (p + 2) (slot + 2) false (λ f. runs a [] (p + 2) (slot + 2) false ok.1 placed f)
         (has_front code (p + 2) xs _ (subst (λ q. HasAt code q (xs ++ op.absent_limit (slot + 1) ∷ op.absent_end slot (slot + 1) ∷ [])) two h.1.1))))
+    runs (called k a) l pc slot free ok placed at = runs a l pc slot free ok placed at
 
     pub runs_closed : (p : CorePattern) (pc slot : ℕ) (free : Bool) → IsWritable first count p → StepsBackOnlyFirst free p → HasAt code pc (within p pc slot) →
         Does code r whole count pc (pc + length (within p pc slot)) slot (slots_in p) free (ending r.setting (tail_bound r.find) p)

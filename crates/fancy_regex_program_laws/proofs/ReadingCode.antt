@@ -6,7 +6,7 @@ use Rattle.std.proofs.lemmas.Bool.{and_parts}
 use Rattle.std.proofs.lemmas.Bool.Decides.{nat_tests}
 use Rattle.std.proofs.lemmas.Option.{none-some, same_Some, slice_get_past}
 use Rattle.fancy_regex_tree.specs.Tree.{Text}
-use Rattle.fancy_regex_desugar.specs.CorePatterns.{CorePattern, nothing, read, general_newline, check, continue, keep_out, fail, cat, alt, group, ahead, never, back, atomic, delegate, tail, repeat, backref, exists, conditional, absent}
+use Rattle.fancy_regex_desugar.specs.CorePatterns.{CorePattern, nothing, read, general_newline, check, continue, keep_out, fail, cat, alt, group, ahead, never, back, atomic, delegate, tail, repeat, backref, exists, conditional, absent, called}
 use Rattle.fancy_regex_program.specs.Ops as op
 use Rattle.fancy_regex_program.specs.Ops.{Op}
 use Rattle.fancy_regex_program.specs.Code.{Code, waits, flushed, slots_in, closed, is_uncounted, code_of}
@@ -302,6 +302,7 @@ module _ (first : ℕ) (ops : List Op) where
         (λ (r : Reads (end - first)). inr (refl, reads_as (end - first) _ (omega (arith, total)) r))
         yes
     through (absent a) at pc slot is here h = absurd (reads_not at (op.absent_begin slot (slot + 1)) here.0 (λ from. refl) h)
+    through (called k a) at pc slot is here h = through a at pc slot is here h
 
 -- The body of a loop without a counter takes a character each time.
 pub body_takes : (has_member : Text → Bool → ℕ → Bool) (fold : ℕ → ℕ) (whole : Bool) (a : CorePattern) (lo pc slot : ℕ) →

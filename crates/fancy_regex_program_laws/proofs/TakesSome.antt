@@ -10,7 +10,7 @@ use Rattle.fancy_regex_meaning.specs.WayLaws.{Each}
 use Rattle.fancy_regex_meaning.specs.Ways as row
 use Rattle.fancy_regex_meaning.specs.Ways.{MatchState, Moves, Setting, with_position, set_pair, character, up_to, due, loop}
 use Rattle.fancy_regex_meaning.proofs.EachLemmas.{Each-weaker, Each-append, Each-map, Each-flat_map, Each-cond, Each-for_some}
-use Rattle.fancy_regex_desugar.specs.CorePatterns.{CorePattern, nothing, read, general_newline, check, continue, keep_out, fail, cat, alt, group, ahead, never, back, atomic, delegate, tail, repeat, backref, exists, conditional, absent}
+use Rattle.fancy_regex_desugar.specs.CorePatterns.{CorePattern, nothing, read, general_newline, check, continue, keep_out, fail, cat, alt, group, ahead, never, back, atomic, delegate, tail, repeat, backref, exists, conditional, absent, called}
 use Rattle.fancy_regex_desugar.specs.CoreWays.{passes, core_ways}
 use Rattle.fancy_regex_desugar.specs.Shapes.{StepsBackOnlyFirst}
 use Rattle.fancy_regex_program.specs.Machine.{unset}
@@ -30,6 +30,7 @@ TakesSome (atomic a) = TakesSome a
 TakesSome (repeat a zero hi greedy) = ⊥
 TakesSome (repeat a (suc lo) hi greedy) = TakesSome a
 TakesSome (conditional c a b) = (TakesSome c ⊎ TakesSome a) × TakesSome b
+TakesSome (called n a) = TakesSome a
 TakesSome _ = ⊥
 
 -- the place is further on
@@ -94,6 +95,7 @@ module _ (s : Setting) (bound : Option ℕ) where
       past_choice (core_ways s bound c w) (core_ways s bound a) (core_ways s bound b) w
       (⊎_elim (λ (h : TakesSome c). inl (leads_past c h k.0 w)) (λ (h : TakesSome a). inr (leads_onward s bound c k.0 w, leads_past a h k.1)) t.0)
       (leads_onward s bound a k.1) (leads_past b t.1 k.2 w)
+  leads_past (called n a) t k w = leads_past a t k w
 
 -- the same trail with followers that agree on its ways
 folded_as : (P : MatchState → Type 0) (k k' : SuccessContinuation) (r : Continuation) (es : Trail) → Each P (states es) → ((v : MatchState) (x : Continuation) → P v → k v x ≡ k' v x) → folded k r es ≡ folded k' r es

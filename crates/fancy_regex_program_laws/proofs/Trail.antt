@@ -5,7 +5,7 @@ use Rattle.std.proofs.Math.Path.{fun_ext}
 use Rattle.regex_hir.specs.Text.{is_some_and}
 use Rattle.fancy_regex_meaning.specs.Positions.{position_before, boundaries}
 use Rattle.fancy_regex_meaning.specs.Ways.{MatchState, Setting, with_position, set_pair, pair_of, holds}
-use Rattle.fancy_regex_desugar.specs.CorePatterns.{CorePattern, nothing, read, general_newline, check, continue, keep_out, fail, cat, alt, group, ahead, never, back, atomic, delegate, tail, repeat, backref, exists, conditional, absent}
+use Rattle.fancy_regex_desugar.specs.CorePatterns.{CorePattern, nothing, read, general_newline, check, continue, keep_out, fail, cat, alt, group, ahead, never, back, atomic, delegate, tail, repeat, backref, exists, conditional, absent, called}
 use Rattle.fancy_regex_desugar.specs.Delegates.{first_end, first_end_until}
 use Rattle.fancy_regex_desugar.specs.CoreWays.{passes}
 use Rattle.fancy_regex_program.specs.Machine.{unset, lower, match_char, match_newline, match_backref}
@@ -266,6 +266,7 @@ module _ (s : Setting) where
     trail (exists n) w = trail_if (is_some (pair_of w n)) w
     trail (conditional c a b) w = Open ∷ cut_first (trail a) (trail b w) (trail c w)
     trail (absent a) w = trail_absent (trail a) (boundaries s.text w.position (length s.text)) w
+    trail (called n a) w = trail a w
 
     -- the ending is that of the trail
     pub ending_trail : (p : CorePattern) (w : MatchState) (k : SuccessContinuation) (r : Continuation) → ending s bound p w k r ≡ folded k r (trail p w)
@@ -310,3 +311,4 @@ module _ (s : Setting) where
     ending_trail (absent a) w k r =
         ap (λ (g : Denotation). end_absent g (boundaries s.text w.position (length s.text)) w k r) (fun_ext (λ v. fun_ext (λ f. fun_ext (λ x. ending_trail a v f x))))
         ∙ fun_ext (λ state. absent_trail (trail a) w k r state.best_match state.limit (boundaries s.text w.position (length s.text)))
+    ending_trail (called n a) w k r = ending_trail a w k r

@@ -12,7 +12,7 @@ use Rattle.fancy_regex_meaning.specs.Choices.{due_choices, up_to_choices, loop_c
 use Rattle.fancy_regex_meaning.specs.Ways as row
 use Rattle.fancy_regex_meaning.specs.Ways.{MatchState, Moves, Setting, with_position, set_pair, pair_of, for_some, first_only, match_empty_if, is_none_of, character, prefer, due, up_to, loop, keep_only_pairs, holds}
 use Rattle.fancy_regex_meaning.proofs.EachLemmas.{Each-weaker, Each-append, Each-map, Each-flat_map, Each-filter, Each-cond, Each-for_some, Each-reverse, boundaries_within}
-use Rattle.fancy_regex_desugar.specs.CorePatterns.{CorePattern, nothing, read, general_newline, check, continue, keep_out, fail, cat, alt, group, ahead, never, back, atomic, delegate, tail, repeat, backref, exists, conditional, absent}
+use Rattle.fancy_regex_desugar.specs.CorePatterns.{CorePattern, nothing, read, general_newline, check, continue, keep_out, fail, cat, alt, group, ahead, never, back, atomic, delegate, tail, repeat, backref, exists, conditional, absent, called}
 use Rattle.fancy_regex_desugar.specs.Delegates.{first_end, first_end_until}
 use Rattle.fancy_regex_desugar.specs.CoreWays.{passes, end_ways, core_ways, core_choices}
 use Rattle.fancy_regex_program.specs.Machine.{unset, match_char, match_newline, match_backref}
@@ -282,6 +282,7 @@ module _ (s : Setting) (bound : Option ℕ) where
   keeps (exists n) k w = keep_if Kept follows_kept (is_some (pair_of w n)) w
   keeps (conditional c a b) k w = keep_choice Kept follows_kept (core_ways s bound c w) (core_ways s bound a) (core_ways s bound b) w (keeps c k.0 w) (keeps a k.1) (keeps b k.2)
   keeps (absent a) k w = each_at (Kept w) (with_position w) (λ q. refl) _
+  keeps (called n a) k w = keeps a k w
 
   onward_char : (test : ℕ → Bool) (w : MatchState) → Each (Onward w) (character s test w)
   onward_char test w =
@@ -329,6 +330,7 @@ module _ (s : Setting) (bound : Option ℕ) where
   leads_onward (conditional c a b) k w = keep_choice Onward follows_onward (core_ways s bound c w) (core_ways s bound a) (core_ways s bound b) w (leads_onward c k.0 w) (leads_onward a k.1) (leads_onward b k.2)
   leads_onward (absent a) k w =
       onward_places w _ (Each-filter _ (row.is_free s (core_ways s bound a) w) _ (Each-reverse _ _ (Each-weaker _ _ (λ q h. h.0) _ (boundaries_within s.text w.position (length s.text)))))
+  leads_onward (called n a) k w = leads_onward a k w
 
   -- the place is restored, and the start that was kept never went
   restored : (w : MatchState) (vs : List MatchState) → Each (Kept w) vs → map (λ v. with_position v w.position) vs ≡ keep_only_pairs w vs
@@ -395,6 +397,7 @@ module _ (s : Setting) (bound : Option ℕ) (small : length s.text < unset) wher
       ∙ ap (λ (f : Moves). row.conditional (core_ways s bound c w) (core_ways s bound a) f w) (fun_ext (λ v. states_trail first end b ok.2 v))
   states_trail first end (absent a) ok w =
       states_absent s small (trail s bound a) (core_ways s bound a) (λ v. states_trail first end a ok.1 v) (leads_onward s bound a ok.0) w
+  states_trail first end (called n a) ok w = states_trail first end a ok w
 
   opened_backref : (casei : Bool) (o : Option (ℕ × ℕ)) (w : MatchState) → opened (trail_again s casei o w) ≤ 0
   opened_backref casei None w = omega arith
@@ -439,3 +442,4 @@ module _ (s : Setting) (bound : Option ℕ) (small : length s.text < unset) wher
         ap (λ l. branch_choices l (core_choices s bound a) (core_choices s bound b) w) (states_trail first end c ok.0 w),
       )
   opened_trail first end (absent a) ok w = opened_absent s (trail s bound a) (core_choices s bound a) (λ v. opened_trail first end a ok.1 v) w
+  opened_trail first end (called n a) ok w = opened_trail first end a ok w
