@@ -29,7 +29,43 @@ const UNICODE: u32 = FLAG_UNICODE;
 
 const ONIGURUMA: u32 = FLAG_UNICODE | FLAG_MULTI | FLAG_ONIGURUMA_MODE;
 
-static SEARCHES: [Search; 19] = [
+static SEARCHES: [Search; 50] = [
+    // a line break is `\r\n`, or one character
+    Search("\\R", UNICODE, "\r\n", Answer::Match(0, 2)),
+    Search("\\R\\n", UNICODE, "\r\n", Answer::Nothing),
+    Search("\\R\\n", UNICODE, "\r\n\n", Answer::Match(0, 3)),
+    Search("\\R{2}", UNICODE, "a\r\r\n", Answer::Match(1, 4)),
+    Search("a\\Rb", UNICODE, "a\u{b}b", Answer::Match(0, 3)),
+    Search("a\\Rb", UNICODE, "a\u{c}b", Answer::Match(0, 3)),
+    Search("a\\Rb", UNICODE, "a\tb", Answer::Nothing),
+    Search("a\\Rb", UNICODE, "a\u{e}b", Answer::Nothing),
+    Search("\\R", UNICODE, "\u{85}", Answer::Match(0, 2)),
+    Search("\\R", ASCII, "\u{85}", Answer::Nothing),
+    Search("\\R", UNICODE, "a\u{2028}", Answer::Match(1, 4)),
+    Search("\\R", UNICODE, "a\u{2029}", Answer::Match(1, 4)),
+    Search("\\R", UNICODE, "a\u{2027}", Answer::Nothing),
+    Search("\\R", ASCII, "\u{2028}\r", Answer::Match(3, 4)),
+    Search("(?>\\R*)\\n", UNICODE, "\r\n\n", Answer::Nothing),
+    Search("\\R*\\n", UNICODE, "\r\n\n", Answer::Match(0, 3)),
+    Search("(?=\\R)\\s", UNICODE, "a \r\n", Answer::Match(2, 3)),
+    Search("(?!\\R)\\s", UNICODE, "\n\r\n ", Answer::Match(3, 4)),
+    Search("(a\\R)+", UNICODE, "a\r\na\ra", Answer::Match(0, 5)),
+    // only newlines follow up to the end of the text
+    Search("\\Z", UNICODE, "", Answer::Match(0, 0)),
+    Search("a\\Z", UNICODE, "a", Answer::Match(0, 1)),
+    Search("a\\Z", UNICODE, "a\n\n", Answer::Match(0, 1)),
+    Search("a\\Z", UNICODE, "a\n\na", Answer::Match(3, 4)),
+    Search("a\\Z", UNICODE, "a\r\n", Answer::Nothing),
+    Search("\\Z\\n", UNICODE, "a\n\n", Answer::Match(1, 2)),
+    Search("(?!\\Z)\\n", UNICODE, "\n\nb\n", Answer::Match(0, 1)),
+    Search("(?=.*\\Z)\\w", UNICODE, "a\nbc\n", Answer::Match(2, 3)),
+    Search("(?>b*)\\Z", UNICODE, "bba", Answer::Match(3, 3)),
+    // `\r\n` too, with the flag for it
+    Search("(?R)a\\Z", UNICODE, "a\r\n", Answer::Match(0, 1)),
+    Search("(?R)a\\Z", UNICODE, "a\n\r\n\n", Answer::Match(0, 1)),
+    Search("(?R)a\\Z", UNICODE, "a\r\r\n", Answer::Nothing),
+    Search("(?R)a\\Z", UNICODE, "a\r", Answer::Nothing),
+    Search("(?R)a\\r\\Z", UNICODE, "a\r\n", Answer::Match(0, 2)),
     // no word character before, and none after
     Search("\\b{start-half}a", UNICODE, "ba a", Answer::Match(3, 4)),
     Search("\\b{start-half}-", UNICODE, "a--", Answer::Match(2, 3)),
@@ -52,8 +88,6 @@ static SEARCHES: [Search; 19] = [
     Search("(a)\\1", UNICODE, "aa", Answer::NoStates),
     Search("(?<=ab)c", UNICODE, "abc", Answer::NoStates),
     Search("a\\Kb", UNICODE, "ab", Answer::NoStates),
-    Search("(?>a*)\\R", UNICODE, "a\n", Answer::NoStates),
-    Search("(?>a*)\\Z", UNICODE, "a\n", Answer::NoStates),
 ];
 
 /// A pattern, a text, and the slots of the first match.

@@ -32,7 +32,7 @@ use Rattle.fancy_regex_class.specs.declared.input.RunInput.{RunInput}
 use Rattle.fancy_regex_meaning.proofs.NextBoundaryLemmas.{char_of}
 
 -- the byte at a place, by the character there
-byte_at : (text : List ℕ) (b p c : ℕ) → b < 128 → char_at text p ≡ Some c → is_before_byte text b p ≡ (c == b)
+pub byte_at : (text : List ℕ) (b p c : ℕ) → b < 128 → char_at text p ≡ Some c → is_before_byte text b p ≡ (c == b)
 byte_at text b p c low found =
     let cases = char_at_cases text p c found in
     ⊎_elim

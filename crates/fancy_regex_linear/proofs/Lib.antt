@@ -15,6 +15,8 @@ pub mod RefusalLemmas
 pub mod CarryLemmas
 pub mod PlainLemmas
 pub mod LookLemmas
+pub mod NewlineLemmas
+pub mod TextEndLemmas
 pub mod MeaningLemmas
 pub mod PassingLemmas
 pub mod SkippedLemmas
@@ -25,6 +27,7 @@ pub mod RegularAnswerLemmas
 pub mod CharTestLemmas
 pub mod AnswerLemmas
 pub mod ShapeLemmas
+pub mod LineEndLemmas
 pub mod NoClassLemmas
 pub mod BuildLemmas
 pub mod TranslationLemmas

@@ -226,7 +226,7 @@ module _ (s : Setting) (groups : List Tree) (unicode : Bool) (call : ℕ → Mov
   pub all_stand : (k lo hi : ℕ) (t : Tree) → has_no_iteration lo hi ≡ false → StandAt k (if has_no_iteration lo hi then [] else classes t) → StandAt k (classes t)
   all_stand k lo hi t made h = subst (λ b. StandAt k (if b then [] else classes t)) made h
 
-  pub assertion_same : (a : Assertion) → IsServed (test_of a) → Same len (λ w. match_empty_if (holds s a w.position) w) (plain.ways view len (served (test_of a)))
+  pub assertion_same : (a : Assertion) → IsServed (test_of a) → Same len (λ w. match_empty_if (holds s a w.position) w) (plain.ways view len (served a (test_of a)))
   unfolding plain.ways
   assertion_same A.StartText p w q = stay_same _ w
   assertion_same A.EndText p w q = stay_same _ w

@@ -1,7 +1,8 @@
 -- What the pattern of a tree is: sound, numbered from its first group on and, of a plain tree, no heavier than it.
 use Rattle.std.proofs.Common.{◌≡◌, ◌≢◌, ℕ, zero, suc, ◌+◌, ◌*◌, ◌-◌, ◌<◌, ◌≤◌, ◌==◌, min, max, Bool, true, false, cond, not, ◌&&◌, ◌||◌, List, length, Option, Some, None, nat_lt, refl, sym, ap, ap₂, ◌∙◌, arith, eq-eqb, ne_eqb, lt-ltb, true≢false}
 use Rattle.std.proofs.Math.Nat.{mul-le-mul_left}
-use Rattle.fancy_regex_tree.specs.Tree.{Tree, Trees, empty, any, assertion, literal, concat, alt, group, look_around, repeat, delegate, atomic_group, verb, no_trees, more_trees}
+use Rattle.fancy_regex_tree.specs.Tree.{Tree, Trees, empty, any, assertion, general_newline, literal, concat, alt, group, look_around, repeat, delegate, atomic_group, verb, no_trees, more_trees}
+use Rattle.fancy_regex_tree.specs.declared.expr.Assertion.{Assertion}
 use Rattle.fancy_regex_tree.specs.declared.expr.LookAround.{LookAround}
 use Rattle.fancy_regex_tree.specs.declared.expr.LookAround.TheVariants as L
 use Rattle.fancy_regex_meaning.specs.Groups.{group_count}
@@ -11,31 +12,52 @@ use Rattle.fancy_regex_linear.specs.Re.{Re, nothing, read, test, cat}
 use Rattle.fancy_regex_linear.specs.Re as re
 use Rattle.fancy_regex_linear.specs.Meaning.{is_unbounded}
 use Rattle.fancy_regex_linear.specs.Program.{never_empty, IsSound, MayAskIn, weight, repeat_weight}
-use Rattle.fancy_regex_linear.specs.Plain.{IsPlain, ArePlain, IsRegular, AreRegular, IsOneChar, test_of, served, asking, looked, char_leaf, char_classes, has_no_iteration, unless, classes, re_of, row_of, branches_of}
+use Rattle.fancy_regex_linear.specs.Plain.{IsPlain, ArePlain, IsRegular, AreRegular, IsOneChar, IsServed, test_of, ends_by_crlf, newline_re, last_newline, text_end_re, served, asking, looked, char_leaf, char_classes, has_no_iteration, unless, classes, re_of, row_of, branches_of}
 use Rattle.fancy_regex_states.specs.declared.atom.Leaf.{Leaf}
 use Rattle.fancy_regex_states.specs.declared.atom.Test.{Test}
 use Rattle.fancy_regex_linear.proofs.CarryLemmas.{Lacks}
 
-may_served : (o : Option Test) → MayAskIn false (served o)
-may_served None = tt
-may_served (Some t) = tt
+may_served : (a : Assertion) (o : Option Test) → IsServed o → MayAskIn false (served a o)
+may_served a None p = absurd p
+may_served a (Some t) p = tt
 
-lacks_served : (m : ℕ) (o : Option Test) → Lacks m (served o)
-lacks_served m None = tt
-lacks_served m (Some t) = tt
+-- `\R` and `\Z`
+lacks_newline : (m : ℕ) (wide : Bool) → Lacks m (newline_re wide)
+lacks_newline m true = ((tt, (tt, tt)), ((tt, (tt, tt)), (tt, (tt, (tt, (tt, (tt, tt)))))))
+lacks_newline m false = ((tt, (tt, tt)), ((tt, (tt, tt)), (tt, (tt, tt))))
 
-sound_served : (o : Option Test) → IsSound (served o)
-sound_served None = tt
-sound_served (Some t) = tt
+pub sound_newline : (wide : Bool) → IsSound (newline_re wide)
+sound_newline true = ((tt, (tt, tt)), ((tt, (tt, tt)), (tt, (tt, (tt, (tt, (tt, tt)))))))
+sound_newline false = ((tt, (tt, tt)), ((tt, (tt, tt)), (tt, (tt, tt))))
 
-weight_served : (o : Option Test) → weight (served o) ≤ 1
+pub never_newline : (wide : Bool) → never_empty (newline_re wide) ≡ true
+never_newline true = refl
+never_newline false = refl
+
+lacks_text_end : (m : ℕ) (crlf : Bool) → Lacks m (text_end_re crlf)
+lacks_text_end m true = ((tt, (tt, (tt, tt))), (tt, (tt, tt)))
+lacks_text_end m false = (tt, (tt, (tt, tt)))
+
+pub sound_text_end : (crlf : Bool) → IsSound (text_end_re crlf)
+sound_text_end true = (((λ e. refl), (tt, (tt, (tt, tt)))), (tt, (tt, tt)))
+sound_text_end false = (((λ e. refl), tt), (tt, (tt, tt)))
+
+lacks_served : (m : ℕ) (a : Assertion) (o : Option Test) → Lacks m (served a o)
+lacks_served m a None = lacks_text_end m (ends_by_crlf a)
+lacks_served m a (Some t) = tt
+
+sound_served : (a : Assertion) (o : Option Test) → IsSound (served a o)
+sound_served a None = sound_text_end (ends_by_crlf a)
+sound_served a (Some t) = tt
+
+weight_served : (a : Assertion) (o : Option Test) → IsServed o → weight (served a o) ≤ 1
 unfolding weight
-weight_served None = omega arith
-weight_served (Some t) = omega arith
+weight_served a None p = absurd p
+weight_served a (Some t) p = omega arith
 
-never_served : (o : Option Test) → never_empty (served o) ≡ false
-never_served None = refl
-never_served (Some t) = refl
+never_served : (a : Assertion) (o : Option Test) → never_empty (served a o) ≡ false
+never_served a None = refl
+never_served a (Some t) = refl
 
 -- a look-around
 lacks_asking : (m : ℕ) (how : LookAround) (body : Re) → Lacks m body → Lacks m (asking how body)
@@ -117,7 +139,7 @@ mutual
   plain_regular (any newline crlf) p = tt
   plain_regular (literal val casei) p = tt
   plain_regular (delegate class casei) p = tt
-  plain_regular (assertion a) p = p
+  plain_regular (assertion a) p = tt
   plain_regular (concat ts) p = all_regular ts p
   plain_regular (alt ts) p = (p.0, all_regular ts p.1)
   plain_regular (group t) p = plain_regular t p
@@ -186,7 +208,8 @@ module _ (unicode : Bool) (groups : List Tree) where
     lacks m n k (any newline crlf) h = tt
     lacks m n k (literal val casei) h = tt
     lacks m n k (delegate class casei) h = tt
-    lacks m n k (assertion a) h = lacks_served m (test_of a)
+    lacks m n k (general_newline wide) h = lacks_newline m wide
+    lacks m n k (assertion a) h = lacks_served m a (test_of a)
     lacks m n k (concat ts) h = row_lacks m n k ts h
     lacks m n k (alt ts) h = branches_lack m n k ts h
     lacks m n k (look_around t how) h = lacks_looked m how (char_leaf unicode k t) (re_of unicode groups n k t) (lacks m n k t h)
@@ -246,7 +269,8 @@ module _ (unicode : Bool) (groups : List Tree) (call : ℕ → Size) where
     empties n k (any newline crlf) p = refl
     empties n k (literal val casei) p = refl
     empties n k (delegate class casei) p = refl
-    empties n k (assertion a) p = sym (ap not (never_served (test_of a)))
+    empties n k (general_newline wide) p = sym (ap not (never_newline wide))
+    empties n k (assertion a) p = sym (ap not (never_served a (test_of a)))
     empties n k (concat ts) p = row_empties n k ts p
     empties n k (alt ts) p = branch_empties n k ts p.0 p.1
     empties n k (group t) p = empties (n + 1) k t p
@@ -302,7 +326,8 @@ module _ (unicode : Bool) (groups : List Tree) where
     regular_sound n k (any newline crlf) p = tt
     regular_sound n k (literal val casei) p = tt
     regular_sound n k (delegate class casei) p = tt
-    regular_sound n k (assertion a) p = sound_served (test_of a)
+    regular_sound n k (general_newline wide) p = sound_newline wide
+    regular_sound n k (assertion a) p = sound_served a (test_of a)
     regular_sound n k (concat ts) p = row_sound n k ts p
     regular_sound n k (alt ts) p = branches_sound n k ts p.1
     regular_sound n k (group t) p = regular_sound (n + 1) k t p
@@ -333,7 +358,7 @@ module _ (unicode : Bool) (groups : List Tree) where
     plain_may n k (any newline crlf) p = tt
     plain_may n k (literal val casei) p = tt
     plain_may n k (delegate class casei) p = tt
-    plain_may n k (assertion a) p = may_served (test_of a)
+    plain_may n k (assertion a) p = may_served a (test_of a) p
     plain_may n k (concat ts) p = row_may n k ts p
     plain_may n k (alt ts) p = branches_may n k ts p.1
     plain_may n k (group t) p = plain_may (n + 1) k t p
@@ -368,7 +393,7 @@ module _ (unicode : Bool) (groups : List Tree) where
     light n k (any newline crlf) p = omega arith
     light n k (literal val casei) p = omega arith
     light n k (delegate class casei) p = omega arith
-    light n k (assertion a) p = weight_served (test_of a)
+    light n k (assertion a) p = weight_served a (test_of a) p
     light n k (concat ts) p = omega (arith, row_light n k ts p)
     light n k (alt ts) p = branches_light n k ts p.0 p.1
     light n k (group t) p = omega (arith, light (n + 1) k t p)

@@ -1,6 +1,6 @@
 -- A regular tree and its pattern have the same first way, whichever places are wanted. A look-ahead keeps each way of its body,
 -- and its pattern the first, so that their other ways differ.
-use Rattle.std.proofs.Common.{◌≡◌, ◌≢◌, ℕ, zero, suc, ◌+◌, ◌-◌, ◌<◌, ◌≤◌, ◌==◌, Bool, true, false, cond, not, ◌&&◌, ◌||◌, ◌*◌, List, [], ◌∷◌, ◌++◌, map, length, slice_index, Option, Some, None, if◌then◌else◌, nat_le, set, refl, sym, ap, ap₂, ◌∙◌, inl, inr, ◌⊎◌, arith, lt-ltb, le-ltb, le-leb, leb-true, eq-eqb, ne_eqb, append-nil}
+use Rattle.std.proofs.Common.{◌≡◌, ◌≢◌, ℕ, zero, suc, ◌+◌, ◌-◌, ◌<◌, ◌≤◌, ◌==◌, Bool, true, false, cond, not, ◌&&◌, ◌||◌, ◌*◌, List, [], ◌∷◌, ◌++◌, map, length, slice_index, Option, Some, None, if◌then◌else◌, nat_le, set, refl, sym, subst, ap, ap₂, ◌∙◌, inl, inr, ◌⊎◌, arith, lt-ltb, le-ltb, le-leb, leb-true, eq-eqb, ne_eqb, append-nil}
 use Rattle.std.specs.Prelude.{option_map, is_some}
 use Rattle.std.specs.List.{flat_map, find, list_any}
 use Rattle.std.specs.Option.{option_or, option_and_then}
@@ -8,7 +8,9 @@ use Rattle.std.proofs.lemmas.Bool.{and_parts, cases_lt}
 use Rattle.std.proofs.lemmas.List.{map-append}
 use Rattle.std.proofs.lemmas.List.Folds.{find-append}
 use Rattle.std.proofs.lemmas.Option.{none-some, same_Some}
-use Rattle.fancy_regex_tree.specs.Tree.{Tree, Trees, Text, empty, any, assertion, literal, concat, alt, group, look_around, repeat, delegate, atomic_group, verb, no_trees, more_trees}
+use Rattle.fancy_regex_tree.specs.Tree.{Tree, Trees, Text, empty, any, assertion, general_newline, literal, concat, alt, group, look_around, repeat, delegate, atomic_group, verb, no_trees, more_trees}
+use Rattle.fancy_regex_tree.specs.declared.expr.Assertion.{Assertion}
+use Rattle.fancy_regex_tree.specs.declared.expr.Assertion.TheVariants.{EndTextIgnoreTrailingNewlines}
 use Rattle.fancy_regex_tree.specs.declared.expr.LookAround.{LookAround}
 use Rattle.fancy_regex_tree.specs.declared.expr.LookAround.TheVariants.{LookAhead, LookAheadNeg, LookBehind, LookBehindNeg}
 use Rattle.regex_hir.specs.Text.{char_at}
@@ -20,15 +22,18 @@ use Rattle.fancy_regex_meaning.specs.Ways.{MatchState, Moves, Setting, Meaning, 
 use Rattle.fancy_regex_meaning.specs.Ways as ways
 use Rattle.fancy_regex_states.specs.Attempts.{View, reads}
 use Rattle.fancy_regex_states.specs.declared.atom.Leaf.TheVariants.{Any}
+use Rattle.fancy_regex_states.specs.declared.atom.Test.{Test}
 use Rattle.fancy_regex_linear.specs.Re.{Re, nothing, read, test, cat}
 use Rattle.fancy_regex_linear.specs.Re as re
-use Rattle.fancy_regex_linear.specs.Plain.{IsRegular, AreRegular, IsOneChar, looked, asking, char_leaf, has_no_iteration, unless, classes, row_classes, re_of, row_of, branches_of}
+use Rattle.fancy_regex_linear.specs.Plain.{IsRegular, AreRegular, IsOneChar, IsServed, test_of, ends_by_crlf, text_end_re, served, looked, asking, char_leaf, has_no_iteration, unless, classes, row_classes, re_of, row_of, branches_of}
 use Rattle.fancy_regex_linear.specs.SettingView.{view_of}
 use Rattle.fancy_regex_linear.specs.Meaning.{Spot, each, in_order, after_iteration, loop_ways, times_ways, upto_ways, tail_ways, is_unbounded, asked_ways, first_way}
 use Rattle.fancy_regex_linear.specs.Meaning as plain
 use Rattle.fancy_regex_linear.proofs.BoundLemmas.{AllOf, Between, Ends, ways_end}
 use Rattle.fancy_regex_linear.proofs.EndLemmas.{ends, GoesByPlace, after_alike, loop_alike, times_alike, upto_alike, tail_alike, ways_alike}
 use Rattle.fancy_regex_linear.proofs.MeaningLemmas.{spot_of, Same, no_iterations, flat_set, map_map, char_same, StandAt, stand_left, stand_right, all_stand, assertion_same, literal_same, class_same, look_same}
+use Rattle.fancy_regex_linear.proofs.NewlineLemmas.{newline_same}
+use Rattle.fancy_regex_linear.proofs.TextEndLemmas.{text_end_same}
 use Rattle.fancy_regex_linear.proofs.CarryLemmas.{Lacks, put, map_twice, ways_carry}
 use Rattle.fancy_regex_linear.proofs.PlainLemmas.{lacks}
 
@@ -333,6 +338,21 @@ module _ (s : Setting) (groups : List Tree) (unicode : Bool) (call : ℕ → Mov
         | inr more ↦ rw more part
       ]
 
+  -- an assertion: a test, or `\Z`
+  text_end_firsts : (a : Assertion) → (IsServed (test_of a) → ⊥)
+      → HasFirsts len (λ w. match_empty_if (ways.holds s a w.position) w) (plain.ways view len (text_end_re (ends_by_crlf a)))
+  unfolding plain.ways reads
+  text_end_firsts (EndTextIgnoreTrailingNewlines crlf) p w q = λ wanted. ap (first_at wanted) (text_end_same s cs crlf w q)
+  text_end_firsts _ p w q = absurd (p tt)
+
+  assertion_firsts : (o : Option Test) (a : Assertion) → test_of a ≡ o
+      → HasFirsts len (λ w. match_empty_if (ways.holds s a w.position) w) (plain.ways view len (served a o))
+  unfolding plain.ways reads
+  assertion_firsts None a e w q = text_end_firsts a (subst IsServed e) w q
+  assertion_firsts (Some check) a e w q =
+      λ wanted. ap (first_at wanted) (subst (λ (o : Option Test). map spot_of (match_empty_if (ways.holds s a w.position) w) ≡ plain.ways view len (served a o) (spot_of w)) e
+      (assertion_same s groups unicode call cs false same_fold a (subst IsServed (sym e) tt) w q))
+
   mutual
     unfolding meaning re_of classes plain.ways reads
 
@@ -345,7 +365,8 @@ module _ (s : Setting) (groups : List Tree) (unicode : Bool) (call : ℕ → Mov
     tree_firsts n k (literal val casei) p h w q =
         λ wanted. ap (first_at wanted) (literal_same s groups unicode call cs false same_fold (slice_index val 0) casei w q)
     tree_firsts n k (delegate class casei) p h w q = λ wanted. ap (first_at wanted) (class_same s groups unicode call cs false same_fold k class casei h w q)
-    tree_firsts n k (assertion a) p h w q = λ wanted. ap (first_at wanted) (assertion_same s groups unicode call cs false same_fold a p w q)
+    tree_firsts n k (general_newline wide) p h w q = λ wanted. ap (first_at wanted) (newline_same s cs wide w)
+    tree_firsts n k (assertion a) p h w q = assertion_firsts (test_of a) a refl w q
     tree_firsts n k (concat ts) p h w q = row_firsts n k ts p h w q
     tree_firsts n k (alt ts) p h w q = branches_firsts n k ts p.0 p.1 h w q
     tree_firsts n k (group t) p h w q =

@@ -1,17 +1,18 @@
 -- The ways of a regular tree keep the start that the match will be said to have.
-use Rattle.std.proofs.Common.{◌≡◌, ℕ, zero, suc, ◌+◌, ◌-◌, ◌==◌, Bool, true, false, List, [], ◌∷◌, length, Option, Some, None, if◌then◌else◌, refl, ◌∙◌}
+use Rattle.std.proofs.Common.{◌≡◌, ℕ, zero, suc, ◌+◌, ◌-◌, ◌==◌, Bool, true, false, ◌&&◌, List, [], ◌∷◌, length, Option, Some, None, if◌then◌else◌, refl, ◌∙◌}
 use Rattle.std.specs.List.{flat_map}
 use Rattle.std.specs.Char.{len_utf8}
 use Rattle.regex_hir.specs.Text.{char_at}
-use Rattle.fancy_regex_tree.specs.Tree.{Tree, Trees, empty, any, assertion, literal, concat, alt, group, look_around, repeat, delegate, atomic_group, verb, no_trees, more_trees}
+use Rattle.fancy_regex_tree.specs.Tree.{Tree, Trees, empty, any, assertion, general_newline, literal, concat, alt, group, look_around, repeat, delegate, atomic_group, verb, no_trees, more_trees}
 use Rattle.fancy_regex_tree.specs.declared.expr.LookAround.{LookAround}
 use Rattle.fancy_regex_tree.specs.declared.expr.LookAround.TheVariants.{LookAhead, LookAheadNeg, LookBehind, LookBehindNeg}
 use Rattle.fancy_regex_meaning.specs.Groups.{group_count}
+use Rattle.fancy_regex_meaning.specs.Positions.{is_before_byte}
 use Rattle.fancy_regex_meaning.specs.Sizes.{bound_of}
 use Rattle.fancy_regex_meaning.specs.Ways.{MatchState, Moves, Setting, Meaning, meaning, meanings, all_of, any_of, prefer, due, up_to, loop, character, with_position, for_some, match_empty_if, is_none_of, keep_only_pairs, first_only, look, holds}
 use Rattle.fancy_regex_meaning.specs.Ways as ways
 use Rattle.fancy_regex_meaning.specs.WayLaws.{Each}
-use Rattle.fancy_regex_meaning.proofs.EachLemmas.{Each-weaker, Each-append, Each-map, Each-flat_map}
+use Rattle.fancy_regex_meaning.proofs.EachLemmas.{Each-cond, Each-weaker, Each-append, Each-map, Each-flat_map}
 use Rattle.fancy_regex_linear.specs.Plain.{IsPlain, IsRegular, AreRegular}
 use Rattle.fancy_regex_linear.proofs.PlainLemmas.{plain_regular}
 
@@ -85,6 +86,9 @@ module _ (s : Setting) (groups : List Tree) (call : ℕ → Moves) where
     regular_keeps_start n (any newline crlf) p w = char_keeps _ w (char_at s.text w.position)
     regular_keeps_start n (literal val casei) p w = char_keeps _ w (char_at s.text w.position)
     regular_keeps_start n (delegate class casei) p w = char_keeps _ w (char_at s.text w.position)
+    regular_keeps_start n (general_newline wide) p w =
+        Each-cond (λ v. v.match_start ≡ w.match_start) (is_before_byte s.text 13 w.position && is_before_byte s.text 10 (w.position + 1)) (with_position w (w.position + 2) ∷ []) _
+        (refl, tt) (char_keeps _ w (char_at s.text w.position))
     regular_keeps_start n (assertion a) p w = if_keeps (holds s a w.position) w w refl
     regular_keeps_start n (look_around t LookAhead) p w = look_keeps LookAhead (meaning s groups call n t) w
     regular_keeps_start n (look_around t LookAheadNeg) p w = look_keeps LookAheadNeg (meaning s groups call n t) w

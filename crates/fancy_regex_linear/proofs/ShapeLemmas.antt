@@ -1,15 +1,17 @@
 -- What each kind of node and of expression is in mathematics.
-use Rattle.std.proofs.Common.{◌≡◌, ℕ, Vec, Box, Global, sym, ap, ◌∙◌}
+use Rattle.std.proofs.Common.{◌≡◌, ℕ, Bool, Vec, Box, Global, sym, ap, ◌∙◌}
 use Rattle.fancy_regex_tree.specs.Tree.{Tree, absent_tree, ast_tree, node_tree, tree_of, concat, alt}
 use Rattle.fancy_regex_tree.specs.declared.expr.Expr.{Expr}
 use Rattle.fancy_regex_tree.specs.declared.expr.Expr.TheVariants as expr
 use Rattle.fancy_regex_tree.specs.declared.expr.Absent.TheOpen.{Expr-F}
 use Rattle.fancy_regex_tree.specs.declared.expr.Absent.TheFolds.{fold-roll-Expr}
-use Rattle.fancy_regex_linear.specs.Re.{Re, repeat, cats, alts, node_shape, shape, shapes}
+use Rattle.fancy_regex_linear.specs.Re.{Re, read, test, repeat, ask, cats, alts, node_shape, shape, shapes}
 use Rattle.fancy_regex_linear.specs.Translation.{all_trees}
 use Rattle.fancy_regex_linear.specs.declared.node.Node.{Node, Node-F, fold-roll-Node}
 use Rattle.fancy_regex_linear.specs.declared.node.Node.TheVariants as node
 use Rattle.fancy_regex_linear.specs.declared.node.Quantifier.{Quantifier}
+use Rattle.fancy_regex_states.specs.declared.atom.Leaf.{Leaf}
+use Rattle.fancy_regex_states.specs.declared.atom.Test.{Test}
 
 pub tree_concat : (children : Vec Expr Global) → tree_of (expr.Concat children) ≡ concat (all_trees children.items)
 tree_concat children =
@@ -27,3 +29,12 @@ shape_alt parts = ap shape (sym (node.rolls-Alt parts)) ∙ fold-roll-Node Re no
 
 pub shape_repeat : (body : Box Node Global) (q : Quantifier) → shape (node.Repeat body q) ≡ repeat q.lo q.hi q.greedy q.moves (shape body.value)
 shape_repeat body q = ap shape (sym (node.rolls-Repeat body q)) ∙ fold-roll-Node Re node_shape (Node-F.Repeat body q)
+
+pub shape_ask : (negated : Bool) (body : Box Node Global) → shape (node.Ask negated body) ≡ ask negated (shape body.value)
+shape_ask negated body = ap shape (sym (node.rolls-Ask negated body)) ∙ fold-roll-Node Re node_shape (Node-F.Ask negated body)
+
+pub shape_read : (leaf : Leaf) → shape (node.Read leaf) ≡ read leaf
+shape_read leaf = ap shape (sym (node.rolls-Read leaf)) ∙ fold-roll-Node Re node_shape (Node-F.Read leaf)
+
+pub shape_look : (check : Test) → shape (node.Look check) ≡ test check
+shape_look check = ap shape (sym (node.rolls-Look check)) ∙ fold-roll-Node Re node_shape (Node-F.Look check)

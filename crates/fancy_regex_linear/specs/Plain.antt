@@ -1,6 +1,6 @@
 -- Plain trees, and the patterns of two branches at most that they become.
-use Rattle.std.specs.Prelude.{◌≢◌, ℕ, ◌+◌, Bool, true, false, not, ◌&&◌, List, [], ◌∷◌, ◌++◌, length, Option, Some, None, slice_index, if◌then◌else◌, ◌==◌}
-use Rattle.fancy_regex_tree.specs.Tree.{Tree, Trees, Text, empty, any, assertion, literal, concat, alt, group, look_around, repeat, delegate, atomic_group, verb, no_trees, more_trees}
+use Rattle.std.specs.Prelude.{◌≢◌, ℕ, ◌+◌, Bool, true, false, not, ◌&&◌, List, [], ◌∷◌, ◌++◌, map, length, Option, Some, None, slice_index, if◌then◌else◌, ◌==◌}
+use Rattle.fancy_regex_tree.specs.Tree.{Tree, Trees, Text, empty, any, assertion, general_newline, literal, concat, alt, group, look_around, repeat, delegate, atomic_group, verb, no_trees, more_trees}
 use Rattle.fancy_regex_tree.specs.declared.expr.Assertion.{Assertion}
 use Rattle.fancy_regex_tree.specs.declared.expr.Assertion.TheVariants as A
 use Rattle.fancy_regex_tree.specs.declared.expr.BacktrackingControlVerb.{BacktrackingControlVerb}
@@ -31,6 +31,11 @@ test_of A.LeftWordHalfBoundary = Some LeftWordHalfBoundary
 test_of A.RightWordHalfBoundary = Some RightWordHalfBoundary
 test_of (A.StartLineOniguruma crlf) = Some (StartLineOniguruma crlf)
 test_of (A.EndTextIgnoreTrailingNewlines crlf) = None
+
+-- whether `\r\n` too is a newline before the end of the text, for `\Z`
+abbrev pub ends_by_crlf : Assertion → Bool
+ends_by_crlf (A.EndTextIgnoreTrailingNewlines crlf) = crlf
+ends_by_crlf _ = false
 
 abbrev pub IsServed : Option Test → Type 0
 IsServed None = ⊥
@@ -67,14 +72,16 @@ abbrev pub IsFail : BacktrackingControlVerb → Type 0
 IsFail Fail = Unit {0}
 IsFail _ = ⊥
 
--- Trees that become a pattern with parts: plain ones, those that never match, look-aheads and atomic groups over any such tree.
+-- Trees that become a pattern with parts: plain ones, `\R`, `\Z`, those that never match, look-aheads and atomic groups over any such
+-- tree.
 abbrev mutual
   pub IsRegular : Tree → Type 0
   IsRegular empty = Unit {0}
   IsRegular (any newline crlf) = Unit {0}
   IsRegular (literal val casei) = Unit {0}
   IsRegular (delegate class casei) = Unit {0}
-  IsRegular (assertion a) = IsServed (test_of a)
+  IsRegular (general_newline wide) = Unit {0}
+  IsRegular (assertion a) = Unit {0}
   IsRegular (concat ts) = AreRegular ts
   IsRegular (alt ts) = (ts ≢ no_trees) × AreRegular ts
   IsRegular (group t) = IsRegular t
@@ -120,9 +127,36 @@ unfoldable mutual
   row_classes no_trees = []
   row_classes (more_trees t ts) = classes t ++ row_classes ts
 
-abbrev pub served : Option Test → Re
-served None = re.nothing
-served (Some test) = re.test test
+-- these characters break a line, and are not `\r`
+abbrev pub line_breaks : Bool → List ℕ
+line_breaks wide = 10 ∷ 11 ∷ 12 ∷ (if wide then 0x85 ∷ 0x2028 ∷ 0x2029 ∷ [] else [])
+
+abbrev pub read_each : List ℕ → List Re
+read_each = map (λ d. re.read (Char d))
+
+-- `\R`: `\r\n`, `\r` without `\n` after it, or another line break; at most one of these has a way
+abbrev pub newline_re : Bool → Re
+newline_re wide =
+    re.alts (re.cats (re.read (Char 13) ∷ re.read (Char 10) ∷ [])
+    ∷ re.cats (re.read (Char 13) ∷ re.test (LookAheadNeg (Char 10)) ∷ [])
+    ∷ read_each (line_breaks wide))
+
+-- a newline before the end of the text
+abbrev pub last_newline : Bool → Re
+last_newline false = re.read (Char 10)
+last_newline true = re.alt (re.read (Char 10)) (re.cats (re.read (Char 13) ∷ re.read (Char 10) ∷ []))
+
+-- `\Z`: a look-ahead for newlines up to the end of the text, where a line ends and no `\n` follows
+abbrev pub text_end_re : Bool → Re
+text_end_re crlf =
+    re.ask false (re.cats (re.repeat 0 18446744073709551615 true true (last_newline crlf)
+    ∷ re.test (EndLine false)
+    ∷ re.test (LookAheadNeg (Char 10)) ∷ []))
+
+-- an assertion with its test; `\Z` has none
+abbrev pub served : Assertion → Option Test → Re
+served a None = text_end_re (ends_by_crlf a)
+served a (Some test) = re.test test
 
 -- the test of a tree that reads one character, whose class has this number
 abbrev pub char_leaf : Bool → ℕ → Tree → Option Leaf
@@ -157,7 +191,8 @@ module _ (unicode : Bool) (groups : List Tree) where
     re_of n k (any newline crlf) = re.read (Any newline crlf)
     re_of n k (literal val casei) = re.read (if casei then Folded (folded unicode (slice_index val 0)) else Char (slice_index val 0))
     re_of n k (delegate class casei) = re.read (Class k)
-    re_of n k (assertion a) = served (test_of a)
+    re_of n k (general_newline wide) = newline_re wide
+    re_of n k (assertion a) = served a (test_of a)
     re_of n k (concat ts) = row_of n k ts
     re_of n k (alt ts) = branches_of n k ts
     re_of n k (group t) = re.group n (re_of (n + 1) k t)

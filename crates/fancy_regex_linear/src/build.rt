@@ -4,12 +4,12 @@ ghost use Rattle.std.specs.Prelude.{◌≡◌, ◌+◌, true, false, ◌++◌, �
 ghost use Rattle.fancy_regex_tree.specs.Tree.{Tree, tree_of, look_around};
 ghost use Rattle.fancy_regex_meaning.specs.Groups.{group_count, row_group_count};
 ghost use Rattle.fancy_regex_class.specs.Classes.{folded};
-ghost use Rattle.fancy_regex_linear.specs.Re.{shape};
+ghost use Rattle.fancy_regex_linear.specs.Re.{shape, shapes, cats};
 ghost use Rattle.fancy_regex_linear.specs.Re as re;
 ghost use Rattle.fancy_regex_states.specs.declared.atom.Leaf.TheVariants as leaf;
 ghost use Rattle.fancy_regex_meaning.specs.Sizes.{may_be_empty};
 ghost use Rattle.fancy_regex_linear.specs.Program.{IsSound, never_empty};
-ghost use Rattle.fancy_regex_linear.specs.Plain.{test_of as test_of_assertion, IsPlain, ArePlain, IsRegular, AreRegular, IsOneChar, has_no_iteration, unless, looked, look_test, asking, char_leaf, char_classes, classes, row_classes, re_of, row_of, branches_of};
+ghost use Rattle.fancy_regex_linear.specs.Plain.{test_of as test_of_assertion, ends_by_crlf as has_crlf_end, last_newline as newline_before_end, newline_re, read_each, served, text_end_re, IsPlain, ArePlain, IsRegular, AreRegular, IsOneChar, has_no_iteration, unless, looked, look_test, asking, char_leaf, char_classes, classes, row_classes, re_of, row_of, branches_of};
 ghost use Rattle.fancy_regex_linear.specs.Translation.{all_trees, AddsMatchers};
 ghost use Rattle.fancy_regex_linear.specs.Refusals.{IsRead, IsClassCause};
 ghost use Rattle.fancy_regex_info.specs.declared.error.CompileError.TheVariants as errors;
@@ -78,6 +78,148 @@ fn test_of(assertion: Assertion) -> Option<Test>
         Assertion::StartLineOniguruma { crlf } => Some(Test::StartLineOniguruma { crlf }),
         Assertion::EndTextIgnoreTrailingNewlines { .. } => None,
     }
+}
+
+/// Whether `\r\n` too is a newline before the end of the text, for `\Z`.
+fn ends_by_crlf(assertion: Assertion) -> bool
+    ensures { result ≡ has_crlf_end assertion }
+{
+    match assertion {
+        Assertion::EndTextIgnoreTrailingNewlines { crlf } => crlf,
+        Assertion::StartText
+        | Assertion::EndText
+        | Assertion::StartLine { .. }
+        | Assertion::EndLine { .. }
+        | Assertion::WordBoundary
+        | Assertion::NotWordBoundary
+        | Assertion::LeftWordBoundary
+        | Assertion::RightWordBoundary
+        | Assertion::LeftWordHalfBoundary
+        | Assertion::RightWordHalfBoundary
+        | Assertion::StartLineOniguruma { .. } => false,
+    }
+}
+
+/// The node of an assertion. The error is want of memory.
+fn assertion_node(alloc: Global, assertion: Assertion) -> Result<Node, AllocError>
+    ensures shape { IfOk result (λ node. shape node ≡ served assertion (test_of_assertion assertion)) }
+    ensures still { IfOk result (λ node. never_empty (shape node) ≡ false) }
+    ensures sound { IfOk result (λ node. IsSound (shape node)) }
+{
+    match test_of(assertion) {
+        Some(test) => Ok(Node::Look(test)),
+        None => text_end(alloc, ends_by_crlf(assertion)),
+    }
+}
+
+/// The node of `\Z`. The error is want of memory.
+fn text_end(alloc: Global, crlf: bool) -> Result<Node, AllocError>
+    ensures shape { IfOk result (λ node. shape node ≡ text_end_re crlf) }
+    ensures still { IfOk result (λ node. never_empty (shape node) ≡ false) }
+    ensures sound { IfOk result (λ node. IsSound (shape node)) }
+{
+    let newline = last_newline(alloc, crlf)?;
+    let body = boxed(alloc, newline)?;
+    let mut parts = Vec::new(alloc);
+    add(
+        &mut parts,
+        Node::Repeat {
+            body,
+            quantifier: Quantifier {
+                lo: 0,
+                hi: usize::MAX,
+                greedy: true,
+                moves: true,
+            },
+        },
+    )?;
+    add(&mut parts, Node::Look(Test::EndLine { crlf: false }))?;
+    add(&mut parts, Node::Look(Test::LookAheadNeg(Leaf::Char('\n'))))?;
+    let row = boxed(alloc, Node::Concat(parts))?;
+    Ok(Node::Ask {
+        negated: false,
+        body: row,
+    })
+}
+
+/// The node of a newline before the end of the text. The error is want of memory.
+fn last_newline(alloc: Global, crlf: bool) -> Result<Node, AllocError>
+    ensures { IfOk result (λ node. shape node ≡ newline_before_end crlf) }
+{
+    let newline = Node::Read(Leaf::Char('\n'));
+    if !crlf {
+        return Ok(newline);
+    }
+    let pair = row_of_two(
+        alloc,
+        Node::Read(Leaf::Char('\r')),
+        Node::Read(Leaf::Char('\n')),
+    )?;
+    let mut branches = Vec::new(alloc);
+    add(&mut branches, newline)?;
+    add(&mut branches, pair)?;
+    Ok(Node::Alt(branches))
+}
+
+/// The node of `\R`: `\r\n`, or else one character that breaks a line. The error is want of memory.
+fn line_break(alloc: Global, unicode: bool) -> Result<Node, AllocError>
+    ensures shape { IfOk result (λ node. shape node ≡ newline_re unicode) }
+    ensures moves { IfOk result (λ node. never_empty (shape node) ≡ true) }
+    ensures sound { IfOk result (λ node. IsSound (shape node)) }
+{
+    let pair = row_of_two(
+        alloc,
+        Node::Read(Leaf::Char('\r')),
+        Node::Read(Leaf::Char('\n')),
+    )?;
+    let alone = row_of_two(
+        alloc,
+        Node::Read(Leaf::Char('\r')),
+        Node::Look(Test::LookAheadNeg(Leaf::Char('\n'))),
+    )?;
+    let mut branches = Vec::new(alloc);
+    add(&mut branches, pair)?;
+    add(&mut branches, alone)?;
+    add_three(&mut branches, '\n', '\u{b}', '\u{c}')?;
+    add_wide(&mut branches, unicode)?;
+    Ok(Node::Alt(branches))
+}
+
+/// Appends the characters beyond ASCII that break a line, where they do. The error is want of memory.
+fn add_wide(branches: &mut Vec<Node>, unicode: bool) -> Result<(), AllocError>
+    ensures { OnOk result (shapes branches.new.items
+        ≡ shapes branches.old.items ++ read_each (if unicode then 0x85 ∷ 0x2028 ∷ 0x2029 ∷ [] else [])) }
+{
+    if !unicode {
+        return Ok(());
+    }
+    add_three(branches, '\u{85}', '\u{2028}', '\u{2029}')
+}
+
+/// Appends the nodes of three characters. The error is want of memory.
+fn add_three(
+    branches: &mut Vec<Node>,
+    first: char,
+    second: char,
+    third: char,
+) -> Result<(), AllocError>
+    ensures { OnOk result (shapes branches.new.items
+        ≡ shapes branches.old.items ++ read_each (first ∷ second ∷ third ∷ [])) }
+{
+    add(branches, Node::Read(Leaf::Char(first)))?;
+    add(branches, Node::Read(Leaf::Char(second)))?;
+    add(branches, Node::Read(Leaf::Char(third)))?;
+    Ok(())
+}
+
+/// Two nodes, one after the other. The error is want of memory.
+fn row_of_two(alloc: Global, first: Node, second: Node) -> Result<Node, AllocError>
+    ensures { IfOk result (λ node. shape node ≡ cats (shape first ∷ shape second ∷ [])) }
+{
+    let mut parts = Vec::new(alloc);
+    add(&mut parts, first)?;
+    add(&mut parts, second)?;
+    Ok(Node::Concat(parts))
 }
 
 /// The test of a look-around for a character of this leaf.
@@ -186,10 +328,14 @@ impl Translator {
                 val, *casei,
             )))),
             Expr::Delegate { inner, casei } => self.class(inner, *casei),
-            Expr::Assertion(assertion) => match test_of(*assertion) {
-                Some(test) => Ok(Translated::still(Node::Look(test))),
-                None => Ok(Translated::still(Node::Empty)),
-            },
+            Expr::GeneralNewline { unicode } => {
+                let node = line_break(self.alloc, *unicode)?;
+                Ok(Translated::moving(node))
+            }
+            Expr::Assertion(assertion) => {
+                let node = assertion_node(self.alloc, *assertion)?;
+                Ok(Translated::still(node))
+            }
             Expr::Concat(children) => self.row(children),
             Expr::Alt(children) => self.branches(children),
             Expr::Group(child) => self.group(child),
@@ -499,7 +645,7 @@ pub fn is_regular(expr: &Expr) -> bool
 {
     match expr {
         Expr::Empty | Expr::Any { .. } | Expr::Literal { .. } | Expr::Delegate { .. } => true,
-        Expr::Assertion(assertion) => test_of(*assertion).is_some(),
+        Expr::Assertion(_) | Expr::GeneralNewline { .. } => true,
         Expr::Concat(children) => are_regular(children),
         Expr::Alt(children) => !children.is_empty() && are_regular(children),
         Expr::BacktrackingControlVerb(BacktrackingControlVerb::Fail) => true,

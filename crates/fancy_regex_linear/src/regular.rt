@@ -36,8 +36,8 @@ impl RegularStates {
     ghost use Rattle.fancy_regex_info.specs.declared.info.Info.{out-Info};
     ghost use Rattle.fancy_regex_info.specs.Views.{pattern_in};
 
-    /// Whether an analyzed pattern becomes such states: its weight is at most 4,000, and it has no more than characters, `(*FAIL)`, all
-    /// assertions except `\Z`, look-behinds for one character, look-aheads, groups, atomic groups, alternations and repeats of these.
+    /// Whether an analyzed pattern becomes such states: its weight is at most 4,000, and it has no more than characters, `\R`, `(*FAIL)`,
+    /// assertions, look-behinds for one character, look-aheads, groups, atomic groups, alternations and repeats of these.
     pub fn are_made_for(info: &Info<'_>) -> bool
         ensures regular { result ≡ true → IsRegular (tree_of (out-Info info.now).expr.now) }
         ensures exact { (explicit : Bool) (t : Tree) → info_of info.now ≡ analysis explicit t

@@ -9,3 +9,4 @@ pub mod StrategyLemmas
 pub mod ClassRefusalLemmas
 pub mod LinearLemmas
 pub mod Sending
+pub mod KeptLemmas

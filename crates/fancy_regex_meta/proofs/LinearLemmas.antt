@@ -4,9 +4,7 @@ use mathlib.Core.Logic.{∥∥₁_elim}
 use Rattle.std.proofs.Common.{◌≡◌, ◌⊎◌, ◌↔◌, ◌∙◌, ⊎_elim, inl, inr, Bool, true, false, true≢false, List, ℕ, refl, sym, ap, subst}
 use Rattle.std.proofs.Math.Bool.{Bool-set}
 use Rattle.std.proofs.Math.Bridge.{le_prop}
-use Rattle.fancy_regex_tree.specs.Tree.{Tree, Trees, tree_of, empty, any, assertion, literal, concat, alt, group, look_around, repeat, delegate, atomic_group, verb, no_trees, more_trees}
-use Rattle.fancy_regex_tree.specs.declared.expr.Assertion.{Assertion}
-use Rattle.fancy_regex_tree.specs.declared.expr.Assertion.TheVariants as A
+use Rattle.fancy_regex_tree.specs.Tree.{Tree, Trees, tree_of, empty, any, assertion, general_newline, literal, concat, alt, group, look_around, repeat, delegate, atomic_group, verb, no_trees, more_trees}
 use Rattle.fancy_regex_tree.specs.declared.expr.BacktrackingControlVerb.{BacktrackingControlVerb}
 use Rattle.fancy_regex_tree.specs.declared.expr.BacktrackingControlVerb.TheVariants.{Fail}
 use Rattle.fancy_regex_tree.specs.declared.expr.LookAround.TheVariants as L
@@ -14,7 +12,7 @@ use Rattle.fancy_regex_tree.specs.declared.expr_tree.ExprTree.{ExprTree}
 use Rattle.fancy_regex_meaning.specs.Groups.{Pattern, pattern_of}
 use Rattle.fancy_regex_class.specs.declared.input.RunInput.{RunInput}
 use Rattle.fancy_regex_input.specs.SearchInputs.{effective_start, run_input_of}
-use Rattle.fancy_regex_linear.specs.Plain.{IsServed, IsOneChar, IsFail, IsRegular, AreRegular, test_of}
+use Rattle.fancy_regex_linear.specs.Plain.{IsOneChar, IsFail, IsRegular, AreRegular}
 use Rattle.fancy_regex_regular.specs.Supported.{IsSupported}
 use Rattle.fancy_regex_meta.specs.EasyPatterns.{is_easy_tree, uses_easy, pattern_uses_easy}
 use Rattle.fancy_regex_meta.specs.LinearPatterns.{IsLinear, PatternIsLinear, is_linear_strategy}
@@ -29,20 +27,6 @@ use Rattle.fancy_regex_meta.specs.declared.strategy.Strategy.{Strategy}
 use Rattle.fancy_regex_meta.specs.declared.strategy.Strategy.TheVariants.{Easy, Linear, Program, Regular}
 
 -- that a tree is regular is so in one way
-served_prop : (a : Assertion) → IsProp (IsServed (test_of a))
-served_prop A.StartText = Unit-prop
-served_prop A.EndText = Unit-prop
-served_prop (A.StartLine crlf) = Unit-prop
-served_prop (A.EndLine crlf) = Unit-prop
-served_prop A.WordBoundary = Unit-prop
-served_prop A.NotWordBoundary = Unit-prop
-served_prop A.LeftWordBoundary = Unit-prop
-served_prop A.RightWordBoundary = Unit-prop
-served_prop A.LeftWordHalfBoundary = Unit-prop
-served_prop A.RightWordHalfBoundary = Unit-prop
-served_prop (A.StartLineOniguruma crlf) = Unit-prop
-served_prop (A.EndTextIgnoreTrailingNewlines crlf) = ⊥_prop
-
 one_char_prop : (t : Tree) → IsProp (IsOneChar t)
 one_char_prop (any newline crlf) = Unit-prop
 one_char_prop (literal val casei) = Unit-prop
@@ -59,7 +43,8 @@ mutual
   regular_prop (any newline crlf) = Unit-prop
   regular_prop (literal val casei) = Unit-prop
   regular_prop (delegate class casei) = Unit-prop
-  regular_prop (assertion a) = served_prop a
+  regular_prop (general_newline wide) = Unit-prop
+  regular_prop (assertion a) = Unit-prop
   regular_prop (concat ts) = all_prop ts
   regular_prop (alt ts) = ×_prop (Π_prop λ e. ⊥_prop) (all_prop ts)
   regular_prop (group t) = regular_prop t

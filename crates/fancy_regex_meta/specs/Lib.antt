@@ -15,3 +15,5 @@ pub mod MemberSearches
 pub mod Caps
 pub mod FoundParts
 pub mod SeekTables
+pub mod Kept
+pub mod KeptProps

@@ -10,6 +10,7 @@ mod meta_regex;
 mod options;
 mod parse;
 mod parse_options;
+mod run_work;
 mod seek;
 mod strategy;
 

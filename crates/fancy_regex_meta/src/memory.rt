@@ -1,5 +1,8 @@
 //! The memory that searches share, as those of an iteration do.
 
+ghost use Rattle.std.specs.Prelude.{◌≡◌, None};
+
+use crate::run_work::RunWork;
 use fancy_regex_linear::SearchMemory;
 use fancy_regex_machine::RunMemory;
 use fancy_regex_regular::RegularMemory;
@@ -24,6 +27,8 @@ pub struct MetaMemory {
     pub program: RunMemory,
     /// For patterns whose look-aheads and atomic groups are parts.
     pub parts: RegularMemory,
+    /// The work that runs of the programs of such patterns may do.
+    pub(crate) work: RunWork,
 }
 
 // Written, not derived: so a crate in which such a value may be dropped uses this proof, and has none to make of each type inside.
@@ -33,17 +38,29 @@ impl Drop for MetaMemory {
             easy: _easy,
             program: _program,
             parts: _parts,
+            work: _work,
         } = self;
     }
 }
 
 impl MetaMemory {
     /// Memory for the first search. It allocates nothing.
-    pub fn new(alloc: Global) -> MetaMemory {
+    pub fn new(alloc: Global) -> MetaMemory
+        ensures { result.parts.kept ≡ None }
+    {
         MetaMemory {
             easy: SearchMemory::new(alloc),
             program: RunMemory::new(alloc),
             parts: RegularMemory::new(alloc),
+            work: RunWork::new(),
         }
+    }
+
+    /// Forgets what was found out about a text. The room is kept.
+    pub(crate) fn forget(&mut self)
+        ensures { self.new.parts.kept ≡ None }
+    {
+        self.parts.forget();
+        self.work = RunWork::new();
     }
 }

@@ -86,6 +86,7 @@ impl MetaRegex {
     ghost use Rattle.fancy_regex_meta.specs.SearchLimits.{IsRunError, RunStaysInLimits, MetaIsLinear, MeetsNoLimit, meta_tree, meta_uses_easy, run_tried, run_looks};
     ghost use Rattle.fancy_regex_meta.specs.MetaMatches.{meta_pattern, meta_match_for};
     ghost use Rattle.fancy_regex_meta.specs.Caps.{MetaKeepsCap};
+    ghost use Rattle.fancy_regex_meta.specs.Kept.{MetaKeeps};
 
     /// Parses and compiles a pattern. If it needs a program, that has at most `max_prog_size` instructions. `ParseError` if the
     /// text is no pattern, with the first error and its byte offset; `CompileError` if the pattern is refused, with one of the
@@ -173,6 +174,39 @@ impl MetaRegex {
             → min (steps.old + run_tried self.now.options text.now input.now (meta_tree self.now)) (2 ^ 64 - 1) ≤ steps.new) }
         ensures looks_none { meta_uses_easy self.now ≡ false → steps.new ≡ steps.old }
         ensures counts { steps.old ≤ steps.new }
+    {
+        memory.forget();
+        self.search_again(alloc, text, input, wanted, steps, memory)
+    }
+
+    /// The first match, as `search`, where the memory keeps, if it keeps anything, what searches of this pattern in this text have found
+    /// out: that is not looked for again, as far as the pattern has states for its look-aheads and atomic groups, and what this search
+    /// finds out is kept too, also after an error.
+    #[inline(always)]
+    pub fn search_again(
+        &self,
+        alloc: Global,
+        text: &str,
+        input: &RunInput,
+        wanted: MatchDetail,
+        steps: &mut Steps,
+        memory: &mut MetaMemory,
+    ) -> Result<Option<FoundMatch>>
+        requires first { input.now.first ≤ input.now.range.end → IsCharBoundary text.now input.now.first }
+        requires range { input.now.range.end ≤ length text.now }
+        requires kept { MetaKeeps self.now text.now memory.old }
+        ensures answer { IfOk result (λ found. option_map found_parts found
+            ≡ option_map (wanted_parts wanted (meta_pattern self.now)) (meta_match_for self.now text.now input.now)) }
+        ensures within { IfOk result (λ found. IfSome found
+            (IsMatchWithin wanted text.now input.now.first input.now.range.end)) }
+        ensures limits { IfErr result (λ e. IsRunError self.now text.now input.now e) }
+        ensures stays { IfOk result (λ _. RunStaysInLimits self.now text.now input.now) }
+        ensures looks_most { meta_uses_easy self.now ≡ true → steps.new ≤ steps.old + run_looks self.now input.now }
+        ensures looks_least { IfOk result (λ _. meta_uses_easy self.now ≡ true
+            → min (steps.old + run_tried self.now.options text.now input.now (meta_tree self.now)) (2 ^ 64 - 1) ≤ steps.new) }
+        ensures looks_none { meta_uses_easy self.now ≡ false → steps.new ≡ steps.old }
+        ensures counts { steps.old ≤ steps.new }
+        ensures kept { MetaKeeps self.now text.now memory.new }
     {
         if input.range.end < input.first {
             return Ok(None);

@@ -28,7 +28,10 @@ ghost use Rattle.fancy_regex_meta.specs.EasyPatterns.{is_easy_strategy};
 ghost use Rattle.fancy_regex_meta.specs.LinearPatterns.{HasStates, is_linear_strategy};
 ghost use Rattle.fancy_regex_meta.specs.FoundParts.{found_parts, wanted_parts};
 ghost use Rattle.fancy_regex_meta.specs.Strategies.{IsMatcherFor, IsRegularFor, IsProgramFor, Executes, RunsUnder, StrategyKeepsCap};
-ghost use Rattle.fancy_regex_meta.specs.Strategies.{unlimited_run, search_of};
+ghost use Rattle.fancy_regex_meta.specs.Strategies.{unlimited as unlimited_options, unlimited_run, search_of};
+ghost use Rattle.fancy_regex_meta.specs.Kept.{StrategyKeeps};
+ghost use Rattle.fancy_regex_regular.specs.Kept.{IsKeptOf};
+ghost use Rattle.fancy_regex_meta.specs.declared.error.Error.TheVariants as told;
 ghost use Rattle.fancy_regex_meta.specs.ErrorConversions.{from_runtime_error};
 ghost use Rattle.fancy_regex_meta.specs.SearchLimits.{IsSearchError, IsStrategyError, StrategyStaysInLimits, run_choices};
 ghost use Rattle.fancy_regex_meta.specs.declared.strategy.Strategy.TheVariants as strategies;
@@ -37,12 +40,13 @@ use crate::error::{Error, Result};
 use crate::found::{FoundMatch, MatchDetail, found_groups, found_span};
 use crate::memory::MetaMemory;
 use crate::options::RegexOptions;
+use crate::run_work::RunWork;
 use crate::seek::seek_table;
 use fancy_regex_class::{RunInput, Steps};
 use fancy_regex_compiled::Prog;
 use fancy_regex_compiler::compile;
 use fancy_regex_info::{CompileError, CompileOptions, Info};
-use fancy_regex_linear::Easy;
+use fancy_regex_linear::{Easy, SearchMemory};
 use fancy_regex_machine::{
     Allowance, Exhausted, ProgramRun, RunMemory, RunOptions, RuntimeError, run_spans_within,
     run_within,
@@ -50,14 +54,8 @@ use fancy_regex_machine::{
 use fancy_regex_regular::{Regular, RegularMemory};
 use std::alloc::{AllocError, Global};
 
-/// What a run of the program of a pattern with parts may do at least, before its states answer.
-const FIRST_WORK: u64 = 100_000;
-
-/// What it may do besides for each byte from its first start to the end of the text: a look-ahead may read all of them once or twice.
-const WORK_PER_TEXT_BYTE: u64 = 4;
-
-/// What it may do besides for each byte that its start goes on by: as measured, states take the time of about so much work.
-const WORK_PER_START_BYTE: u64 = 64;
+/// No search makes more runs of a program: each may do four times as much as the one before, or states answer.
+const MOST_RUNS: usize = 32;
 
 /// What executes a compiled pattern.
 #[derive(Drop)]
@@ -198,15 +196,6 @@ fn hard_strategy(
     }
 }
 
-/// What a run of a program from this byte offset on may do, where states answer in its place.
-fn allowance_from(text: &str, first: usize) -> Allowance {
-    let rest = text.len().saturating_sub(first) as u64;
-    Allowance::Bounded {
-        first: FIRST_WORK.saturating_add(rest.saturating_mul(WORK_PER_TEXT_BYTE)),
-        per_byte: WORK_PER_START_BYTE,
-    }
-}
-
 /// The first match by the program, as long as its work stays within the allowance. The errors inside are a limit, or `Memory`.
 #[inline(always)]
 fn run_program(
@@ -253,6 +242,85 @@ fn run_program(
     }
 }
 
+/// The first match by the program, as `run_program`, where each run may do more work than the one before, as long as work is left. No
+/// clause says how much that is. The errors inside are a limit, or `Memory`.
+#[inline(always)]
+fn run_in_shares(
+    alloc: Global,
+    prog: &Prog,
+    run_options: &RunOptions,
+    text: &str,
+    input: &RunInput,
+    wanted: MatchDetail,
+    memory: &mut RunMemory,
+    work: &mut RunWork,
+) -> std::result::Result<std::result::Result<Option<FoundMatch>, RuntimeError>, Exhausted>
+    requires first { IsCharBoundary text.now input.now.first }
+    requires range { input.now.range.end ≤ length text.now }
+    requires whole { prog.now.whole ≡ true }
+    ensures { IfOk result (λ ended. IfOk ended (λ found. (o : RegexOptions) (t : Tree) → IsProgramFor prog.now run_options.now o t
+        → option_map found_parts found ≡ option_map (wanted_parts wanted (pattern_of t))
+        (first_match (setting_for o.unicode_mode text.now input.now) (pattern_of t) (search_of o input.now)))) }
+{
+    for _ in 0..MOST_RUNS {
+        let run = ProgramRun {
+            prog,
+            options: run_options,
+            allowance: work.allowance(),
+        };
+        match run_program(alloc, &run, text, input, wanted, memory) {
+            Ok(ended) => {
+                work.answered();
+                return Ok(ended);
+            }
+            Err(Exhausted) => {
+                if !work.grow() {
+                    return Err(Exhausted);
+                }
+            }
+        }
+    }
+    Err(Exhausted)
+}
+
+/// The first match of a pattern with states: by its program, as long as that stays within the work that it may do and meets no limit, and
+/// else by the states. The error is want of memory.
+#[inline(always)]
+fn search_by_either(
+    alloc: Global,
+    regular: &Regular,
+    prog: &Prog,
+    run_options: &RunOptions,
+    text: &str,
+    input: &RunInput,
+    wanted: MatchDetail,
+    memory: &mut MetaMemory,
+) -> Result<Option<FoundMatch>>
+    requires first { IsCharBoundary text.now input.now.first }
+    requires range { input.now.range.end ≤ length text.now }
+    requires whole { prog.now.whole ≡ true }
+    requires kept { IsKeptOf regular.now text.now memory.old.parts }
+    ensures answer { IfOk result (λ found. (o : RegexOptions) (t : Tree) → IsRegularFor regular.now o t
+        → IsProgramFor prog.now run_options.now (unlimited_options o) t
+        → option_map found_parts found ≡ option_map (wanted_parts wanted (pattern_of t))
+        (first_match (setting_for o.unicode_mode text.now input.now) (pattern_of t) (search_of o input.now))) }
+    ensures memory { IfErr result (λ e. e ≡ told.Memory) }
+    ensures kept { IsKeptOf regular.now text.now memory.new.parts }
+{
+    memory.work.begin(text, input.first, wanted);
+    if !memory.work.is_spent() {
+        let runs = &mut memory.program;
+        let work = &mut memory.work;
+        match run_in_shares(alloc, prog, run_options, text, input, wanted, runs, work) {
+            Ok(Ok(found)) => return Ok(found),
+            Ok(Err(RuntimeError::Memory)) => return Err(Error::Memory),
+            Ok(Err(_)) | Err(Exhausted) => work.stop(),
+        }
+    }
+    let found = search_regular(alloc, regular, text, input, wanted, &mut memory.parts)?;
+    Ok(found)
+}
+
 /// The first match by the states with parts. The error is want of memory.
 #[inline(never)]
 fn search_regular(
@@ -265,18 +333,20 @@ fn search_regular(
 ) -> std::result::Result<Option<FoundMatch>, AllocError>
     requires first { IsCharBoundary text.now input.now.first }
     requires range { input.now.range.end ≤ length text.now }
-    ensures { IfOk result (λ found. (o : RegexOptions) (t : Tree) → IsRegularFor regular.now o t
+    requires kept { IsKeptOf regular.now text.now memory.old }
+    ensures answer { IfOk result (λ found. (o : RegexOptions) (t : Tree) → IsRegularFor regular.now o t
         → option_map found_parts found ≡ option_map (wanted_parts wanted (pattern_of t))
         (first_match (setting_for o.unicode_mode text.now input.now) (pattern_of t) (search_of o input.now))) }
+    ensures kept { IsKeptOf regular.now text.now memory.new }
 {
+    let mut steps = Steps::new();
     match wanted {
         MatchDetail::Span => {
-            let mut steps = Steps::new();
-            let span = regular.find_span_in(text, input, &mut steps, memory)?;
+            let span = regular.find_span_again(text, input, &mut steps, memory)?;
             Ok(found_span(alloc, span))
         }
         MatchDetail::Groups => {
-            let slots = regular.search_in(alloc, text, input, memory)?;
+            let slots = regular.search_again(alloc, text, input, &mut steps, memory)?;
             Ok(found_groups(slots))
         }
     }
@@ -289,7 +359,7 @@ fn search_uncounted(
     text: &str,
     input: &RunInput,
     wanted: MatchDetail,
-    memory: &mut MetaMemory,
+    memory: &mut SearchMemory,
 ) -> std::result::Result<Option<FoundMatch>, AllocError>
     requires first { IsCharBoundary text.now input.now.first }
     requires range { input.now.range.end ≤ length text.now }
@@ -300,11 +370,11 @@ fn search_uncounted(
     let mut steps = Steps::new();
     match wanted {
         MatchDetail::Span => {
-            let found = linear.find_span_in(text, input, &mut steps, &mut memory.easy)?;
+            let found = linear.find_span_in(text, input, &mut steps, memory)?;
             Ok(found_span(alloc, found))
         }
         MatchDetail::Groups => {
-            let found = linear.search_in(alloc, text, input, &mut steps, &mut memory.easy)?;
+            let found = linear.search_in(alloc, text, input, &mut steps, memory)?;
             Ok(found_groups(found))
         }
     }
@@ -385,6 +455,7 @@ impl Strategy {
         requires first { IsCharBoundary text.now input.now.first }
         requires range { input.now.range.end ≤ length text.now }
         requires whole { is_whole self.now ≡ true }
+        requires kept { StrategyKeeps self.now text.now memory.old.parts }
         ensures answer { IfOk result (λ found. (o : RegexOptions) (t : Tree) → Executes self.now o t
             → option_map found_parts found ≡ option_map (wanted_parts wanted (pattern_of t))
             (first_match (setting_for o.unicode_mode text.now input.now) (pattern_of t) (search_of o input.now))) }
@@ -399,6 +470,7 @@ impl Strategy {
             → min (steps.old + run_tried o text.now input.now t) (2 ^ 64 - 1) ≤ steps.new) }
         ensures looks_none { is_easy_strategy self.now ≡ false → steps.new ≡ steps.old }
         ensures counts { steps.old ≤ steps.new }
+        ensures kept { StrategyKeeps self.now text.now memory.new.parts }
     {
         match self {
             Strategy::Easy(easy) => match wanted {
@@ -412,7 +484,8 @@ impl Strategy {
                 }
             },
             Strategy::Linear { linear, .. } => {
-                let found = search_uncounted(alloc, linear, text, input, wanted, memory)?;
+                let easy = &mut memory.easy;
+                let found = search_uncounted(alloc, linear, text, input, wanted, easy)?;
                 Ok(found)
             }
             Strategy::Program { prog, run_options } => {
@@ -432,22 +505,16 @@ impl Strategy {
                 regular,
                 prog,
                 run_options,
-            } => {
-                let run = ProgramRun {
-                    prog,
-                    options: run_options,
-                    allowance: allowance_from(text, input.first),
-                };
-                match run_program(alloc, &run, text, input, wanted, &mut memory.program) {
-                    Ok(Ok(found)) => Ok(found),
-                    Ok(Err(RuntimeError::Memory)) => Err(Error::Memory),
-                    Ok(Err(_)) | Err(Exhausted) => {
-                        let parts = &mut memory.parts;
-                        let found = search_regular(alloc, regular, text, input, wanted, parts)?;
-                        Ok(found)
-                    }
-                }
-            }
+            } => search_by_either(
+                alloc,
+                regular,
+                prog,
+                run_options,
+                text,
+                input,
+                wanted,
+                memory,
+            ),
         }
     }
 
@@ -481,6 +548,7 @@ impl Strategy {
                 Ok(answer)
             }
             Strategy::Program { .. } | Strategy::Regular { .. } => {
+                memory.forget();
                 let steps = &mut Steps::new();
                 let found = self.search(alloc, text, input, MatchDetail::Span, steps, memory)?;
                 Ok(found.is_some())

@@ -80,6 +80,7 @@ module _ (table : PartTable) (all : IsAllMarked table) where
         let is = ap (λ (xs : List ℕ). get_or xs k 0) all.costs in
         omega (arith, is, ones_most (length table.states.items) k) in
         omega (arith, sum_small (cost_of table) small table.heads.items, all.count);
+    cheap = omega (arith, all.most);
   }
 
 -- where a table is right, each state leads to states that are there

@@ -64,10 +64,11 @@ pub record IsRightAt (table : PartTable) (q : ℕ) : Type 0 where
   -- its cost is enough for it and those after it
   pub paid : owed table (state_at table.states.items q) + 1 ≤ cost_of table q
 
--- all states are right, and the parts weigh no more than there are states
+-- all states are right, the parts weigh no more than there are states, and no marked state costs much more
 pub record IsTable (table : PartTable) : Type 0 where
   pub right : (q : ℕ) → q < length table.states.items → IsRightAt table q
   pub light : table_weight table ≤ length table.states.items
+  pub cheap : table.most ≤ length table.states.items + 1
 
 -- each of these states leads to states that are there
 abbrev pub AreClosed : List State → Type 0

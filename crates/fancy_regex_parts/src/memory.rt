@@ -43,6 +43,11 @@ impl PartMemory {
         self.stack.clear();
     }
 
+    /// Whether nothing is known of the byte offset `at`, nor of a later one. No clause says so.
+    pub fn ends_before(&self, at: usize) -> bool {
+        self.recall.ends_before(at)
+    }
+
     /// Forgets everything of the same parts and text.
     pub(crate) fn forget(&mut self)
         ensures of_text { (context : PartContextValue) (text : List ℕ) → self.old.recall.width ≡ length context.table.now.heads.items

@@ -72,6 +72,11 @@ impl Recall {
         self.rows = 0;
     }
 
+    /// Whether there is no row for the byte offset `at`, nor for a later one. No clause says so: it serves to forget what no search needs.
+    pub fn ends_before(&self, at: usize) -> bool {
+        at.saturating_sub(self.base) >= self.rows
+    }
+
     /// Adds a row of which nothing is known. The error is want of memory.
     fn add_row(&mut self) -> Result<(), AllocError>
         requires { self.old.rows < 2 ^ 64 - 1 }

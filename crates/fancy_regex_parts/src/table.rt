@@ -199,7 +199,7 @@ impl PartTable {
         }
     }
 
-    /// Whether all states are right, and the parts weigh no more than there are states.
+    /// Whether all states are right, and neither the parts weigh more than there are states, nor one marked state costs more.
     fn is_right(&self) -> bool
         ensures { result ≡ true → IsTable self.now }
     {
@@ -207,6 +207,9 @@ impl PartTable {
             if !self.is_right_at(q) {
                 return false;
             }
+        }
+        if self.most > self.states.len() {
+            return false;
         }
         self.weight() <= self.states.len()
     }

@@ -3,3 +3,4 @@ pub mod RegularGroupLemmas
 pub mod BuildLemmas
 pub mod RegularWeightLemmas
 pub mod ExactLemmas
+pub mod KeptLemmas

@@ -1,11 +1,13 @@
 -- The states of a regular pattern weigh at most twice as much as its tree, and a search looks at the text accordingly.
 use Rattle.std.proofs.Common.{◌≡◌, ◌≢◌, ℕ, ◌+◌, ◌*◌, ◌-◌, ◌<◌, ◌≤◌, max, Bool, true, false, cond, not, List, [], ◌∷◌, length, Option, Some, None, if◌then◌else◌, refl, ap, arith}
 use Rattle.std.proofs.Math.Nat.{mul-le-mul_left}
-use Rattle.fancy_regex_tree.specs.Tree.{Tree, Trees, empty, any, assertion, literal, concat, alt, group, look_around, repeat, delegate, atomic_group, verb, no_trees, more_trees}
+use Rattle.fancy_regex_tree.specs.Tree.{Tree, Trees, empty, any, assertion, general_newline, literal, concat, alt, group, look_around, repeat, delegate, atomic_group, verb, no_trees, more_trees}
+use Rattle.fancy_regex_tree.specs.declared.expr.Assertion.{Assertion}
+use Rattle.fancy_regex_tree.specs.declared.expr.Assertion.TheVariants.{EndTextIgnoreTrailingNewlines}
 use Rattle.fancy_regex_tree.specs.declared.expr.LookAround.{LookAround}
 use Rattle.fancy_regex_tree.specs.declared.expr.LookAround.TheVariants as L
 use Rattle.fancy_regex_meaning.specs.Groups.{Pattern, group_count}
-use Rattle.fancy_regex_meaning.specs.Sizes.{may_be_empty, tree_weight, weights, branch_gaps}
+use Rattle.fancy_regex_meaning.specs.Sizes.{may_be_empty, branch_gaps}
 use Rattle.fancy_regex_meaning.specs.Sizes as sizes
 use Rattle.fancy_regex_states.specs.declared.atom.Leaf.{Leaf}
 use Rattle.fancy_regex_states.specs.declared.atom.Test.{Test}
@@ -15,18 +17,26 @@ use Rattle.fancy_regex_linear.specs.Re.{Re}
 use Rattle.fancy_regex_linear.specs.Re as re
 use Rattle.fancy_regex_linear.specs.Meaning.{is_unbounded}
 use Rattle.fancy_regex_linear.specs.Program.{emitted, weight, repeat_weight}
-use Rattle.fancy_regex_linear.specs.Plain.{IsRegular, AreRegular, IsOneChar, test_of, served, asking, looked, look_test, char_leaf, has_no_iteration, unless, classes, re_of, row_of, branches_of}
+use Rattle.fancy_regex_linear.specs.Plain.{IsRegular, AreRegular, IsOneChar, test_of, newline_re, served, asking, looked, look_test, char_leaf, has_no_iteration, unless, classes, re_of, row_of, branches_of}
 use Rattle.fancy_regex_linear.proofs.WeightLemmas.{emitted_weighs}
 use Rattle.fancy_regex_class.specs.declared.input.RunInput.{RunInput}
-use Rattle.fancy_regex_parts.specs.Tables.{cost_of, mark_of, due, due_of, table_weight}
+use Rattle.fancy_regex_parts.specs.Tables.{cost_of, cost_from, mark_of, due, due_of, table_weight}
+use Rattle.fancy_regex_parts.specs.Walk.{dearest}
 use Rattle.fancy_regex_regular.specs.Regulars.{IsRegularOf}
 use Rattle.fancy_regex_regular.specs.Starts.{last_start}
+use Rattle.fancy_regex_regular.specs.Weights.{assertion_weight, state_weight, state_weights, tree_state_weight}
 use Rattle.fancy_regex_regular.specs.declared.regular.Regular.{Regular}
 
-served_light : (o : Option Test) → weight (served o) ≤ 1
+served_light : (a : Assertion) → weight (served a (test_of a)) ≤ 2 * assertion_weight a
+unfolding weight repeat_weight
+served_light (EndTextIgnoreTrailingNewlines true) = omega arith
+served_light (EndTextIgnoreTrailingNewlines false) = omega arith
+served_light _ = omega arith
+
+newline_light : (wide : Bool) → weight (newline_re wide) ≤ 32
 unfolding weight
-served_light None = omega arith
-served_light (Some t) = omega arith
+newline_light true = omega arith
+newline_light false = omega arith
 
 -- a look-around: an assertion, or a part that is asked
 asking_light : (how : LookAround) (body : Re) → weight (asking how body) ≤ weight body + 2
@@ -68,14 +78,15 @@ module _ (unicode : Bool) (groups : List Tree) where
       omega (arith, mul-le-mul_left lo h, mul-le-mul_left (hi - lo) more)
 
   mutual
-    unfolding re_of weight sizes.weight
+    unfolding re_of weight state_weight branch_gaps
 
-    regular_light : (n k : ℕ) (t : Tree) → IsRegular t → weight (re_of unicode groups n k t) ≤ 2 * sizes.weight groups t
+    regular_light : (n k : ℕ) (t : Tree) → IsRegular t → weight (re_of unicode groups n k t) ≤ 2 * state_weight groups t
     regular_light n k empty p = omega arith
     regular_light n k (any newline crlf) p = omega arith
     regular_light n k (literal val casei) p = omega arith
     regular_light n k (delegate class casei) p = omega arith
-    regular_light n k (assertion a) p = omega (arith, served_light (test_of a))
+    regular_light n k (general_newline wide) p = newline_light wide
+    regular_light n k (assertion a) p = served_light a
     regular_light n k (concat ts) p = omega (arith, regular_row n k ts p)
     regular_light n k (alt ts) p = regular_branches n k ts p.0 p.1
     regular_light n k (group t) p = omega (arith, regular_light (n + 1) k t p)
@@ -93,22 +104,22 @@ module _ (unicode : Bool) (groups : List Tree) where
     regular_light n k (verb v) p = omega arith
     regular_light n k _ p = absurd p
 
-    regular_row : (n k : ℕ) (ts : Trees) → AreRegular ts → weight (row_of unicode groups n k ts) ≤ 2 * weights groups ts
+    regular_row : (n k : ℕ) (ts : Trees) → AreRegular ts → weight (row_of unicode groups n k ts) ≤ 2 * state_weights groups ts
     regular_row n k no_trees p = omega arith
     regular_row n k (more_trees t ts) p =
         omega (arith, regular_light n k t p.0, regular_row (n + group_count t) (k + length (classes t)) ts p.1)
 
     regular_branches : (n k : ℕ) (ts : Trees) → (ts ≢ no_trees) → AreRegular ts
-        → weight (branches_of unicode groups n k ts) ≤ 2 * (weights groups ts + 3 * branch_gaps groups ts)
+        → weight (branches_of unicode groups n k ts) ≤ 2 * (state_weights groups ts + 3 * branch_gaps groups ts)
     regular_branches n k no_trees some p = absurd (some refl)
     regular_branches n k (more_trees t no_trees) some p = omega (arith, regular_light n k t p.0)
     regular_branches n k (more_trees t (more_trees u us)) some p =
         omega (arith, regular_light n k t p.0, regular_branches (n + group_count t) (k + length (classes t)) (more_trees u us) (λ e. cc) p.1)
 
--- A regular pattern has fewer states than twice its weight.
+-- A regular pattern has fewer states than twice its weight as states.
 pub states_light : (unicode : Bool) (states : List State) (entry : ℕ) (pattern : Pattern) → IsRegular pattern.tree
     → emitted (re_of unicode pattern.groups pattern.first_group 0 pattern.tree) (End ∷ []) 0 ≡ (states, entry)
-    → length states + 3 ≤ 2 * tree_weight pattern.groups pattern.tree
+    → length states + 3 ≤ 2 * tree_state_weight pattern.groups pattern.tree
 states_light unicode states entry pattern regular program =
     let most = emitted_weighs (re_of unicode pattern.groups pattern.first_group 0 pattern.tree) (End ∷ []) 0 in
     let same = ap (λ (made : List State × ℕ). length made.0) program in
@@ -124,6 +135,22 @@ looks_bound places starts n due cost w old new most few cheap light weighs =
     let whole : places * (2 * n + 1) ≤ places * (4 * w) = mul-le-mul_left places (omega arith) in
     omega (arith, most, first, each, all, whole)
 
+-- Of n states, none much dearer, a walk over no more places costs n + 1 looks for each state and place at most.
+pub walk_bound : (places start n due cost dear w old found new : ℕ) → 1 ≤ places → start ≤ places → due ≤ n → cost ≤ n → dear ≤ n + 1 → n + 3 ≤ 2 * w
+    → found ≤ old + 4 * w * places → new ≤ found + dear * (due + start * cost + 1) + places * cost
+    → new ≤ old + 12 * (w * w) * places
+walk_bound places start n due cost dear w old found new some early cheap light dearest weighs first most =
+    let steps : due + start * cost + 1 ≤ n + places * n + 1 =
+    omega (arith, mul-le-mul_left start light, mul-le-mul_left n early) in
+    let rows : places * n ≤ places * (2 * w) = mul-le-mul_left places (omega (arith, weighs)) in
+    let twice : n + places * n + 1 ≤ 2 * w * (places + 1) = omega (arith, rows, weighs) in
+    let each : dear * (due + start * cost + 1) ≤ dear * (2 * w * (places + 1)) = mul-le-mul_left dear (omega (arith, steps, twice)) in
+    let all : (2 * w * (places + 1)) * dear ≤ (2 * w * (places + 1)) * (2 * w) = mul-le-mul_left (2 * w * (places + 1)) (omega (arith, dearest, weighs)) in
+    let square : w * w * 1 ≤ w * w * places = mul-le-mul_left (w * w) some in
+    let two : w * places * 2 ≤ w * places * w = mul-le-mul_left (w * places) (omega (arith, weighs)) in
+    let rest : places * cost ≤ places * (2 * w) = mul-le-mul_left places (omega (arith, light, weighs)) in
+    omega (arith, first, most, each, all, square, two, rest)
+
 due_most : (mark : Option ℕ) (cost : ℕ) → due_of mark cost ≤ cost
 due_most None cost = omega arith
 due_most (Some m) cost = omega arith
@@ -137,16 +164,43 @@ module _ (regular : Regular) (text : List ℕ) (input : RunInput) where
   starts_few : input.first ≤ input.range.end → input.range.end ≤ length text → last_start input ≤ length text
   starts_few low high = one_of_two input.anchored input.first input.range.end (length text) (omega arith) high
 
-  -- what a search from the first start on takes
-  pub looks_most : (pattern : Pattern) → IsRegularOf regular pattern → input.first ≤ input.range.end → input.range.end ≤ length text → (old new : ℕ)
+  -- what a search takes whose memory begins at this byte offset
+  pub looks_most : (pattern : Pattern) → IsRegularOf regular pattern → input.first ≤ input.range.end → input.range.end ≤ length text
+      → (base old new : ℕ) → base ≤ input.first
       → new ≤ old + (last_start input - input.first + 1) * (due regular.table regular.entry + 1)
-      + (length text - input.first + 1) * table_weight regular.table
-      → new ≤ old + 4 * tree_weight pattern.groups pattern.tree * (length text - input.first + 1)
-  looks_most pattern is low high old new most =
+      + (length text - base + 1) * table_weight regular.table
+      → new ≤ old + 4 * tree_state_weight pattern.groups pattern.tree * (length text - base + 1)
+  looks_most pattern is low high base old new early most =
       let table = regular.table in
       let light = states_light regular.unicode table.states.items regular.entry pattern is.states.regular is.states.program in
       let cheap = (regular.right.right regular.entry regular.inside).cheap in
       let few = starts_few low high in
-      looks_bound (length text - input.first + 1) (last_start input - input.first + 1) (length table.states.items) (due table regular.entry) (table_weight table)
-      (tree_weight pattern.groups pattern.tree) old new most (omega arith)
+      looks_bound (length text - base + 1) (last_start input - input.first + 1) (length table.states.items) (due table regular.entry) (table_weight table)
+      (tree_state_weight pattern.groups pattern.tree) old new most (omega arith)
       (omega (arith, due_most (mark_of table regular.entry) (cost_of table regular.entry), cheap)) regular.right.light light
+
+  -- where nothing is found there is no walk
+  pub none_for_groups : (pattern : Pattern) → IsRegularOf regular pattern → (base old new : ℕ)
+      → new ≤ old + 4 * tree_state_weight pattern.groups pattern.tree * (length text - base + 1)
+      → new ≤ old + 12 * (tree_state_weight pattern.groups pattern.tree * tree_state_weight pattern.groups pattern.tree) * (length text - base + 1)
+  none_for_groups pattern is base old new most =
+      let light = states_light regular.unicode regular.table.states.items regular.entry pattern is.states.regular is.states.program in
+      let w = tree_state_weight pattern.groups pattern.tree in
+      let two : w * (length text - base + 1) * 2 ≤ w * (length text - base + 1) * w = mul-le-mul_left (w * (length text - base + 1)) (omega (arith, light)) in
+      omega (arith, most, two)
+
+  -- and with a walk along the match
+  pub looks_for_groups : (pattern : Pattern) → IsRegularOf regular pattern → (base start old found new : ℕ) → base ≤ start
+      → found ≤ old + 4 * tree_state_weight pattern.groups pattern.tree * (length text - base + 1)
+      → new ≤ found + dearest regular.table regular.entry * (due regular.table regular.entry + cost_from regular.table text start + 1)
+      + cost_from regular.table text base
+      → new ≤ old + 12 * (tree_state_weight pattern.groups pattern.tree * tree_state_weight pattern.groups pattern.tree) * (length text - base + 1)
+  unfolding dearest
+  looks_for_groups pattern is base start old found new early first most =
+      let table = regular.table in
+      let light = states_light regular.unicode table.states.items regular.entry pattern is.states.regular is.states.program in
+      let cheap = (regular.right.right regular.entry regular.inside).cheap in
+      let due_is = due_most (mark_of table regular.entry) (cost_of table regular.entry) in
+      walk_bound (length text - base + 1) (length text - start + 1) (length table.states.items) (due table regular.entry) (table_weight table)
+      (max table.most (due table regular.entry)) (tree_state_weight pattern.groups pattern.tree) old found new (omega arith) (omega arith)
+      (omega (arith, due_is, cheap)) regular.right.light (omega (arith, due_is, cheap, regular.right.cheap)) light first most

@@ -1,8 +1,7 @@
 -- Which pattern a regular one is of, and what its searches answer.
-use Rattle.std.specs.Prelude.{◌≡◌, ◌+◌, ◌-◌, ◌*◌, ◌^◌, ◌≤◌, ℕ, false, not, List, Option, length, min, option_map, ◌==◌}
+use Rattle.std.specs.Prelude.{◌≡◌, ◌+◌, ◌-◌, ◌*◌, ◌≤◌, ℕ, false, not, List, Option, length, option_map, ◌==◌}
 use Rattle.fancy_regex_meaning.specs.Groups.{Pattern}
 use Rattle.fancy_regex_meaning.specs.Searches.{first_match}
-use Rattle.fancy_regex_meaning.specs.Sizes.{tree_weight}
 use Rattle.fancy_regex_class.specs.RunInputs.{setting_for, search_for, match_slots}
 use Rattle.fancy_regex_class.specs.declared.input.RunInput.{RunInput}
 use Rattle.fancy_regex_parts.specs.Find.{failed_starts}
@@ -11,6 +10,7 @@ use Rattle.fancy_regex_linear.specs.Easy.{rules_for}
 use Rattle.fancy_regex_linear.specs.EasyPatterns.{span_of_match}
 use Rattle.fancy_regex_linear.specs.RegularStates.{AreRegularStates}
 use Rattle.fancy_regex_regular.specs.Starts.{last_start}
+use Rattle.fancy_regex_regular.specs.Weights.{tree_state_weight}
 use Rattle.fancy_regex_regular.specs.declared.regular.Regular.{Regular}
 
 -- it has the states and matchers of the pattern, and slots for its groups
@@ -37,11 +37,22 @@ abbrev pub IsSlots : Regular → List ℕ → RunInput → Option (List ℕ) →
 IsSlots regular text input found = (pattern : Pattern) → IsRegularOf regular pattern
     → found ≡ option_map (match_slots pattern) (first_match (setting_for regular.unicode text input) pattern (search_for false input))
 
--- A search looks at the text at most four times as often as the pattern weighs at each place from the first start to the end of the
--- text, since look-aheads see past the range.
+-- A search looks at the text at most four times as often as the pattern weighs at each place from this one to the end of the text, since
+-- look-aheads see past the range. `\R` weighs 16 here, and `\Z` 7.
+abbrev pub LooksFrom : Regular → List ℕ → ℕ → ℕ → ℕ → Type 0
+LooksFrom regular text first old new = (pattern : Pattern) → IsRegularOf regular pattern
+    → new ≤ old + 4 * tree_state_weight pattern.groups pattern.tree * (length text - first + 1)
+
+-- A search for groups looks at the text at most twelve times as often as the square of the weight at each such place: the walk along the
+-- match asks at each branch again which one it takes.
+abbrev pub LooksForGroupsFrom : Regular → List ℕ → ℕ → ℕ → ℕ → Type 0
+LooksForGroupsFrom regular text first old new = (pattern : Pattern) → IsRegularOf regular pattern
+    → new ≤ old + 12 * (tree_state_weight pattern.groups pattern.tree * tree_state_weight pattern.groups pattern.tree)
+    * (length text - first + 1)
+
+-- the looks of a search for a span, from the first start on
 abbrev pub LooksAtMost : Regular → List ℕ → RunInput → ℕ → ℕ → Type 0
-LooksAtMost regular text input old new = (pattern : Pattern) → IsRegularOf regular pattern
-    → new ≤ old + 4 * tree_weight pattern.groups pattern.tree * (length text - input.first + 1)
+LooksAtMost regular text input old new = LooksFrom regular text input.first old new
 
 -- the starts of a search that have no way, where this was found
 abbrev pub starts_without : List ℕ → RunInput → Option (ℕ × ℕ) → ℕ

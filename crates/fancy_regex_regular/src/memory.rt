@@ -1,5 +1,9 @@
 //! The memory that searches share.
 
+ghost use Rattle.std.specs.Prelude.{◌≡◌, ◌≤◌, true, None};
+ghost use Rattle.fancy_regex_regular.specs.Inputs.{IsOfInput, Serves};
+
+use fancy_regex_class::RunInput;
 use fancy_regex_parts::{PartMemory, WalkMemory};
 use std::alloc::Global;
 
@@ -10,6 +14,46 @@ pub struct RegularMemory {
     pub(crate) parts: PartMemory,
     /// Where the walk along a match has been, and what it has yet to do.
     pub(crate) walked: WalkMemory,
+    /// What the parts' memory is of; `None` where no later search may use it.
+    pub(crate) kept: Option<Kept>,
+}
+
+/// What the answers of parts depend on besides the pattern and the text, and where their memory begins.
+#[derive(Clone, Copy)]
+pub struct Kept {
+    /// The least byte offset that parts are asked about.
+    first: usize,
+    /// The end of the range.
+    stop: usize,
+    /// Whether the start-of-text assertion fails at the start of the text.
+    no_start_text: bool,
+    /// Whether the end-of-text assertion fails at the end of the text.
+    no_end_text: bool,
+}
+
+impl Kept {
+    /// That of the parts that a search with this input asks.
+    pub(crate) fn of(input: &RunInput) -> Kept
+        ensures first { result.first ≡ input.now.first }
+        ensures input { IsOfInput result input.now }
+    {
+        Kept {
+            first: input.first,
+            stop: input.range.end,
+            no_start_text: input.no_start_text,
+            no_end_text: input.no_end_text,
+        }
+    }
+
+    /// Whether a search with this input asks the same parts, at byte offsets that the memory may be asked about.
+    fn serves(&self, input: &RunInput) -> bool
+        ensures { result ≡ true → Serves self.now input.now }
+    {
+        self.first <= input.first
+            && self.stop == input.range.end
+            && self.no_start_text == input.no_start_text
+            && self.no_end_text == input.no_end_text
+    }
 }
 
 // Written, not derived: so a crate in which such a value may be dropped uses this proof, and has none to make of each type inside.
@@ -18,16 +62,40 @@ impl Drop for RegularMemory {
         let RegularMemory {
             parts: _parts,
             walked: _walked,
+            kept: _kept,
         } = self;
     }
 }
 
 impl RegularMemory {
+    ghost use Rattle.fancy_regex_regular.specs.Inputs.{MemoryServes};
+
     /// The memory of no search so far. It allocates nothing.
-    pub fn new(alloc: Global) -> RegularMemory {
+    pub fn new(alloc: Global) -> RegularMemory
+        ensures { result.kept ≡ None }
+    {
         RegularMemory {
             parts: PartMemory::new(alloc),
             walked: WalkMemory::new(alloc),
+            kept: None,
+        }
+    }
+
+    /// Forgets what was found out about a text, so that the memory is as good for any other. The room is kept.
+    pub fn forget(&mut self)
+        ensures { self.new.kept ≡ None }
+    {
+        self.kept = None;
+    }
+
+    /// Whether a search with this input may use what is kept. It may not where that is of places before its first start alone: then
+    /// nothing is lost, and the memory begins at that start.
+    pub(crate) fn serves(&self, input: &RunInput) -> bool
+        ensures { result ≡ true → MemoryServes self.now.kept input.now }
+    {
+        match &self.kept {
+            Some(kept) => kept.serves(input) && !self.parts.ends_before(input.first),
+            None => false,
         }
     }
 }

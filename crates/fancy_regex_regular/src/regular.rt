@@ -1,13 +1,13 @@
 //! Compiled regular patterns, and their searches.
 
-ghost use Rattle.std.specs.Prelude.{◌≡◌, ◌+◌, ◌-◌, ◌*◌, ◌^◌, ◌<◌, ◌≤◌, ◌↔◌, Bool, true, length, min, replicate, IfErr, IfOk, IfSome, IsSome, IsCharBoundary, option_map, slice_set};
+ghost use Rattle.std.specs.Prelude.{◌≡◌, ◌+◌, ◌-◌, ◌*◌, ◌^◌, ◌<◌, ◌≤◌, ◌↔◌, Bool, List, ℕ, None, true, length, min, replicate, IfErr, IfOk, IfSome, IsSome, OnOk, IsCharBoundary, option_map, slice_set};
 ghost use Rattle.fancy_regex_tree.specs.Tree.{Tree, tree_of};
 ghost use Rattle.fancy_regex_linear.specs.Easy.{found_slots, found_at};
 ghost use Rattle.fancy_regex_parts.specs.Tables.{IsTable};
 ghost use Rattle.fancy_regex_regular.specs.TableProps.{table_prop};
 ghost use Rattle.fancy_regex_regular.specs.Starts.{last_start as last_start_of};
 
-use crate::memory::RegularMemory;
+use crate::memory::{Kept, RegularMemory};
 use fancy_regex_class::{CharClassMatcher, Counted, RunInput, Steps};
 use fancy_regex_info::{CompileError, CompileOptions, Info};
 use fancy_regex_linear::RegularStates;
@@ -49,14 +49,15 @@ impl Regular {
     ghost use Rattle.fancy_regex_linear.specs.Plain.{classes};
     ghost use Rattle.fancy_regex_linear.specs.Refusals.{IsClassCause};
     ghost use Rattle.fancy_regex_regular.specs.Supported.{IsSupported};
-    ghost use Rattle.fancy_regex_regular.specs.Regulars.{IsRegularOf, IsContextOf, IsSpan, IsSlots, LooksAtMost, starts_without};
+    ghost use Rattle.fancy_regex_regular.specs.Regulars.{IsRegularOf, IsContextOf, IsSpan, IsSlots, LooksFrom, LooksForGroupsFrom, LooksAtMost, starts_without};
+    ghost use Rattle.fancy_regex_regular.specs.Kept.{IsKeptOf, IsReady};
     ghost use Rattle.fancy_regex_info.specs.Analysis.{analysis};
     ghost use Rattle.fancy_regex_info.specs.Infos.{info_of};
     ghost use Rattle.fancy_regex_info.specs.declared.info.Info.{out-Info};
     ghost use Rattle.fancy_regex_info.specs.Views.{pattern_in};
 
     /// Whether an analyzed pattern becomes states with parts under these options. The first match is wanted then, not the longest, and the
-    /// weight is at most 4,000. The pattern has no more than characters, `(*FAIL)`, assertions except `\Z`, look-behinds for one character,
+    /// weight is at most 4,000. The pattern has no more than characters, `\R`, `(*FAIL)`, assertions, look-behinds for one character,
     /// look-aheads, groups, atomic groups, alternations and repeats of these.
     pub fn supports(info: &Info<'_>, options: &CompileOptions) -> bool
         ensures exact { (explicit : Bool) (t : Tree) → info_of info.now ≡ analysis explicit t
@@ -128,22 +129,49 @@ impl Regular {
         requires range { input.now.range.end ≤ length text.now }
         ensures { IfOk result (λ found. IsSlots self.now text.now input.now (option_map (λ v. v.items) found)) }
     {
+        memory.forget();
+        self.search_again(alloc, text, input, &mut Steps::new(), memory)
+    }
+
+    /// Searches a text as `search_in`, where the memory, if it keeps anything, keeps what searches of this pattern in this text have found
+    /// out: that is not looked for again, and what this search finds out is kept too, also where memory runs out. `steps` counts the looks
+    /// at the text: where memory suffices, at most twelve for the square of the pattern's weight for each place from the memory's first one
+    /// to the end of the text.
+    pub fn search_again(
+        &self,
+        alloc: Global,
+        text: &str,
+        input: &RunInput,
+        steps: &mut Steps,
+        memory: &mut RegularMemory,
+    ) -> Result<Option<Vec<usize>>, AllocError>
+        requires first { IsCharBoundary text.now input.now.first }
+        requires range { input.now.range.end ≤ length text.now }
+        requires kept { IsKeptOf self.now text.now memory.old }
+        ensures answer { IfOk result (λ found. IsSlots self.now text.now input.now (option_map (λ v. v.items) found)) }
+        ensures at_most { OnOk result (input.now.first ≤ input.now.range.end
+            → LooksForGroupsFrom self.now text.now memory.new.parts.recall.base steps.old steps.new) }
+        ensures anew { memory.old.kept ≡ None → input.now.first ≤ input.now.range.end → memory.new.parts.recall.base ≡ input.now.first }
+        ensures counts { steps.old ≤ steps.new }
+        ensures kept { IsKeptOf self.now text.now memory.new }
+    {
         if input.first > input.range.end {
             return Ok(None);
         }
+        // Read so that the proof knows that the counter is a `u64`, which no look lowers.
+        let _before = steps.count();
         let context = self.context(input);
-        memory.parts.restart(&context, input.first);
-        let mut steps = Steps::new();
-        let mut counted = Counted::new(text, &mut steps);
+        self.begin(&context, input, memory);
+        let mut looked = Counted::new(text, steps);
         let last = last_start(input);
-        let found = find(&context, &mut counted, &mut memory.parts, input.first, last)?;
+        let found = find(&context, &mut looked, &mut memory.parts, input.first, last)?;
         let Some((start, end)) = found else {
             return Ok(None);
         };
         let mut slots = unset_slots(alloc, self.groups)?;
         walk(
             &context,
-            &mut counted,
+            &mut looked,
             &mut memory.parts,
             &mut memory.walked,
             start,
@@ -154,9 +182,9 @@ impl Regular {
 
     /// Where the first match of a search starts and ends, as byte offsets; `None` if there is none. `steps` counts the looks at the text.
     /// It never falls, and grows by at most four times the pattern's weight for each place from the first start to the end of the text,
-    /// also where memory runs out. Where there is an answer it grows by at least one for each start that has no match, up to the one that
-    /// is found, unless it comes to the last `u64`. The memory may have been used by other searches before, of this pattern or another.
-    /// The error is want of memory; the memory may be used again.
+    /// also where memory runs out; here `\R` weighs 16 and `\Z` 7, since they are several states. Where there is an answer it grows by at
+    /// least one for each start that has no match, up to the one that is found, unless it comes to the last `u64`. The memory may have
+    /// been used by other searches before, of this pattern or another. The error is want of memory; the memory may be used again.
     pub fn find_span_in(
         &self,
         text: &str,
@@ -175,20 +203,61 @@ impl Regular {
         if input.first > input.range.end {
             return Ok(None);
         }
+        memory.forget();
+        self.find_span_again(text, input, steps, memory)
+    }
+
+    /// Where the first match starts and ends, as `find_span_in`, where the memory, if it keeps anything, keeps what searches of this
+    /// pattern in this text have found out: that is not looked for again, and what this search finds out is kept too, also where memory
+    /// runs out.
+    pub fn find_span_again(
+        &self,
+        text: &str,
+        input: &RunInput,
+        steps: &mut Steps,
+        memory: &mut RegularMemory,
+    ) -> Result<Option<(usize, usize)>, AllocError>
+        requires first { IsCharBoundary text.now input.now.first }
+        requires range { input.now.range.end ≤ length text.now }
+        requires kept { IsKeptOf self.now text.now memory.old }
+        ensures answer { IfOk result (IsSpan self.now text.now input.now) }
+        ensures kept { IsKeptOf self.now text.now memory.new }
+        ensures at_most { input.now.first ≤ input.now.range.end
+            → LooksFrom self.now text.now memory.new.parts.recall.base steps.old steps.new }
+        ensures anew { memory.old.kept ≡ None → input.now.first ≤ input.now.range.end → memory.new.parts.recall.base ≡ input.now.first }
+        ensures at_least { IfOk result (λ found. input.now.first ≤ input.now.range.end
+            → min (steps.old + starts_without text.now input.now found) (2 ^ 64 - 1) ≤ steps.new) }
+        ensures counts { steps.old ≤ steps.new }
+    {
+        if input.first > input.range.end {
+            return Ok(None);
+        }
         // Read so that the proof knows that the counter is a `u64`, which no look lowers.
         let _before = steps.count();
         let context = self.context(input);
-        let parts = &mut memory.parts;
-        parts.restart(&context, input.first);
+        self.begin(&context, input, memory);
         let mut counted = Counted::new(text, steps);
         let span = find(
             &context,
             &mut counted,
-            parts,
+            &mut memory.parts,
             input.first,
             last_start(input),
         )?;
         Ok(span)
+    }
+
+    /// Makes the memory ready for a search with this input: it begins anew where what it keeps does not serve.
+    fn begin(&self, context: &PartContext, input: &RunInput, memory: &mut RegularMemory)
+        requires { IsContextOf self.now input.now context.now }
+        ensures ready { (text : List ℕ) → IsKeptOf self.now text memory.old → IsReady context.now text input.now memory.new }
+        ensures anew { memory.old.kept ≡ None → memory.new.parts.recall.base ≡ input.now.first }
+    {
+        if memory.serves(input) {
+            return;
+        }
+        memory.parts.restart(context, input.first);
+        memory.kept = Some(Kept::of(input));
     }
 
     /// What a search of this pattern reads and does not change.

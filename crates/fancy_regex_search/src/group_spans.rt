@@ -6,6 +6,7 @@ ghost use Rattle.fancy_regex_meta.specs.SearchLimits.{IsMetaSearchError, MetaSta
 ghost use Rattle.fancy_regex_meta.specs.MetaMatches.{meta_pattern, meta_match, meta_match_from};
 ghost use Rattle.fancy_regex_meta.specs.MatchOffsets.{AreBoundaries, IsMatchWithin};
 ghost use Rattle.fancy_regex_meta.specs.FoundParts.{found_parts, wanted_parts};
+ghost use Rattle.fancy_regex_meta.specs.Kept.{MetaKeeps};
 ghost use Rattle.fancy_regex_search.specs.CaptureSpans.{IsSpanAt};
 
 use crate::regex::Regex;
@@ -62,6 +63,36 @@ pub fn find_match<S: Input>(
     let haystack = input.haystack();
     let run_input = run_input_for(input, continue_disabled);
     regex.meta.search(alloc, haystack.as_str(), &run_input, wanted, steps, memory)
+}
+
+/// The first match, as `find_match`, where the memory keeps, if it keeps anything, what searches of this regex in this haystack have found
+/// out: that is not looked for again, and what this search finds out is kept too.
+#[inline(always)]
+pub fn find_next<S: Input>(
+    alloc: Global,
+    regex: &Regex,
+    input: &RegexInput<S>,
+    continue_disabled: bool,
+    wanted: MatchDetail,
+    memory: &mut MetaMemory,
+) -> Result<Option<FoundMatch>>
+    requires { MetaKeeps regex.now.meta (S.text input.now.haystack) memory.old }
+    ensures answer { IfOk result (λ found. option_map found_parts found
+        ≡ option_map (wanted_parts wanted (meta_pattern regex.now.meta))
+        (meta_match_from regex.now.meta (S.text input.now.haystack) input.now.config
+        (effective_start input.now.config) continue_disabled)) }
+    ensures within { IfOk result (λ found. IfSome found
+        (IsMatchWithin wanted (S.text input.now.haystack) (effective_start input.now.config) input.now.config.range_end)) }
+    ensures limits { IfErr result (λ e.
+        IsMetaSearchError regex.now.meta (S.text input.now.haystack) input.now.config continue_disabled e) }
+    ensures stays { IfOk result (λ _.
+        MetaStaysInLimits regex.now.meta (S.text input.now.haystack) input.now.config continue_disabled) }
+    ensures kept { MetaKeeps regex.now.meta (S.text input.now.haystack) memory.new }
+{
+    let haystack = input.haystack();
+    let run_input = run_input_for(input, continue_disabled);
+    let steps = &mut Steps::new();
+    regex.meta.search_again(alloc, haystack.as_str(), &run_input, wanted, steps, memory)
 }
 
 /// Whether an input has a match. What earlier searches left in the memory changes no answer. Errors: `RuntimeError` at a limit, or

@@ -7,10 +7,11 @@ ghost use Rattle.fancy_regex_meta.specs.MetaMatches.{meta_pattern, meta_match_fr
 ghost use Rattle.fancy_regex_meta.specs.MatchOffsets.{IsMatchWithin};
 ghost use Rattle.fancy_regex_meta.specs.FoundParts.{found_parts, wanted_parts};
 ghost use Rattle.fancy_regex_meta.specs.SearchLimits.{MetaStaysInLimits};
+ghost use Rattle.fancy_regex_meta.specs.Kept.{MetaKeeps};
+ghost use Rattle.fancy_regex_meta.specs.KeptProps.{keeps_prop};
 
-use crate::group_spans::find_match;
+use crate::group_spans::find_next;
 use crate::regex::Regex;
-use fancy_regex_class::Steps;
 use fancy_regex_input::{Input, RegexInput};
 use fancy_regex_meaning::laws_of_items;
 use fancy_regex_meta::{Error, FoundMatch, MatchDetail, MetaMemory, Result};
@@ -40,8 +41,9 @@ pub struct MatchIter<'r, S: Input> {
     pub state: IterState,
     /// Which byte offsets each match is to have.
     pub wanted: MatchDetail,
-    /// What the searches allocate, used again by each.
+    /// What the searches allocate, used again by each, and what they find out about the haystack.
     memory: MetaMemory,
+    ghost kept: { MetaKeeps regex.now.meta (S.text input.haystack) memory } by { keeps_prop regex.now.meta (S.text input.haystack) memory },
 }
 
 /// The result of one search of an iteration.
@@ -112,13 +114,12 @@ impl<'r, S: Input> MatchIter<'r, S> {
             self.state.is_done = true;
             return Step::End;
         }
-        let found = find_match(
+        let found = find_next(
             self.alloc,
             self.regex,
             &self.input,
             self.state.continue_disabled,
             self.wanted,
-            &mut Steps::new(),
             &mut self.memory,
         );
         match found {

@@ -5,7 +5,7 @@ use std::alloc::Global;
 use std::test::Fail;
 
 /// Patterns, and whether their regexes are linear.
-static PATTERNS: [(&str, bool); 27] = [
+static PATTERNS: [(&str, bool); 28] = [
     ("a+b", true),
     (r"\bfoo\b", true),
     ("(a)(b|c)*", true),
@@ -18,6 +18,9 @@ static PATTERNS: [(&str, bool); 27] = [
     (r"(?<!\w)c", true),
     (r"\b{start-half}c", true),
     ("a|(*FAIL)", true),
+    (r"a\Z", true),
+    (r"(?R)a\Z", true),
+    (r"a\R", true),
     ("(?=a)a{100}", true),
     ("(?:x(?=(a))){0}b", true),
     ("(?=a)a{5000}", false),
@@ -29,8 +32,6 @@ static PATTERNS: [(&str, bool); 27] = [
     ("(?<=(a))c", false),
     (r"\Ka", false),
     (r"\Ga", false),
-    (r"a\Z", false),
-    (r"a\R", false),
     (r"(a)\g<1>", false),
     ("(a)?(?(1)b|c)", false),
 ];

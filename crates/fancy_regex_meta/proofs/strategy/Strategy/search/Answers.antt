@@ -44,9 +44,3 @@ returns-in-Ok-Err-clause-passed c =
 pub returns-in-Ok-Ok-clause-stays : goal.returns-in-Ok-Ok-clause-stays
 returns-in-Ok-Ok-clause-stays c o under =
     rw c.in-Program.is ((rw c.in-Ok-Ok.field-0-is at c.in-Ok-Ok.ensures.stays) o (rw c.in-Program.is at under))
-
--- the program of a pattern with states answers, where it does, as without a limit
-pub returns-in-Ok-Ok-run_program-clause-answer : goal.returns-in-Ok-Ok-run_program-clause-answer
-returns-in-Ok-Ok-run_program-clause-answer c o t runs =
-    let does : Executes (Regular c.in-Regular.regular c.in-Regular.prog c.in-Regular.run_options) o t = rw c.in-Regular.is at runs in
-    (rw c.in-Ok-Ok-run_program.field-0-is at c.in-Ok-Ok-run_program.ensures.answer) (unlimited o) t does.1

@@ -23,8 +23,8 @@ returns-in-Some-clause-answer g c =
     in
     rw (c.new-input.ensures.haystack, c.new-input.ensures.config) at is
 
-pub returns-in-None-clause-answer : goal.returns-in-None-clause-answer
-returns-in-None-clause-answer g c =
+pub returns-clause-answer : goal.returns-clause-answer
+returns-clause-answer g c =
     let s = c.args.self.now.meta in
     let text = g.S.Input.text c.new-input.result.haystack in
     let a = c.new-input.result.config in

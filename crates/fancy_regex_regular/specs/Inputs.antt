@@ -1,0 +1,20 @@
+-- What of an input the answers of parts depend on.
+use Rattle.std.specs.Prelude.{◌≡◌, ◌≤◌, Option, Some, None}
+use Rattle.fancy_regex_class.specs.declared.input.RunInput.{RunInput}
+use Rattle.fancy_regex_regular.specs.declared.memory.Kept.{Kept}
+
+-- the answers of parts are the same in a search with this input
+pub record IsOfInput (kept : Kept) (input : RunInput) : Type 0 where
+  pub stop : kept.stop ≡ input.range.end
+  pub no_start_text : kept.no_start_text ≡ input.no_start_text
+  pub no_end_text : kept.no_end_text ≡ input.no_end_text
+
+-- and the search asks about no byte offset before the first
+pub record Serves (kept : Kept) (input : RunInput) : Type 0 where
+  pub low : kept.first ≤ input.first
+  pub input_is : IsOfInput kept input
+
+-- something is kept, and serves a search with this input
+abbrev pub MemoryServes : Option Kept → RunInput → Type 0
+MemoryServes None input = ⊥
+MemoryServes (Some kept) input = Serves kept input

@@ -1,0 +1,53 @@
+-- What a memory keeps of the searches of one text.
+use Rattle.std.specs.Prelude.{◌≡◌, ◌+◌, ◌-◌, ◌≤◌, ℕ, List, Some, None, length, vec_len, false, IfSome}
+use Rattle.fancy_regex_class.specs.declared.input.RunInput.{RunInput}
+use Rattle.fancy_regex_states.specs.Attempts.{View}
+use Rattle.fancy_regex_states.specs.declared.rules.Rules.{Rules}
+use Rattle.fancy_regex_parts.specs.Frames.{EndsWithin, cell_end}
+use Rattle.fancy_regex_parts.specs.Layers.{HasWays, IsOfText, IsTrueOf}
+use Rattle.fancy_regex_parts.specs.Recall.{cell}
+use Rattle.fancy_regex_parts.specs.Ways.{Ways, Explains}
+use Rattle.fancy_regex_parts.specs.declared.recall.Recall.{Recall}
+use Rattle.fancy_regex_parts.specs.declared.memory.PartMemory.{PartMemory}
+use Rattle.fancy_regex_parts.specs.declared.step.PartContext.{PartContext}
+use Rattle.fancy_regex_regular.specs.Inputs.{IsOfInput}
+use Rattle.fancy_regex_regular.specs.declared.memory.Kept.{Kept}
+use Rattle.fancy_regex_regular.specs.declared.memory.RegularMemory.{RegularMemory}
+use Rattle.fancy_regex_regular.specs.declared.regular.Regular.{Regular}
+
+-- the flags of the searches that are kept
+abbrev pub kept_rules : Regular → Kept → Rules
+kept_rules regular kept = record {
+  unicode = regular.unicode;
+  no_start_text = kept.no_start_text;
+  no_end_text = kept.no_end_text;
+  longest = false;
+}
+
+-- all that is known of pairs is true
+pub record AreTrue (ways : Ways) (heads : List ℕ) (recall : Recall) : Type 0 where
+  pub fails : (k : ℕ) → cell recall k ≡ 1 → cell_end ways heads recall.base k ≡ None
+  pub ends : (k e : ℕ) → cell recall k ≡ e + 2 → cell_end ways heads recall.base k ≡ Some e
+
+-- The memory is of this pattern and this text: a row has a cell for each mark, each end is a place, and what is known is true.
+pub record IsTrueFor (regular : Regular) (text : List ℕ) (parts : PartMemory) (kept : Kept) : Type 0 where
+  pub first : parts.recall.base ≡ kept.first
+  pub stack : vec_len parts.stack ≡ 0
+  pub width : parts.recall.width ≡ length regular.table.heads.items
+  pub rows : parts.recall.rows ≤ length text - parts.recall.base + 1
+  pub ends : EndsWithin text parts.recall.base parts.recall
+  pub remembers : (view : View) (ways : Ways)
+      → Explains regular.matchers.items (kept_rules regular kept) kept.stop regular.table.states.items text view ways
+      → AreTrue ways regular.table.heads.items parts.recall
+
+-- what the memory keeps, if it keeps anything, is true of this pattern and this text
+abbrev pub IsKeptOf : Regular → List ℕ → RegularMemory → Type 0
+IsKeptOf regular text memory = IfSome memory.kept (IsTrueFor regular text memory.parts)
+
+-- the memory can be asked in a search with this input
+pub record IsReady (context : PartContext) (text : List ℕ) (input : RunInput) (memory : RegularMemory) : Type 0 where
+  pub low : memory.parts.recall.base ≤ input.first
+  pub stack : vec_len memory.parts.stack ≡ 0
+  pub of_text : IsOfText context text memory.parts.recall
+  pub remembers : (view : View) (ways : Ways) → HasWays context text view ways → IsTrueOf context ways memory.parts.recall
+  pub of_input : IfSome memory.kept (λ kept. (memory.parts.recall.base ≡ kept.first) × IsOfInput kept input)
