@@ -67,7 +67,7 @@ module _ (u w : Bool) where
 
   pub pat_wait : (c slot : ℕ) (d : Draft) → P (read (literal c false)) slot d ≡ with_char c d
   unfolding with_pat code_of with_char
-  pat_wait c slot d = same_draft (append-nil d.ops) refl
+  pat_wait c slot d = refl
 
   -- an operation of its own
   pub alone : (o : Op) (d : Draft) → ◌≡◌ {A = Draft} (record { ops = d.ops ++ (flushed d.text ++ o ∷ []); text = [] }) (added o d)

@@ -14,6 +14,7 @@ mod RefusalLemmas
 mod ClearLemmas
 mod TreeContextLemmas
 mod TextLemmas
+mod CalledTextLemmas
 mod GroupLemmas
 mod RowLemmas
 mod WritableLemmas

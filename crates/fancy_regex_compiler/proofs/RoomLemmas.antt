@@ -1,5 +1,5 @@
 -- The program of a pattern fits into the pattern's room, and is refused for its length only where the cap is below that.
-use Rattle.std.proofs.Common.{◌≡◌, ℕ, suc, ◌+◌, ◌-◌, ◌*◌, ◌<◌, ◌≤◌, Bool, true, false, cond, List, [], ◌∷◌, ◌++◌, length, Option, Some, None, Result, IfErr, IsErrAnd, refl, sym, ap, subst, ◌∙◌, arith, length-append}
+use Rattle.std.proofs.Common.{◌≡◌, ℕ, suc, ◌+◌, ◌*◌, ◌<◌, ◌≤◌, Bool, true, false, cond, List, [], ◌∷◌, ◌++◌, length, Option, Some, None, Result, IfErr, IsErrAnd, refl, sym, ap, subst, ◌∙◌, arith, length-append}
 use Rattle.std.specs.Prelude.{slice_get}
 use Rattle.std.proofs.lemmas.List.{length-set}
 use Rattle.std.proofs.lemmas.Result.{IfErr-weaker}
@@ -17,7 +17,7 @@ use Rattle.fancy_regex_info.specs.declared.error.CompileError.{CompileError}
 use Rattle.fancy_regex_analysis.proofs.PartErrorLemmas.{gives}
 use Rattle.fancy_regex_program.specs.Ops as op
 use Rattle.fancy_regex_program.specs.Ops.{Op, op_of}
-use Rattle.fancy_regex_program.specs.Code.{Code, waits, flushed, slots_in, one, after_text, closed, alt_code, group_code, ahead_code, never_code, atomic_code, tail_code, repeat_code, loop_code, conditional_code, absent_code, leaf_op, code_of}
+use Rattle.fancy_regex_program.specs.Code.{Code, is_whole_literal, still_waits, waits, flushed, slots_in, one, after_text, closed, alt_code, group_code, ahead_code, never_code, atomic_code, tail_code, repeat_code, loop_code, conditional_code, absent_code, leaf_op, code_of}
 use Rattle.fancy_regex_compiler.specs.Extents.{extent, IsFull}
 use Rattle.fancy_regex_compiler.specs.Known.{front_of, info_written, info_call}
 use Rattle.fancy_regex_compiler.specs.Writing.{Draft, draft_of, with_op, closed_draft, added, patched, ended_by, ended, with_pat, Wrote, IsInsn}
@@ -30,6 +30,10 @@ use Rattle.fancy_regex_compiler.proofs.RowLemmas.{call_opens}
 pub long_flushed : (t : Text) → length (flushed t) ≤ 1
 long_flushed [] = omega arith
 long_flushed (c ∷ cs) = omega arith
+
+pub long_waiting : (is_whole : Bool) (t : Text) → length (cond is_whole (flushed t) []) ≤ 1
+long_waiting true t = long_flushed t
+long_waiting false t = omega arith
 
 -- operations after what waits
 after_text_long : (text : Text) (code : Code) (pc slot most : ℕ) → length (code (pc + length (flushed text)) slot) ≤ most →
@@ -116,7 +120,8 @@ module _ (u w : Bool) where
       length (C p text pc slot) + length (flushed (waits p text)) ≤ room p + length (flushed text)
   unfolding code_of room
   code_fits nothing text pc slot = omega arith
-  code_fits (read (literal c false)) text pc slot = omega (arith, long_flushed (text ++ c ∷ []))
+  code_fits (read (literal c false)) text pc slot =
+      omega (arith, long_waiting (is_whole_literal text) text, long_flushed (still_waits text ++ c ∷ []))
   code_fits (read (literal c true)) text pc slot = alone_long text (leaf_op (in_class u) (folded u) w (literal c true)) pc slot 12 (omega arith)
   code_fits (read (any newline crlf)) text pc slot = alone_long text (leaf_op (in_class u) (folded u) w (any newline crlf)) pc slot 12 (omega arith)
   code_fits (read (class name casei)) text pc slot = alone_long text (leaf_op (in_class u) (folded u) w (class name casei)) pc slot 12 (omega arith)

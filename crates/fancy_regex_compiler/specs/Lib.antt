@@ -1,6 +1,7 @@
 pub mod Known
 pub mod Writing
 pub mod Groups
+pub mod CalledTexts
 pub mod Extents
 pub mod Refusals
 pub mod Tasks

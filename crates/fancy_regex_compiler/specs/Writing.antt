@@ -8,7 +8,7 @@ use Rattle.fancy_regex_desugar.specs.Unfolded.{Written}
 use Rattle.fancy_regex_info.specs.Infos.{InfoTree, info_of}
 use Rattle.fancy_regex_info.specs.declared.info.Info.{Info}
 use Rattle.fancy_regex_program.specs.Ops.{Op, op_of, ops_of, tail, split, jump}
-use Rattle.fancy_regex_program.specs.Code.{flushed, waits, slots_in, code_of}
+use Rattle.fancy_regex_program.specs.Code.{flushed, whole_literal, still_waits, waits, slots_in, code_of}
 use Rattle.fancy_regex_compiler.specs.Known.{front_of, info_written, info_call}
 use Rattle.fancy_regex_program.specs.Shapes.{IsAllowed}
 use Rattle.fancy_regex_program.specs.declared.insn.Insn.{Insn}
@@ -29,9 +29,13 @@ draft_of b = record { ops = ops_of b.insns.items; text = chars (string_bytes b.p
 unfoldable pub with_op : Op → Draft → Draft
 with_op o d = record { ops = d.ops ++ o ∷ []; text = d.text }
 
+-- what waited is an operation, where it has as many characters as a literal may have
+unfoldable pub with_whole_literal : Draft → Draft
+with_whole_literal d = record { ops = d.ops ++ whole_literal d.text; text = still_waits d.text }
+
 -- one character more that waits
 unfoldable pub with_char : ℕ → Draft → Draft
-with_char c d = record { ops = d.ops; text = d.text ++ c ∷ [] }
+with_char c d = record { ops = d.ops ++ whole_literal d.text; text = still_waits d.text ++ c ∷ [] }
 
 -- what waited is an operation
 unfoldable pub closed_draft : Draft → Draft

@@ -877,7 +877,8 @@ fn emit_conditional<'i, 'e>(
 }
 
 /// Begins a subroutine call, which is inlined: the body of its target, or `Fail` where the target is inlined inside of itself
-/// as often as is allowed. The error is `SubroutineCallTargetNotFound` if there is no such group.
+/// as often as is allowed. A call that writes nothing is done at once. One that writes nothing but characters is refused at once where
+/// there is no room for them. The error is `SubroutineCallTargetNotFound` if there is no such group.
 fn emit_call<'i, 'e>(
     context: &CompileContext<'_, 'i, 'e>,
     emitter: &mut Emitter,
@@ -894,6 +895,15 @@ fn emit_call<'i, 'e>(
         return Err(CompileError::SubroutineCallTargetNotFound(format!(in context.alloc;
             "{target}"
         )?));
+    }
+    if let Some(characters) = context
+        .texts
+        .characters(&emitter.opened, scope.calls_left, target)
+    {
+        if characters == 0 {
+            return Ok(leads_to(slot, Tasks::Nothing));
+        }
+        emitter.body.check_room(characters)?;
     }
     let body = context.groups[target];
     if is_at_call_limit(&emitter.opened, target) || scope.calls_left == 0 {

@@ -2,8 +2,10 @@
 
 ghost use Rattle.std.specs.Prelude.{◌≡◌, ◌≤◌, ◌+◌, ◌*◌, ◌^◌, false, IfOk, IfErr};
 ghost use Rattle.fancy_regex_analysis.specs.AnalysisErrors.{is_too_complex};
+ghost use Rattle.fancy_regex_compiler.specs.CalledTexts.{AreTexts, infos_at};
 ghost use Rattle.fancy_regex_compiler.specs.Refusals.{IsMemoryOrTooComplex};
 
+use crate::called_texts::CalledTexts;
 use crate::class_table::ClassTable;
 use crate::part_table::PartTable;
 use crate::program_builder::ProgramBuilder;
@@ -21,6 +23,9 @@ pub(crate) struct CompileContext<'g, 'i, 'e> {
     pub whole: bool,
     /// Whether classes and case folding follow Unicode.
     pub unicode: bool,
+    /// The groups that write nothing but characters.
+    pub texts: &'g CalledTexts,
+    ghost are_texts: { AreTexts (infos_at groups.now.items) texts.now.lengths.items texts.now.known },
 }
 
 /// The program so far, and the calls that are being inlined.

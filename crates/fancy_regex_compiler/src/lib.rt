@@ -2,6 +2,7 @@
 //! a program is bounded by sixteen instructions for each node with calls inlined, and sixteen more; a cap on the length is kept.
 #![tactic(auto)]
 
+mod called_texts;
 mod class_table;
 mod closing;
 mod compiler;

@@ -1,12 +1,11 @@
 //! Appending instructions to a program. The errors are `PatternTooComplex` where the cap is reached, and `Memory`.
 
-ghost use Rattle.std.specs.Prelude.{◌≡◌, ◌≤◌, false, length, [], OnOk, IfErr};
-ghost use Rattle.fancy_regex_analysis.specs.AnalysisErrors.{is_too_complex};
+ghost use Rattle.std.specs.Prelude.{◌≡◌, ◌≤◌, ◌<◌, length, [], OnOk, IfErr};
 ghost use Rattle.fancy_regex_program.specs.Caps.{cap_of};
-ghost use Rattle.fancy_regex_compiler.specs.Extents.{extent, Appends};
+ghost use Rattle.fancy_regex_compiler.specs.Extents.{extent, Appends, IsFull};
 ghost use Rattle.fancy_regex_program.specs.Ops.{op_of, ops_of};
 ghost use Rattle.fancy_regex_compiler.specs.Refusals.{IsMemoryOrTooComplex};
-ghost use Rattle.fancy_regex_compiler.specs.Writing.{draft_of, with_op, with_char, closed_draft, added, patched, ended, ends_at};
+ghost use Rattle.fancy_regex_compiler.specs.Writing.{draft_of, with_op, with_char, with_whole_literal, closed_draft, added, patched, ended, ends_at};
 
 use crate::literal_table::LiteralTable;
 use crate::program_builder::ProgramBuilder;
@@ -14,6 +13,12 @@ use fancy_regex_info::CompileError;
 use fancy_regex_program::Insn;
 use std::alloc::Global;
 use std::mem;
+
+/// The most characters of a literal.
+const MOST_CHARACTERS: usize = 1_000;
+
+/// The most characters that a call of a group writes that writes nothing else.
+const MOST_CALLED_CHARACTERS: usize = 100_000_000;
 
 impl ProgramBuilder {
     /// The empty program, with a cap on its length if there is one.
@@ -26,6 +31,7 @@ impl ProgramBuilder {
             insns: Vec::new(alloc),
             literals: LiteralTable::new(alloc),
             pending_literal: String::new(alloc),
+            pending_characters: 0,
             cap: max_prog_size.unwrap_or(usize::MAX),
         }
     }
@@ -48,14 +54,43 @@ impl ProgramBuilder {
         Ok(())
     }
 
-    /// Appends a character to the pending literal text.
+    /// Appends a character to the pending literal text, which is made an instruction before where it has as many as a literal may have.
     pub fn push_literal_char(&mut self, c: char) -> Result<(), CompileError>
         ensures draft { OnOk result (draft_of self.new ≡ with_char c (draft_of self.old)) }
         ensures cap { self.new.cap ≡ self.old.cap }
-        ensures full { IfErr result (λ e. is_too_complex e ≡ false) }
+        ensures full { IfErr result (IsFull self.old 0) }
         ensures refused { IfErr result IsMemoryOrTooComplex }
     {
+        self.flush_if_whole()?;
         self.pending_literal.push(c)?;
+        self.pending_characters += 1;
+        Ok(())
+    }
+
+    /// Makes the pending literal text an instruction, if it has as many characters as a literal may have.
+    fn flush_if_whole(&mut self) -> Result<(), CompileError>
+        ensures appends { Appends (with_whole_literal (draft_of self.old)) 0 self.old self.new result }
+        ensures few { OnOk result (self.new.pending_characters < 1000) }
+    {
+        if self.pending_characters < MOST_CHARACTERS {
+            return Ok(());
+        }
+        self.flush()?;
+        Ok(())
+    }
+
+    /// Whether there is room for so many characters of literals. The error is `PatternTooComplex` where the cap is below the instructions
+    /// that they need, and `Memory` where they are more than a call may write.
+    pub fn check_room(&self, characters: usize) -> Result<(), CompileError>
+        ensures full { IfErr result (IsFull self.now characters) }
+        ensures refused { IfErr result IsMemoryOrTooComplex }
+    {
+        if characters / MOST_CHARACTERS > self.cap - self.insns.len() {
+            return Err(CompileError::PatternTooComplex);
+        }
+        if characters > MOST_CALLED_CHARACTERS {
+            return Err(CompileError::Memory);
+        }
         Ok(())
     }
 
@@ -67,6 +102,7 @@ impl ProgramBuilder {
             return Ok(());
         }
         let text = mem::replace(&mut self.pending_literal, String::new(self.alloc));
+        self.pending_characters = 0;
         let literal = self.literals.share(self.alloc, text)?;
         self.push_insn(Insn::Lit(literal))?;
         Ok(())

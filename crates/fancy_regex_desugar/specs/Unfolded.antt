@@ -77,8 +77,8 @@ module _ (groups : List Tree) where
     behind = if (size groups t).always then cat (back (size groups t).least) (alt_all (fronts us)) else alt_all (behinds us);
   }
 
-  -- Desugars a tree, given the pattern of each call target and the number of the first group in the tree. Nodes for which no program is ever
-  -- built become `fail`.
+  -- Desugars a tree, given the pattern of each call target and the number of the first group in the tree. Nodes for which no program is
+  -- ever built become `fail`.
   unfoldable mutual
     pub written : (ℕ → CorePattern) → ℕ → Tree → Written
     written call n (tree.alt ts) = branches (tree.alt ts) (written_all call n ts)

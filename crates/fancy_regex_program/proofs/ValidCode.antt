@@ -8,7 +8,7 @@ use Rattle.fancy_regex_tree.specs.Tree.{Text, Tree}
 use Rattle.fancy_regex_desugar.specs.CorePatterns.{any, literal, class, CorePattern, nothing, read, general_newline, check, continue, keep_out, fail, cat, alt, group, ahead, never, back, atomic, delegate, tail, repeat, backref, exists, conditional, absent, called}
 use Rattle.fancy_regex_program.specs.Ops as op
 use Rattle.fancy_regex_program.specs.Ops.{Op}
-use Rattle.fancy_regex_program.specs.Code.{Code, slots_in, waits, flushed, none, one, after_text, closed, row_code, alt_code, group_code, ahead_code, never_code, atomic_code, tail_code, repeat_code, is_uncounted, split_by, loop_entry, loop_head, loop_code, conditional_code, absent_code, code_of, opening, program_of, leaf_op}
+use Rattle.fancy_regex_program.specs.Code.{Code, slots_in, waits, is_whole_literal, flushed, none, one, after_text, closed, row_code, alt_code, group_code, ahead_code, never_code, atomic_code, tail_code, repeat_code, is_uncounted, split_by, loop_entry, loop_head, loop_code, conditional_code, absent_code, code_of, opening, program_of, leaf_op}
 use Rattle.fancy_regex_program.specs.Machine.{unset}
 use Rattle.fancy_regex_program.specs.Reading.{always_reads}
 use Rattle.fancy_regex_program.specs.Shapes.{IsWritable}
@@ -58,6 +58,11 @@ module _ (size slots : ℕ) where
 
   one_valid : (o : Op) → HasSlots slots o → CountsPastLeast o → ((pc : ℕ) → pc + 1 < size → LeadsInside size pc o) → IsValidCode (one o) 0
   one_valid o has counts leads = record { at = λ pc slot room fits. (plain pc o has counts (leads pc room), tt) }
+
+  -- text that waits, or that has as many characters as a literal may have
+  waiting_valid : (is_whole : Bool) (text : Text) → IsValidCode (λ pc slot. cond is_whole (flushed text) []) 0
+  waiting_valid true text = record { at = λ pc slot room fits. flushed_valid text pc room }
+  waiting_valid false text = record { at = λ pc slot room fits. tt }
 
   after_text_valid : (text : Text) (code : Code) (own : ℕ) → IsValidCode code own → IsValidCode (after_text text code) own
   after_text_valid text code own v = record {
@@ -287,7 +292,7 @@ module _ (size slots : ℕ) where
     code_valid : (p : CorePattern) (text : Text) → IsWritable first end p → IsValidCode (code_of has_member fold whole p text) (slots_in p)
     unfolding code_of
     code_valid nothing text w = none_valid
-    code_valid (read (literal c false)) text w = none_valid
+    code_valid (read (literal c false)) text w = waiting_valid (is_whole_literal text) text
     code_valid (read (literal c true)) text w = after_text_valid text _ 0 (one_valid (leaf_op has_member fold whole (literal c true)) tt tt (λ pc room. room))
     code_valid (read (any newline crlf)) text w = after_text_valid text _ 0 (one_valid (leaf_op has_member fold whole (any newline crlf)) tt tt (λ pc room. room))
     code_valid (read (class name casei)) text w = after_text_valid text _ 0 (one_valid (leaf_op has_member fold whole (class name casei)) tt tt (λ pc room. room))

@@ -22,11 +22,23 @@ slots_in (absent a) = 2 + slots_in a
 slots_in (called k a) = slots_in a
 slots_in _ = 0
 
--- Literals that stand side by side are one text, so a literal waits until something else comes: what waits after a
--- pattern, where that text waited before it.
+-- the most characters of a literal
+abbrev pub most_characters : ℕ
+most_characters = 1000
+
+-- the text has as many as a literal may have
+unfoldable pub is_whole_literal : Text → Bool
+is_whole_literal text = nat_le most_characters (length text)
+
+-- what of a text that waits goes on waiting where one character more comes
+abbrev pub still_waits : Text → Text
+still_waits text = if is_whole_literal text then [] else text
+
+-- Literals that stand side by side are one text, so a literal waits until something else comes, or until the text has as many
+-- characters as a literal may have: what waits after a pattern, where that text waited before it.
 abbrev pub waits : CorePattern → Text → Text
 waits nothing text = text
-waits (read (literal c false)) text = text ++ c ∷ []
+waits (read (literal c false)) text = still_waits text ++ c ∷ []
 waits (cat a b) text = waits b (waits a text)
 waits (called k a) text = waits a text
 waits _ text = []
@@ -35,6 +47,10 @@ waits _ text = []
 abbrev pub flushed : Text → List Op
 flushed [] = []
 flushed (c ∷ cs) = op.lit (c ∷ cs) ∷ []
+
+-- the text that waited, where it has as many characters as a literal may have
+abbrev pub whole_literal : Text → List Op
+whole_literal text = if is_whole_literal text then flushed text else []
 
 -- A program, which begins at that operation and with that slot.
 abbrev pub Code : Type 0
@@ -45,6 +61,10 @@ none pc slot = []
 
 abbrev pub one : Op → Code
 one o pc slot = o ∷ []
+
+-- one character more that waits
+abbrev pub literal_code : Text → Code
+literal_code text pc slot = whole_literal text
 
 -- what follows the text that waited
 abbrev pub after_text : Text → Code → Code
@@ -140,7 +160,7 @@ module _ (has_member : Text → Bool → ℕ → Bool) (fold : ℕ → ℕ) (who
   -- The program of a pattern, which begins at that operation and with that slot; the text waits before it.
   unfoldable pub code_of : CorePattern → Text → ℕ → ℕ → List Op
   code_of nothing text = none
-  code_of (read (literal c false)) text = none
+  code_of (read (literal c false)) text = literal_code text
   code_of (cat a b) text = row_code (code_of a text) (code_of b (waits a text)) (slots_in a)
   code_of (read (literal c true)) text = after_text text (one (leaf_op (literal c true)))
   code_of (read (any newline crlf)) text = after_text text (one (leaf_op (any newline crlf)))

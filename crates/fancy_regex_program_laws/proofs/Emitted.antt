@@ -17,7 +17,7 @@ use Rattle.fancy_regex_slots.specs.Memory.{Thread}
 use Rattle.fancy_regex_program.specs.Ops as op
 use Rattle.fancy_regex_program.specs.Ops.{Op, among_scalars}
 use Rattle.fancy_regex_program.specs.Machine.{unset, RunParameters, goes, goes_to, wrote, match_char, match_text, match_newline, is_start, is_scan}
-use Rattle.fancy_regex_program.specs.Code.{Code, waits, flushed, slots_in, closed, is_uncounted, loop_entry, code_of}
+use Rattle.fancy_regex_program.specs.Code.{Code, waits, is_whole_literal, flushed, slots_in, closed, is_uncounted, loop_entry, code_of}
 use Rattle.fancy_regex_program.specs.SlotLayout.{slots_of_way}
 use Rattle.fancy_regex_program.specs.Shapes.{IsWritable}
 use Rattle.fancy_regex_program_laws.proofs.Denote.{Continuation, SuccessContinuation, Denotation, end_to, end_text, ending}
@@ -80,6 +80,11 @@ starts_flushed : (l : Text) → StartsPlain (flushed l)
 starts_flushed [] = tt
 starts_flushed (c ∷ cs) = (refl, refl)
 
+-- text that waits, or that has as many characters as a literal may have
+starts_waiting : (is_whole : Bool) (l : Text) → StartsPlain (cond is_whole (flushed l) [])
+starts_waiting true l = starts_flushed l
+starts_waiting false l = tt
+
 starts_node : (l : Text) (x : Op) (xs : List Op) → is_start (Some x) ≡ false → is_scan (Some x) ≡ false → StartsPlain (flushed l ++ x ∷ xs)
 starts_node l x xs a b = starts_both (flushed l) (x ∷ xs) (starts_flushed l) (a, b)
 
@@ -104,7 +109,7 @@ module _ (has_member : Text → Bool → ℕ → Bool) (fold : ℕ → ℕ) (who
   pub code_starts : (p : CorePattern) (l : Text) (pc slot : ℕ) → StartsPlain (code_of has_member fold whole p l pc slot)
   unfolding code_of
   code_starts nothing l pc slot = tt
-  code_starts (read (literal c false)) l pc slot = tt
+  code_starts (read (literal c false)) l pc slot = starts_waiting (is_whole_literal l) l
   code_starts (cat a b) l pc slot = starts_both (code_of has_member fold whole a l pc slot) _ (code_starts a l pc slot) (code_starts b (waits a l) _ _)
   code_starts (read (literal c true)) l pc slot = starts_node l _ _ refl refl
   code_starts (read (any newline crlf)) l pc slot = starts_node l _ _ refl refl
@@ -198,6 +203,33 @@ module _ (code : List Op) (r : RunParameters) (whole : Bool) (count : ℕ) (utf8
         });
   }
 
+  -- One character more waits after the text that waits, or after that text where it is an operation.
+  leads_more : (pc slot : ℕ) (free : Bool) (l : Text) (c : ℕ) →
+      Leads pc (pc + 0) slot 0 free l (l ++ c ∷ []) (ending r.setting (tail_bound r.find) (read (literal c false)))
+  leads_more pc slot free l c = record {
+    by = λ low w m rest x k above_base above_low room sound fits pops exits.
+        let done = comes_at code r whole count (pc + 0) pc w.position m rest (end_text r.setting (l ++ c ∷ []) w k x) (omega arith)
+        (exits.go w m rest x (λ e. omega arith) sound fits (same_refl (2 * count) low m) (above_refl rest) pops) in
+        subst (λ f. Comes code r whole count (thread pc w.position m ∷ rest) f) (text_more r.setting l c w.position w k x) done;
+  }
+
+  leads_waiting : (pc slot : ℕ) (free is_whole : Bool) (l : Text) (c : ℕ) → HasAt code pc (cond is_whole (flushed l) []) →
+      Leads pc (pc + length (cond is_whole (flushed l) [])) slot 0 free l (cond is_whole [] l ++ c ∷ [])
+      (ending r.setting (tail_bound r.find) (read (literal c false)))
+  leads_waiting pc slot free false l c at = leads_more pc slot free l c
+  leads_waiting pc slot free true [] c at = leads_more pc slot free [] c
+  leads_waiting pc slot free true (d ∷ ds) c at = record {
+    by = λ low w m rest x k above_base above_low room sound fits pops exits.
+        let g = ending r.setting (tail_bound r.find) (read (literal c false)) in
+        (does_text pc slot free d ds at.0).by low w m rest x (λ v y. g v k y) above_base above_low room sound fits pops
+        (record {
+          plain = exits.plain;
+          go = λ v n stack y on sound' fits' same above pops'.
+              subst (λ f. Comes code r whole count (thread (pc + 1) v.position n ∷ stack) f) (text_more r.setting [] c v.position v k y)
+              (exits.go v n stack y on sound' fits' same above pops');
+        });
+  }
+
   -- the match is said to start here
   does_keep : (pc slot : ℕ) (free b : Bool) → whole ≡ b → (whole ≡ true → 1 ≤ count) → HasAt code pc (cond b (op.save 0 ∷ []) []) →
       Does code r whole count pc (pc + length (cond b (op.save 0 ∷ []) [])) slot 0 free (λ w k x. k (record w { match_start = w.position }) x)
@@ -265,12 +297,7 @@ module _ (code : List Op) (r : RunParameters) (whole : Bool) (count : ℕ) (utf8
           comes_at code r whole count (pc + 0) pc w.position m rest (end_text r.setting l w k x) (omega arith)
           (exits.go w m rest x (λ e. omega arith) sound fits (same_refl (2 * count) low m) (above_refl rest) pops);
     }
-    runs (read (literal c false)) l pc slot free ok placed at = record {
-      by = λ low w m rest x k above_base above_low room sound fits pops exits.
-          let done = comes_at code r whole count (pc + 0) pc w.position m rest (end_text r.setting (l ++ c ∷ []) w k x) (omega arith)
-          (exits.go w m rest x (λ e. omega arith) sound fits (same_refl (2 * count) low m) (above_refl rest) pops) in
-          subst (λ f. Comes code r whole count (thread pc w.position m ∷ rest) f) (text_more r.setting l c w.position w k x) done;
-    }
+    runs (read (literal c false)) l pc slot free ok placed at = leads_waiting pc slot free (is_whole_literal l) l c at
     runs (cat a b) l pc slot free ok placed at =
         let xs = made a l pc slot in
         let ys = made b (waits a l) (pc + length xs) (slot + slots_in a) in

@@ -3,6 +3,7 @@ use Rattle.std.proofs.lemmas.Option.{slice_get-map, slice_get_read}
 use Rattle.fancy_regex_meaning.specs.Ways.{is_at_call_limit}
 use Rattle.fancy_regex_desugar.specs.CorePatterns.{fail, called}
 use Rattle.fancy_regex_desugar.specs.ProgramSizes.{room}
+use Rattle.fancy_regex_compiler.specs.CalledTexts.{IsText, IsFree}
 use Rattle.fancy_regex_compiler.specs.Known.{info_call}
 use Rattle.fancy_regex_compiler.specs.Refusals.{TreeContext, IsExpandedTarget}
 use Rattle.fancy_regex_compiler.specs.Tasks.{LeadsTo, tasks_work, listed}
@@ -11,13 +12,38 @@ use Rattle.fancy_regex_compiler.specs.declared.emitter.Emitter.{Emitter}
 use Rattle.fancy_regex_compiler.specs.declared.emitter.Scope.{Scope}
 use Rattle.fancy_regex_compiler.specs.declared.task.Step.{Step}
 use Rattle.fancy_regex_compiler.proofs.BranchSteps.{leads_call, leads_no_call}
+use Rattle.fancy_regex_compiler.proofs.CalledTextLemmas.{wrote_silent, silent_allowed}
 use Rattle.fancy_regex_compiler.proofs.OutcomeLemmas.{emits_want}
 use Rattle.fancy_regex_compiler.proofs.RoomLemmas.{room_fail, room_called}
 use Rattle.fancy_regex_compiler.proofs.RowLemmas.{call_full, call_none}
-use Rattle.fancy_regex_compiler.proofs.StepLemmas.{with_node}
+use Rattle.fancy_regex_compiler.proofs.StepLemmas.{leads_nothing, with_node}
 use Rattle.fancy_regex_compiler.proofs.WorkLemmas.{body_less}
 use Rattle.fancy_regex_compiler.proofs.emit.emit_call.Goals as goal
 use Rattle.fancy_regex_compiler.proofs.emit.emit_call.Goals.{then-is_at_call_limit-via-then-is_at_call_limit, then-is_at_call_limit-via-else-is_at_call_limit+then-scope-eq0}
+
+-- what is known of a call that writes nothing but characters
+pub returns-then-characters-eq0 : goal.returns-then-characters-eq0
+returns-then-characters-eq0 c =
+    let context = c.args.context.now in
+    let groups = infos_of context in
+    let old = c.args.emitter.now in
+    let scope = c.args.scope in
+    let k = c.args.target in
+    let n = c.in-Some.characters in
+    let p = info_call groups scope.calls_left old.opened.items k in
+    let known = c.in-Some.ensures in
+    let text : IsText n p = context.are_texts k n scope.calls_left old.opened.items known.target known.left
+    (subst (IsFree context.texts.now.lengths.items n) c.deref.ensures.value known.free) in
+    let silent = text.silent c.if-characters-eq0.true in
+    record {
+      cap = refl;
+      leads =
+          leads_nothing context old old c.args.slot scope.may_keep p (λ tree_context. IsExpandedTarget tree_context scope.may_keep scope.may_be_absent groups k) c.leads_to.result
+          c.leads_to.ensures (wrote_silent context.unicode context.whole old c.args.slot p silent) (omega arith) (silent_allowed context.unicode scope.may_keep p silent);
+      work = let this = ap (λ (s : Step). tasks_work groups (listed s.tasks)) c.leads_to.ensures in omega (arith, this);
+      full = tt;
+      refused = tt;
+    }
 
 pub returns-then-is_at_call_limit : goal.returns-then-is_at_call_limit
 returns-then-is_at_call_limit c =
@@ -27,16 +53,16 @@ returns-then-is_at_call_limit c =
     let m = c.args.scope.calls_left in
     let k = c.args.target in
     let fails : info_call groups m opened k ≡ called k fail = elim c.then-is_at_call_limit.branch [
-      | then-is_at_call_limit-via-then-is_at_call_limit w ↦ call_full groups m opened k (ap (λ l. is_at_call_limit l k) (sym c.deref.ensures.value) ∙ sym c.is_at_call_limit.ensures ∙ w.if-is_at_call_limit.true)
+      | then-is_at_call_limit-via-then-is_at_call_limit w ↦ call_full groups m opened k (ap (λ l. is_at_call_limit l k) (sym c.deref-2.ensures.value) ∙ sym c.is_at_call_limit.ensures ∙ w.if-is_at_call_limit.true)
       | then-is_at_call_limit-via-else-is_at_call_limit+then-scope-eq0 w ↦ call_none groups m opened k w.if-scope-eq0.true
     ] in
     record {
       cap = c.in_ok-flush_and_push.ensures.cap;
       leads =
           leads_no_call context c.args.emitter.now c.flush_and_push.new.self c.args.slot c.args.scope.may_keep k _
-          (λ tree_context. IsExpandedTarget tree_context c.args.scope.may_keep c.args.scope.may_be_absent groups k) c.leads_to.result fails c.leads_to.ensures
+          (λ tree_context. IsExpandedTarget tree_context c.args.scope.may_keep c.args.scope.may_be_absent groups k) c.leads_to-then-is_at_call_limit.result fails c.leads_to-then-is_at_call_limit.ensures
           c.in_ok-flush_and_push.ensures.draft c.in_ok-flush_and_push.ensures.long;
-      work = let this = ap (λ (s : Step). tasks_work groups (listed s.tasks)) c.leads_to.ensures in omega (arith, this);
+      work = let this = ap (λ (s : Step). tasks_work groups (listed s.tasks)) c.leads_to-then-is_at_call_limit.ensures in omega (arith, this);
       full = tt;
       refused = tt;
     }
@@ -48,7 +74,7 @@ returns-in_err-flush_and_push c =
     let m = c.args.scope.calls_left in
     let k = c.args.target in
     let fails : info_call groups m opened k ≡ called k fail = elim c.then-is_at_call_limit.branch [
-      | then-is_at_call_limit-via-then-is_at_call_limit w ↦ call_full groups m opened k (ap (λ l. is_at_call_limit l k) (sym c.deref.ensures.value) ∙ sym c.is_at_call_limit.ensures ∙ w.if-is_at_call_limit.true)
+      | then-is_at_call_limit-via-then-is_at_call_limit w ↦ call_full groups m opened k (ap (λ l. is_at_call_limit l k) (sym c.deref-2.ensures.value) ∙ sym c.is_at_call_limit.ensures ∙ w.if-is_at_call_limit.true)
       | then-is_at_call_limit-via-else-is_at_call_limit+then-scope-eq0 w ↦ call_none groups m opened k w.if-scope-eq0.true
     ] in
     let e = c.in_err-flush_and_push in
@@ -70,7 +96,7 @@ returns c = record {
       let some = c.if-scope-eq0.false in
       let more : c.args.scope.calls_left ≡ suc (c.args.scope.calls_left - 1) = omega (arith, some) in
       let at = slice_get-map info_at groups k ∙ ap (option_map info_at) (slice_get_read groups c.len.result k x (omega (arith, c.len.ensures, context.groups.now.ok.0)) c.if-target-len.false c.index-body.ensures) in
-      let free = ap (λ xs. is_at_call_limit xs k) (sym c.deref.ensures.value) ∙ sym c.is_at_call_limit.ensures ∙ c.if-is_at_call_limit.false in
+      let free = ap (λ xs. is_at_call_limit xs k) (sym c.deref-2.ensures.value) ∙ sym c.is_at_call_limit.ensures ∙ c.if-is_at_call_limit.false in
       subst (λ r. LeadsTo context p c.args.scope.may_keep
       (λ (tree_context : TreeContext). IsExpandedTarget tree_context c.args.scope.may_keep c.args.scope.may_be_absent (infos_of context) k) old new c.args.slot r)
       (sym (with_node _ _ _ _ _ c.leads_to-2.ensures c.node_task.ensures))

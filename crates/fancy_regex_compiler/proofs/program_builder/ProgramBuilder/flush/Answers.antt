@@ -12,6 +12,10 @@ use Rattle.fancy_regex_compiler.proofs.OutcomeLemmas.{appends_error}
 use Rattle.fancy_regex_compiler.proofs.RoomLemmas.{extent_closed, flushed_full}
 use Rattle.fancy_regex_compiler.proofs.program_builder.ProgramBuilder.flush.Goals as goal
 
+pub invariant_of-self-clause-counted : goal.invariant_of-self-clause-counted
+invariant_of-self-clause-counted c =
+    sym (ap length (ap (λ s. chars (string_bytes s)) c.replace-text.ensures.after ∙ ap chars c.new.ensures.bytes ∙ chars-nil))
+
 pub returns-then-is_empty : goal.returns-then-is_empty
 unfolding closed_draft
 returns-then-is_empty c =
