@@ -1,21 +1,31 @@
 -- What the members of a set find at a position, member by member.
-use Rattle.std.proofs.Common.{◌≡◌, ℕ, zero, suc, ◌+◌, ◌-◌, ◌<◌, ◌≤◌, IsUtf8, IsCharBoundary, List, [], ◌∷◌, length, get_or, drop, Option, Some, None, inl, inr, refl, sym, ap, subst, ◌∙◌, ⊎_elim, arith}
-use Rattle.std.specs.Prelude.{slice_get}
+use Rattle.std.proofs.Common.{◌≡◌, ℕ, zero, suc, ◌+◌, ◌-◌, ◌<◌, ◌≤◌, Bool, true, false, IsUtf8, IsCharBoundary, List, [], ◌∷◌, length, get_or, drop, Option, Some, None, inl, inr, refl, sym, ap, subst, ◌∙◌, ⊎_elim, arith}
+use Rattle.std.specs.Prelude.{slice_get, not, ◌&&◌, if◌then◌else◌}
 use Rattle.std.proofs.lemmas.List.{drop_more, drop_all}
 use Rattle.std.proofs.lemmas.Option.{get_or_from_slice_get, slice_get_within, slice_get_cases, same_Some}
 use Rattle.fancy_regex_meaning.specs.Searches.{Match, member_match, found_at}
-use Rattle.fancy_regex_input.specs.SearchInputs.{input_of}
+use Rattle.fancy_regex_input.specs.SearchInputs.{input_of, effective_start}
 use Rattle.fancy_regex_input.specs.declared.config.SearchConfig.{SearchConfig}
 use Rattle.fancy_regex_meta.specs.MetaMatches.{meta_pattern}
-use Rattle.fancy_regex_meta.specs.MemberSearches.{meta_match_at, MemberStaysInLimits}
+use Rattle.fancy_regex_meta.specs.MemberSearches.{meta_match_at, IsMemberError, MemberStaysInLimits}
+use Rattle.fancy_regex_meta.specs.declared.error.Error.{Error}
+use Rattle.fancy_regex_search.specs.AnchoredSearches.{continues_at}
 use Rattle.fancy_regex_search.specs.CaptureSpans.{AreGroupsOf, span_in}
 use Rattle.fancy_regex_search.specs.declared.regex.Regex.{Regex}
 use Rattle.std.proofs.lemmas.Bool.{cases_lt}
-use Rattle.fancy_regex.specs.SetAnswers.{member_of, members_of, match_of_member, found_from, set_continue_at, IsInLimits, AreInLimits, IsMatchOfMember}
+use Rattle.fancy_regex.specs.SetAnswers.{member_of, members_of, match_of_member, found_from, set_continue_at, IsErrorOfMember, IsInLimits, AreInLimits, IsMatchOfMember}
 use Rattle.fancy_regex.specs.SetStarts.{FindsNoneAt, FindNoneBetween}
 
 pub drop_here : {A : Type 0} (xs : List A) (k : ℕ) (x : A) → slice_get xs k ≡ Some x → drop k xs ≡ x ∷ drop (k + 1) xs
 drop_here xs k x e = drop_more xs k x (slice_get_within xs k x e) ∙ ap (λ y. y ∷ drop (k + 1) xs) (get_or_from_slice_get xs k x x e)
+
+continues_alike : (b : Bool) (first : ℕ) → ◌≡◌ {A = Option ℕ} (if b && true then Some first else None) (if not b then None else Some first)
+continues_alike true first = refl
+continues_alike false first = refl
+
+-- the search for a member's match at a position continues where the search of the set does
+continues : (config : SearchConfig) → continues_at config ≡ set_continue_at config
+continues config = continues_alike config.continues (effective_start config)
 
 module _ (regexes : List Regex) (text : List ℕ) (config : SearchConfig) (p : ℕ) where
   abbrev found : ℕ → List (ℕ × Match)
@@ -77,12 +87,18 @@ module _ (regexes : List Regex) (text : List ℕ) (config : SearchConfig) (p : �
         (cases_lt i (length regexes))
 
   -- the search of the member with a number is that of the regex that stands there
-  pub asked : (k : ℕ) (taken regex : Regex) (at : Option ℕ) (o : Option Match) → slice_get regexes k ≡ Some taken → slice_get regexes k ≡ Some regex →
-      at ≡ set_continue_at config → meta_match_at taken.meta text config at p ≡ o → own regex ≡ o
-  asked k taken regex at o here there continues is =
+  pub asked : (k : ℕ) (taken regex : Regex) (o : Option Match) → slice_get regexes k ≡ Some taken → slice_get regexes k ≡ Some regex →
+      meta_match_at taken.meta text config (continues_at config) p ≡ o → own regex ≡ o
+  asked k taken regex o here there is =
       ap own (same_Some regex taken (sym there ∙ here))
-      ∙ sym (ap (λ (a : Option ℕ). meta_match_at taken.meta text config a p) continues)
+      ∙ sym (ap (λ (a : Option ℕ). meta_match_at taken.meta text config a p) (continues config))
       ∙ is
+
+  -- and so is its error
+  pub asked_fails : (k : ℕ) (taken : Regex) (e : Error) → slice_get regexes k ≡ Some taken →
+      IsMemberError taken.meta text config (continues_at config) p e → IsErrorOfMember regexes text config p k e
+  asked_fails k taken e here h =
+      (taken, here, subst (λ (a : Option ℕ). IsMemberError taken.meta text config a p e) (continues config) h)
 
   abbrev limits_at : ℕ → Type 0
   limits_at = IsInLimits regexes text config p
@@ -91,11 +107,11 @@ module _ (regexes : List Regex) (text : List ℕ) (config : SearchConfig) (p : �
   limits_from = AreInLimits regexes text config p
 
   -- the member that was asked stays within its limits
-  pub asked_stays : (k : ℕ) (taken : Regex) (at : Option ℕ) → slice_get regexes k ≡ Some taken → at ≡ set_continue_at config →
-      MemberStaysInLimits taken.meta text config at p → limits_at k
-  asked_stays k taken at here continues h = λ regex there.
-      inr (subst (λ (a : Option ℕ). MemberStaysInLimits regex.meta text config a p) continues
-      (subst (λ (r : Regex). MemberStaysInLimits r.meta text config at p) (same_Some taken regex (sym here ∙ there)) h))
+  pub asked_stays : (k : ℕ) (taken : Regex) → slice_get regexes k ≡ Some taken →
+      MemberStaysInLimits taken.meta text config (continues_at config) p → limits_at k
+  asked_stays k taken here h = λ regex there.
+      inr (subst (λ (a : Option ℕ). MemberStaysInLimits regex.meta text config a p) (continues config)
+      (subst (λ (r : Regex). MemberStaysInLimits r.meta text config (continues_at config) p) (same_Some taken regex (sym here ∙ there)) h))
 
   pub limits_over : (before i k : ℕ) (byte : Option ℕ) → slice_get text p ≡ byte → limits_from before i → FindNoneBetween regexes byte i k → limits_from before k
   limits_over before i k byte here h none = λ j low high.

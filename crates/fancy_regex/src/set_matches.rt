@@ -3,7 +3,7 @@
 ghost use Rattle.std.specs.Prelude.{◌≡◌, ◌≤◌, ◌+◌, ◌-◌, ◌<◌, None, Some, Ok, IfOk, IfErr, MatchOption, length, option_map, unwrap_or, slice_get, slice_range, IsUtf8, IsCharBoundary};
 ghost use Rattle.std.specs.Iterator.{at_most};
 ghost use Rattle.fancy_regex_input.specs.SearchInputs.{FitsText};
-ghost use Rattle.fancy_regex.specs.SetAnswers.{YieldsMember, PassesInLimits, IsMatchOfMember, set_continue_at};
+ghost use Rattle.fancy_regex.specs.SetAnswers.{YieldsMember, PassesInLimits, IsMatchOfMember};
 ghost use Rattle.fancy_regex_meta.specs.MatchOffsets.{AreBoundaries};
 
 use crate::set::RegexSet;
@@ -159,13 +159,6 @@ impl<'s, S: Input> Iterator for RegexSetMatchesAt<'s, S> {
     }
 }
 
-/// Where `\G` matches in a set's search: at its effective start; `None` if it matches nowhere.
-fn continue_at(config: &SearchConfig) -> Option<usize>
-    ensures { result ≡ set_continue_at config.now }
-{
-    config.run_input().continue_at
-}
-
 /// The members of a set, to be asked for a match that starts at one position.
 #[derive(Drop)]
 pub(crate) struct MembersAt<'s, S: Input> {
@@ -243,7 +236,6 @@ impl<'s, S: Input> MembersAt<'s, S> {
             &set.regexes[number],
             self.haystack,
             &self.config,
-            continue_at(&self.config),
             self.position,
             memory,
         ) {

@@ -1,11 +1,13 @@
 pub mod RemainingMatches
 pub mod IterationSteps
 pub mod CaptureSpans
+pub mod AnchoredSearches
 pub mod GroupLookup
 pub mod Looks
 pub mod IterationSearches
 pub mod IterationErrors
 pub mod IterationLimits
+pub mod NextCalls
 pub mod Pieces
 pub mod Replacements
 pub mod GroupTexts

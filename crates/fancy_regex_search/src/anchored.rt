@@ -5,6 +5,7 @@ ghost use Rattle.fancy_regex_input.specs.SearchInputs.{FitsText};
 ghost use Rattle.fancy_regex_meta.specs.MetaMatches.{meta_pattern};
 ghost use Rattle.fancy_regex_meta.specs.MemberSearches.{meta_match_at, IsMemberError, MemberStaysInLimits};
 ghost use Rattle.fancy_regex_meta.specs.MatchOffsets.{AreBoundaries};
+ghost use Rattle.fancy_regex_search.specs.AnchoredSearches.{continues_at};
 ghost use Rattle.fancy_regex_search.specs.CaptureSpans.{AreGroupsOf, IsResultFor, span_in};
 
 use crate::captures::Captures;
@@ -25,8 +26,8 @@ pub struct AnchoredMatch<'r, S: Input> {
     pub captures: Captures<'r, S>,
 }
 
-/// The match that starts at `position`; `None` if no match starts there. `\G` matches at `continue_at` alone, and nowhere if
-/// that is `None`. `position` is a byte offset. The memory is that of earlier searches, and changes no answer.
+/// The match that starts at `position`, a byte offset; `None` if no match starts there. `\G` matches at the effective start of the
+/// configured search alone, and nowhere if it is disabled there. The memory is that of earlier searches, and changes no answer.
 ///
 /// # Errors
 ///
@@ -36,7 +37,6 @@ pub fn match_at<'r, S: Input>(
     regex: &'r Regex,
     haystack: S,
     config: &SearchConfig,
-    continue_at: Option<usize>,
     position: usize,
     memory: &mut MetaMemory,
 ) -> Result<Option<AnchoredMatch<'r, S>>>
@@ -45,15 +45,16 @@ pub fn match_at<'r, S: Input>(
     requires inside { position ≤ config.now.range_end }
     ensures answer { IfOk result (λ found. IsResultFor (λ x m.
         (AreGroupsOf (meta_pattern regex.entry.now.meta) x.captures.slots.items m) × ((x.start, x.end) ≡ span_in m))
-        found (meta_match_at regex.entry.now.meta (S.text haystack) config.now continue_at position)) }
+        found (meta_match_at regex.entry.now.meta (S.text haystack) config.now (continues_at config.now) position)) }
     ensures cuts { IfOk result (λ found. IfSome found (λ x. AreBoundaries (S.text haystack) x.start x.end)) }
     ensures of { IfOk result (λ found. IfSome found (λ x. (x.captures.haystack ≡ haystack) × (x.captures.regex.now ≡ regex.entry.now))) }
-    ensures limits { IfErr result (λ e. IsMemberError regex.entry.now.meta (S.text haystack) config.now continue_at position e) }
-    ensures stays { IfOk result (λ _. MemberStaysInLimits regex.entry.now.meta (S.text haystack) config.now continue_at position) }
+    ensures limits { IfErr result (λ e. IsMemberError regex.entry.now.meta (S.text haystack) config.now
+        (continues_at config.now) position e) }
+    ensures stays { IfOk result (λ _. MemberStaysInLimits regex.entry.now.meta (S.text haystack) config.now
+        (continues_at config.now) position) }
 {
     let input = RunInput {
         first: position,
-        continue_at,
         anchored: true,
         ..*config.run_input()
     };

@@ -1,6 +1,6 @@
 //! The matches of a text, each with the text between the previous match and it: what splitting and replacement go over.
 
-ghost use Rattle.std.specs.Prelude.{◌≡◌, ◌≤◌, ◌<◌, false, None, drop, IfSome, IfOk, IfErr, IsCharBoundary};
+ghost use Rattle.std.specs.Prelude.{◌≡◌, ◌≤◌, ◌<◌, false, None, drop, IfSome, IsCharBoundary};
 ghost use Rattle.fancy_regex_input.specs.SearchInputs.{whole};
 ghost use Rattle.fancy_regex_meta.specs.MetaMatches.{meta_pattern};
 
@@ -32,10 +32,8 @@ pub struct GapIter<'r, 'h> {
 
 impl<'r, 'h> GapIter<'r, 'h> {
     ghost use Rattle.fancy_regex_search.specs.RemainingMatches.{remaining_matches, all_matches, remaining_searches};
-    ghost use Rattle.fancy_regex_search.specs.IterationErrors.{IsItemError};
-    ghost use Rattle.fancy_regex_search.specs.IterationLimits.{NextStays};
-    ghost use Rattle.fancy_regex_search.specs.IterationSearches.{KeepsSearches};
-    ghost use Rattle.fancy_regex_search.specs.IterationSteps.{NextEnds, NextReturns};
+    ghost use Rattle.fancy_regex_search.specs.IterationSteps.{NextEnds};
+    ghost use Rattle.fancy_regex_search.specs.NextCalls.{StartsLater, NextKeepsLimits};
     ghost use Rattle.fancy_regex_search.specs.Pieces.{YieldsGap};
 
     /// The iteration before its first search.
@@ -73,22 +71,10 @@ impl<'r, 'h> GapIter<'r, 'h> {
         ensures nears { IfSome result (λ _. remaining_searches self.new.match_iter.input.haystack.now
             self.new.match_iter.input.config self.new.match_iter.state
             < remaining_searches self.old.match_iter.input.haystack.now self.old.match_iter.input.config self.old.match_iter.state) }
-        ensures haystack { self.new.match_iter.input.haystack ≡ self.old.match_iter.input.haystack }
-        ensures regex { self.new.match_iter.regex ≡ self.old.match_iter.regex }
-        ensures wanted { self.new.match_iter.wanted ≡ self.old.match_iter.wanted }
-        ensures config { self.new.match_iter.input.config ≡ record
-            (self.old.match_iter.input.config) { start = self.new.match_iter.input.config.start } }
-        ensures fails { IfSome result (λ item. IfErr item (λ e. IsItemError self.old.match_iter.regex.now.meta
-            self.old.match_iter.input.haystack.now
-            self.old.match_iter.input.config
-            self.old.match_iter.state e)) }
-        ensures stays { NextStays self.old.match_iter.regex.now.meta self.old.match_iter.input.haystack.now
-            self.old.match_iter.input.config self.old.match_iter.state result }
-        ensures passes { IfSome result (λ item. IfOk item (λ _. KeepsSearches self.old.match_iter.regex.now.meta
-            self.old.match_iter.input.haystack.now
-            self.old.match_iter.input.config
-            self.old.match_iter.state.continue_disabled self.new.match_iter.input.config self.new.match_iter.state.continue_disabled)) }
-        ensures returns { NextReturns self.old.match_iter.regex.now.meta self.old.match_iter.input.haystack.now
+        ensures same { (self.new.match_iter.input.haystack ≡ self.old.match_iter.input.haystack)
+            × (self.new.match_iter.regex ≡ self.old.match_iter.regex) × (self.new.match_iter.wanted ≡ self.old.match_iter.wanted) }
+        ensures onward { StartsLater self.old.match_iter.input.config self.new.match_iter.input.config }
+        ensures limits { NextKeepsLimits self.old.match_iter.regex.now.meta self.old.match_iter.input.haystack.now
             self.old.match_iter.input.config self.old.match_iter.state result
             self.new.match_iter.input.config self.new.match_iter.state }
         ensures ends { NextEnds result self.new.match_iter.state }

@@ -15,6 +15,19 @@ use fancy_regex_input::{Input, RegexInput};
 use fancy_regex_meta::{FoundMatch, MatchDetail, MetaMemory, Result};
 use std::alloc::Global;
 
+/// What a search is asked for.
+#[derive(Drop)]
+pub struct SearchRequest<'s, S: Input> {
+    /// The regex that searches.
+    pub regex: &'s Regex,
+    /// The haystack, and the configuration of the search.
+    pub input: &'s RegexInput<S>,
+    /// `\G` never matches in this search.
+    pub continue_disabled: bool,
+    /// Which byte offsets the match is to have.
+    pub wanted: MatchDetail,
+}
+
 /// The input that goes to the engine for a search. If the flag is set, `\G` never matches in it.
 fn run_input_for<S: Input>(input: &RegexInput<S>, continue_disabled: bool) -> RunInput
     ensures { result ≡ run_input_of input.now.config (effective_start input.now.config) continue_disabled }
@@ -28,41 +41,40 @@ fn run_input_for<S: Input>(input: &RegexInput<S>, continue_disabled: bool) -> Ru
     *input.run_input()
 }
 
-/// The first match of an input, with the byte offsets that are wanted, or `None` if there is no match. If the flag is set, `\G`
-/// never matches. The counter is raised as `find_input_counted` says; what earlier searches left in the memory changes no answer.
-/// Errors: `RuntimeError` at a limit, or `Memory`.
-// Inlined where it is called: what is wanted is known there, and the record of the match is never made.
+/// The first match of the search, with the byte offsets that are wanted, or `None` if there is no match. The counter is raised as
+/// `find_input_counted` says; what earlier searches left in the memory changes no answer. Errors: `RuntimeError` at a limit, or
+/// `Memory`.
+// Inlined where it is called: what is wanted is known there, and the records of the search and of the match are never made.
 #[inline(always)]
 pub fn find_match<S: Input>(
     alloc: Global,
-    regex: &Regex,
-    input: &RegexInput<S>,
-    continue_disabled: bool,
-    wanted: MatchDetail,
+    request: &SearchRequest<'_, S>,
     steps: &mut Steps,
     memory: &mut MetaMemory,
 ) -> Result<Option<FoundMatch>>
     ensures answer { IfOk result (λ found. option_map found_parts found
-        ≡ option_map (wanted_parts wanted (meta_pattern regex.now.meta))
-        (meta_match_from regex.now.meta (S.text input.now.haystack) input.now.config
-        (effective_start input.now.config) continue_disabled)) }
+        ≡ option_map (wanted_parts request.now.wanted (meta_pattern request.now.regex.now.meta))
+        (meta_match_from request.now.regex.now.meta (S.text request.now.input.now.haystack) request.now.input.now.config
+        (effective_start request.now.input.now.config) request.now.continue_disabled)) }
     ensures within { IfOk result (λ found. IfSome found
-        (IsMatchWithin wanted (S.text input.now.haystack) (effective_start input.now.config) input.now.config.range_end)) }
-    ensures limits { IfErr result (λ e.
-        IsMetaSearchError regex.now.meta (S.text input.now.haystack) input.now.config continue_disabled e) }
-    ensures stays { IfOk result (λ _.
-        MetaStaysInLimits regex.now.meta (S.text input.now.haystack) input.now.config continue_disabled) }
-    ensures looks_most { meta_uses_easy regex.now.meta ≡ true
-        → steps.new ≤ steps.old + max_looks regex.now.meta input.now.config }
-    ensures looks_least { IfOk result (λ _. meta_uses_easy regex.now.meta ≡ true
-        → min (steps.old + meta_starts_tried regex.now.meta (S.text input.now.haystack) input.now.config continue_disabled) (2 ^ 64 - 1)
-        ≤ steps.new) }
-    ensures looks_none { meta_uses_easy regex.now.meta ≡ false → steps.new ≡ steps.old }
+        (IsMatchWithin request.now.wanted (S.text request.now.input.now.haystack)
+        (effective_start request.now.input.now.config) request.now.input.now.config.range_end)) }
+    ensures limits { IfErr result (λ e. IsMetaSearchError request.now.regex.now.meta
+        (S.text request.now.input.now.haystack) request.now.input.now.config request.now.continue_disabled e) }
+    ensures stays { IfOk result (λ _. MetaStaysInLimits request.now.regex.now.meta
+        (S.text request.now.input.now.haystack) request.now.input.now.config request.now.continue_disabled) }
+    ensures looks_most { meta_uses_easy request.now.regex.now.meta ≡ true
+        → steps.new ≤ steps.old + max_looks request.now.regex.now.meta request.now.input.now.config }
+    ensures looks_least { IfOk result (λ _. meta_uses_easy request.now.regex.now.meta ≡ true
+        → min (steps.old + meta_starts_tried request.now.regex.now.meta (S.text request.now.input.now.haystack)
+        request.now.input.now.config request.now.continue_disabled) (2 ^ 64 - 1) ≤ steps.new) }
+    ensures looks_none { meta_uses_easy request.now.regex.now.meta ≡ false → steps.new ≡ steps.old }
     ensures counts { steps.old ≤ steps.new }
 {
-    let haystack = input.haystack();
-    let run_input = run_input_for(input, continue_disabled);
-    regex.meta.search(alloc, haystack.as_str(), &run_input, wanted, steps, memory)
+    let haystack = request.input.haystack();
+    let run_input = run_input_for(request.input, request.continue_disabled);
+    let wanted = request.wanted;
+    request.regex.meta.search(alloc, haystack.as_str(), &run_input, wanted, steps, memory)
 }
 
 /// The first match, as `find_match`, where the memory keeps, if it keeps anything, what searches of this regex in this haystack have found
@@ -70,29 +82,28 @@ pub fn find_match<S: Input>(
 #[inline(always)]
 pub fn find_next<S: Input>(
     alloc: Global,
-    regex: &Regex,
-    input: &RegexInput<S>,
-    continue_disabled: bool,
-    wanted: MatchDetail,
+    request: &SearchRequest<'_, S>,
     memory: &mut MetaMemory,
 ) -> Result<Option<FoundMatch>>
-    requires { MetaKeeps regex.now.meta (S.text input.now.haystack) memory.old }
+    requires { MetaKeeps request.now.regex.now.meta (S.text request.now.input.now.haystack) memory.old }
     ensures answer { IfOk result (λ found. option_map found_parts found
-        ≡ option_map (wanted_parts wanted (meta_pattern regex.now.meta))
-        (meta_match_from regex.now.meta (S.text input.now.haystack) input.now.config
-        (effective_start input.now.config) continue_disabled)) }
+        ≡ option_map (wanted_parts request.now.wanted (meta_pattern request.now.regex.now.meta))
+        (meta_match_from request.now.regex.now.meta (S.text request.now.input.now.haystack) request.now.input.now.config
+        (effective_start request.now.input.now.config) request.now.continue_disabled)) }
     ensures within { IfOk result (λ found. IfSome found
-        (IsMatchWithin wanted (S.text input.now.haystack) (effective_start input.now.config) input.now.config.range_end)) }
-    ensures limits { IfErr result (λ e.
-        IsMetaSearchError regex.now.meta (S.text input.now.haystack) input.now.config continue_disabled e) }
-    ensures stays { IfOk result (λ _.
-        MetaStaysInLimits regex.now.meta (S.text input.now.haystack) input.now.config continue_disabled) }
-    ensures kept { MetaKeeps regex.now.meta (S.text input.now.haystack) memory.new }
+        (IsMatchWithin request.now.wanted (S.text request.now.input.now.haystack)
+        (effective_start request.now.input.now.config) request.now.input.now.config.range_end)) }
+    ensures limits { IfErr result (λ e. IsMetaSearchError request.now.regex.now.meta
+        (S.text request.now.input.now.haystack) request.now.input.now.config request.now.continue_disabled e) }
+    ensures stays { IfOk result (λ _. MetaStaysInLimits request.now.regex.now.meta
+        (S.text request.now.input.now.haystack) request.now.input.now.config request.now.continue_disabled) }
+    ensures kept { MetaKeeps request.now.regex.now.meta (S.text request.now.input.now.haystack) memory.new }
 {
-    let haystack = input.haystack();
-    let run_input = run_input_for(input, continue_disabled);
+    let haystack = request.input.haystack();
+    let run_input = run_input_for(request.input, request.continue_disabled);
+    let wanted = request.wanted;
     let steps = &mut Steps::new();
-    regex.meta.search_again(alloc, haystack.as_str(), &run_input, wanted, steps, memory)
+    request.regex.meta.search_again(alloc, haystack.as_str(), &run_input, wanted, steps, memory)
 }
 
 /// Whether an input has a match. What earlier searches left in the memory changes no answer. Errors: `RuntimeError` at a limit, or

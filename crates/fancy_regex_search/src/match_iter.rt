@@ -1,7 +1,7 @@
 //! The searches after the iterators over matches: each search starts where the previous match ended. An empty match at the
 //! end of the previous match is skipped, and after an error the iteration is over.
 
-ghost use Rattle.std.specs.Prelude.{◌≡◌, ◌≤◌, ◌<◌, option_map, None, Some, true, false, MatchOption, MatchResult, IfSome, IfNone, IfOk, IfErr};
+ghost use Rattle.std.specs.Prelude.{◌≡◌, ◌≤◌, ◌<◌, option_map, None, Some, true, false, MatchOption, MatchResult, IfSome, IfOk};
 ghost use Rattle.fancy_regex_input.specs.SearchInputs.{effective_start};
 ghost use Rattle.fancy_regex_meta.specs.MetaMatches.{meta_pattern, meta_match_from};
 ghost use Rattle.fancy_regex_meta.specs.MatchOffsets.{IsMatchWithin};
@@ -10,7 +10,7 @@ ghost use Rattle.fancy_regex_meta.specs.SearchLimits.{MetaStaysInLimits};
 ghost use Rattle.fancy_regex_meta.specs.Kept.{MetaKeeps};
 ghost use Rattle.fancy_regex_meta.specs.KeptProps.{keeps_prop};
 
-use crate::group_spans::find_next;
+use crate::group_spans::{SearchRequest, find_next};
 use crate::regex::Regex;
 use fancy_regex_input::{Input, RegexInput};
 use fancy_regex_meaning::laws_of_items;
@@ -60,12 +60,10 @@ enum Step {
 }
 
 impl<'r, S: Input> MatchIter<'r, S> {
-    ghost use Rattle.fancy_regex_search.specs.IterationErrors.{IsItemError};
-    ghost use Rattle.fancy_regex_search.specs.IterationLimits.{NextStays};
-    ghost use Rattle.fancy_regex_search.specs.IterationSearches.{KeepsSearches};
     ghost use Rattle.fancy_regex_search.specs.RemainingMatches.{remaining_matches, all_matches, remaining_searches, Yields};
     ghost use Rattle.fancy_regex_search.specs.CaptureSpans.{IsFoundOf};
-    ghost use Rattle.fancy_regex_search.specs.IterationSteps.{IsStep, IsLeftByNone, NextMoves, NextReturns, NextEnds, NextKeeps};
+    ghost use Rattle.fancy_regex_search.specs.IterationSteps.{IsStep, NextMoves};
+    ghost use Rattle.fancy_regex_search.specs.NextCalls.{StartsLater, NextKeepsLimits, NextLeaves};
 
     /// The iteration before its first search.
     pub fn new(
@@ -102,9 +100,8 @@ impl<'r, S: Input> MatchIter<'r, S> {
         ensures step { IsStep self.old.regex.now.meta (S.text self.old.input.haystack) self.old.input.config self.old.state
             self.old.wanted result
             self.new.input.config self.new.state }
-        ensures haystack { self.new.input.haystack ≡ self.old.input.haystack }
-        ensures regex { self.new.regex ≡ self.old.regex }
-        ensures wanted { self.new.wanted ≡ self.old.wanted }
+        ensures same { (self.new.input.haystack ≡ self.old.input.haystack) × (self.new.regex ≡ self.old.regex)
+            × (self.new.wanted ≡ self.old.wanted) }
     {
         if self.state.is_done {
             return Step::End;
@@ -114,14 +111,13 @@ impl<'r, S: Input> MatchIter<'r, S> {
             self.state.is_done = true;
             return Step::End;
         }
-        let found = find_next(
-            self.alloc,
-            self.regex,
-            &self.input,
-            self.state.continue_disabled,
-            self.wanted,
-            &mut self.memory,
-        );
+        let request = SearchRequest {
+            regex: self.regex,
+            input: &self.input,
+            continue_disabled: self.state.continue_disabled,
+            wanted: self.wanted,
+        };
+        let found = find_next(self.alloc, &request, &mut self.memory);
         match found {
             Ok(Some(matched)) => self.step_past_match(matched),
             Ok(None) => self.end_without_match(),
@@ -147,9 +143,8 @@ impl<'r, S: Input> MatchIter<'r, S> {
         ensures step { IsStep self.old.regex.now.meta (S.text self.old.input.haystack) self.old.input.config self.old.state
             self.old.wanted result
             self.new.input.config self.new.state }
-        ensures haystack { self.new.input.haystack ≡ self.old.input.haystack }
-        ensures regex { self.new.regex ≡ self.old.regex }
-        ensures wanted { self.new.wanted ≡ self.old.wanted }
+        ensures same { (self.new.input.haystack ≡ self.old.input.haystack) × (self.new.regex ≡ self.old.regex)
+            × (self.new.wanted ≡ self.old.wanted) }
     {
         self.state.is_done = true;
         Step::End
@@ -169,9 +164,8 @@ impl<'r, S: Input> MatchIter<'r, S> {
         ensures step { IsStep self.old.regex.now.meta (S.text self.old.input.haystack) self.old.input.config self.old.state
             self.old.wanted result
             self.new.input.config self.new.state }
-        ensures haystack { self.new.input.haystack ≡ self.old.input.haystack }
-        ensures regex { self.new.regex ≡ self.old.regex }
-        ensures wanted { self.new.wanted ≡ self.old.wanted }
+        ensures same { (self.new.input.haystack ≡ self.old.input.haystack) × (self.new.regex ≡ self.old.regex)
+            × (self.new.wanted ≡ self.old.wanted) }
     {
         laws_of_items();
         let start = found.start;
@@ -203,25 +197,13 @@ impl<'r, S: Input> MatchIter<'r, S> {
             self.new.input.config }
         ensures nears { IfSome result (λ _. remaining_searches (S.text self.new.input.haystack) self.new.input.config self.new.state
             < remaining_searches (S.text self.old.input.haystack) self.old.input.config self.old.state) }
-        ensures grows { self.old.input.config.start ≤ self.new.input.config.start }
-        ensures haystack { self.new.input.haystack ≡ self.old.input.haystack }
-        ensures regex { self.new.regex ≡ self.old.regex }
-        ensures wanted { self.new.wanted ≡ self.old.wanted }
-        ensures config { self.new.input.config ≡ record (self.old.input.config) { start = self.new.input.config.start } }
-        ensures fails { IfSome result (λ item. IfErr item (λ e. IsItemError self.old.regex.now.meta
-            (S.text self.old.input.haystack) self.old.input.config
-            self.old.state e)) }
-        ensures stays { NextStays self.old.regex.now.meta (S.text self.old.input.haystack) self.old.input.config self.old.state result }
-        ensures passes { IfSome result (λ item. IfOk item (λ v. KeepsSearches self.old.regex.now.meta
-            (S.text self.old.input.haystack) self.old.input.config
-            self.old.state.continue_disabled self.new.input.config self.new.state.continue_disabled)) }
-        ensures returns { NextReturns self.old.regex.now.meta (S.text self.old.input.haystack) self.old.input.config self.old.state
+        ensures same { (self.new.input.haystack ≡ self.old.input.haystack) × (self.new.regex ≡ self.old.regex)
+            × (self.new.wanted ≡ self.old.wanted) }
+        ensures onward { StartsLater self.old.input.config self.new.input.config }
+        ensures limits { NextKeepsLimits self.old.regex.now.meta (S.text self.old.input.haystack) self.old.input.config self.old.state
             result self.new.input.config self.new.state }
-        ensures ends { NextEnds result self.new.state }
-        ensures keeps { NextKeeps (λ x. x.end) result self.new.state }
-        ensures left { IfNone result (IsLeftByNone self.old.regex.now.meta
-            (S.text self.old.input.haystack) self.old.input.config self.old.state
-            self.new.input.config self.new.state) }
+        ensures leaves { NextLeaves self.old.regex.now.meta (S.text self.old.input.haystack) self.old.input.config self.old.state
+            (λ x. x.end) result self.new.input.config self.new.state }
     {
         loop {
             match self.step() {

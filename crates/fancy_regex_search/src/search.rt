@@ -12,7 +12,7 @@ ghost use Rattle.fancy_regex_search.specs.CaptureSpans.{span_in, AreGroupsOf, Is
 
 use crate::capture_matches::CaptureMatches;
 use crate::captures::Captures;
-use crate::group_spans::{find_match, whole_match};
+use crate::group_spans::{SearchRequest, find_next, whole_match};
 use crate::matches::Matches;
 use crate::regex::Regex;
 use fancy_regex_class::Steps;
@@ -80,9 +80,14 @@ impl Regex {
         ensures stays { IfOk result (λ _. MetaStaysInLimits self.now.meta (S.text haystack) (whole (S.text haystack)) false) }
     {
         let input = RegexInput::new(haystack);
-        let steps = &mut Steps::new();
+        let request = SearchRequest {
+            regex: self,
+            input: &input,
+            continue_disabled: false,
+            wanted: MatchDetail::Span,
+        };
         let memory = &mut MetaMemory::new(alloc);
-        match find_match(alloc, self, &input, false, MatchDetail::Span, steps, memory)? {
+        match find_next(alloc, &request, memory)? {
             Some(found) => Ok(Some(whole_match(input.haystack(), &found))),
             None => Ok(None),
         }

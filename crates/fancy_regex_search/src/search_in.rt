@@ -8,7 +8,7 @@ ghost use Rattle.fancy_regex_search.specs.Looks.{MetaHasNoCountedRepeats, plain_
 ghost use Rattle.fancy_regex_search.specs.CaptureSpans.{span_in, AreGroupsOf, IsResultFor};
 
 use crate::captures::Captures;
-use crate::group_spans::{find_match, has_match, whole_match};
+use crate::group_spans::{SearchRequest, find_match, has_match, whole_match};
 use crate::regex::Regex;
 use fancy_regex_class::Steps;
 use fancy_regex_input::{Input, RegexInput};
@@ -109,7 +109,13 @@ impl Regex {
         ensures counts { steps.old ≤ steps.new }
     {
         weight_bound();
-        match find_match(alloc, self, &input, false, MatchDetail::Span, steps, memory)? {
+        let request = SearchRequest {
+            regex: self,
+            input: &input,
+            continue_disabled: false,
+            wanted: MatchDetail::Span,
+        };
+        match find_match(alloc, &request, steps, memory)? {
             Some(found) => Ok(Some(whole_match(input.haystack(), &found))),
             None => Ok(None),
         }
@@ -140,16 +146,13 @@ impl Regex {
         ensures limits { IfErr result (λ e. IsMetaSearchError self.now.meta (S.text input.haystack) input.config false e) }
         ensures stays { IfOk result (λ _. MetaStaysInLimits self.now.meta (S.text input.haystack) input.config false) }
     {
-        let steps = &mut Steps::new();
-        let found = find_match(
-            alloc,
-            self,
-            &input,
-            false,
-            MatchDetail::Groups,
-            steps,
-            memory,
-        )?;
+        let request = SearchRequest {
+            regex: self,
+            input: &input,
+            continue_disabled: false,
+            wanted: MatchDetail::Groups,
+        };
+        let found = find_match(alloc, &request, &mut Steps::new(), memory)?;
         match found {
             Some(matched) => Ok(Some(Captures::new(self, input.haystack(), matched.groups))),
             None => Ok(None),

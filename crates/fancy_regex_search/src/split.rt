@@ -8,6 +8,7 @@ ghost use Rattle.fancy_regex_search.specs.IterationErrors.{IsItemError};
 ghost use Rattle.fancy_regex_search.specs.IterationLimits.{PieceStays};
 ghost use Rattle.fancy_regex_search.specs.IterationSearches.{KeepsSearches};
 ghost use Rattle.fancy_regex_search.specs.IterationSteps.{NextReturns};
+ghost use Rattle.fancy_regex_search.specs.NextCalls.{StartsLater, PieceKeepsLimits};
 ghost use Rattle.fancy_regex_search.specs.RemainingMatches.{remaining_matches, remaining_searches, all_matches};
 ghost use Rattle.fancy_regex_search.specs.Pieces.{pieces_left, pieces_left_up_to, MovesPiece, YieldsPiece, PieceEnds};
 
@@ -76,24 +77,12 @@ impl<'r, 'h> Split<'r, 'h> {
             self.new.gaps.match_iter.state
             < remaining_searches self.old.gaps.match_iter.input.haystack.now self.old.gaps.match_iter.input.config
             self.old.gaps.match_iter.state }
-        ensures haystack { self.new.gaps.match_iter.input.haystack ≡ self.old.gaps.match_iter.input.haystack }
-        ensures regex { self.new.gaps.match_iter.regex ≡ self.old.gaps.match_iter.regex }
-        ensures config { self.new.gaps.match_iter.input.config ≡ record
-            (self.old.gaps.match_iter.input.config) { start = self.new.gaps.match_iter.input.config.start } }
-        ensures fails { IfSome result (λ item. IfErr item (λ e. IsItemError self.old.gaps.match_iter.regex.now.meta
-            self.old.gaps.match_iter.input.haystack.now
-            self.old.gaps.match_iter.input.config self.old.gaps.match_iter.state e)) }
-        ensures stays { PieceStays self.old.gaps.match_iter.regex.now.meta self.old.gaps.match_iter.input.haystack.now
-            self.old.gaps.match_iter.input.config
-            self.old.gaps.match_iter.state result }
-        ensures passes { self.new.is_done ≡ false → IfSome result (λ item. IfOk item
-            (λ _. KeepsSearches self.old.gaps.match_iter.regex.now.meta self.old.gaps.match_iter.input.haystack.now
-            self.old.gaps.match_iter.input.config self.old.gaps.match_iter.state.continue_disabled
-            self.new.gaps.match_iter.input.config self.new.gaps.match_iter.state.continue_disabled)) }
-        ensures returns { self.new.is_done ≡ false → NextReturns self.old.gaps.match_iter.regex.now.meta
-            self.old.gaps.match_iter.input.haystack.now
-            self.old.gaps.match_iter.input.config
-            self.old.gaps.match_iter.state result self.new.gaps.match_iter.input.config self.new.gaps.match_iter.state }
+        ensures same { (self.new.gaps.match_iter.input.haystack ≡ self.old.gaps.match_iter.input.haystack)
+            × (self.new.gaps.match_iter.regex ≡ self.old.gaps.match_iter.regex) }
+        ensures onward { StartsLater self.old.gaps.match_iter.input.config self.new.gaps.match_iter.input.config }
+        ensures limits { PieceKeepsLimits self.old.gaps.match_iter.regex.now.meta self.old.gaps.match_iter.input.haystack.now
+            self.old.gaps.match_iter.input.config self.old.gaps.match_iter.state result self.new.is_done
+            self.new.gaps.match_iter.input.config self.new.gaps.match_iter.state }
         ensures ends { PieceEnds result self.old.gaps.match_iter.state self.new.is_done self.new.gaps.match_iter.state }
     {
         if self.is_done {

@@ -1,6 +1,5 @@
-use Rattle.std.proofs.Common.{◌≡◌, ◌≤◌, ◌+◌, ◌∙◌, ℕ, min, ap, subst}
+use Rattle.std.proofs.Common.{◌≤◌, ◌+◌, ◌∙◌, ℕ, min, ap, subst}
 use Rattle.std.specs.Prelude.{option_map}
-use Rattle.fancy_regex_input.specs.SearchInputs.{effective_start}
 use Rattle.fancy_regex_meta.specs.FoundParts.{wanted_parts}
 use Rattle.fancy_regex_meta.specs.MetaMatches.{meta_pattern}
 use Rattle.fancy_regex_meta.proofs.SearchLemmas.{match-same, error-same, tried-same}
@@ -11,31 +10,35 @@ use Rattle.fancy_regex_search.proofs.group_spans.find_match.Goals as goal
 -- the search begins between two characters
 pub search-requires-clause-first : goal.search-requires-clause-first
 search-requires-clause-first g c =
+    let input = c.args.request.now.input.now in
     rw (c.as_str.ensures, c.haystack-haystack.ensures, c.run_input_for-run_input.ensures)
-    (λ inside. first_fits (g.S.Input.text c.args.input.now.haystack) c.args.input.now.config c.args.input.now.fits inside)
+    (λ inside. first_fits (g.S.Input.text input.haystack) input.config input.fits inside)
 
 pub search-requires-clause-range : goal.search-requires-clause-range
 search-requires-clause-range g c =
-    rw (c.as_str.ensures, c.haystack-haystack.ensures, c.run_input_for-run_input.ensures) c.args.input.now.fits.range_end.0
+    rw (c.as_str.ensures, c.haystack-haystack.ensures, c.run_input_for-run_input.ensures) c.args.request.now.input.now.fits.range_end.0
 
 -- the match that is returned is that of the configured search
 pub returns-clause-answer : goal.returns-clause-answer
 returns-clause-answer g c =
-    let s = c.args.regex.now.meta in
-    let text = g.S.Input.text c.args.input.now.haystack in
+    let request = c.args.request.now in
+    let s = request.regex.now.meta in
+    let input = request.input.now in
     let told = rw (c.as_str.ensures, c.haystack-haystack.ensures, c.run_input_for-run_input.ensures) at c.search.ensures.answer in
     ok_then c.search.result told (λ found is.
-    is ∙ ap (option_map (wanted_parts c.args.wanted (meta_pattern s))) (match-same s text c.args.input.now.config c.args.continue_disabled))
+    is ∙ ap (option_map (wanted_parts request.wanted (meta_pattern s)))
+    (match-same s (g.S.Input.text input.haystack) input.config request.continue_disabled))
 
 pub returns-clause-within : goal.returns-clause-within
 returns-clause-within g c = rw (c.as_str.ensures, c.haystack-haystack.ensures, c.run_input_for-run_input.ensures) at c.search.ensures.within
 
 pub returns-clause-limits : goal.returns-clause-limits
 returns-clause-limits g c =
-    let s = c.args.regex.now.meta in
-    let text = g.S.Input.text c.args.input.now.haystack in
+    let request = c.args.request.now in
+    let input = request.input.now in
     let told = rw (c.as_str.ensures, c.haystack-haystack.ensures, c.run_input_for-run_input.ensures) at c.search.ensures.limits in
-    err_then c.search.result told (error-same s text c.args.input.now.config c.args.continue_disabled)
+    err_then c.search.result told
+    (error-same request.regex.now.meta (g.S.Input.text input.haystack) input.config request.continue_disabled)
 
 pub returns-clause-stays : goal.returns-clause-stays
 returns-clause-stays g c = rw (c.as_str.ensures, c.haystack-haystack.ensures, c.run_input_for-run_input.ensures) at c.search.ensures.stays
@@ -47,8 +50,10 @@ returns-clause-looks_most g c = rw c.run_input_for-run_input.ensures at c.search
 -- and at least the starts that are attempted
 pub returns-clause-looks_least : goal.returns-clause-looks_least
 returns-clause-looks_least g c =
-    let s = c.args.regex.now.meta in
-    let text = g.S.Input.text c.args.input.now.haystack in
+    let request = c.args.request.now in
+    let s = request.regex.now.meta in
+    let input = request.input.now in
     let told = rw (c.as_str.ensures, c.haystack-haystack.ensures, c.run_input_for-run_input.ensures) at c.search.ensures.looks_least in
     ok_then c.search.result told (λ found least served.
-    subst (λ (n : ℕ). min (c.args.steps.now + n) 18446744073709551615 ≤ c.search.new.steps) (tried-same s text c.args.input.now.config c.args.continue_disabled) (least served))
+    subst (λ (n : ℕ). min (c.args.steps.now + n) 18446744073709551615 ≤ c.search.new.steps)
+    (tried-same s (g.S.Input.text input.haystack) input.config request.continue_disabled) (least served))

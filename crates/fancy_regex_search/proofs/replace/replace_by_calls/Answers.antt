@@ -1,4 +1,4 @@
-use Rattle.std.proofs.Common.{◌≡◌, ◌∙◌, ◌∷◌, ◌++◌, List, [], ℕ, map, Ok, Err, None, rules, refl, sym, ap, subst, string_bytes, ◌-◌}
+use Rattle.std.proofs.Common.{◌≡◌, ◌∙◌, ◌++◌, List, [], ℕ, map, Ok, Err, None, rules, refl, sym, ap, subst, string_bytes, ◌-◌}
 use Rattle.std.proofs.lemmas.Result.{err_from_is_err_and}
 use Rattle.std.proofs.lemmas.Bool.{true≢false}
 use Rattle.std.specs.Prelude.{drop, option_map}
@@ -20,7 +20,7 @@ returns-in_err-gap-clause-fails g c =
     let iter = c.loop-found.gaps.match_iter in
     let text = c.args.text.now in
     let was : c.in-Some.found ≡ Err c.in_err-gap.field-0.0 = c.in_err-gap.was in
-    let fails = rw (inv.2, inv.3, was) at c.in-Some.ensures.fails in
+    let fails = rw (inv.2, inv.3, was) at c.in-Some.ensures.limits.fails in
     rw (p.1, p.2) (progress_fails g.R.Replacer.answers c.args.regex.now.meta text (counted c.args.limit (all_matches c.args.regex.now.meta text (whole text))) c.args.replacer.now
     iter.input.config iter.state _ c.loop-found.replacer _ inv.4 fails inv.5)
 
@@ -43,14 +43,14 @@ returns-in_err-replace_append-clause-fails g c =
     let e = c.in_err-replace_append.field-0.0 in
     let last = c.replace_append.new.self in
     let was : c.in-Some.found ≡ Ok c.in_ok-gap.gap = c.in_ok-gap.was in
-    let gives = rw (c.next_gap.ensures.haystack, c.next_gap.ensures.regex, inv.2, inv.3, inv.11, was) at c.in-Some.ensures.gives in
+    let gives = rw (c.next_gap.ensures.same.0, c.next_gap.ensures.same.1, inv.2, inv.3, inv.11, was) at c.in-Some.ensures.gives in
     let m : Match = gives.0 in
     let before : List Match = remaining_matches s text c.loop-found.gaps.match_iter.input.config c.loop-found.gaps.match_iter.state in
     let after : List Match = remaining_matches s text c.next_gap.new.self.match_iter.input.config c.next_gap.new.self.match_iter.state in
     let call : A c.loop-found.replacer (captures_view s text m) (Err e) last = call_viewed A c.args.wanted s c.new-captures.result.regex.now.meta text c.new-captures.result.haystack.now
     c.new-captures.result.slots.items m c.loop-found.replacer last (Err e) c.requires.alike (ap (λ x. x.now.meta) c.new-captures.ensures.regex) (ap (λ x. x.now) c.new-captures.ensures.haystack)
     (ap (λ x. x.items) c.new-captures.ensures.slots ∙ gives.2) c.in_err-replace_append.ensures.fails.0 in
-    let stays = rw (inv.2, inv.3, was) at c.in-Some.ensures.stays in
+    let stays = rw (inv.2, inv.3, was) at c.in-Some.ensures.limits.stays in
     let iter = c.loop-found.gaps.match_iter in
     let failed = progress_call_fails A s text (counted c.args.limit (all_matches s text (whole text))) c.args.replacer.now iter.input.config iter.state c.loop-found.left
     (option_map (λ n. n - 1) c.loop-found.left) before after c.loop-found.replacer last e m gives.1 (sym c.is_spent.ensures ∙ c.if-is_spent.false) refl inv.4 stays call inv.5 in
@@ -90,9 +90,10 @@ loop-found-preserved g c =
     let captures = c.new-captures.result in
     let wrote = c.in_ok-replace_append.ensures.appends in
     let gap = c.in_ok-gap.gap in
-    let gives = rw (c.next_gap.ensures.haystack, c.next_gap.ensures.regex, inv.2, inv.3, inv.11, c.in_ok-gap.was) at c.in-Some.ensures.gives in
-    let returns = rw (inv.2, inv.3, c.in_ok-gap.was) at c.in-Some.ensures.returns in
-    let stays = rw (inv.2, inv.3, c.in_ok-gap.was) at c.in-Some.ensures.stays in
+    let same = c.next_gap.ensures.same in
+    let gives = rw (same.0, same.1, inv.2, inv.3, inv.11, c.in_ok-gap.was) at c.in-Some.ensures.gives in
+    let returns = rw (inv.2, inv.3, c.in_ok-gap.was) at c.in-Some.ensures.limits.returns in
+    let stays = rw (inv.2, inv.3, c.in_ok-gap.was) at c.in-Some.ensures.limits.stays in
     let m : Match = gives.0 in
     let call : g.R.Replacer.answers old.replacer (captures_view s text m) (Ok wrote.0) c.replace_append.new.self = call_viewed g.R.Replacer.answers c.args.wanted s captures.regex.now.meta
     text captures.haystack.now captures.slots.items m old.replacer c.replace_append.new.self (Ok wrote.0) c.requires.alike (ap (λ x. x.now.meta) c.new-captures.ensures.regex)
@@ -106,19 +107,19 @@ loop-found-preserved g c =
     old.gaps.match_iter.state new.match_iter.state old.left c.one_less-left.result
     (remaining_matches s text old.gaps.match_iter.input.config old.gaps.match_iter.state) (remaining_matches s text new.match_iter.input.config new.match_iter.state)
     old.replacer c.replace_append.new.self wrote.0 m gives.1 (sym c.is_spent.ensures ∙ c.if-is_spent.false) c.one_less-left.ensures inv.4 returns stays call inv.5 in
-    let text_same = ap (λ x. x.now) c.next_gap.ensures.haystack ∙ inv.2 in (
+    let text_same = ap (λ x. x.now) c.next_gap.ensures.same.0 ∙ inv.2 in (
       c.rest-rest.utf8,
       c.replace_append.ensures.ready,
       text_same,
-      ap (λ x. x.now.meta) c.next_gap.ensures.regex ∙ inv.3,
-      c.next_gap.ensures.config ∙ ap (λ (a : SearchConfig). record a { start = new.match_iter.input.config.start }) inv.4,
+      ap (λ x. x.now.meta) c.next_gap.ensures.same.1 ∙ inv.3,
+      c.next_gap.ensures.onward.config ∙ ap (λ (a : SearchConfig). record a { start = new.match_iter.input.config.start }) inv.4,
       onward,
       c.rest-rest.ensures ∙ ap (λ x. drop new.last_end x) text_same,
       turn.1,
       (λ none. absurd (turn.0 (inv.8 none).0)),
       (λ e. absurd (true≢false e)),
       rw c.in_ok-gap.was at c.in-Some.ensures.ends,
-      c.next_gap.ensures.wanted ∙ inv.11,
+      c.next_gap.ensures.same.2 ∙ inv.11,
     )
 
 pub returns-then-not-is_changed-clause-replaced : goal.returns-then-not-is_changed-clause-replaced
@@ -183,8 +184,8 @@ returns-then-not-is_changed-clause-stays g c =
       | in_default w ↦ let gives = rw (inv.2, inv.3) at w.in_default.ensures.gives in ap (λ xs. still_replaced old.left xs) gives.0 ∙ still_none old.left
     ] in
     let stays : SkipsStayInLimits s text a state = elim c.match-next_gap.branch [
-      | in-Some+in_ok-gap+then-is_spent w ↦ rw (inv.2, inv.3, w.in_ok-gap.was) at w.in-Some.ensures.stays
-      | in_default w ↦ let stays = rw (inv.2, inv.3) at w.in_default.ensures.stays in stays inv.10
+      | in-Some+in_ok-gap+then-is_spent w ↦ rw (inv.2, inv.3, w.in_ok-gap.was) at w.in-Some.ensures.limits.stays
+      | in_default w ↦ let stays = rw (inv.2, inv.3) at w.in_default.ensures.limits.stays in stays inv.10
     ] in
     progress_stays A s text ms c.args.replacer.now a state (still_replaced old.left before) old.replacer inv.4 stays none inv.5
 
@@ -204,7 +205,7 @@ returns-clause-stays g c =
       | in_default w ↦ let gives = rw (inv.2, inv.3) at w.in_default.ensures.gives in ap (λ xs. still_replaced old.left xs) gives.0 ∙ still_none old.left
     ] in
     let stays : SkipsStayInLimits s text a state = elim c.match-next_gap.branch [
-      | in-Some+in_ok-gap+then-is_spent w ↦ rw (inv.2, inv.3, w.in_ok-gap.was) at w.in-Some.ensures.stays
-      | in_default w ↦ let stays = rw (inv.2, inv.3) at w.in_default.ensures.stays in stays inv.10
+      | in-Some+in_ok-gap+then-is_spent w ↦ rw (inv.2, inv.3, w.in_ok-gap.was) at w.in-Some.ensures.limits.stays
+      | in_default w ↦ let stays = rw (inv.2, inv.3) at w.in_default.ensures.limits.stays in stays inv.10
     ] in
     progress_stays A s text ms c.args.replacer.now a state (still_replaced old.left before) old.replacer inv.4 stays none inv.5

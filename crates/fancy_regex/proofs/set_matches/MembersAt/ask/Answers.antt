@@ -1,7 +1,7 @@
 use Rattle.std.proofs.Common.{◌≡◌, length, Some, refl}
 use Rattle.std.specs.Prelude.{slice_get}
 use Rattle.std.proofs.lemmas.Option.{slice_get_read}
-use Rattle.fancy_regex.proofs.SetMemberLemmas.{asked, asked_stays, is_match}
+use Rattle.fancy_regex.proofs.SetMemberLemmas.{asked, asked_fails, asked_stays, is_match}
 use Rattle.fancy_regex.proofs.set_matches.MembersAt.ask.Goals as goal
 
 pub returns-in-Ok-Some-clause-answer : goal.returns-in-Ok-Some-clause-answer
@@ -15,7 +15,7 @@ returns-in-Ok-Some-clause-answer g c regex there =
     let told = rw c.in-Ok-Some.field-0-is at c.in-Ok-Some.ensures.answer in
     let of = rw c.in-Ok-Some.field-0-is at c.in-Ok-Some.ensures.of in (
       told.0,
-      asked items text s.config s.position k c.index.result.now regex c.continue_at.result (Some told.0) here there c.continue_at.ensures told.1,
+      asked items text s.config s.position k c.index.result.now regex (Some told.0) here there told.1,
       (is_match items text s.config s.position k c.index.result.now x.captures.regex.now told.0 x.captures.slots.items (x.start, x.end) here of.1 told.2.0 told.2.1, refl, of.0),
     )
 
@@ -26,14 +26,16 @@ returns-in-Ok-None-clause-answer g c regex there =
     let k = c.args.number in
     let here : slice_get items k ≡ Some c.index.result.now = slice_get_read items (length items) k c.index.result.now refl c.requires c.index.ensures in
     let told = rw c.in-Ok-None.field-0-is at c.in-Ok-None.ensures.answer in
-    asked items (g.S.Input.text s.haystack) s.config s.position k c.index.result.now regex c.continue_at.result _ here there c.continue_at.ensures told
+    asked items (g.S.Input.text s.haystack) s.config s.position k c.index.result.now regex _ here there told
 
 pub returns-in-Err-clause-limits : goal.returns-in-Err-clause-limits
 returns-in-Err-clause-limits g c =
-    let items = c.args.self.now.set.now.regexes.items in
-    let here : slice_get items c.args.number ≡ Some c.index.result.now =
-    slice_get_read items (length items) c.args.number c.index.result.now refl c.requires c.index.ensures in
-    (c.index.result.now, here, rw c.continue_at.ensures at c.in-Err.ensures.limits)
+    let s = c.args.self.now in
+    let items = s.set.now.regexes.items in
+    let k = c.args.number in
+    let taken = c.index.result.now in
+    let here : slice_get items k ≡ Some taken = slice_get_read items (length items) k taken refl c.requires c.index.ensures in
+    asked_fails items (g.S.Input.text s.haystack) s.config s.position k taken c.in-Err.error here c.in-Err.ensures.limits
 
 pub returns-in-Ok-Some-clause-stays : goal.returns-in-Ok-Some-clause-stays
 returns-in-Ok-Some-clause-stays g c =
@@ -41,7 +43,7 @@ returns-in-Ok-Some-clause-stays g c =
     let items = s.set.now.regexes.items in
     let k = c.args.number in
     let here : slice_get items k ≡ Some c.index.result.now = slice_get_read items (length items) k c.index.result.now refl c.requires c.index.ensures in
-    asked_stays items (g.S.Input.text s.haystack) s.config s.position k c.index.result.now c.continue_at.result here c.continue_at.ensures c.in-Ok-Some.ensures.stays
+    asked_stays items (g.S.Input.text s.haystack) s.config s.position k c.index.result.now here c.in-Ok-Some.ensures.stays
 
 pub returns-in-Ok-None-clause-stays : goal.returns-in-Ok-None-clause-stays
 returns-in-Ok-None-clause-stays g c =
@@ -49,4 +51,4 @@ returns-in-Ok-None-clause-stays g c =
     let items = s.set.now.regexes.items in
     let k = c.args.number in
     let here : slice_get items k ≡ Some c.index.result.now = slice_get_read items (length items) k c.index.result.now refl c.requires c.index.ensures in
-    asked_stays items (g.S.Input.text s.haystack) s.config s.position k c.index.result.now c.continue_at.result here c.continue_at.ensures c.in-Ok-None.ensures.stays
+    asked_stays items (g.S.Input.text s.haystack) s.config s.position k c.index.result.now here c.in-Ok-None.ensures.stays

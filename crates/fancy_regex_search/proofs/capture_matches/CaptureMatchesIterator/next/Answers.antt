@@ -8,22 +8,19 @@ returns-in-Ok-clause-steps g c =
     let told = c.in_ok-found.ensures in
     let gives = rw (groups, c.in-Ok.is) at told.gives in
     let within = rw (groups, c.in-Ok.is) at told.within in
-    let passes = rw c.in-Ok.is at told.passes in
-    let ends = rw c.in-Ok.is at told.ends in
-    let keeps = rw c.in-Ok.is at told.keeps in
-    let stays = rw c.in-Ok.is at told.stays in
-    let returns = rw c.in-Ok.is at told.returns in
+    let limits = rw c.in-Ok.is at told.limits in
+    let leaves = rw c.in-Ok.is at told.leaves in
     let slots = ap (λ w. w.items) c.new.ensures.slots in (
       (gives.0, gives.1, slots ∙ gives.2.2),
       (c.new.ensures.haystack ∙ c.haystack-haystack.ensures, c.new.ensures.regex),
-      c.advance.ensures.grows,
-      c.advance.ensures.haystack,
-      c.advance.ensures.regex,
-      c.advance.ensures.config,
+      told.onward.grows,
+      told.same.0,
+      told.same.1,
+      told.onward.config,
       tt,
-      passes,
-      ends,
-      keeps ∙ ap (λ (k : ℕ). Some k) (sym within.second ∙ ap (λ (xs : List ℕ). slice_index xs 1) (sym slots)),
-      stays,
-      returns,
+      limits.passes,
+      leaves.ends,
+      leaves.keeps ∙ ap (λ (k : ℕ). Some k) (sym within.second ∙ ap (λ (xs : List ℕ). slice_index xs 1) (sym slots)),
+      limits.stays,
+      limits.returns,
     )

@@ -6,14 +6,8 @@ use Rattle.fancy_regex_search.proofs.IterationLemmas.{none_found, passes_before}
 use Rattle.fancy_regex_search.proofs.LimitLemmas.{until_all, until_next}
 use Rattle.fancy_regex_search.proofs.match_iter.MatchIter.advance.Goals as goal
 
-pub returns-in-Item-clause-passes : goal.returns-in-Item-clause-passes
-returns-in-Item-clause-passes g c q o made =
-    let inv = c.loop-found.invariant in
-    let step = rw (inv.haystack, inv.regex, inv.wanted) at c.in-Item.ensures.step in
-    inv.passes q o (step.passes q o made)
-
-pub returns-in-Item-clause-returns : goal.returns-in-Item-clause-returns
-returns-in-Item-clause-returns g c =
+pub returns-in-Item-clause-limits : goal.returns-in-Item-clause-limits
+returns-in-Item-clause-limits g c =
     let inv = c.loop-found.invariant in
     let now = c.loop-found.self in
     let old = c.args.self.now in
@@ -21,29 +15,67 @@ returns-in-Item-clause-returns g c =
     let text = g.S.Input.text old.input.haystack in
     let new = c.step.new.self in
     let step = rw (inv.haystack, inv.regex, inv.wanted) at c.in-Item.ensures.step in
-    let left = rw inv.regex at inv.left in (
-      step.returns.0,
-      left ∙ step.returns.1,
-      passes_before s text old.input.config now.input.config new.input.config old.state now.state new.state step.returns.0 inv.config inv.last inv.skips step.returns.2,
-    )
+    let left = rw inv.regex at inv.left in
+    record {
+      fails = tt;
+      stays = until_all s text old.input.config now.input.config old.state now.state inv.stays step.stays;
+      passes = λ q o made. inv.passes q o (step.passes q o made);
+      returns = (
+        step.returns.0,
+        left ∙ step.returns.1,
+        passes_before s text old.input.config now.input.config new.input.config old.state now.state new.state step.returns.0 inv.config
+            inv.last inv.skips step.returns.2,
+      );
+    }
 
-pub returns-in-Failed-clause-fails : goal.returns-in-Failed-clause-fails
-returns-in-Failed-clause-fails g c =
+pub returns-in-End-clause-limits : goal.returns-in-End-clause-limits
+returns-in-End-clause-limits g c =
+    let inv = c.loop-found.invariant in
+    let now = c.loop-found.self in
+    let old = c.args.self.now in
+    let step = rw (inv.haystack, inv.regex, inv.wanted) at c.in-End.ensures.step in
+    record {
+      fails = tt;
+      stays = λ going. until_all old.regex.now.meta (g.S.Input.text old.input.haystack) old.input.config now.input.config old.state
+          now.state inv.stays (step.stays (inv.done ∙ going));
+      passes = tt;
+      returns = tt;
+    }
+
+pub returns-in-Failed-clause-limits : goal.returns-in-Failed-clause-limits
+returns-in-Failed-clause-limits g c =
     let inv = c.loop-found.invariant in
     let now = c.loop-found.self in
     let s = c.args.self.now.regex.now.meta in
     let text = g.S.Input.text c.args.self.now.input.haystack in
-    let step = rw (inv.haystack, inv.regex, inv.wanted) at c.in-Failed.ensures.step in (
-      now.input.config.start,
-      now.state.continue_disabled,
-      inv.skips now.input.config.start now.state.continue_disabled (at_once now.state.last now.input.config.start now.state.continue_disabled),
-      subst (λ (a : SearchConfig). max a.start a.range_start ≤ a.range_end) inv.config step.fails.0,
-      subst (λ (a : SearchConfig). IsMetaSearchError s text a now.state.continue_disabled c.in-Failed.error) inv.config step.fails.1,
-      until_next s text c.args.self.now.input.config now.input.config c.args.self.now.state now.state inv.stays,
-    )
+    let step = rw (inv.haystack, inv.regex, inv.wanted) at c.in-Failed.ensures.step in
+    record {
+      fails = (
+        now.input.config.start,
+        now.state.continue_disabled,
+        inv.skips now.input.config.start now.state.continue_disabled
+            (at_once now.state.last now.input.config.start now.state.continue_disabled),
+        subst (λ (a : SearchConfig). max a.start a.range_start ≤ a.range_end) inv.config step.fails.0,
+        subst (λ (a : SearchConfig). IsMetaSearchError s text a now.state.continue_disabled c.in-Failed.error) inv.config step.fails.1,
+        until_next s text c.args.self.now.input.config now.input.config c.args.self.now.state now.state inv.stays,
+      );
+      stays = tt;
+      passes = tt;
+      returns = tt;
+    }
 
-pub returns-in-End-clause-left : goal.returns-in-End-clause-left
-returns-in-End-clause-left g c =
+pub returns-in-Item-clause-leaves : goal.returns-in-Item-clause-leaves
+returns-in-Item-clause-leaves g c =
+    let inv = c.loop-found.invariant in
+    let step = rw (inv.haystack, inv.regex, inv.wanted) at c.in-Item.ensures.step in
+    record {
+      ends = step.ends;
+      keeps = step.leaves;
+      left = tt;
+    }
+
+pub returns-in-End-clause-leaves : goal.returns-in-End-clause-leaves
+returns-in-End-clause-leaves g c =
     let inv = c.loop-found.invariant in
     let now = c.loop-found.self in
     let old = c.args.self.now in
@@ -52,27 +84,28 @@ returns-in-End-clause-left g c =
     let new = c.step.new.self in
     let step = rw (inv.haystack, inv.regex, inv.wanted) at c.in-End.ensures.step in
     record {
-      over = λ over. step.moves ∙ inv.over over;
-      skips = λ going.
-          let same = inv.skips now.input.config.start now.state.continue_disabled (at_once now.state.last now.input.config.start now.state.continue_disabled) in
-          let flagged = subst (λ (b : Bool). SkipsToFrom s text old.input.config old.state now.input.config.start b) (sym step.leaves.0) same in
-          subst (λ (a : SearchConfig). SkipsToFrom s text old.input.config old.state a.start new.state.continue_disabled) (sym step.moves) flagged;
-      found = λ going. none_found s text old.input.config now.input.config new.input.config now.state.continue_disabled new.state.continue_disabled inv.config step.moves step.leaves.0
-          (step.leaves.1 (inv.done ∙ going));
+      ends = step.ends;
+      keeps = tt;
+      left = record {
+        over = λ over. step.moves ∙ inv.over over;
+        skips = λ going.
+            let same = inv.skips now.input.config.start now.state.continue_disabled
+            (at_once now.state.last now.input.config.start now.state.continue_disabled) in
+            let flagged = subst (λ (b : Bool). SkipsToFrom s text old.input.config old.state now.input.config.start b)
+            (sym step.leaves.0) same in
+            subst (λ (a : SearchConfig). SkipsToFrom s text old.input.config old.state a.start new.state.continue_disabled)
+            (sym step.moves) flagged;
+        found = λ going. none_found s text old.input.config now.input.config new.input.config now.state.continue_disabled
+            new.state.continue_disabled inv.config step.moves step.leaves.0 (step.leaves.1 (inv.done ∙ going));
+      };
     }
 
-pub returns-in-Item-clause-stays : goal.returns-in-Item-clause-stays
-returns-in-Item-clause-stays g c =
+pub returns-in-Failed-clause-leaves : goal.returns-in-Failed-clause-leaves
+returns-in-Failed-clause-leaves g c =
     let inv = c.loop-found.invariant in
-    let now = c.loop-found.self in
-    let old = c.args.self.now in
-    let step = rw (inv.haystack, inv.regex, inv.wanted) at c.in-Item.ensures.step in
-    until_all old.regex.now.meta (g.S.Input.text old.input.haystack) old.input.config now.input.config old.state now.state inv.stays step.stays
-
-pub returns-in-End-clause-stays : goal.returns-in-End-clause-stays
-returns-in-End-clause-stays g c going =
-    let inv = c.loop-found.invariant in
-    let now = c.loop-found.self in
-    let old = c.args.self.now in
-    let step = rw (inv.haystack, inv.regex, inv.wanted) at c.in-End.ensures.step in
-    until_all old.regex.now.meta (g.S.Input.text old.input.haystack) old.input.config now.input.config old.state now.state inv.stays (step.stays (inv.done ∙ going))
+    let step = rw (inv.haystack, inv.regex, inv.wanted) at c.in-Failed.ensures.step in
+    record {
+      ends = step.ends;
+      keeps = tt;
+      left = tt;
+    }

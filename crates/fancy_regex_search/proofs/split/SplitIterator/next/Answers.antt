@@ -16,13 +16,13 @@ returns-clause-steps c =
     let after : List Match = remaining_matches t.gaps.match_iter.regex.now.meta t.gaps.match_iter.input.haystack.now t.gaps.match_iter.input.config t.gaps.match_iter.state in
     let yields = moves_yields text s.is_done s.gaps.last_end before c.next_piece.result t.is_done t.gaps.last_end after moved.moves in (
       subst (λ (x : List ℕ). YieldsPiece (drop s.gaps.last_end text) (pieces_left s.is_done text s.gaps.last_end before) c.next_piece.result (pieces_left t.is_done x t.gaps.last_end after))
-          (sym (ap (λ x. x.now) moved.haystack)) yields,
-      moved.haystack,
-      moved.regex,
-      moved.config,
-      moved.fails,
-      moved.passes,
+          (sym (ap (λ x. x.now) moved.same.0)) yields,
+      moved.same.0,
+      moved.same.1,
+      moved.onward.config,
+      moved.limits.fails,
+      moved.limits.passes,
       moved.ends,
-      moved.stays,
-      moved.returns,
+      moved.limits.stays,
+      moved.limits.returns,
     )

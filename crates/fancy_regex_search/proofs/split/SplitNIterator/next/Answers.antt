@@ -17,13 +17,13 @@ returns-then-self-gt0-clause-steps c =
     let after : List Match = remaining_matches t.gaps.match_iter.regex.now.meta t.gaps.match_iter.input.haystack.now t.gaps.match_iter.input.config t.gaps.match_iter.state in
     let yields = limit_yields n text s.is_done s.gaps.last_end before c.next_piece.result t.is_done t.gaps.last_end after (omega (arith, c.if-self-gt0.true)) moved.moves in (
       subst (λ (x : List ℕ). YieldsPiece (drop s.gaps.last_end text) (pieces_left_up_to n s.is_done text s.gaps.last_end before) c.next_piece.result (pieces_left_up_to (n - 1) t.is_done x t.gaps.last_end after))
-          (sym (ap (λ x. x.now) moved.haystack)) yields,
-      moved.haystack,
-      moved.regex,
-      moved.config,
-      moved.fails,
-      moved.passes,
+          (sym (ap (λ x. x.now) moved.same.0)) yields,
+      moved.same.0,
+      moved.same.1,
+      moved.onward.config,
+      moved.limits.fails,
+      moved.limits.passes,
       (λ _. omega (arith, c.if-self-gt0.true)),
       moved.ends,
-      (λ _. moved.stays),
+      (λ _. moved.limits.stays),
     )
